@@ -1,16 +1,5 @@
 -- A printed cell is read back, whatever blanks fill it.
-use Rattle.std.proofs.Common.{◌≡◌, ℕ, List, [], ◌∷◌, ◌++◌, Ok, true, false, refl, ap, append_assoc, append-nil, arith}
-use Rattle.std.specs.{Prelude.Bool, List.list_all}
-use Rattle.std.proofs.{Math.ListN.replicate, lemmas.Bool.and_from}
-use Rattle.list_laws.proofs.Cases.{by_test}
-use Rattle.text_parts_laws.specs.Blanks.{is_blank, before_blanks, trim_blanks, is_inked}
-use Rattle.text_parts_laws.specs.{LeadingRuns.leading_run, LeadingRuns.after_run, Words.is_nil}
-use Rattle.arch_trait.specs.InstructionReading.{operands_in, operands_if, written_in, instr_read}
-use Rattle.arch_trait.specs.{Writing.Writing, Cells.is_cell_byte}
-use Rattle.litmus_text.specs.TestTable.{Column, Among}
-use Rattle.litmus_text.specs.TableScan.{instr_put, instr_in, instr_or_nothing, cell_read}
-use Rattle.text_parts_laws.proofs.BlankLaws.{kept_inked, spaces_class, trimmed_padded}
-use Rattle.text_parts_laws.proofs.CutLaws.{cut_back, cut_none, all_both, without_class}
+use Rattle.litmus_text.proofs.Vocabulary.{Bool, Column, List, Ok, WithPlaces, Writing, [], after_run, all_both, and_from, ap, append-nil, append_assoc, arith, before_blanks, by_test, cell_read, cut_back, cut_none, false, instr_in, instr_or_nothing, instr_put, instr_read, is_blank, is_cell_byte, is_inked, is_nil, kept_inked, leading_run, list_all, operands_if, operands_in, refl, replicate, spaces_class, trim_blanks, trimmed_padded, true, without_class, written_in, ℕ, ◌++◌, ◌∷◌, ◌≡◌}
 
 -- so many blanks
 abbrev pub blanks : ℕ → List ℕ
@@ -62,7 +51,7 @@ unfolding before_blanks after_run
 nothing_left k = trimmed_padded [] k
 
 -- a text of blanks alone is no instruction
-pub nothing_back : (w : Writing) (n k : ℕ) (s : Among Column) → instr_or_nothing w n (blanks k) s ≡ Ok s
+pub nothing_back : (w : Writing) (n k : ℕ) (s : WithPlaces Column) → instr_or_nothing w n (blanks k) s ≡ Ok s
 nothing_back w n k s = rw (nothing_left k) refl
 
 -- a text in its cell passes a test that it and a blank pass
@@ -70,7 +59,7 @@ pub padded_class : (p : ℕ → Bool) (k : ℕ) (text : List ℕ) → p 32 ≡ t
 padded_class p k text h t = and_from (p 32) (list_all p (text ++ blanks k)) h (all_both p text (blanks k) t (spaces_class p k h))
 
 -- an empty cell is read as nothing
-pub empty_back : (w : Writing) (n k : ℕ) (s : Among Column) → cell_read w n (padded k []) s ≡ Ok s
+pub empty_back : (w : Writing) (n k : ℕ) (s : WithPlaces Column) → cell_read w n (padded k []) s ≡ Ok s
 unfolding cell_read after_run instr_in
 empty_back w n k s = search (arith, cut_none, padded_class, nothing_back)
 
@@ -79,20 +68,20 @@ unfolding after_run before_blanks
 begins_inked b text k e = rw e (ap is_nil (kept_inked b (before_blanks (text ++ blanks k)) e))
 
 -- a cell without a colon is read as its instruction
-pub plain_back : (w : Writing) (n k : ℕ) (text : List ℕ) (s : Among Column) → Begins text → list_all is_cell_byte text ≡ true
-    → cell_read w n (padded k text) s ≡ instr_put n s.value (instr_read w text s.names s.value.labels)
+pub plain_back : (w : Writing) (n k : ℕ) (text : List ℕ) (s : WithPlaces Column) → Begins text → list_all is_cell_byte text ≡ true
+    → cell_read w n (padded k text) s ≡ instr_put n s.value (instr_read w text s.places s.value.labels)
 unfolding cell_read instr_in
 plain_back w n k text s h bytes = grind (arith, cut_none, without_class, padded_class, begins_inked, instr_padded)
 
 -- a cell with a label is read as the label
-pub label_back : (w : Writing) (n k : ℕ) (name text : List ℕ) (s t : Among Column) → text ≡ name ++ 58 ∷ [] → Begins text → list_all is_cell_byte name ≡ true
-    → instr_put n s.value (instr_read w text s.names s.value.labels) ≡ Ok t → cell_read w n (padded k text) s ≡ Ok t
+pub label_back : (w : Writing) (n k : ℕ) (name text : List ℕ) (s t : WithPlaces Column) → text ≡ name ++ 58 ∷ [] → Begins text → list_all is_cell_byte name ≡ true
+    → instr_put n s.value (instr_read w text s.places s.value.labels) ≡ Ok t → cell_read w n (padded k text) s ≡ Ok t
 unfolding cell_read instr_in
 label_back w n k name text s t is h bytes put =
     cc (
       (append_assoc name (58 ∷ []) (blanks k)),
       (cut_back 58 (32 ∷ name) (blanks k) (without_class is_cell_byte 58 (32 ∷ name) refl (and_from (is_cell_byte 32) (list_all is_cell_byte name) refl bytes))),
       (append-nil text),
-      (instr_padded w text 0 s.names s.value.labels h),
+      (instr_padded w text 0 s.places s.value.labels h),
       (nothing_back w n k t),
     )

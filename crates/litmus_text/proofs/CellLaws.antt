@@ -1,14 +1,6 @@
 -- A cell that is kept padded, and the part of it that a row has.
-use Rattle.std.proofs.Common.{◌≡◌, ◌≤◌, ◌≢◌, ◌+◌, ◌-◌, ℕ, List, ◌++◌, length, take, drop}
-use Rattle.std.proofs.Common.{sym, ap, ◌∙◌, subst, arith, length-append}
-use Rattle.std.specs.Prelude.{codes}
-use Rattle.std.proofs.{Math.ListN.replicate, lemmas.List.drop-replicate, lemmas.List.take-replicate, lemmas.List.length-replicate}
-use Rattle.std.proofs.{Math.Seq.take-append_seam}
 use Rattle.list_laws.proofs.Parts.{take-append-add}
-use Rattle.arch_trait.specs.declared.arch.TheConstants.{MAX_INSTRUCTION_TEXT}
-use Rattle.diy_io.specs.Page.{page_after}
-use Rattle.litmus_text.specs.{Separators.padded, PaddedCells.padded_at, PaddedCells.PutsCell}
-use Rattle.litmus_text.specs.declared.cell.TheConstants.{CELL_ROOM}
+use Rattle.litmus_text.proofs.Vocabulary.{CELL_ROOM, List, MAX_INSTRUCTION_TEXT, PutsCell, ap, arith, codes, drop, drop-replicate, length, length-append, length-replicate, padded, padded_at, page_after, replicate, subst, sym, take, take-append_seam, take-replicate, ℕ, ◌++◌, ◌+◌, ◌-◌, ◌∙◌, ◌≡◌, ◌≢◌, ◌≤◌}
 
 -- a text that was copied between ` | ` and blanks is the text of that cell
 pub copied_text : (text copy rest : List ℕ) → copy ≡ text → take (length text) (copy ++ rest) ≡ text

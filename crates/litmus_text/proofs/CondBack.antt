@@ -1,20 +1,6 @@
 -- The printed condition is read back.
-use Rattle.std.proofs.Common.{◌≡◌, ◌<◌, ◌≤◌, ℕ, suc, List, [], ◌∷◌, ◌++◌, None, Ok, true, length, refl, arith, append_assoc, append-nil}
-use Rattle.std.specs.{Prelude.codes, Char.is_ascii_digit, Fmt.decimal, List.list_all, List.AllByRecursion}
-use Rattle.final_cond.specs.declared.cond.{TheConstants.MAX_TERMS, Quantifier.Quantifier, Quantifier.TheVariants.Exists}
-use Rattle.final_cond.specs.declared.cond.{Quantifier.TheVariants.NotExists, Quantifier.TheVariants.Forall}
-use Rattle.text_parts_laws.specs.LeadingRuns.{leading_run, after_run}
-use Rattle.final_cond.specs.Conditions.{LeftSeen, InRegister, AtPlace, TermSeen, CondSeen}
-use Rattle.final_cond.specs.CondText.{quantifier_word, left_text, term_text, terms_text, cond_text}
-use Rattle.final_cond.specs.CondTextLaws.{terms_pass}
-use Rattle.text_parts_laws.proofs.{RunLaws.stops, CutLaws.all_both}
-use Rattle.final_cond.proofs.BackLaws.{left_unblanked, left_back, right_back, term_parts, closing, joining, opening_back}
-use Rattle.arch_trait.specs.{Writing.Writing, Cells.ends_rows, Cells.is_line_byte}
-use Rattle.litmus_text.specs.{TextLines.Lines, TextLines.ends, TextLines.line, Joined.all_joined, TestTable.after_locations, Condition.Setting}
-use Rattle.litmus_text.specs.{Condition.condition_read}
-use Rattle.litmus_text.specs.ConditionScan.{Mentioned, left_put, term_here, terms_here, cond_scanned}
+use Rattle.litmus_text.proofs.Vocabulary.{AllByRecursion, AtPlace, CondSeen, Exists, Forall, InRegister, LeftSeen, Lines, List, MAX_TERMS, Mentioned, None, NotExists, Ok, Quantifier, Setting, TermFits, TermSeen, Writing, [], after_locations, after_run, all_both, all_joined, append-nil, append_assoc, arith, closing, codes, cond_scanned, cond_text, condition_read, decimal, ends, ends_rows, is_ascii_digit, is_known, is_line_byte, joining, leading_run, left_back, left_mention, left_put, left_text, left_unblanked, length, line, list_all, opening_back, quantifier_word, refl, right_back, stops, suc, term_here, term_parts, term_text, terms_here, terms_mention, terms_pass, terms_text, true, ℕ, ◌++◌, ◌<◌, ◌∷◌, ◌≡◌, ◌≤◌}
 use Rattle.litmus_text.proofs.{ConditionScanned.scanned_is, ElementLaws.all_weaker, LineBack.IsLine, HeadBack.line_is}
-use Rattle.litmus_text.specs.ReadTerms.{left_mention, terms_mention, is_known, TermFits}
 use Rattle.litmus_text.proofs.NamesBack.{Within, within_self, within_trans, IsAmong, place_added}
 
 state : List (List ℕ) → Mentioned

@@ -1,17 +1,5 @@
 -- A condition that is read term by term is read as it is defined.
-use Rattle.std.specs.Prelude.{ℕ, zero, suc, ◌≡◌, ◌==◌, cond, List, [], ◌∷◌, Option, Some, None, Result, Ok, Err}
-use Rattle.std.specs.List.{list_any}
-use Rattle.std.proofs.Common.{refl, ◌∙◌, arith}
-use Rattle.final_cond.specs.declared.{cond.TheConstants.MAX_TERMS, cond.Quantifier.Quantifier, read.Follow.Follow}
-use Rattle.text_parts_laws.specs.{Blanks.unblanked, ReadingSteps.◌>>=◌}
-use Rattle.final_cond.specs.Conditions.{TermSeen}
-use Rattle.final_cond.specs.ConditionReading.{Fault, opening_read, follow_read, end_at_start}
-use Rattle.arch_trait.specs.Writing.{Writing}
-use Rattle.litmus_text.specs.declared.errors.{TestKind.TestKind, TestKind.TheVariants.TooLarge, TextError.TextError}
-use Rattle.litmus_text.specs.{TextLines.bad, Condition.condition_of, Condition.cond_here, ConditionScan.none_over, ConditionScan.cond_scanned}
-use Rattle.litmus_text.specs.Condition.{Setting, at_begin, TermsFormed, faulty_with}
-use Rattle.litmus_text.specs.Condition.{term_formed, followed_by, terms_formed, lines_over, names_with, CondRead}
-use Rattle.litmus_text.specs.ConditionScan.{Mentioned, TermRead, TermsRead, term_here, terms_here, and_more}
+use Rattle.litmus_text.proofs.Vocabulary.{CondRead, Err, Fault, Follow, List, MAX_TERMS, Mentioned, None, Ok, Option, Quantifier, Result, Setting, Some, TermRead, TermSeen, TermsFormed, TermsRead, TestKind, TextError, TooLarge, Writing, [], and_more, arith, at_begin, bad, cond, cond_here, cond_scanned, condition_of, end_at_start, faulty_with, follow_read, followed_by, lines_over, list_any, names_with, none_over, opening_read, refl, suc, term_formed, term_here, terms_formed, terms_here, unblanked, zero, ℕ, ◌==◌, ◌>>=◌, ◌∙◌, ◌∷◌, ◌≡◌}
 
 -- the terms that were read, and what they say of places
 abbrev Scanned : Type 0

@@ -1,9 +1,5 @@
 -- Cuts and splits of printed texts.
-use Rattle.std.proofs.Common.{◌≡◌, ◌==◌, ℕ, List, [], ◌∷◌, ◌++◌, true, false, get_or, refl}
-use Rattle.std.specs.{Prelude.not, List.All}
-use Rattle.std.proofs.lemmas.{Bool.eq-eqb, Bool.not-true, List.Sums.AllPass-from_list_all, List.Splits.slice_split_none, List.Splits.slice_split_at}
-use Rattle.text_parts_laws.specs.Cuts.{is_without}
-use Rattle.litmus_text.specs.TextCuts.{pieces}
+use Rattle.litmus_text.proofs.Vocabulary.{All, AllPass-from_list_all, List, [], eq-eqb, false, get_or, is_without, not, not-true, pieces, refl, slice_split_at, slice_split_none, true, ℕ, ◌++◌, ◌==◌, ◌∷◌, ◌≡◌}
 
 none_pass : (sign : ℕ) (text : List ℕ) → is_without sign text ≡ true → All (λ byte. (byte == sign) ≡ false) text
 none_pass sign text h i d k = not-true (get_or text i d == sign) (AllPass-from_list_all (λ byte. not (byte == sign)) text h i d k)

@@ -1,9 +1,6 @@
 -- Facts about one element of a list.
-use Rattle.std.proofs.Common.{◌≡◌, ◌≤◌, ◌∷◌, ◌++◌, [], ◌<◌, ℕ, true, List, length, map, get_or, subst, sym, arith}
-use Rattle.std.specs.Prelude.{Bool, nat_lt}
-use Rattle.std.specs.List.{list_all, enumerate_from, All, AllByRecursion}
-use Rattle.std.proofs.lemmas.{List.get_or-map, List.length-map, List.Elements.All-append, List.Sums.AllPass-from_list_all}
-use Rattle.std.proofs.lemmas.{List.FromFn.get_or-enumerate_from, Bool.ltb-true}
+use Rattle.std.proofs.lemmas.List.{get_or-map}
+use Rattle.litmus_text.proofs.Vocabulary.{All, All-append, AllByRecursion, AllPass-from_list_all, Bool, List, [], arith, enumerate_from, get_or, get_or-enumerate_from, length, length-map, list_all, ltb-true, map, nat_lt, subst, sym, true, ℕ, ◌++◌, ◌<◌, ◌∷◌, ◌≡◌, ◌≤◌}
 
 -- a test that all elements pass is passed by each
 pub passes_at : {X : Type 0} (p : X → Bool) (xs : List X) (i : ℕ) (d : X) → list_all p xs ≡ true → i < length xs → p (get_or xs i d) ≡ true

@@ -1,7 +1,5 @@
 -- What a part answers where a part of it fails.
-use Rattle.std.proofs.Common.{◌≡◌, Result, Err, arith}
-use Rattle.litmus_text.specs.declared.errors.{TextError.TextError, ReadError.ReadError}
-use Rattle.litmus_text.specs.ReadingAnswers.{GivesInMemory}
+use Rattle.litmus_text.proofs.Vocabulary.{Err, GivesInMemory, ReadError, Result, TextError, arith, ◌≡◌}
 
 -- an error is what a definition gives, or there is no memory
 abbrev pub Fails : {Y : Type 0} → ReadError → Result Y TextError → Type 0

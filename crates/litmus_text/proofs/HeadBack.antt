@@ -1,19 +1,5 @@
 -- The printed header and the printed edges are read back.
-use Rattle.std.proofs.Common.{◌≡◌, ◌==◌, ℕ, List, [], ◌∷◌, ◌++◌, Some, Ok, true, false, take, refl, ap, arith}
-use Rattle.std.specs.Prelude.{Bool, not, ◌&&◌, codes}
-use Rattle.std.specs.{List.list_all, List.flat_map, List.join_by, Str.bytes_eq}
-use Rattle.std.proofs.lemmas.Bool.{and_parts}
-use Rattle.list_laws.proofs.{Elements.list_all-weaker, Cases.by_test}
-use Rattle.relax_edges.specs.declared.{kinds.ArchName.ArchName, edge.Edge.Edge}
-use Rattle.relax_edges.specs.declared.kinds.ArchName.TheVariants.{X86, PPC, AArch64, RISCV, ARM}
-use Rattle.relax_edges.specs.{Architectures.arch_word, WordParts.word_of, AllEdges.edges_in_order}
-use Rattle.edge_algebra_laws.proofs.RankLaws.{each_edge}
-use Rattle.text_parts_laws.specs.{Blanks.is_blank, LeadingRuns.leading_run, Words.words, Names.is_name_byte}
-use Rattle.arch_trait.specs.Cells.{is_line_byte}
-use Rattle.litmus_text.specs.{TextLines.Lines, TextLines.line, TextLines.is_passed, Printable.IsTestName, TestText.header_line, TestText.edges_line}
-use Rattle.litmus_text.specs.Header.{header_read, quote_read, is_setting, after_settings, quote_cut}
-use Rattle.text_parts_laws.proofs.{BlankLaws.trimmed_class, WordLaws.words_both, WordLaws.one_word, OrderLaws.bytes_same, CutLaws.cut_back}
-use Rattle.text_parts_laws.proofs.{CutLaws.all_both, CutLaws.without_class}
+use Rattle.litmus_text.proofs.Vocabulary.{AArch64, ARM, ArchName, Bool, Edge, IsTestName, Lines, List, Ok, PPC, RISCV, Some, X86, [], after_settings, all_both, and_parts, ap, arch_word, arith, by_test, bytes_eq, bytes_same, codes, cut_back, each_edge, edges_in_order, edges_line, false, flat_map, header_line, header_read, is_blank, is_line_byte, is_name_byte, is_passed, is_setting, join_by, leading_run, line, list_all, list_all-weaker, not, one_word, quote_cut, quote_read, refl, take, trimmed_class, true, without_class, word_of, words, words_both, ℕ, ◌&&◌, ◌++◌, ◌==◌, ◌∷◌, ◌≡◌}
 use Rattle.litmus_text.proofs.LineBack.{IsLine}
 
 -- a name byte is one of a line, and no blank

@@ -1,16 +1,6 @@
 -- The printed header of the table is read back.
-use Rattle.std.proofs.Common.{◌≡◌, ◌<◌, ◌≤◌, ◌+◌, ◌^◌, ℕ, List, [], ◌∷◌, Ok, true, length, map, refl, sym, ap, ◌∙◌, arith, append_assoc, add-zero, zero-add}
-use Rattle.std.specs.{Prelude.not, Prelude.nat_lt, Fmt.decimal, List.list_all, List.AllByRecursion, List.enumerate_from}
-use Rattle.std.proofs.lemmas.{Bool.and_from, List.replicate_more}
-use Rattle.text_parts_laws.specs.{Names.is_place_byte, Blanks.is_blank, Blanks.trim_blanks, LeadingRuns.after_run}
-use Rattle.arch_trait.specs.{Threads.ThreadCode, Writing.Writing}
-use Rattle.litmus_text.specs.{TextLines.Lines, TextLines.line, InitialState.Begun, Printable.is_row_byte}
-use Rattle.litmus_text.specs.TestTable.{Cells, is_head, heads_read, head_read}
-use Rattle.litmus_text.specs.TestText.{column_of, columns_of, cell_text, row_line}
-use Rattle.text_parts_laws.proofs.{NameLaws.decimal_passes, OrderLaws.bytes_same, CutLaws.all_both, BlankLaws.before_padded, BlankLaws.inked_ends}
-use Rattle.text_parts_laws.proofs.{BlankLaws.spaces_class}
-use Rattle.litmus_text.proofs.{CellBack.padded, LineBack.IsLine}
-use Rattle.litmus_text.proofs.TableBack.{spaced, row_cells, cells_without, row_line_is}
+use Rattle.litmus_text.proofs.Vocabulary.{AllByRecursion, Begun, Cells, Lines, List, Ok, ThreadCode, Writing, [], add-zero, after_run, all_both, and_from, ap, append_assoc, arith, before_padded, bytes_same, cell_text, column_of, columns_of, decimal, decimal_passes, enumerate_from, head_read, heads_read, inked_ends, is_blank, is_head, is_place_byte, is_row_byte, length, line, list_all, map, nat_lt, not, refl, replicate_more, row_line, spaces_class, sym, trim_blanks, true, zero-add, ℕ, ◌+◌, ◌<◌, ◌^◌, ◌∙◌, ◌∷◌, ◌≡◌, ◌≤◌}
+use Rattle.litmus_text.proofs.{CellBack.padded, LineBack.IsLine, TableBack.spaced, TableBack.row_cells, TableBack.cells_without, TableBack.row_line_is}
 
 place_on_row : (b : ℕ) → is_place_byte b ≡ true → is_row_byte b ≡ true
 place_on_row b h = grind arith

@@ -1,19 +1,7 @@
 -- The printed initial state is read back.
-use Rattle.std.proofs.Common.{◌≡◌, ◌≤◌, ◌+◌, ◌==◌, ℕ, List, [], ◌∷◌, ◌++◌, Ok, true, false, length, length-append, map, refl, sym, ap, ◌∙◌, arith, append_assoc, append-nil}
-use Rattle.std.specs.Prelude.{Bool, not, ◌&&◌, nat_lt, codes}
-use Rattle.std.specs.List.{list_all, flat_map, join_by, AllByRecursion, enumerate_from}
-use Rattle.std.proofs.lemmas.{Bool.lt-ltb, Bool.and_parts, Bool.and_from, List.Concat.flat_map-append, List.Folds.list_all-append}
 use Rattle.relax_edges.specs.declared.kinds.Value.TheVariants as values
-use Rattle.arch_trait.specs.{Cells.is_line_byte, Threads.Puts, Threads.ThreadCode, Writing.Writing, Writing.WritesBack, Writing.name_in}
-use Rattle.litmus_text.specs.{Placing.place_in, TextLines.Lines, TextLines.ends, TextLines.line, Joined.Joined, Joined.no_text, Joined.with_text}
-use Rattle.litmus_text.specs.{TestText.item_text, TestText.items_lines, TestText.initial_lines}
-use Rattle.list_laws.proofs.Elements.{list_all-weaker, all_append, all_parts}
-use Rattle.text_parts_laws.specs.{Blanks.is_blank, ReadingSteps.◌>>=◌, Cuts.is_without}
-use Rattle.litmus_text.specs.InitialState.{closed, braced, brace_ends, braced_read, initial_read}
-use Rattle.litmus_text.specs.Items.{Link, links_of, links_mention, link_values, links_once, LinkFits}
-use Rattle.text_parts_laws.proofs.CutLaws.{cut_back, cut_none, all_both, without_class}
-use Rattle.litmus_text.proofs.{ElementLaws.all_weaker, LineBack.IsLine, LineBack.before, HeadBack.line_is, HeadBack.not_all_blank, NamesBack.Within}
-use Rattle.litmus_text.proofs.{NamesBack.IsAmong}
+use Rattle.litmus_text.proofs.Vocabulary.{AllByRecursion, Bool, Joined, Lines, Link, LinkFits, List, Ok, Puts, ThreadCode, WritesBack, Writing, [], all_append, all_both, all_parts, and_from, and_parts, ap, append-nil, append_assoc, arith, brace_ends, braced, braced_read, closed, codes, cut_back, cut_none, ends, enumerate_from, false, flat_map, flat_map-append, initial_lines, initial_read, is_blank, is_line_byte, is_without, item_text, items_lines, join_by, length, length-append, line, link_values, links_mention, links_of, links_once, list_all, list_all-append, list_all-weaker, lt-ltb, map, name_in, nat_lt, no_text, not, place_in, refl, sym, true, with_text, without_class, ℕ, ◌&&◌, ◌++◌, ◌+◌, ◌==◌, ◌>>=◌, ◌∙◌, ◌∷◌, ◌≡◌, ◌≤◌}
+use Rattle.litmus_text.proofs.{ElementLaws.all_weaker, LineBack.IsLine, LineBack.before, HeadBack.line_is, HeadBack.not_all_blank, NamesBack.Within, NamesBack.IsAmong}
 use Rattle.litmus_text.proofs.ItemBack.{core, core_is, core_bytes, is_item_byte, all_items_back}
 
 -- the text between braces that lines give

@@ -1,10 +1,5 @@
 -- The initial state, thread by thread.
-use Rattle.std.proofs.Common.{◌≡◌, ◌≢◌, ℕ, List, [], ◌++◌, length, sym, ◌∙◌, arith, append-nil}
-use Rattle.std.specs.Prelude.{codes, Bool, true, false, nat_eq}
-use Rattle.std.proofs.lemmas.Bool.{eqb-true, eqb-false}
-use Rattle.std.specs.List.{flat_map, join_by}
-use Rattle.arch_trait.specs.{Threads.ThreadCode, Writing.Writing}
-use Rattle.litmus_text.specs.TestText.{item_text, items_lines, with_line_feed}
+use Rattle.litmus_text.proofs.Vocabulary.{Bool, List, ThreadCode, Writing, [], append-nil, arith, codes, eqb-false, eqb-true, false, flat_map, item_text, items_lines, join_by, length, nat_eq, sym, true, with_line_feed, ℕ, ◌++◌, ◌∙◌, ◌≡◌, ◌≢◌}
 
 -- the lines of the items of a thread, as they are printed
 abbrev pub printed_items : Writing → List (List ℕ) → ℕ × ThreadCode → List ℕ

@@ -1,26 +1,6 @@
 -- The printed items of the initial state are read back.
-use Rattle.std.proofs.Common.{◌≡◌, ◌<◌, ◌≤◌, ◌+◌, ◌==◌, ℕ, suc, List, [], ◌∷◌, ◌++◌, Some, None, Ok, true, false, length, map, get_or, refl, sym, ap, ◌∙◌, arith, append_assoc, append-nil, zero-add}
-use Rattle.std.specs.Prelude.{Bool, not, ◌&&◌, ◌||◌, Option, nat_lt}
-use Rattle.std.specs.List.{list_all, list_any, flat_map, position_from, IsDistinct, AllByRecursion}
-use Rattle.std.specs.Str.{bytes_eq}
-use Rattle.std.proofs.lemmas.Bool.{lt-ltb, not-true, and_parts, and_from}
-use Rattle.std.proofs.lemmas.{Bool.Decides.nat_tests, List.Sums.AllPass-from_list_all}
-use Rattle.list_laws.proofs.Elements.{list_all-weaker}
 use Rattle.relax_edges.specs.declared.kinds.Value.TheVariants as values
-use Rattle.final_cond.specs.declared.errors.CondKind.TheVariants.{BadTerm}
-use Rattle.text_parts_laws.specs.{Names.is_place_name, Names.is_register_name, Names.is_place_byte, NumberTexts.number_of, LeadingRuns.after_run}
-use Rattle.text_parts_laws.specs.{Cuts.cut_at, Cuts.is_without}
-use Rattle.text_parts_laws.specs.Blanks.{is_blank, unblanked, before_blanks, trim_blanks}
-use Rattle.final_cond.specs.{Conditions.LeftSeen, Conditions.InRegister, CondText.left_text, CondTextLaws.PassLeft, CondTextLaws.left_passes}
-use Rattle.final_cond.specs.ConditionReading.{found, only_known, left_at_start, left_read, has_form}
-use Rattle.text_parts_laws.proofs.{NameLaws.place_passes, NumberLaws.not_digits, OrderLaws.bytes_same, CutLaws.cut_back, CutLaws.all_both}
-use Rattle.text_parts_laws.proofs.{CutLaws.without_class, BlankLaws.inked_ends}
-use Rattle.final_cond.proofs.BackLaws.{left_back}
-use Rattle.arch_trait.specs.{Threads.Puts, PlaceNames.number_in, PlaceNames.names_added, Writing.Writing, Writing.WritesBack, Writing.name_in}
-use Rattle.arch_trait.specs.{Cells.is_line_byte}
-use Rattle.litmus_text.specs.{TextCuts.pieces, Joined.Joined, TestText.item_text, Placing.place_in}
-use Rattle.litmus_text.specs.InitialState.{gives, a_place, worth_of, worth_if, item_parts, some_item, item_of, Begun, nothing_begun, is_given, item_read, items_read}
-use Rattle.litmus_text.specs.Items.{Link, links_mention, link_values, links_once, LinkFits}
+use Rattle.litmus_text.proofs.Vocabulary.{AllByRecursion, AllPass-from_list_all, BadTerm, Begun, Bool, InRegister, IsDistinct, Joined, LeftSeen, Link, LinkFits, List, None, Ok, Option, PassLeft, Puts, Some, WritesBack, Writing, [], a_place, after_run, all_both, and_from, and_parts, ap, append-nil, append_assoc, arith, before_blanks, bytes_eq, bytes_same, cut_at, cut_back, false, flat_map, found, get_or, gives, has_form, inked_ends, is_blank, is_given, is_line_byte, is_place_byte, is_place_name, is_register_name, is_without, item_of, item_parts, item_read, item_text, items_read, left_at_start, left_back, left_passes, left_read, left_text, length, link_values, links_mention, links_once, list_all, list_all-weaker, list_any, lt-ltb, map, name_in, names_added, nat_lt, nat_tests, not, not-true, not_digits, nothing_begun, number_in, number_of, only_known, pieces, place_in, place_passes, position_from, refl, some_item, suc, sym, trim_blanks, true, unblanked, without_class, worth_if, worth_of, zero-add, ℕ, ◌&&◌, ◌++◌, ◌+◌, ◌<◌, ◌==◌, ◌||◌, ◌∙◌, ◌∷◌, ◌≡◌, ◌≤◌}
 use Rattle.litmus_text.proofs.{CutBack.piece_back, CutBack.piece_last, RowBack.added_within}
 use Rattle.litmus_text.proofs.NamesBack.{Within, within_self, within_trans, within_number, IsAmong, place_added}
 

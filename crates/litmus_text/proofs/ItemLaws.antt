@@ -1,14 +1,5 @@
 -- The item of a text, by what the reading of conditions knows of its left side.
-use Rattle.std.proofs.Common.{◌≡◌, ◌==◌, ◌+◌, ℕ, List, [], ◌∷◌, Option, Some, None, Ok, Err, true, false, length, refl, arith}
-use Rattle.std.specs.{Prelude.cond, List.list_all, List.position_from, Str.bytes_eq}
-use Rattle.std.proofs.lemmas.Slice.Eq.{bytes_eq-Decides}
-use Rattle.final_cond.specs.declared.errors.CondKind.TheVariants.{BadTerm}
-use Rattle.text_parts_laws.specs.{Blanks.unblanked, Blanks.trim_blanks, Names.is_register_name, Words.is_nil}
-use Rattle.text_parts_laws.proofs.BlankLaws.{trimmed_start}
-use Rattle.final_cond.specs.Conditions.{LeftSeen}
-use Rattle.final_cond.specs.ConditionReading.{Fault, found, left_at_start, left_read, only_known, has_form}
-use Rattle.arch_trait.specs.Writing.{Writing}
-use Rattle.litmus_text.specs.InitialState.{item_with, whole_left, item_if}
+use Rattle.litmus_text.proofs.Vocabulary.{BadTerm, Err, Fault, LeftSeen, List, None, Ok, Option, Some, Writing, [], arith, bytes_eq, bytes_eq-Decides, cond, false, found, has_form, is_nil, is_register_name, item_if, item_with, left_at_start, left_read, length, list_all, only_known, position_from, refl, trim_blanks, trimmed_start, true, unblanked, whole_left, ℕ, ◌+◌, ◌==◌, ◌∷◌, ◌≡◌}
 
 -- a name without the form of a register's is no register's
 no_register : (names : List (List ℕ)) (name : List ℕ) (i : ℕ) → list_all is_register_name names ≡ true → is_register_name name ≡ false → position_from (λ x. bytes_eq x name) i names ≡ None

@@ -1,12 +1,6 @@
 -- Reading the initial state as loops do.
-use Rattle.std.proofs.Common.{◌≡◌, ◌==◌, ◌+◌, ℕ, List, [], ◌∷◌, Some, None, Result, Ok, Err, true, length, refl, sym, ap, ◌∙◌, append_assoc, arith}
-use Rattle.litmus_text.specs.declared.errors.TextError.{TextError}
-use Rattle.arch_trait.specs.Writing.{Writing}
-use Rattle.text_parts_laws.specs.{Cuts.cut_at, Cuts.CutParts, Cuts.is_without, ReadingSteps.◌>>=◌, Lines.but_last}
-use Rattle.litmus_text.specs.{TextCuts.pieces, TextLines.Lines, TextLines.ends, TextLines.line, Joined.Joined, Joined.with_text, Joined.all_joined}
-use Rattle.litmus_text.specs.InitialState.{Begun, item_read, items_read, closed, open_to, braced}
+use Rattle.litmus_text.proofs.Vocabulary.{Begun, CutParts, Err, Joined, Lines, List, None, Ok, Result, Some, TextError, Writing, [], all_joined, ap, append_assoc, arith, braced, but_last, closed, cut_at, ends, first_piece, is_without, item_read, items_read, length, line, open_to, pieces, refl, sym, true, with_text, ℕ, ◌+◌, ◌==◌, ◌>>=◌, ◌∙◌, ◌∷◌, ◌≡◌}
 use Rattle.litmus_text.proofs.{CutBack.piece_last, CutLaws.pieces_cut}
-use Rattle.text_parts_laws.proofs.PieceLaws.{first_piece}
 
 -- a blank and a line after a text
 pub blank_before : (j : Joined) (n : ℕ) (text : List ℕ) → with_text (with_text j n (32 ∷ [])) n text ≡ with_text j n (32 ∷ text)

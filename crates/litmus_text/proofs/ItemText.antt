@@ -1,11 +1,5 @@
 -- The item of a register and a place: how long it is, and when it is written in one piece.
-use Rattle.std.proofs.Common.{◌≡◌, ◌≤◌, ◌<◌, ◌+◌, ◌^◌, ℕ, List, [], ◌∷◌, ◌++◌, length, get_or, arith, length-append}
-use Rattle.std.specs.{Prelude.codes, Fmt.decimal}
-use Rattle.std.proofs.lemmas.Fmt.{decimal_digit, length-decimal-le}
-use Rattle.diy_io.specs.Page.{page_after}
-use Rattle.arch_trait.specs.Writing.{Writing, name_in}
-use Rattle.litmus_text.specs.{TestText.item_text, Separators.separator_at}
-use Rattle.litmus_text.specs.declared.initial.TheConstants.{ITEM_ROOM}
+use Rattle.litmus_text.proofs.Vocabulary.{ITEM_ROOM, List, Writing, [], arith, codes, decimal, decimal_digit, get_or, item_text, length, length-append, length-decimal-le, name_in, page_after, separator_at, ℕ, ◌++◌, ◌+◌, ◌<◌, ◌^◌, ◌∷◌, ◌≡◌, ◌≤◌}
 use Rattle.litmus_text.proofs.JoinLaws.{separator_short}
 
 -- an item of a thread below 10, of a register of two letters and of a place of one, is seven bytes

@@ -1,10 +1,5 @@
 -- Texts that are appended to a page with a separator between.
-use Rattle.std.proofs.Common.{◌≡◌, ◌≤◌, ◌<◌, ◌≢◌, ◌+◌, ◌*◌, ℕ, List, [], ◌∷◌, ◌++◌, length, take, get_or}
-use Rattle.std.proofs.Common.{refl, sym, ap, ◌∙◌, arith, append_assoc, append-nil, length-append}
-use Rattle.std.specs.List.{join_by}
-use Rattle.std.proofs.lemmas.{List.take_more, List.length-take-le, List.take_all, List.Concat.flat_map-append}
-use Rattle.diy_io.specs.{Page.page_after, PageLaws.page_nothing, PageLaws.page_more}
-use Rattle.litmus_text.specs.Separators.{separator_at}
+use Rattle.litmus_text.proofs.Vocabulary.{List, [], ap, append-nil, append_assoc, arith, flat_map-append, get_or, join_by, length, length-append, length-take-le, page_after, page_more, page_nothing, refl, separator_at, sym, take, take_all, take_more, ℕ, ◌*◌, ◌++◌, ◌+◌, ◌<◌, ◌∙◌, ◌∷◌, ◌≡◌, ◌≢◌, ◌≤◌}
 
 -- before the first element there is no separator
 pub separator_first : (separator : List ℕ) (i : ℕ) → i ≡ 0 → [] ≡ separator_at separator i

@@ -1,10 +1,7 @@
 -- Cells that are kept are those of the columns, one column after the other.
-use Rattle.std.proofs.Common.{◌≡◌, ◌<◌, ◌≤◌, ◌+◌, ℕ, suc, List, [], ◌∷◌, ◌++◌, length, map, take, get_or, max}
-use Rattle.std.proofs.Common.{set, sym, ap, ◌∙◌, arith, append_assoc, append-nil}
-use Rattle.std.proofs.lemmas.List.{get_or-take, take_more_set, map-set, get_or_append_left, get_or-append-add, length-append, length-map, take-append-le, take_more, take_all}
-use Rattle.arch_trait.specs.declared.code.Code.{Code}
-use Rattle.arch_trait.specs.{Writing.Writing, Codes.thread_code_of}
-use Rattle.litmus_text.specs.{TestText.column_of, TestText.columns_of, KeptCells.all_texts, KeptCells.HoldsColumn}
+use Rattle.std.proofs.Common.{set}
+use Rattle.std.proofs.lemmas.List.{length-append}
+use Rattle.litmus_text.proofs.Vocabulary.{Code, HoldsColumn, List, Writing, [], all_texts, ap, append-nil, append_assoc, arith, column_of, columns_of, get_or, get_or-append-add, get_or-take, get_or_append_left, length, length-map, map, map-set, max, suc, sym, take, take-append-le, take_all, take_more, take_more_set, thread_code_of, ℕ, ◌++◌, ◌+◌, ◌<◌, ◌∙◌, ◌∷◌, ◌≡◌, ◌≤◌}
 use Rattle.litmus_text.proofs.TableLaws.{column_at, length_columns, length-column_of, widest, widest_more}
 
 length_take : (n : ℕ) (xs : List (List ℕ)) → length (take n xs) ≤ n

@@ -1,11 +1,6 @@
 -- The labels of printed threads are judged to be right: each is in its thread once, after the branch.
-use Rattle.std.proofs.Common.{◌≡◌, ◌+◌, ℕ, List, [], ◌∷◌, Ok, true, map, refl, arith}
-use Rattle.std.specs.{Prelude.count_by, List.AllByRecursion}
-use Rattle.std.proofs.lemmas.List.Sums.{sum_by-cons}
-use Rattle.micro_ops.specs.declared.operation.Micro.{Micro}
 use Rattle.micro_ops.specs.declared.operation.Micro.TheVariants as ops
-use Rattle.litmus_text.specs.TestTable.{is_label_of, is_label_row, comes_once, lands_among, labels_judged, all_labels_judged}
-use Rattle.litmus_text.specs.{Placing.op_renumbered, TablePlan.placed_from, TablePlan.column_so_far, Progress.code_lands}
+use Rattle.litmus_text.proofs.Vocabulary.{AllByRecursion, List, Micro, Ok, [], all_labels_judged, arith, code_lands, column_so_far, comes_once, count_by, is_label_of, is_label_row, labels_judged, lands_among, map, op_renumbered, placed_from, refl, sum_by-cons, true, ℕ, ◌+◌, ◌∷◌, ◌≡◌}
 
 label_kept : (label : ℕ) (table : List (List ℕ)) (names : ℕ → List ℕ) (op : Micro) → is_label_of label (op_renumbered table names op) ≡ is_label_of label op
 label_kept label table names op = grind arith

@@ -36,3 +36,4 @@ pub mod TextParts
 pub mod RunnableRead
 pub mod RegistersRead
 mod ItemText
+pub mod Vocabulary

@@ -1,12 +1,6 @@
 -- Printed lines are the lines of their text.
-use Rattle.std.proofs.Common.{◌≡◌, ◌+◌, ℕ, List, [], ◌∷◌, ◌++◌, true, false, refl, sym, ap, ◌∙◌, append_assoc}
-use Rattle.std.specs.List.{list_all, flat_map, slice_split, AllByRecursion}
-use Rattle.arch_trait.specs.Cells.{is_line_byte}
-use Rattle.litmus_text.specs.TextLines.{Lines, ends, line, is_passed, lines_in, lines_from}
-use Rattle.text_parts_laws.specs.Lines.{is_line_feed}
-use Rattle.litmus_text.specs.TestText.{with_line_feed}
+use Rattle.litmus_text.proofs.Vocabulary.{AllByRecursion, Lines, List, [], ap, append_assoc, class_kept, ends, false, first_piece, flat_map, is_line_byte, is_line_feed, is_passed, line, lines_from, lines_in, list_all, refl, slice_split, sym, true, with_line_feed, without_class, ℕ, ◌++◌, ◌+◌, ◌∙◌, ◌∷◌, ◌≡◌}
 use Rattle.litmus_text.proofs.CutBack.{piece_back}
-use Rattle.text_parts_laws.proofs.{CutLaws.without_class, LineLaws.class_kept, PieceLaws.first_piece}
 
 -- a line of printed bytes that isn't passed over
 pub record IsLine (text : List ℕ) : Type 0 where

@@ -1,10 +1,6 @@
 -- The first line of what is left of a text.
-use Rattle.std.proofs.Common.{◌≡◌, ◌==◌, ◌+◌, ◌<◌, ℕ, suc, List, [], ◌∷◌, true, length, refl, sym, ap, arith}
-use Rattle.std.proofs.lemmas.Bool.{eqb-true}
-use Rattle.litmus_text.specs.TextLines.{ends, line_kept, lines_in, lines_from}
-use Rattle.text_parts_laws.specs.{Lines.without_return, Lines.is_line_feed, Cuts.CutParts, Cuts.is_without}
+use Rattle.litmus_text.proofs.Vocabulary.{CutParts, List, [], ap, arith, ends, eqb-true, first_piece, is_line_feed, is_without, length, line_kept, lines_from, lines_in, refl, suc, sym, true, without_return, ℕ, ◌+◌, ◌<◌, ◌==◌, ◌∷◌, ◌≡◌}
 use Rattle.litmus_text.proofs.{CutBack.piece_last, CutLaws.pieces_cut}
-use Rattle.text_parts_laws.proofs.PieceLaws.{first_piece}
 
 -- a text without bytes has no lines
 pub no_lines : (n : ℕ) → lines_from n [] ≡ ends n

@@ -1,20 +1,8 @@
 -- All names that a test uses are in the table of its reading.
-use Rattle.std.proofs.Common.{◌≡◌, ◌≤◌, ◌+◌, ℕ, suc, List, [], ◌∷◌, true, length, map, refl, sym, ap, subst, arith}
-use Rattle.std.specs.{Prelude.is_some, List.AllByRecursion, List.range_with_len}
-use Rattle.std.proofs.lemmas.{List.length-map, List.FromFn.length-range_with_len, Bool.and_parts}
-use Rattle.relax_edges.specs.declared.kinds.ArchName.{ArchName}
-use Rattle.micro_ops.specs.declared.operation.Micro.{Micro}
 use Rattle.micro_ops.specs.declared.operation.Micro.TheVariants as ops
-use Rattle.final_cond.specs.Conditions.{TermSeen}
-use Rattle.arch_trait.specs.{Threads.Puts, Threads.ThreadCode, PlaceNames.number_in, PlaceNames.names_added, Writing.Writing, Writing.WritesBack}
-use Rattle.arch_trait.specs.{Writing.name_in, Cells.WritesCells, Cells.access_count, LabelOrder.labels_in, SeenTests.TestSeen}
-use Rattle.litmus_text.specs.{TestText.columns_of, TestText.row_line, Placing.mentioned, ReadTerms.left_mention, ReadTerms.terms_mention}
-use Rattle.litmus_text.specs.{ReadTerms.TermFits, Reread.IsReadable}
-use Rattle.litmus_text.specs.Progress.{RowProgress, advanced, mentioned_first, row_mentions, is_placed, CodeFits}
-use Rattle.litmus_text.specs.Items.{Link, links_of, links_mention, LinkFits}
-use Rattle.litmus_text.specs.Mentioned.{is_in, op_is_in, left_is_in, TestReadsBack}
-use Rattle.litmus_text.proofs.NamesBack.{Within, within_self, within_trans, within_number, numbered_in, IsAmong, place_added, none_among}
+use Rattle.litmus_text.proofs.Vocabulary.{AllByRecursion, ArchName, CodeFits, IsReadable, Link, LinkFits, List, Micro, Puts, RowProgress, TermFits, TermSeen, TestReadsBack, TestSeen, ThreadCode, WritesBack, WritesCells, Writing, [], access_count, advanced, and_parts, ap, arith, columns_of, is_in, is_placed, is_some, labels_in, left_is_in, left_mention, length, length-map, length-range_with_len, links_mention, links_of, map, mentioned, mentioned_first, name_in, names_added, number_in, op_is_in, range_with_len, refl, row_line, row_mentions, subst, suc, sym, terms_mention, true, ℕ, ◌+◌, ◌∷◌, ◌≡◌, ◌≤◌}
 use Rattle.litmus_text.proofs.{ItemBack.links_within, ItemBack.links_among, TableBack.at_row, CondBack.terms_within, CondBack.term_among}
+use Rattle.litmus_text.proofs.NamesBack.{Within, within_self, within_trans, within_number, numbered_in, IsAmong, place_added, none_among}
 use Rattle.litmus_text.proofs.RowBack.{IsReady, row_within, rows_mention, rows_within, all_advance, row_among, mention_among, rows_among}
 use Rattle.litmus_text.proofs.WholeBack.{longest, covers, start_ready, drop_none, mentions, whole_back}
 

@@ -1,13 +1,5 @@
 -- Tables of names that grow by names of a larger table.
-use Rattle.std.proofs.Common.{◌≡◌, ◌<◌, ◌≤◌, ◌+◌, ◌-◌, ℕ, List, [], ◌∷◌, ◌++◌, Some, None, true, false, length, map, get_or, length-append, refl, sym, ap, ◌∙◌, subst, arith, append_assoc, append-nil, add-zero}
-use Rattle.std.specs.Prelude.{Bool, Option, nat_lt, is_some}
-use Rattle.std.specs.List.{list_any, position_from, IsDistinct, AllByRecursion}
-use Rattle.std.specs.Str.{bytes_eq}
-use Rattle.std.proofs.{Math.Dec.eqb, lemmas.List.length-map, lemmas.Map.Steps.length-le_from_distinct_below, lemmas.Slice.Eq.bytes_eq-Decides}
-use Rattle.arch_trait.specs.PlaceNames.{number_in, number_added, names_added, number_or_next, with_name}
-use Rattle.litmus_text.specs.Placing.{place_in}
-use Rattle.text_parts_laws.proofs.OrderLaws.{bytes_same}
-use Rattle.list_laws.proofs.{Places.none_passes, Distinct.distinct_push, Elements.all_append}
+use Rattle.litmus_text.proofs.Vocabulary.{AllByRecursion, Bool, IsDistinct, List, None, Option, Some, [], add-zero, all_append, ap, append-nil, append_assoc, arith, bytes_eq, bytes_eq-Decides, bytes_same, distinct_push, eqb, false, get_or, is_some, length, length-append, length-le_from_distinct_below, length-map, list_any, map, names_added, nat_lt, none_passes, number_added, number_in, number_or_next, place_in, position_from, refl, subst, sym, true, with_name, ℕ, ◌++◌, ◌+◌, ◌-◌, ◌<◌, ◌∙◌, ◌∷◌, ◌≡◌, ◌≤◌}
 
 none_some : {i : ℕ} {G : Type 0} → None ≡ Some i → G
 none_some e = cc

@@ -1,19 +1,7 @@
 -- The name of an operation gets the number that the plan of the columns has for it.
-use Rattle.std.proofs.Common.{◌≡◌, ◌<◌, ◌≤◌, ◌+◌, ◌==◌, ℕ, zero, suc, List, Some, None, Ok, true, cond, length, map, max, refl, sym, ap, ◌∙◌, arith, zero-add, inl, inr}
-use Rattle.std.specs.Prelude.{◌&&◌, nat_lt, nat_le, is_some, Err}
-use Rattle.std.specs.{List.list_all, List.position_from, List.range_with_len, Str.bytes_eq}
-use Rattle.std.proofs.lemmas.Bool.{eqb-false, lt-ltb, cases_lt, leb-true, ltb-true, and_parts}
-use Rattle.std.proofs.lemmas.List.Sums.{AllPass-from_list_all}
-use Rattle.std.proofs.lemmas.List.FromFn.{get_or-range_with_len, map-range_with_len_more, length-map-range_with_len}
-use Rattle.list_laws.proofs.Cases.{by_test}
-use Rattle.text_parts_laws.specs.Names.{is_place_name, is_register_name}
-use Rattle.micro_ops.specs.declared.operation.Micro.{Micro}
 use Rattle.micro_ops.specs.declared.operation.Micro.TheVariants as ops
 use Rattle.arch_trait.specs.declared.reading.InstrError.TheVariants as errors
-use Rattle.arch_trait.specs.PlaceNames.{number_in, number_added, names_added, number_or_next, with_name}
-use Rattle.arch_trait.specs.{InstructionReading.read_numbered, InstructionReading.with_place, InstructionReading.with_label, Writing.op_name}
-use Rattle.arch_trait.specs.{Writing.with_number, Writing.label_name, LabelOrder.is_next, LabelOrder.labels_after}
-use Rattle.litmus_text.specs.{Placing.place_in, Placing.op_renumbered, Placing.mentioned, Progress.is_placed, TablePlan.label_table}
+use Rattle.litmus_text.proofs.Vocabulary.{AllPass-from_list_all, Err, List, Micro, None, Ok, Some, and_parts, ap, arith, by_test, bytes_eq, cases_lt, cond, eqb-false, get_or-range_with_len, inl, inr, is_next, is_place_name, is_placed, is_register_name, is_some, label_name, label_table, labels_after, leb-true, length, length-map-range_with_len, list_all, lt-ltb, ltb-true, map, map-range_with_len_more, max, mentioned, names_added, nat_le, nat_lt, number_added, number_in, number_or_next, op_name, op_renumbered, place_in, position_from, range_with_len, read_numbered, refl, suc, sym, true, with_label, with_name, with_number, with_place, zero, zero-add, ℕ, ◌&&◌, ◌+◌, ◌<◌, ◌==◌, ◌∙◌, ◌≡◌, ◌≤◌}
 use Rattle.litmus_text.proofs.NamesBack.{Within, within_number, IsAmong, place_added}
 
 label_same : (i j : ℕ) → i < 64 → j < 64 → bytes_eq (label_name i) (label_name j) ≡ (i == j)

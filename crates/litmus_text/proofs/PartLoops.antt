@@ -1,16 +1,6 @@
 -- The values, the operations and the threads of a test, as loops make them.
-use Rattle.std.proofs.Common.{◌≡◌, ◌==◌, ◌+◌, ◌<◌, ℕ, suc, List, [], ◌∷◌, ◌++◌, Option, Ok, Err, true, false, length, length-take, map, get_or, take, drop, refl, sym, ap, ◌∙◌, arith, add-zero}
-use Rattle.std.specs.{List.filter, List.enumerate_from, Prelude.Bool}
-use Rattle.std.proofs.{lemmas.List.Elements.filter-append, Math.Seq.take-append_seam, Math.ListN.get_or-map}
-use Rattle.std.proofs.lemmas.List.{map_push, take_more, append-nil, length-map}
-use Rattle.relax_edges.specs.declared.kinds.{Value.Value, ArchName.ArchName}
-use Rattle.litmus_text.specs.declared.{errors.TextError.TextError, reading.table.Column.Column as ThreadColumn}
-use Rattle.arch_trait.specs.Writing.{Writing}
-use Rattle.litmus_text.specs.Header.{after_settings, is_setting, header_read, quote_read}
-use Rattle.litmus_text.specs.Views.{column_seen, rest_read, table_read, body_read}
-use Rattle.litmus_text.specs.{TextLines.Lines, TextLines.ends, TextLines.line, InitialState.Begun, TableScan.rows_scanned}
-use Rattle.litmus_text.specs.TestTable.{Column, among, no_columns, all_labels_judged}
-use Rattle.litmus_text.specs.TestReading.{ThreadRead, values_of_thread, threads_of, lines_read}
+use Rattle.litmus_text.specs.declared.reading.table.Column.{Column as ThreadColumn}
+use Rattle.litmus_text.proofs.Vocabulary.{ArchName, Begun, Column, Err, Lines, List, Ok, Option, TextError, ThreadRead, Value, Writing, [], add-zero, after_settings, all_labels_judged, ap, arith, body_read, column_seen, drop, ends, enumerate_from, false, get_or, get_or-map, header_read, is_setting, length, length-map, length-take, line, lines_read, map, map_push, no_columns, quote_read, refl, rest_read, rows_scanned, suc, sym, table_read, take, take-append_seam, take_more, threads_of, true, values_of_thread, with_places, ℕ, ◌++◌, ◌+◌, ◌<◌, ◌∙◌, ◌∷◌, ◌≡◌}
 use Rattle.litmus_text.proofs.RowsScanned.{rows_same}
 
 -- a line of settings is passed over
@@ -27,14 +17,6 @@ settings_stop n text rest ls e h = rw (sym e, h) refl
 pub settings_end : (n : ℕ) (ls : Lines) → ends n ≡ ls → after_settings ls ≡ ls
 unfolding after_settings
 settings_end n ls e = rw (sym e) refl
-
-filter_push : {A : Type 0} (p : A → Bool) (xs : List A) (x : A) → filter p (xs ++ x ∷ []) ≡ filter p xs ++ filter p (x ∷ [])
-filter_push p xs x = filter-append p xs (x ∷ [])
-
--- a value of another thread isn't added
-pub value_other : (thread : ℕ) (values : List (ℕ × (ℕ × Value))) (i : ℕ) (d : ℕ × (ℕ × Value)) → i < length values → (get_or values i d).0 == thread ≡ false
-    → values_of_thread thread (take (i + 1) values) ≡ values_of_thread thread (take i values)
-value_other thread values i d inside h = grind (arith, (take_more values i d inside), filter_push, append-nil)
 
 numbered_push : {A : Type 0} (n : ℕ) (xs : List A) (x : A) → enumerate_from n (xs ++ x ∷ []) ≡ enumerate_from n xs ++ (n + length xs, x) ∷ []
 numbered_push n [] x = ap (λ k. (k, x) ∷ []) (sym (add-zero n))
@@ -58,7 +40,7 @@ thread_step begun xs i d threads t inside is e so_far =
 
 -- the test of a table that was read is that of the columns of the code
 pub table_is : (w : Writing) (l4 l5 : Lines) (name : List ℕ) (quoted : Option (List ℕ)) (begun : Begun) (threads count : ℕ) (c0 c r j t : List ThreadColumn) (names : List (List ℕ))
-    → map column_seen c0 ≡ no_columns threads → c ≡ c0 → rows_scanned w 0 (among begun.names (map column_seen c)) l4 ≡ Ok (among names (map column_seen r), l5) → j ≡ r → all_labels_judged (map column_seen j) ≡ Ok tt
+    → map column_seen c0 ≡ no_columns threads → c ≡ c0 → rows_scanned w 0 (with_places begun.names (map column_seen c)) l4 ≡ Ok (with_places names (map column_seen r), l5) → j ≡ r → all_labels_judged (map column_seen j) ≡ Ok tt
     → t ≡ r → count ≡ threads → (values : List (ℕ × (ℕ × Value))) → values ≡ begun.values
     → table_read w name quoted begun threads l4 ≡ rest_read w name quoted (record { names = []; values = values }) (map column_seen t) count names l5
 unfolding table_read rest_read
@@ -66,13 +48,13 @@ table_is w l4 l5 name quoted begun threads count c0 c r j t names n m e p f q k 
 
 -- a fault of the rows is a fault of the test
 pub table_rows_bad : (w : Writing) (l4 : Lines) (name : List ℕ) (quoted : Option (List ℕ)) (begun : Begun) (threads : ℕ) (c0 c : List ThreadColumn) (x : TextError)
-    → map column_seen c0 ≡ no_columns threads → c ≡ c0 → rows_scanned w 0 (among begun.names (map column_seen c)) l4 ≡ Err x → table_read w name quoted begun threads l4 ≡ Err x
+    → map column_seen c0 ≡ no_columns threads → c ≡ c0 → rows_scanned w 0 (with_places begun.names (map column_seen c)) l4 ≡ Err x → table_read w name quoted begun threads l4 ≡ Err x
 unfolding table_read
 table_rows_bad w l4 name quoted begun threads c0 c x n m e = grind (arith, rows_same)
 
 -- a fault of the labels is a fault of the test
 pub table_labels_bad : (w : Writing) (l4 l5 : Lines) (name : List ℕ) (quoted : Option (List ℕ)) (begun : Begun) (threads : ℕ) (c0 c r j : List ThreadColumn) (names : List (List ℕ)) (x : TextError)
-    → map column_seen c0 ≡ no_columns threads → c ≡ c0 → rows_scanned w 0 (among begun.names (map column_seen c)) l4 ≡ Ok (among names (map column_seen r), l5) → j ≡ r → all_labels_judged (map column_seen j) ≡ Err x
+    → map column_seen c0 ≡ no_columns threads → c ≡ c0 → rows_scanned w 0 (with_places begun.names (map column_seen c)) l4 ≡ Ok (with_places names (map column_seen r), l5) → j ≡ r → all_labels_judged (map column_seen j) ≡ Err x
     → table_read w name quoted begun threads l4 ≡ Err x
 unfolding table_read
 table_labels_bad w l4 l5 name quoted begun threads c0 c r j names x n m e p f = grind (arith, rows_same)

@@ -1,13 +1,6 @@
 -- The registers that an initial state names are the machine's.
-use Rattle.std.proofs.Common.{◌≡◌, ◌+◌, ◌<◌, ◌≤◌, ℕ, Bool, List, [], ◌∷◌, length, Option, Some, None, Ok, subst, arith}
-use Rattle.std.specs.List.{position_from}
-use Rattle.relax_edges.specs.declared.kinds.Value.{Value}
 use Rattle.relax_edges.specs.declared.kinds.Value.TheVariants as values
-use Rattle.final_cond.specs.Conditions.{LeftSeen}
-use Rattle.arch_trait.specs.{PlaceNames.number_added, PlaceNames.names_added, Writing.Writing}
-use Rattle.text_parts_laws.specs.Blanks.{trim_blanks}
-use Rattle.litmus_text.specs.{Joined.Joined, TextLines.Lines, Runnable.AllNameRegisters}
-use Rattle.litmus_text.specs.InitialState.{Worth, a_number, a_place, InitialItem, empty, gives, zero_at, item_with, item_if, item_parts, some_item, item_of, Begun, with_value, address_begun, with_worth, item_put, item_read, items_read, Braced, braced_read, initial_line, initial_read}
+use Rattle.litmus_text.proofs.Vocabulary.{AllNameRegisters, Begun, Bool, Braced, InitialItem, Joined, LeftSeen, Lines, List, None, Ok, Option, Some, Value, Worth, Writing, [], a_number, a_place, address_begun, arith, braced_read, empty, gives, initial_line, initial_read, item_if, item_of, item_parts, item_put, item_read, item_with, items_read, length, names_added, number_added, position_from, some_item, subst, trim_blanks, with_value, with_worth, zero_at, ℕ, ◌+◌, ◌<◌, ◌∷◌, ◌≡◌, ◌≤◌}
 use Rattle.litmus_text.proofs.RunnableRead.{Gives, all_push}
 
 -- a position is within the list

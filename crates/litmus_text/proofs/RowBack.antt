@@ -1,26 +1,8 @@
 -- The rows of a printed table are read back.
-use Rattle.std.proofs.Common.{◌≡◌, ◌<◌, ◌≤◌, ◌+◌, ℕ, List, [], ◌∷◌, ◌++◌, Ok, true, false, cond, length, map, length-append, refl, sym, ap, ◌∙◌, arith, add-zero, zero-add}
-use Rattle.std.specs.Prelude.{Option, nat_lt, nat_le, is_some, count_by}
-use Rattle.std.specs.List.{list_all, AllByRecursion}
-use Rattle.std.proofs.lemmas.{Bool.lt-ltb, Bool.ltb-true, Bool.and_parts, List.Sums.sum_by-append, List.Sums.sum_by-cons, Simd.map-map}
-use Rattle.list_laws.proofs.Cases.{by_test}
-use Rattle.text_parts_laws.specs.{Names.is_place_name, ReadingSteps.◌>>=◌}
-use Rattle.text_parts_laws.proofs.NameLaws.{register_passes}
-use Rattle.micro_ops.specs.declared.operation.Micro.{Micro}
 use Rattle.micro_ops.specs.declared.operation.Micro.TheVariants as ops
-use Rattle.arch_trait.specs.{Threads.Puts, PlaceNames.number_in, PlaceNames.names_added, InstructionReading.instr_read, ByteLaws.place_in_cell}
-use Rattle.arch_trait.specs.{LabelOrder.is_next, LabelOrder.labels_after, LabelOrder.labels_in}
-use Rattle.arch_trait.specs.Writing.{Writing, WritesBack, op_text, op_name, is_well_named, label_name}
-use Rattle.arch_trait.proofs.Spelling.{instr_back}
-use Rattle.arch_trait.specs.Cells.{WritesCells, access_count, ends_rows, is_access, is_cell_byte, is_label_op}
-use Rattle.litmus_text.specs.{TextLines.Lines, TextLines.line, Placing.op_renumbered, Placing.mentioned, TablePlan.placed_from, TablePlan.label_table}
-use Rattle.litmus_text.specs.{TablePlan.column_so_far}
-use Rattle.litmus_text.specs.TestTable.{Column, Among, among, fits_in_column, cells_of}
-use Rattle.litmus_text.specs.TableScan.{instr_put, cell_read, row_read, before_columns, rows_scanned}
-use Rattle.litmus_text.specs.Progress.{RowProgress, progress, moved, advanced, column_at, mentioned_first, row_mentions, is_placed, OpFits, CodeFits}
-use Rattle.litmus_text.proofs.{LineBack.before, OpBack.numbers_back, OpBack.label_formed}
+use Rattle.litmus_text.proofs.Vocabulary.{AllByRecursion, CodeFits, Column, Lines, List, Micro, Ok, OpFits, Option, Puts, RowProgress, WithPlaces, WritesBack, WritesCells, Writing, [], access_count, add-zero, advanced, and_parts, ap, arith, before_columns, by_test, cell_read, cells_of, column_at, column_so_far, cond, count_by, ends_rows, false, fits_in_column, instr_back, instr_put, instr_read, is_access, is_cell_byte, is_label_op, is_next, is_place_name, is_placed, is_some, is_well_named, label_name, label_table, labels_after, labels_in, length, length-append, line, list_all, lt-ltb, ltb-true, map, map-map, mentioned, mentioned_first, moved, names_added, nat_le, nat_lt, number_in, op_name, op_renumbered, op_text, place_in_cell, placed_from, progress, refl, register_passes, row_mentions, row_read, rows_scanned, sum_by-append, sum_by-cons, sym, true, with_places, zero-add, ℕ, ◌++◌, ◌+◌, ◌<◌, ◌>>=◌, ◌∙◌, ◌∷◌, ◌≡◌, ◌≤◌}
+use Rattle.litmus_text.proofs.{LineBack.before, OpBack.numbers_back, OpBack.label_formed, CellBack.padded, CellBack.Begins, CellBack.empty_back, CellBack.plain_back, CellBack.label_back}
 use Rattle.litmus_text.proofs.NamesBack.{Within, within_self, within_trans, IsAmong, place_added}
-use Rattle.litmus_text.proofs.CellBack.{padded, Begins, empty_back, plain_back, label_back}
 
 -- what an operation names has its form
 pub named_op : (op : Micro) (table : List (List ℕ)) (names : ℕ → List ℕ) (count : ℕ) → is_placed table names op ≡ true → is_next count op ≡ true → is_well_named (op_name names op) ≡ true
@@ -100,7 +82,7 @@ op_put : (a : Puts) (w : Writing) (table final s : List (List ℕ)) (names : ℕ
     → WritesBack a w → OpFits a table names (labels_in 0 done) (access_count done) op → labels_in 0 done ≤ 64 → first + length done ≡ n
     → IsAmong s table → length table ≤ 64 → Within (mentioned names s op) final
     → instr_put n (column_so_far final names first done) (instr_read w (op_text w names op) s (label_table (labels_in 0 done)))
-    ≡ Ok (among (mentioned names s op) (column_so_far final names first (done ++ op ∷ [])))
+    ≡ Ok (with_places (mentioned names s op) (column_so_far final names first (done ++ op ∷ [])))
 op_put a w table final s names first n done op laws fits few at_line among_table short within =
     let named = named_op op table names (labels_in 0 done) fits.placed fits.next in
     let read = instr_back a w laws names op s (label_table (labels_in 0 done)) fits.has named
@@ -109,8 +91,8 @@ op_put a w table final s names first n done op laws fits few at_line among_table
     grind (arith, accesses_placed) in
     ap (instr_put n (column_so_far final names first done)) read
     ∙ rw room refl
-    ∙ ap (λ placed. Ok (among (mentioned names s op) (record { ops = placed; labels = label_table (labels_after (labels_in 0 done) op) }))) (placed_more final names first n done op at_line)
-    ∙ ap (λ count. Ok (among (mentioned names s op) (record { ops = placed_from final names first (done ++ op ∷ []); labels = label_table count }))) (sym (labels_more 0 done op))
+    ∙ ap (λ placed. Ok (with_places (mentioned names s op) (record { ops = placed; labels = label_table (labels_after (labels_in 0 done) op) }))) (placed_more final names first n done op at_line)
+    ∙ ap (λ count. Ok (with_places (mentioned names s op) (record { ops = placed_from final names first (done ++ op ∷ []); labels = label_table count }))) (sym (labels_more 0 done op))
 
 -- the text of the next operation, or nothing
 abbrev pub next_text : Writing → (ℕ → List ℕ) → List Micro → List ℕ
@@ -121,16 +103,16 @@ next_text w names (op ∷ left) = op_text w names op
 pub label_bytes : (label : ℕ) → label < 64 → list_all is_cell_byte (label_name label) ≡ true
 label_bytes label h = register_passes is_cell_byte place_in_cell (label_name label) (label_formed label h)
 
-labelled : (op : Micro) (a : Puts) (w : Writing) (names : ℕ → List ℕ) (count n k : ℕ) (s t : Among Column) → is_label_op op ≡ true → WritesCells a w → a.has op ≡ true
-    → is_next count op ≡ true → Begins (op_text w names op) → instr_put n s.value (instr_read w (op_text w names op) s.names s.value.labels) ≡ Ok t
+labelled : (op : Micro) (a : Puts) (w : Writing) (names : ℕ → List ℕ) (count n k : ℕ) (s t : WithPlaces Column) → is_label_op op ≡ true → WritesCells a w → a.has op ≡ true
+    → is_next count op ≡ true → Begins (op_text w names op) → instr_put n s.value (instr_read w (op_text w names op) s.places s.value.labels) ≡ Ok t
     → cell_read w n (padded k (op_text w names op)) s ≡ Ok t
 labelled (ops.Label label) a w names count n k s t e cells has next begins put =
     label_back w n k (label_name label) (op_text w names (ops.Label label)) s t (cells.labels names label has) begins
     (label_bytes label (ltb-true label 64 (and_parts (nat_le label count) (nat_lt label 64) next).1)) put
 labelled op a w names count n k s t e cells has next begins put = absurd (cc)
 
-op_cell : (a : Puts) (w : Writing) (names : ℕ → List ℕ) (op : Micro) (count n k : ℕ) (s t : Among Column) → WritesCells a w → a.has op ≡ true → is_well_named (op_name names op) ≡ true
-    → is_next count op ≡ true → Begins (op_text w names op) → instr_put n s.value (instr_read w (op_text w names op) s.names s.value.labels) ≡ Ok t
+op_cell : (a : Puts) (w : Writing) (names : ℕ → List ℕ) (op : Micro) (count n k : ℕ) (s t : WithPlaces Column) → WritesCells a w → a.has op ≡ true → is_well_named (op_name names op) ≡ true
+    → is_next count op ≡ true → Begins (op_text w names op) → instr_put n s.value (instr_read w (op_text w names op) s.places s.value.labels) ≡ Ok t
     → cell_read w n (padded k (op_text w names op)) s ≡ Ok t
 op_cell a w names op count n k s t cells has named next begins put =
     by_test (is_label_op op)
@@ -140,20 +122,20 @@ op_cell a w names op count n k s t cells has named next begins put =
 -- the cell of a thread is read as its next operation, or as nothing
 pub thread_back : (a : Puts) (w : Writing) (table final s : List (List ℕ)) (names : ℕ → List ℕ) (first n k : ℕ) (p : RowProgress)
     → WritesBack a w → WritesCells a w → IsReady a table names first n p → IsAmong s table → length table ≤ 64 → Within (mentioned_first names s p.left) final
-    → cell_read w n (padded k (next_text w names p.left)) (among s (column_at final names first p))
-    ≡ Ok (among (mentioned_first names s p.left) (column_at final names first (advanced p)))
+    → cell_read w n (padded k (next_text w names p.left)) (with_places s (column_at final names first p))
+    ≡ Ok (with_places (mentioned_first names s p.left) (column_at final names first (advanced p)))
 thread_back a w table final s names first n k p laws cells ready among_table short within = go p.done p.left ready.code ready.few ready.line within
   where
     go : (done left : List Micro) → CodeFits a table names (labels_in 0 done) (access_count done) left → labels_in 0 done ≤ 64 → (0 < length left → first + length done ≡ n)
         → Within (mentioned_first names s left) final
-        → cell_read w n (padded k (next_text w names left)) (among s (column_at final names first (progress done left)))
-        ≡ Ok (among (mentioned_first names s left) (column_at final names first (moved done left)))
-    go done [] fits few at_line within = empty_back w n k (among s (column_at final names first (progress done [])))
+        → cell_read w n (padded k (next_text w names left)) (with_places s (column_at final names first (progress done left)))
+        ≡ Ok (with_places (mentioned_first names s left) (column_at final names first (moved done left)))
+    go done [] fits few at_line within = empty_back w n k (with_places s (column_at final names first (progress done [])))
     go done (op ∷ left) fits few at_line within =
         grind (
           arith,
           (named_op op table names (labels_in 0 done) fits.0.placed fits.0.next),
-          (op_cell a w names op (labels_in 0 done) n k (among s (column_so_far final names first done)) (among (mentioned names s op) (column_so_far final names first (done ++ op ∷ []))) cells fits.0.has),
+          (op_cell a w names op (labels_in 0 done) n k (with_places s (column_so_far final names first done)) (with_places (mentioned names s op) (column_so_far final names first (done ++ op ∷ []))) cells fits.0.has),
           (op_put a w table final s names first n done op laws fits.0 few (at_line (omega arith)) among_table short within),
         )
 
@@ -167,14 +149,14 @@ AreCells w names _ _ = ⊥
 pub row_back : (a : Puts) (w : Writing) (table final : List (List ℕ)) (names : ℕ → List ℕ) (first n : ℕ) (cells : List (List ℕ)) (ps : List RowProgress) (s : List (List ℕ))
     → WritesBack a w → WritesCells a w → AreCells w names cells ps → AllByRecursion (IsReady a table names first n) ps → IsAmong s table → length table ≤ 64
     → Within (row_mentions names s ps) final
-    → row_read w n true cells s (map (column_at final names first) ps) ≡ Ok (among (row_mentions names s ps) (map (λ p. column_at final names first (advanced p)) ps))
+    → row_read w n true cells s (map (column_at final names first) ps) ≡ Ok (with_places (row_mentions names s ps) (map (λ p. column_at final names first (advanced p)) ps))
 unfolding row_read
 row_back a w table final names first n [] [] s laws spoken are ready among_table short within = refl
 row_back a w table final names first n [] (p ∷ ps) s laws spoken are ready among_table short within = absurd are
 row_back a w table final names first n (cell ∷ cells) [] s laws spoken are ready among_table short within = absurd are
 row_back a w table final names first n (cell ∷ cells) (p ∷ ps) s laws spoken are ready among_table short within =
     let here = row_within names (mentioned_first names s p.left) ps in
-    let read : cell_read w n cell (among s (column_at final names first p)) ≡ Ok (among (mentioned_first names s p.left) (column_at final names first (advanced p))) =
+    let read : cell_read w n cell (with_places s (column_at final names first p)) ≡ Ok (with_places (mentioned_first names s p.left) (column_at final names first (advanced p))) =
     grind (arith, thread_back, within_trans) in
     let others = row_back a w table final names first n cells ps (mentioned_first names s p.left) laws spoken are.1 ready.1 (first_among table names s p.left (labels_in 0 p.done) (access_count p.done) (ready.0.code) among_table short) short within in
     rw read (ap (λ o. o >>= λ others. Ok (before_columns (column_at final names first (advanced p)) others)) others)
@@ -248,8 +230,8 @@ pub rows_back : (a : Puts) (w : Writing) (table final : List (List ℕ)) (names 
     (m : ℕ) (last : List ℕ) (remainder : Lines) → rest (n + length texts) ≡ line m last remainder → ends_rows last ≡ true
     → WritesBack a w → WritesCells a w → AreRows w names texts ps → AllByRecursion (IsReady a table names first n) ps → IsAmong s table → length table ≤ 64
     → Within (rows_mention names s texts ps) final → k + length texts ≤ 1024
-    → rows_scanned w k (among s (map (column_at final names first) ps)) (before n texts rest)
-    ≡ Ok (among (rows_mention names s texts ps) (map (column_at final names first) (after_rows texts ps)), line m last remainder)
+    → rows_scanned w k (with_places s (map (column_at final names first) ps)) (before n texts rest)
+    ≡ Ok (with_places (rows_mention names s texts ps) (map (column_at final names first) (after_rows texts ps)), line m last remainder)
 unfolding rows_scanned
 rows_back a w table final names first n k [] ps s rest m last remainder at_rest ends laws spoken are ready among_table short within few =
     let here : rest n ≡ line m last remainder = ap rest (sym (add-zero n)) ∙ at_rest in
@@ -265,5 +247,5 @@ rows_back a w table final names first n k (text ∷ texts) ps s rest m last rema
     (all_advance a table names first n ps ready) (row_among a table names first n ps s ready among_table short) short within (omega arith) in
     rw (are.0.row, room, are.0.whole)
     (ap (λ r. r >>= λ next. rows_scanned w (k + 1) next (before (n + 1) texts rest)) row
-    ∙ ap (λ columns. rows_scanned w (k + 1) (among (row_mentions names s ps) columns) (before (n + 1) texts rest)) (sym (map-map (column_at final names first) advanced ps))
+    ∙ ap (λ columns. rows_scanned w (k + 1) (with_places (row_mentions names s ps) columns) (before (n + 1) texts rest)) (sym (map-map (column_at final names first) advanced ps))
     ∙ next)

@@ -1,23 +1,7 @@
 -- The rows that are read cell by cell are read as they are defined.
-use Rattle.std.specs.Prelude.{ℕ, zero, suc, ◌+◌, ◌==◌, ◌<◌, ◌≤◌, ◌≡◌, Bool, true, false, nat_lt}
-use Rattle.std.specs.Prelude.{List, [], ◌∷◌, ◌++◌, Option, Some, None, Result, Ok, Err, codes, length, map, take}
-use Rattle.std.specs.List.{AllByRecursion, flat_map, enumerate_from, range_with_len}
-use Rattle.std.proofs.Common.{refl, ap, sym, ◌∙◌, append_assoc, arith}
-use Rattle.std.proofs.{lemmas.Grind.flat_map-append, lemmas.List.append-nil, lemmas.Bool.ne_eqb, Math.Dec.eqb-suc-zero, Math.Dec.eqb-zero-suc}
-use Rattle.list_laws.proofs.Cases.{by_test}
-use Rattle.micro_ops.specs.declared.operation.Micro.{Micro}
-use Rattle.text_parts_laws.specs.{Blanks.trim_blanks, Cuts.cut_at, ReadingSteps.◌>>=◌, Words.is_nil}
-use Rattle.arch_trait.specs.{Cells.ends_rows, InstructionReading.read_numbered, InstructionReading.number_raw, InstructionReading.written_in}
-use Rattle.arch_trait.specs.{PlaceNames.names_added}
-use Rattle.arch_trait.specs.Writing.{Writing, Name, nothing, place, label, RawInstr, is_well_named}
-use Rattle.litmus_text.specs.declared.{errors.TestKind.TheVariants.BadInstruction, errors.TextError.TextError, limits.TheConstants.MAX_ROWS}
-use Rattle.litmus_text.specs.TextLines.{Lines, ends, line, bad}
-use Rattle.litmus_text.specs.TestTable.{cells_of, Column, no_column, no_columns, Among, among, fits_in_column, TableEntry, an_instr, a_fault}
-use Rattle.litmus_text.specs.TestTable.{entry_if, entry_in_line, entry_or_nothing, entries_if, cell_entries, row_entries, entries_in, with_before}
-use Rattle.litmus_text.specs.TestTable.{place_of, label_of, place_named, label_named, with_names, places_by, labels_by}
-use Rattle.litmus_text.specs.TestTable.{op_numbered, op_after, placed_in, op_in, column_by, over_in, fault_in}
-use Rattle.litmus_text.specs.TestTable.{unless, rows_read}
-use Rattle.litmus_text.specs.TableScan.{instr_put, instr_in, instr_or_nothing, cell_if, cell_read, before_columns, row_read, rows_scanned}
+use Rattle.std.proofs.lemmas.Grind.{flat_map-append}
+use Rattle.std.proofs.lemmas.List.{append-nil}
+use Rattle.litmus_text.proofs.Vocabulary.{AllByRecursion, BadTable, Bool, Column, Err, Lines, List, MAX_ROWS, Micro, Name, None, Ok, Option, RawInstr, Result, Some, TableEntry, TextError, WithPlaces, Writing, [], a_fault, an_instr, ap, append_assoc, arith, before_columns, by_test, cell_entries, cell_if, cell_read, cells_of, codes, column_by, cond, cut_at, ends, ends_rows, entries_if, entries_in, entry_if, entry_in_line, entry_or_nothing, enumerate_from, eqb-suc-zero, eqb-zero-suc, false, fault_in, fits_in_column, flat_map, instr_in, instr_or_nothing, instr_put, is_well_named, label, label_named, label_of, labels_by, length, line, map, names_added, nat_lt, ne_eqb, no_column, no_columns, nothing, number_raw, op_after, op_in, op_numbered, over_in, place, place_named, place_of, placed_in, places_by, range_with_len, read_numbered, refl, row_read, rows_read, rows_scanned, suc, sym, take, true, with_before, with_names, with_places, written_in, zero, ℕ, ◌&&◌, ◌++◌, ◌+◌, ◌<◌, ◌==◌, ◌>>=◌, ◌∙◌, ◌∷◌, ◌≡◌, ◌≤◌}
 
 -- the faults of entries, with those that come before them
 abbrev faults : List (List ℕ) → List TableEntry → List TableEntry → List TextError
@@ -28,14 +12,8 @@ abbrev stop : {A : Type 0} → List TextError → Result A TextError → Result 
 stop [] r = r
 stop (f ∷ fs) r = Err f
 
-stop_append : {A : Type 0} (fs gs : List TextError) (r : Result A TextError) → stop (fs ++ gs) r ≡ stop fs (stop gs r)
-stop_append fs gs r = grind arith
-
 stop_then : {A B : Type 0} (fs : List TextError) (r : Result A TextError) (f : A → Result B TextError) → (stop fs r >>= f) ≡ stop fs (r >>= f)
 stop_then fs r f = grind arith
-
-stop_unless : {A : Type 0} (fs : List TextError) (x : A) → stop fs (Ok x) ≡ unless fs x
-stop_unless fs x = grind arith
 
 before_append : {A : Type 0} (b xs ys : List A) → with_before b (xs ++ ys) ≡ with_before b xs ++ with_before (b ++ xs) ys
 before_append b [] ys = ap (λ c. with_before c ys) (sym (append-nil b))
@@ -71,31 +49,26 @@ same_number n = grind arith
 -- an operation that has its numbers is put in its column
 some_put : (n : ℕ) (c : Column) (op : Micro) (places labels : List (List ℕ))
     → instr_put n c (Ok (record { op = op; places = places; labels = labels }))
-    ≡ stop (over_in n c (Some op)) (Ok (among places (record { ops = c.ops ++ placed_in n (Some op); labels = labels })))
+    ≡ stop (over_in n c (Some op)) (Ok (with_places places (record { ops = c.ops ++ placed_in n (Some op); labels = labels })))
 some_put n c op places labels = by_test (fits_in_column c op) (λ t. rw t refl) (λ f. rw f refl)
 
 -- an operation whose name has its form is put in its column
 named_put : (n : ℕ) (places : List (List ℕ)) (c : Column) (op : Micro) (name : Name) → is_well_named name ≡ true
     → instr_put n c (read_numbered op name places c.labels) ≡ stop (over_in n c (op_numbered places c.labels op name))
-    (Ok (among (with_names places (place_of name))
+    (Ok (with_places (with_names places (place_of name))
     (record { ops = c.ops ++ placed_in n (op_numbered places c.labels op name); labels = with_names c.labels (label_of name) })))
 named_put n places c op nothing h = some_put n c op places c.labels
 named_put n places c op (place name) h = grind arith
 named_put n places c op (label name) h = grind arith
 
--- a name that hasn't its form is a fault
-unnamed_put : (n : ℕ) (places : List (List ℕ)) (c : Column) (op : Micro) (name : Name) → is_well_named name ≡ false
-    → instr_put n c (read_numbered op name places c.labels) ≡ bad BadInstruction n
-unnamed_put n places c op name h = grind arith
-
 -- the names of places and the column of a thread, by the entries of the table
-abbrev here : List (List ℕ) → ℕ → List TableEntry → Among Column
-here names t entries = among (places_by names entries) (column_by names t entries)
+abbrev here : List (List ℕ) → ℕ → List TableEntry → WithPlaces Column
+here names t entries = with_places (places_by names entries) (column_by names t entries)
 
 -- the same after an instruction more
 here_more : (names : List (List ℕ)) (n t : ℕ) (b : List TableEntry) (raw : RawInstr)
     → here names t (b ++ an_instr n t raw ∷ [])
-    ≡ among (with_names (places_by names b) (place_of raw.name)) (record {
+    ≡ with_places (with_names (places_by names b) (place_of raw.name)) (record {
       ops = (column_by names t b).ops ++ placed_in n (op_after names t b raw);
       labels = with_names (labels_by t b) (label_of raw.name);
     })
@@ -153,9 +126,6 @@ kept names u b xs h = search (arith, ops_append, labels_append, no_ops, no_label
 one_apart : (n t u : ℕ) (read : Option RawInstr) → (t == u) ≡ false → is_of u (entry_if n t read) ≡ false
 one_apart n t u read h = grind arith
 
-nothing_apart : (w : Writing) (n t u : ℕ) (text : List ℕ) → (t == u) ≡ false → Elsewhere u (entry_or_nothing w n t text)
-nothing_apart w n t u text h = by_test (is_nil (trim_blanks text)) (λ e. rw e tt) (λ e. rw e (one_apart n t u (w.raw (written_in text)) h, tt))
-
 cell_apart : (w : Writing) (n t u : ℕ) (text : List ℕ) → (t == u) ≡ false → Elsewhere u (cell_entries w n t text)
 unfolding cell_entries
 cell_apart w n t u text h = grind arith
@@ -166,7 +136,13 @@ cells_apart : (w : Writing) (n s u : ℕ) (cells : List (List ℕ)) → u < s
 cells_apart w n s u [] h = tt
 cells_apart w n s u (cell ∷ cells) h = grind (arith, (cells_apart w n (s + 1) u cells (omega arith)), (elsewhere_both u), (cell_apart w n s u))
 
-row_apart : (w : Writing) (n s u threads : ℕ) (whole : Bool) (cells : List (List ℕ)) → u < s → Elsewhere u (row_entries w n s threads whole cells)
+-- the entries of a row for so many threads from one on
+abbrev row_entries_from : Writing → ℕ → ℕ → ℕ → Bool → List (List ℕ) → List TableEntry
+row_entries_from w n thread threads whole cells =
+    flat_map (λ cell. cell_entries w n cell.0 cell.1) (enumerate_from thread (take threads cells))
+    ++ cond (whole && (length cells == threads)) [] (a_fault n BadTable ∷ [])
+
+row_apart : (w : Writing) (n s u threads : ℕ) (whole : Bool) (cells : List (List ℕ)) → u < s → Elsewhere u (row_entries_from w n s threads whole cells)
 row_apart w n s u threads whole cells h = grind (arith, (elsewhere_both u), (cells_apart w n s u (take threads cells) h))
 
 -- the names of places and the columns of threads from one on
@@ -179,16 +155,16 @@ columns_kept names b xs s zero h = refl
 columns_kept names b xs s (suc m) h = grind (arith, (columns_kept names b xs (s + 1) m), kept)
 
 -- what the row leaves
-abbrev after : List (List ℕ) → ℕ → ℕ → List TableEntry → Among (List Column)
-after names s m entries = among (places_by names entries) (columns_from names s m entries)
+abbrev after : List (List ℕ) → ℕ → ℕ → List TableEntry → WithPlaces (List Column)
+after names s m entries = with_places (places_by names entries) (columns_from names s m entries)
 
 row_more : (w : Writing) (n s m : ℕ) (whole : Bool) (cell : List ℕ) (cells : List (List ℕ))
-    → row_entries w n s (suc m) whole (cell ∷ cells) ≡ cell_entries w n s cell ++ row_entries w n (s + 1) m whole cells
+    → row_entries_from w n s (suc m) whole (cell ∷ cells) ≡ cell_entries w n s cell ++ row_entries_from w n (s + 1) m whole cells
 row_more w n s m whole cell cells = grind (arith, append_assoc)
 
 row_law : (w : Writing) (names : List (List ℕ)) (n s m : ℕ) (whole : Bool) (cells : List (List ℕ)) (b : List TableEntry)
     → row_read w n whole cells (places_by names b) (columns_from names s m b)
-    ≡ stop (faults names b (row_entries w n s m whole cells)) (Ok (after names s m (b ++ row_entries w n s m whole cells)))
+    ≡ stop (faults names b (row_entries_from w n s m whole cells)) (Ok (after names s m (b ++ row_entries_from w n s m whole cells)))
 unfolding row_read
 row_law w names n s zero true [] b = ap (λ es. Ok (after names s zero es)) (sym (append-nil b))
 row_law w names n s zero false [] b = refl
@@ -198,7 +174,7 @@ row_law w names n s (suc m) true [] b = rw (eqb-zero-suc m) refl
 row_law w names n s (suc m) false [] b = refl
 row_law w names n s (suc m) whole (cell ∷ cells) b =
     let xs = cell_entries w n s cell in
-    let ys = row_entries w n (s + 1) m whole cells in
+    let ys = row_entries_from w n (s + 1) m whole cells in
     let rest : (row_read w n whole cells (places_by names (b ++ xs)) (columns_from names (s + 1) m b)
     >>= λ others. Ok (before_columns (column_by names s (b ++ xs)) others))
     ≡ stop (faults names (b ++ xs) ys) (Ok (after names s (suc m) ((b ++ xs) ++ ys))) =
@@ -209,7 +185,7 @@ row_law w names n s (suc m) whole (cell ∷ cells) b =
     ∙ ap (λ c. stop (faults names (b ++ xs) ys) (Ok (before_columns c (after names (s + 1) m ((b ++ xs) ++ ys)))))
     (sym (kept names s (b ++ xs) ys (row_apart w n (s + 1) s m whole cells (omega arith)))) in
     chain names b xs ys (cell_read w n cell (here names s b)) (here names s) (after names s (suc m))
-    (λ read. row_read w n whole cells read.names (columns_from names (s + 1) m b) >>= λ others. Ok (before_columns read.value others))
+    (λ read. row_read w n whole cells read.places (columns_from names (s + 1) m b) >>= λ others. Ok (before_columns read.value others))
     (cell_law w names b n s cell) rest
     ∙ ap (λ es. stop (faults names b es) (Ok (after names s (suc m) (b ++ es)))) (sym (row_more w n s m whole cell cells))
 
@@ -223,7 +199,7 @@ rows_law w names threads k b (line n text rest) = by_test (ends_rows text)
     (λ e. rw e (by_test (nat_lt k MAX_ROWS)
     (λ i. rw i
     (let cells = cells_of text in
-    let xs = row_entries w n 0 threads cells.whole cells.texts in
+    let xs = row_entries_from w n 0 threads cells.whole cells.texts in
     let found = entries_in w threads (k + 1) rest in
     chain names b xs found.0 (row_read w n cells.whole cells.texts (places_by names b) (columns_from names 0 threads b)) (after names 0 threads)
     (λ es. (after names 0 threads es, found.1)) (λ next. rows_scanned w (k + 1) next rest)
@@ -236,6 +212,6 @@ columns_none names s (suc m) = ap (λ cs. no_column ∷ cs) (columns_none names 
 
 -- the rows, scanned from columns of which nothing was read, are read as they are defined
 pub rows_same : (w : Writing) (names : List (List ℕ)) (threads : ℕ) (ls : Lines)
-    → rows_read w names threads ls ≡ rows_scanned w 0 (among names (no_columns threads)) ls
+    → rows_read w names threads ls ≡ rows_scanned w 0 (with_places names (no_columns threads)) ls
 unfolding rows_read
 rows_same w names threads ls = grind (arith, (rows_law w names threads 0 [] ls), (columns_none names 0 threads))

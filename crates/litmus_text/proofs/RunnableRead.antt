@@ -1,25 +1,7 @@
 -- What is read can be run.
-use Rattle.std.proofs.Common.{◌≡◌, get_or, ◌+◌, ◌<◌, ◌≤◌, ◌==◌, ℕ, Bool, true, cond, List, [], ◌∷◌, ◌++◌, map, length, Option, Some, None, Result, Ok, Err, refl, sym, ap, ◌∙◌, subst, arith, length-append}
-use Rattle.std.specs.{Prelude.count_by, Prelude.nat_lt, List.AllByRecursion, List.filter}
-use Rattle.std.proofs.{lemmas.Bool.ltb-true, lemmas.List.length-map, Math.ListN.get_or-map, lemmas.List.Sums.sum_by-cons}
-use Rattle.std.proofs.{lemmas.List.Sums.sum_by_push}
-use Rattle.std.proofs.lemmas.List.Elements.{All-from_recursion, recursion_from_All, All-replicate, All-map, All-filter, All-get_or}
-use Rattle.list_laws.proofs.Cases.{by_test}
-use Rattle.relax_edges.specs.declared.kinds.Value.{Value}
-use Rattle.micro_ops.specs.declared.operation.Micro.{Micro}
-use Rattle.micro_ops.specs.Machines.{InRange}
-use Rattle.micro_ops.specs.Running.{is_load, lands, occurs, occurs_if, target}
-use Rattle.arch_trait.specs.declared.reading.InstrError.{InstrError}
+use Rattle.litmus_text.specs.declared.reading.table.Column.{Column as ThreadColumn}
 use Rattle.arch_trait.specs.declared.reading.InstrError.TheVariants as instrs
-use Rattle.arch_trait.specs.Cells.{is_access, ends_rows}
-use Rattle.arch_trait.specs.InstructionReading.{ReadInstr, with_label, read_numbered, number_raw, instr_read, written_in}
-use Rattle.arch_trait.specs.Writing.{Writing, Written, RawInstr, Name}
-use Rattle.litmus_text.specs.declared.{errors.TextError.TextError, reading.table.Placed.Placed, reading.table.Column.Column as ThreadColumn}
-use Rattle.text_parts_laws.specs.{Cuts.cut_at, ReadingSteps.◌>>=◌}
-use Rattle.litmus_text.specs.{TextLines.Lines, TextLines.ends, TextLines.line, TestReading.values_of_thread, Views.column_seen}
-use Rattle.litmus_text.specs.TestTable.{Column, no_column, no_columns, Among, among, fits_in_column, cells_of, is_label_row, comes_once, lands_among, labels_judged, all_labels_judged}
-use Rattle.litmus_text.specs.TableScan.{instr_put, instr_in, instr_or_nothing, cell_if, cell_read, row_read, rows_scanned}
-use Rattle.litmus_text.specs.Runnable.{IsRunnable, NamesRegisters, AllNameRegisters, ops_in, AllRunnable}
+use Rattle.litmus_text.proofs.Vocabulary.{All-filter, All-from_recursion, All-get_or, All-map, All-replicate, AllByRecursion, AllNameRegisters, AllRunnable, Bool, Column, Err, InRange, InstrError, IsRunnable, Lines, List, Micro, Name, NamesRegisters, None, Ok, Option, Placed, RawInstr, ReadInstr, Result, Some, TextError, Value, WithPlaces, Writing, Written, [], all_labels_judged, ap, arith, by_test, cell_if, cell_read, cells_of, column_seen, comes_once, cond, count_by, cut_at, ends, ends_rows, filter, fits_in_column, get_or, get_or-map, instr_in, instr_or_nothing, instr_put, instr_read, is_access, is_label_row, is_load, labels_judged, lands, lands_among, length, length-append, length-map, line, ltb-true, map, nat_lt, no_column, no_columns, number_raw, occurs, occurs_if, ops_in, read_numbered, recursion_from_All, refl, row_read, rows_scanned, subst, sum_by-cons, sum_by_push, sym, target, true, values_of_thread, with_label, with_places, written_in, ℕ, ◌++◌, ◌+◌, ◌<◌, ◌==◌, ◌>>=◌, ◌∙◌, ◌∷◌, ◌≡◌, ◌≤◌}
 use Rattle.litmus_text.proofs.ElementLaws.{all_weaker}
 
 -- what is read raw names registers of the machine
@@ -68,45 +50,45 @@ good_weaker m n placed h g = record { in_range = g.in_range; few = g.few; short 
 pushed_good : (m : ℕ) (column : Column) (p : Placed) → IsGood m column.ops → InRange p.op → fits_in_column column p.op ≡ true → IsGood (m + 1) (column.ops ++ p ∷ [])
 pushed_good m column p g r room = grind (arith, all_push, sum_by_push, length-append)
 
-put_good : (n m : ℕ) (column : Column) (read : Result ReadInstr InstrError) → IsGood m column.ops → Ranged read → Gives (λ (s : Among Column). IsGood (m + 1) s.value.ops) (instr_put n column read)
+put_good : (n m : ℕ) (column : Column) (read : Result ReadInstr InstrError) → IsGood m column.ops → Ranged read → Gives (λ (s : WithPlaces Column). IsGood (m + 1) s.value.ops) (instr_put n column read)
 put_good n m column (Ok read) g r = grind (arith, (pushed_good m column (record { op = read.op; at_line = n }) g r))
 put_good n m column (Err instrs.BadInstruction) g r = tt
 put_good n m column (Err instrs.TooManyPlaces) g r = tt
 put_good n m column (Err instrs.TooManyLabels) g r = tt
 
-instr_good : (w : Writing) (n m : ℕ) (text : List ℕ) (s : Among Column) → RawInRange w → IsGood m s.value.ops → Gives (λ (s : Among Column). IsGood (m + 1) s.value.ops) (instr_in w n text s)
+instr_good : (w : Writing) (n m : ℕ) (text : List ℕ) (s : WithPlaces Column) → RawInRange w → IsGood m s.value.ops → Gives (λ (s : WithPlaces Column). IsGood (m + 1) s.value.ops) (instr_in w n text s)
 unfolding instr_in
-instr_good w n m text s r g = put_good n m s.value (instr_read w text s.names s.value.labels) g (instr_ranged w text s.names s.value.labels r)
+instr_good w n m text s r g = put_good n m s.value (instr_read w text s.places s.value.labels) g (instr_ranged w text s.places s.value.labels r)
 
-or_nothing_good : (w : Writing) (n m : ℕ) (text : List ℕ) (s : Among Column) → RawInRange w → IsGood m s.value.ops → Gives (λ (s : Among Column). IsGood (m + 1) s.value.ops) (instr_or_nothing w n text s)
+or_nothing_good : (w : Writing) (n m : ℕ) (text : List ℕ) (s : WithPlaces Column) → RawInRange w → IsGood m s.value.ops → Gives (λ (s : WithPlaces Column). IsGood (m + 1) s.value.ops) (instr_or_nothing w n text s)
 or_nothing_good w n m text s r g = grind (arith, (instr_good w n m text s r g))
 
-cell_good : (w : Writing) (n m : ℕ) (text : List ℕ) (parts : Option (List ℕ × List ℕ)) (s : Among Column) → RawInRange w → IsGood m s.value.ops → Gives (λ (s : Among Column). IsGood (m + 1 + 1) s.value.ops) (cell_if w n text parts s)
+cell_good : (w : Writing) (n m : ℕ) (text : List ℕ) (parts : Option (List ℕ × List ℕ)) (s : WithPlaces Column) → RawInRange w → IsGood m s.value.ops → Gives (λ (s : WithPlaces Column). IsGood (m + 1 + 1) s.value.ops) (cell_if w n text parts s)
 cell_good w n m text None s r g = or_nothing_good w n (m + 1) text s r (good_weaker m (m + 1) s.value.ops (omega arith) g)
 cell_good w n m text (Some parts) s r g =
-    then_gives (λ (s : Among Column). IsGood (m + 1) s.value.ops) (λ (s : Among Column). IsGood (m + 1 + 1) s.value.ops) _ (instr_or_nothing w n parts.1)
+    then_gives (λ (s : WithPlaces Column). IsGood (m + 1) s.value.ops) (λ (s : WithPlaces Column). IsGood (m + 1 + 1) s.value.ops) _ (instr_or_nothing w n parts.1)
     (instr_good w n m _ s r g) (λ t h. or_nothing_good w n (m + 1) parts.1 t r h)
 
 abbrev AllGood : ℕ → List Column → Type 0
 AllGood m columns = AllByRecursion (λ (c : Column). IsGood m c.ops) columns
 
 row_good : (w : Writing) (n m : ℕ) (whole : Bool) (cells names : List (List ℕ)) (columns : List Column) → RawInRange w → AllGood m columns
-    → Gives (λ (s : Among (List Column)). AllGood (m + 1 + 1) s.value) (row_read w n whole cells names columns)
+    → Gives (λ (s : WithPlaces (List Column)). AllGood (m + 1 + 1) s.value) (row_read w n whole cells names columns)
 unfolding row_read cell_read
 row_good w n m whole (cell ∷ cells) names (column ∷ columns) r g =
-    grind (arith, (row_good w n m whole cells), (cell_good w n m cell (cut_at 58 cell) (among names column) r g.0))
+    grind (arith, (row_good w n m whole cells), (cell_good w n m cell (cut_at 58 cell) (with_places names column) r g.0))
 row_good w n m whole cells names columns r g = grind arith
 
-rows_good : (w : Writing) (k m : ℕ) (s : Among (List Column)) (ls : Lines) → RawInRange w → k ≤ 1024 → m ≡ k + k → AllGood m s.value
-    → Gives (λ (x : Among (List Column) × Lines). AllGood 2048 x.0.value) (rows_scanned w k s ls)
+rows_good : (w : Writing) (k m : ℕ) (s : WithPlaces (List Column)) (ls : Lines) → RawInRange w → k ≤ 1024 → m ≡ k + k → AllGood m s.value
+    → Gives (λ (x : WithPlaces (List Column) × Lines). AllGood 2048 x.0.value) (rows_scanned w k s ls)
 unfolding rows_scanned
 rows_good w k m s (ends n) r b e g = tt
 rows_good w k m s (line n text rest) r b e g = by_test (ends_rows text)
     (λ h. rw h (all_weaker (λ (c : Column). IsGood m c.ops) (λ (c : Column). IsGood 2048 c.ops) (λ c. good_weaker m 2048 c.ops (omega arith)) s.value g))
     (λ h. rw h (by_test (nat_lt k 1024)
     (λ i. let less : k < 1024 = ltb-true k 1024 i in
-    rw i (then_gives (λ (s : Among (List Column)). AllGood (m + 1 + 1) s.value) (λ (x : Among (List Column) × Lines). AllGood 2048 x.0.value) (row_read w n (cells_of text).whole (cells_of text).texts s.names s.value) _
-    (row_good w n m (cells_of text).whole (cells_of text).texts s.names s.value r g)
+    rw i (then_gives (λ (s : WithPlaces (List Column)). AllGood (m + 1 + 1) s.value) (λ (x : WithPlaces (List Column) × Lines). AllGood 2048 x.0.value) (row_read w n (cells_of text).whole (cells_of text).texts s.places s.value) _
+    (row_good w n m (cells_of text).whole (cells_of text).texts s.places s.value r g)
     (λ t j. rows_good w (k + 1) (m + 1 + 1) t rest r (omega arith) (omega arith) j)))
     (λ i. rw i tt)))
 
@@ -151,8 +133,8 @@ all_run [] g h = tt
 all_run (column ∷ columns) g h = grind (arith, (all_run columns g.1), (column_runs column g.0))
 
 -- the columns of a table that was read can be run
-pub columns_run : (w : Writing) (names : List (List ℕ)) (threads : ℕ) (columns : List Column) (s : Among (List Column)) (ls rest : Lines) → RawInRange w
-    → columns ≡ no_columns threads → rows_scanned w 0 (among names columns) ls ≡ Ok (s, rest) → all_labels_judged s.value ≡ Ok tt → AllRunnable s.value
+pub columns_run : (w : Writing) (names : List (List ℕ)) (threads : ℕ) (columns : List Column) (s : WithPlaces (List Column)) (ls rest : Lines) → RawInRange w
+    → columns ≡ no_columns threads → rows_scanned w 0 (with_places names columns) ls ≡ Ok (s, rest) → all_labels_judged s.value ≡ Ok tt → AllRunnable s.value
 columns_run w names threads columns s ls rest r e h j = grind (arith, no_columns_good, rows_good, all_run)
 
 -- the column of a thread can be run
@@ -172,6 +154,6 @@ registers_of thread values h =
 
 -- the columns of the code, after their table was read, can be run
 pub table_runs : (w : Writing) (l4 l5 : Lines) (before : List (List ℕ)) (threads : ℕ) (c0 c r j t : List ThreadColumn) (names : List (List ℕ)) → RawInRange w
-    → map column_seen c0 ≡ no_columns threads → c ≡ c0 → rows_scanned w 0 (among before (map column_seen c)) l4 ≡ Ok (among names (map column_seen r), l5) → j ≡ r → all_labels_judged (map column_seen j) ≡ Ok tt
+    → map column_seen c0 ≡ no_columns threads → c ≡ c0 → rows_scanned w 0 (with_places before (map column_seen c)) l4 ≡ Ok (with_places names (map column_seen r), l5) → j ≡ r → all_labels_judged (map column_seen j) ≡ Ok tt
     → t ≡ r → AllRunnable (map column_seen t)
 table_runs w l4 l5 before threads c0 c r j t names range n m e p f q = grind (arith, columns_run)

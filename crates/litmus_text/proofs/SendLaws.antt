@@ -1,14 +1,5 @@
 -- Laws of sending a text part by part, by way of a page.
-use Rattle.std.proofs.Common.{◌≡◌, ◌<◌, List, ℕ, [], ◌++◌, Ok, Err, refl, sym, ap, ◌∙◌, subst, append_assoc, append-nil}
-use Rattle.std.specs.Prelude.{Result, Option, Some, None}
-use Rattle.std.specs.Result.{IsErrAnd}
-use Rattle.std.proofs.Common.{length}
-use Rattle.diy_io.specs.declared.{errors.Failed.Failed, page.TheConstants.SPILL}
-use Rattle.diy_io.specs.{Wrote.SinkSeen, Wrote.WrotePart, Page.SentAll, Page.Sends}
-use Rattle.diy_io.specs.PageLaws.{sent_nothing, sent_line, sent_part, sent_part_more, sent_same}
-use Rattle.arch_trait.specs.{Writing.Writing, SeenTests.TestSeen}
-use Rattle.litmus_text.specs.declared.parts.{TextPart.TextPart, TextPart.TheVariants.Edges}
-use Rattle.litmus_text.specs.TextParts.{text_from, PutsPart}
+use Rattle.litmus_text.proofs.Vocabulary.{Edges, Err, Failed, IsErrAnd, List, None, Ok, Option, PutsPart, Result, SPILL, Sends, SentAll, SinkSeen, Some, TestSeen, TextPart, Writing, WrotePart, [], ap, append-nil, append_assoc, length, refl, sent_line, sent_nothing, sent_part, sent_part_more, sent_same, subst, sym, text_from, ℕ, ◌++◌, ◌<◌, ◌∙◌, ◌≡◌}
 
 abbrev Answer : Type 0
 Answer = Result (Unit {0}) Failed

@@ -1,20 +1,6 @@
 -- The printed rows are the rows of the threads.
-use Rattle.std.proofs.Common.{◌≡◌, ◌+◌, ◌-◌, ◌==◌, ℕ, zero, suc, List, [], ◌∷◌, ◌++◌, Some, true, false, cond, length, map, take, drop, get_or, refl, sym, ap, ◌∙◌, subst, arith, append_assoc, append-nil, add-zero, add-one, ◌⊎◌, inl, inr}
-use Rattle.std.specs.Prelude.{Bool, not, ◌||◌, codes}
-use Rattle.std.specs.List.{list_all, flat_map, join_by, AllByRecursion, enumerate_from, range_with_len}
-use Rattle.std.proofs.{Math.ListN.replicate, lemmas.List.replicate_more, lemmas.Bool.and_parts, lemmas.Bool.and_from}
-use Rattle.list_laws.proofs.{Elements.list_all-weaker, Cases.by_test}
-use Rattle.text_parts_laws.specs.{Blanks.is_blank, LeadingRuns.leading_run, LeadingRuns.after_run, Cuts.cut_at, Cuts.is_without}
-use Rattle.micro_ops.specs.declared.operation.Micro.{Micro}
-use Rattle.arch_trait.specs.{Threads.Puts, Threads.ThreadCode, LabelOrder.is_next, LabelOrder.labels_after}
-use Rattle.arch_trait.specs.Writing.{Writing, WritesBack, op_text, name_in}
-use Rattle.arch_trait.specs.Cells.{WritesCells, ends_rows, first_word, is_access, is_cell_byte, is_label_op, is_line_byte}
-use Rattle.litmus_text.specs.{TextCuts.pieces, TestTable.cells_if, TestTable.cells_of, Printable.is_row_byte, Progress.CodeFits, Progress.OpFits}
-use Rattle.litmus_text.specs.TestText.{column_of, columns_of, width_of, cell_text, row_line}
-use Rattle.litmus_text.specs.Progress.{RowProgress, progress, moved, advanced}
-use Rattle.litmus_text.proofs.{LineBack.IsLine, HeadBack.line_is, HeadBack.not_all_blank, CutBack.piece_back, CutBack.piece_last, CellBack.padded}
-use Rattle.litmus_text.proofs.{CellBack.Begins}
-use Rattle.text_parts_laws.proofs.{CutLaws.cut_back, CutLaws.all_both, CutLaws.without_class, BlankLaws.spaces_class, BlankLaws.unblanked_spaces}
+use Rattle.litmus_text.proofs.Vocabulary.{AllByRecursion, Bool, CodeFits, List, Micro, OpFits, Puts, RowProgress, Some, ThreadCode, WritesBack, WritesCells, Writing, [], add-one, add-zero, advanced, after_run, all_both, and_from, and_parts, ap, append-nil, append_assoc, arith, by_test, cell_text, cells_if, cells_of, codes, column_of, columns_of, cond, cut_at, cut_back, drop, ends_rows, enumerate_from, false, first_word, flat_map, get_or, inl, inr, is_access, is_blank, is_cell_byte, is_label_op, is_line_byte, is_next, is_row_byte, is_without, join_by, labels_after, leading_run, length, list_all, list_all-weaker, map, moved, name_in, not, op_text, pieces, progress, range_with_len, refl, replicate, replicate_more, row_line, spaces_class, subst, suc, sym, take, true, unblanked_spaces, width_of, without_class, zero, ℕ, ◌++◌, ◌+◌, ◌-◌, ◌==◌, ◌||◌, ◌∙◌, ◌∷◌, ◌≡◌, ◌⊎◌}
+use Rattle.litmus_text.proofs.{LineBack.IsLine, HeadBack.line_is, HeadBack.not_all_blank, CutBack.piece_back, CutBack.piece_last, CellBack.padded, CellBack.Begins}
 use Rattle.litmus_text.proofs.RowBack.{next_text, AreCells, IsRow, AreRows, after_rows, named_op, text_begins}
 
 -- the cells of a row, with a blank on both sides

@@ -1,15 +1,6 @@
 -- The columns and rows of the table.
-use Rattle.std.proofs.Common.{◌≡◌, ◌≤◌, ◌<◌, ◌+◌, ◌-◌, ℕ, zero, suc, List, [], ◌∷◌, ◌++◌, length, map, take, get_or, max, fold}
-use Rattle.std.proofs.Common.{add-one, inl, inr, refl, sym, ap, ◌∙◌, arith, append_assoc}
-use Rattle.std.specs.{Prelude.codes, Fmt.decimal}
-use Rattle.std.specs.List.{flat_map, join_by, enumerate_from, range_with_len}
-use Rattle.std.proofs.lemmas.List.{get_or-map, length-map, get_or_past, take_more, take_all, map-append}
-use Rattle.std.proofs.{lemmas.Bool.cases_lt, lemmas.List.Sums.fold_more, lemmas.List.Folds.flat_map-map, lemmas.List.FromFn.length-enumerate_from}
-use Rattle.std.proofs.{Math.ListN.replicate}
-use Rattle.micro_ops.specs.declared.operation.Micro.{Micro}
-use Rattle.arch_trait.specs.{Threads.ThreadCode, Writing.Writing, Writing.op_text, Writing.name_in, Codes.thread_code_of}
-use Rattle.arch_trait.specs.declared.code.Code.{Code}
-use Rattle.litmus_text.specs.TestText.{column_of, columns_of, width_of, cell_text, row_line, row_count, table_lines, with_line_feed}
+use Rattle.std.proofs.lemmas.List.{get_or-map}
+use Rattle.litmus_text.proofs.Vocabulary.{Code, List, Micro, ThreadCode, Writing, [], add-one, ap, append_assoc, arith, cases_lt, cell_text, codes, column_of, columns_of, decimal, enumerate_from, fold, fold_more, get_or, get_or_past, inl, inr, join_by, length, length-enumerate_from, length-map, map, map-append, max, name_in, op_text, refl, replicate, row_count, row_line, suc, sym, take, take_all, take_more, thread_code_of, width_of, with_line_feed, zero, ℕ, ◌++◌, ◌+◌, ◌-◌, ◌<◌, ◌∙◌, ◌∷◌, ◌≡◌, ◌≤◌}
 use Rattle.litmus_text.proofs.ElementLaws.{numbered_at}
 
 -- the first cell of a column is the header, made piece by piece
@@ -149,16 +140,3 @@ cell_is w places threads row i code cell width h is e f = rw (column_at w places
 pub row_is : (columns : List (List (List ℕ))) (row : ℕ) → codes " " ++ (join_by (cell_text row) (codes " | ") columns ++ codes " ;\n") ≡ with_line_feed (row_line columns row)
 unfolding row_line
 row_is columns row = ap (λ rest. 32 ∷ rest) (sym (append_assoc (join_by (cell_text row) (codes " | ") columns) (codes " ;") (codes "\n")))
-
--- the rows, as they are printed
-abbrev pub printed_row : List (List (List ℕ)) → ℕ → List ℕ
-printed_row columns row = with_line_feed (row_line columns row)
-
--- the rows as they are printed are the lines of the table
-pub table_is : (w : Writing) (places : List (List ℕ)) (threads : List Code) (rows : ℕ) → rows ≡ fold (λ count code. max count (length code.instrs.items + 1)) 0 threads
-    → flat_map (printed_row (columns_of w places (map thread_code_of threads))) (range_with_len 0 rows)
-    ≡ flat_map with_line_feed (table_lines (columns_of w places (map thread_code_of threads)))
-unfolding table_lines
-table_is w places threads rows e =
-    ap (λ n. flat_map (printed_row (columns_of w places (map thread_code_of threads))) (range_with_len 0 n)) (e ∙ rows_are w places threads)
-    ∙ sym (flat_map-map with_line_feed (row_line (columns_of w places (map thread_code_of threads))) (range_with_len 0 (row_count (columns_of w places (map thread_code_of threads)))))

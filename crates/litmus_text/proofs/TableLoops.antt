@@ -1,18 +1,7 @@
 -- Reading the table as loops do.
-use Rattle.std.proofs.Common.{◌≡◌, ◌+◌, ◌<◌, ◌≤◌, ℕ, Bool, true, false, List, [], ◌∷◌, ◌++◌, Result, Ok, Err, length, map, get_or, take, drop, refl, sym, ap, ◌∙◌, arith, add-one, append_assoc}
-use Rattle.std.specs.Prelude.{nat_lt, cond, codes, Some}
-use Rattle.std.proofs.{Math.ListN.set, Math.ListN.get_or-map, lemmas.Bool.lt-ltb, lemmas.Bool.le-ltb}
-use Rattle.std.proofs.Math.Seq.{drop-cons, take-length, drop-length, take-append-add}
-use Rattle.text_parts_laws.specs.{Cuts.cut_at, Cuts.CutParts, ReadingSteps.◌>>=◌}
-use Rattle.litmus_text.specs.Views.{column_seen}
-use Rattle.litmus_text.specs.declared.{reading.table.Column.Column as ThreadColumn, errors.TextError.TextError, errors.TestKind.TheVariants.BadTable}
-use Rattle.litmus_text.specs.declared.{errors.TestKind.TheVariants.TooLarge, errors.TestKind.TheVariants.EndMissing, limits.TheConstants.MAX_THREADS}
-use Rattle.litmus_text.specs.declared.{limits.TheConstants.MAX_ROWS}
-use Rattle.std.proofs.lemmas.List.{take_more_set, drop-set-lt, append-nil, map-set, length-map}
-use Rattle.arch_trait.specs.{Cells.ends_rows, Writing.Writing}
-use Rattle.litmus_text.specs.TextLines.{Lines, ends, line, bad}
-use Rattle.litmus_text.specs.TestTable.{Cells, cells_of, is_head, heads_read, Column, Among, among}
-use Rattle.litmus_text.specs.TableScan.{cell_read, instr_in, instr_or_nothing, before_columns, row_read, rows_scanned}
+use Rattle.litmus_text.specs.declared.reading.table.Column.{Column as ThreadColumn}
+use Rattle.std.proofs.lemmas.List.{append-nil}
+use Rattle.litmus_text.proofs.Vocabulary.{BadTable, Bool, Cells, Column, CutParts, EndMissing, Err, Lines, List, MAX_ROWS, MAX_THREADS, Ok, Result, Some, TextError, TooLarge, WithPlaces, Writing, [], add-one, ap, append_assoc, arith, bad, before_columns, cell_read, cells_of, codes, column_seen, cond, cut_at, drop, drop-cons, drop-length, drop-set-lt, ends, ends_rows, false, get_or, get_or-map, heads_read, instr_in, instr_or_nothing, is_head, le-ltb, length, length-map, line, lt-ltb, map, map-set, refl, row_read, rows_scanned, set, sym, take, take-append-add, take-length, take_more_set, true, with_places, ℕ, ◌++◌, ◌+◌, ◌<◌, ◌>>=◌, ◌∙◌, ◌∷◌, ◌≡◌, ◌≤◌}
 
 -- where no cell of the header is left, the threads are counted
 pub heads_end : (n k : ℕ) (whole : Bool) (ps : List (List ℕ)) → ps ≡ [] → heads_read n whole k ps ≡ cond whole (Ok k) (bad BadTable n)
@@ -25,35 +14,35 @@ unfolding heads_read
 heads_bad n k whole ps cell rest e h = rw (e, h) refl
 
 -- a cell of one thread too many is too large
-pub heads_full : (n k : ℕ) (whole : Bool) (ps : List (List ℕ)) (cell : List ℕ) (rest : List (List ℕ)) → ps ≡ cell ∷ rest → is_head k cell ≡ true → nat_lt k MAX_THREADS ≡ false
+pub heads_full : (n k : ℕ) (whole : Bool) (ps : List (List ℕ)) (cell : List ℕ) (rest : List (List ℕ)) → ps ≡ cell ∷ rest → is_head k cell ≡ true → MAX_THREADS ≤ k
     → heads_read n whole k ps ≡ bad TooLarge n
 unfolding heads_read
-heads_full n k whole ps cell rest e h f = rw (e, h, f) refl
+heads_full n k whole ps cell rest e h f = rw (e, h, le-ltb k MAX_THREADS f) refl
 
 -- after the cell of the next thread the others are read
-pub heads_more : (n k : ℕ) (whole : Bool) (ps : List (List ℕ)) (cell : List ℕ) (rest : List (List ℕ)) → ps ≡ cell ∷ rest → is_head k cell ≡ true → nat_lt k MAX_THREADS ≡ true
+pub heads_more : (n k : ℕ) (whole : Bool) (ps : List (List ℕ)) (cell : List ℕ) (rest : List (List ℕ)) → ps ≡ cell ∷ rest → is_head k cell ≡ true → k < MAX_THREADS
     → heads_read n whole (k + 1) rest ≡ heads_read n whole k ps
 unfolding heads_read
-heads_more n k whole ps cell rest e h f = rw (e, h, f) refl
+heads_more n k whole ps cell rest e h f = rw (e, h, lt-ltb k MAX_THREADS f) refl
 
 -- the columns that were read before others
-abbrev pub carried : List Column → Result (Among (List Column)) TextError → Result (Among (List Column)) TextError
-carried prefix (Ok s) = Ok (among s.names (prefix ++ s.value))
+abbrev pub carried : List Column → Result (WithPlaces (List Column)) TextError → Result (WithPlaces (List Column)) TextError
+carried prefix (Ok s) = Ok (with_places s.places (prefix ++ s.value))
 carried prefix (Err e) = Err e
 
-carried_more : (prefix : List Column) (column : Column) (r : Result (Among (List Column)) TextError) → carried (prefix ++ column ∷ []) r ≡ carried prefix (r >>= λ s. Ok (before_columns column s))
+carried_more : (prefix : List Column) (column : Column) (r : Result (WithPlaces (List Column)) TextError) → carried (prefix ++ column ∷ []) r ≡ carried prefix (r >>= λ s. Ok (before_columns column s))
 carried_more prefix column (x) = grind (arith, append_assoc)
 
 -- after a cell of a row the next cells are read
 pub row_more : (w : Writing) (n : ℕ) (whole : Bool) (ps rest : List (List ℕ)) (cell : List ℕ) (names names' : List (List ℕ)) (cs : List Column) (i : ℕ) (d c' : Column) → i < length cs → ps ≡ cell ∷ rest
-    → cell_read w n cell (among names (get_or cs i d)) ≡ Ok (among names' c')
+    → cell_read w n cell (with_places names (get_or cs i d)) ≡ Ok (with_places names' c')
     → carried (take (i + 1) (set cs i c')) (row_read w n whole rest names' (drop (i + 1) (set cs i c'))) ≡ carried (take i cs) (row_read w n whole ps names (drop i cs))
 unfolding row_read
 row_more w n whole ps rest cell names names' cs i d c' inside e h = grind (arith, take_more_set, drop-set-lt, drop-cons, carried_more)
 
 -- where a cell of a row is faulty, the row is
 pub row_fails : (w : Writing) (n : ℕ) (whole : Bool) (ps rest : List (List ℕ)) (cell : List ℕ) (names : List (List ℕ)) (cs prefix : List Column) (i : ℕ) (d : Column) (f : TextError) → i < length cs → ps ≡ cell ∷ rest
-    → cell_read w n cell (among names (get_or cs i d)) ≡ Err f → carried prefix (row_read w n whole ps names (drop i cs)) ≡ Err f
+    → cell_read w n cell (with_places names (get_or cs i d)) ≡ Err f → carried prefix (row_read w n whole ps names (drop i cs)) ≡ Err f
 unfolding row_read
 row_fails w n whole ps rest cell names cs prefix i d f inside e h = grind (arith, drop-cons)
 
@@ -66,8 +55,8 @@ row_short w n whole ps names cs prefix i d inside e =
     rw (s, e) refl
 
 -- where no column is left and the row ends, the columns are read
-pub row_ends : (w : Writing) (n : ℕ) (whole : Bool) (ps : List (List ℕ)) (names : List (List ℕ)) (cs : List Column) (i : ℕ) → i ≡ length cs → row_read w n whole ps names [] ≡ Ok (among names [])
-    → carried (take i cs) (row_read w n whole ps names (drop i cs)) ≡ Ok (among names cs)
+pub row_ends : (w : Writing) (n : ℕ) (whole : Bool) (ps : List (List ℕ)) (names : List (List ℕ)) (cs : List Column) (i : ℕ) → i ≡ length cs → row_read w n whole ps names [] ≡ Ok (with_places names [])
+    → carried (take i cs) (row_read w n whole ps names (drop i cs)) ≡ Ok (with_places names cs)
 row_ends w n whole ps names cs i end e = grind (arith, drop-length, append-nil, take-length)
 
 -- where no column is left and the row doesn't end, the row is faulty
@@ -77,65 +66,57 @@ row_ends_bad w n whole ps names cs prefix i f end e = let s : drop i cs ≡ [] =
 
 -- after a cell of a row the next cells are read, by columns of the code
 pub row_step : (w : Writing) (n : ℕ) (whole : Bool) (ps rest : List (List ℕ)) (cell : List ℕ) (names names' : List (List ℕ)) (xs : List ThreadColumn) (i : ℕ) (d y : ThreadColumn) → i < length xs → ps ≡ cell ∷ rest
-    → cell_read w n cell (among names (column_seen (get_or xs i d))) ≡ Ok (among names' (column_seen y))
+    → cell_read w n cell (with_places names (column_seen (get_or xs i d))) ≡ Ok (with_places names' (column_seen y))
     → carried (take (i + 1) (map column_seen (set xs i y))) (row_read w n whole rest names' (drop (i + 1) (map column_seen (set xs i y)))) ≡ carried (take i (map column_seen xs)) (row_read w n whole ps names (drop i (map column_seen xs)))
 row_step w n whole ps rest cell names names' xs i d y inside e h =
     let k : i < length (map column_seen xs) = rw length-map inside in
     let g : get_or (map column_seen xs) i (column_seen d) ≡ column_seen (get_or xs i d) = get_or-map column_seen xs i d in
-    let h' : cell_read w n cell (among names (get_or (map column_seen xs) i (column_seen d))) ≡ Ok (among names' (column_seen y)) = rw g h in
+    let h' : cell_read w n cell (with_places names (get_or (map column_seen xs) i (column_seen d))) ≡ Ok (with_places names' (column_seen y)) = rw g h in
     let m : map column_seen (set xs i y) ≡ set (map column_seen xs) i (column_seen y) = map-set column_seen xs i y in
     rw m (row_more w n whole ps rest cell names names' (map column_seen xs) i (column_seen d) (column_seen y) k e h')
 
 -- where a cell of a row is faulty, the row is, by columns of the code
 pub row_stops : (w : Writing) (n : ℕ) (whole : Bool) (ps rest : List (List ℕ)) (cell : List ℕ) (names : List (List ℕ)) (xs : List ThreadColumn) (prefix : List Column) (i : ℕ) (d : ThreadColumn) (f : TextError) → i < length xs → ps ≡ cell ∷ rest
-    → cell_read w n cell (among names (column_seen (get_or xs i d))) ≡ Err f → carried prefix (row_read w n whole ps names (drop i (map column_seen xs))) ≡ Err f
+    → cell_read w n cell (with_places names (column_seen (get_or xs i d))) ≡ Err f → carried prefix (row_read w n whole ps names (drop i (map column_seen xs))) ≡ Err f
 row_stops w n whole ps rest cell names xs prefix i d f inside e h =
     let k : i < length (map column_seen xs) = rw length-map inside in
     let g : get_or (map column_seen xs) i (column_seen d) ≡ column_seen (get_or xs i d) = get_or-map column_seen xs i d in
-    let h' : cell_read w n cell (among names (get_or (map column_seen xs) i (column_seen d))) ≡ Err f = rw g h in
+    let h' : cell_read w n cell (with_places names (get_or (map column_seen xs) i (column_seen d))) ≡ Err f = rw g h in
     row_fails w n whole ps rest cell names (map column_seen xs) prefix i (column_seen d) f k e h'
 
 -- where no line is left, the end of the rows is missing
-pub rows_missing : (w : Writing) (k n : ℕ) (s : Among (List Column)) (ls : Lines) → ends n ≡ ls → rows_scanned w k s ls ≡ bad EndMissing n
+pub rows_missing : (w : Writing) (k n : ℕ) (s : WithPlaces (List Column)) (ls : Lines) → ends n ≡ ls → rows_scanned w k s ls ≡ bad EndMissing n
 unfolding rows_scanned
 rows_missing w k n s ls e = rw (sym e) refl
 
 -- a line that ends the rows ends them
-pub rows_stop : (w : Writing) (k n : ℕ) (s : Among (List Column)) (ls rest : Lines) (text : List ℕ) → line n text rest ≡ ls → ends_rows text ≡ true → rows_scanned w k s ls ≡ Ok (s, ls)
+pub rows_stop : (w : Writing) (k n : ℕ) (s : WithPlaces (List Column)) (ls rest : Lines) (text : List ℕ) → line n text rest ≡ ls → ends_rows text ≡ true → rows_scanned w k s ls ≡ Ok (s, ls)
 unfolding rows_scanned
 rows_stop w k n s ls rest text e h = rw (sym e, h) refl
 
 -- one row too many is too large
-pub rows_full : (w : Writing) (k n : ℕ) (s : Among (List Column)) (ls rest : Lines) (text : List ℕ) → line n text rest ≡ ls → ends_rows text ≡ false → nat_lt k MAX_ROWS ≡ false → rows_scanned w k s ls ≡ bad TooLarge n
+pub rows_full : (w : Writing) (k n : ℕ) (s : WithPlaces (List Column)) (ls rest : Lines) (text : List ℕ) → line n text rest ≡ ls → ends_rows text ≡ false → MAX_ROWS ≤ k → rows_scanned w k s ls ≡ bad TooLarge n
 unfolding rows_scanned
-rows_full w k n s ls rest text e h f = rw (sym e, h, f) refl
+rows_full w k n s ls rest text e h f = rw (sym e, h, le-ltb k MAX_ROWS f) refl
 
 -- where a row is faulty, the rows are
-pub rows_fail : (w : Writing) (k n : ℕ) (s : Among (List Column)) (ls rest : Lines) (text : List ℕ) (cells : Cells) (f : TextError) → line n text rest ≡ ls → ends_rows text ≡ false → nat_lt k MAX_ROWS ≡ true → cells ≡ cells_of text
-    → row_read w n cells.whole cells.texts s.names s.value ≡ Err f → rows_scanned w k s ls ≡ Err f
+pub rows_fail : (w : Writing) (k n : ℕ) (s : WithPlaces (List Column)) (ls rest : Lines) (text : List ℕ) (cells : Cells) (f : TextError) → line n text rest ≡ ls → ends_rows text ≡ false → k < MAX_ROWS → cells ≡ cells_of text
+    → row_read w n cells.whole cells.texts s.places s.value ≡ Err f → rows_scanned w k s ls ≡ Err f
 unfolding rows_scanned
-rows_fail w k n s ls rest text cells f e h g same r = rw (sym e, h, g, sym same, r) refl
+rows_fail w k n s ls rest text cells f e h g same r = rw (sym e, h, lt-ltb k MAX_ROWS g, sym same, r) refl
 
 -- after a row the next rows are read
-pub rows_more : (w : Writing) (k n : ℕ) (s s' : Among (List Column)) (ls rest : Lines) (text : List ℕ) (cells : Cells) → line n text rest ≡ ls → ends_rows text ≡ false → nat_lt k MAX_ROWS ≡ true → cells ≡ cells_of text
-    → row_read w n cells.whole cells.texts s.names s.value ≡ Ok s' → rows_scanned w (k + 1) s' rest ≡ rows_scanned w k s ls
+pub rows_more : (w : Writing) (k n : ℕ) (s s' : WithPlaces (List Column)) (ls rest : Lines) (text : List ℕ) (cells : Cells) → line n text rest ≡ ls → ends_rows text ≡ false → k < MAX_ROWS → cells ≡ cells_of text
+    → row_read w n cells.whole cells.texts s.places s.value ≡ Ok s' → rows_scanned w (k + 1) s' rest ≡ rows_scanned w k s ls
 unfolding rows_scanned
-rows_more w k n s s' ls rest text cells e h g same r = rw (sym e, h, g, sym same, r) refl
-
--- a number below another passes the test
-pub below_is : (a b : ℕ) → a < b → nat_lt a b ≡ true
-below_is = lt-ltb
-
--- a number that isn't below another fails the test
-pub not_below_is : (a b : ℕ) → b ≤ a → nat_lt a b ≡ false
-not_below_is = le-ltb
+rows_more w k n s s' ls rest text cells e h g same r = rw (sym e, h, lt-ltb k MAX_ROWS g, sym same, r) refl
 
 -- the text up to the colon of a label
 pub label_prefix : (text prefix remainder : List ℕ) → CutParts 58 text prefix remainder → take (length prefix + 1) text ≡ prefix ++ codes ":"
 label_prefix text prefix remainder p = ap (take (length prefix + 1)) p.parts ∙ take-append-add prefix (58 ∷ remainder) 1
 
 -- a cell that begins with a label is read as the label, and then as what comes after it
-pub cell_labelled : (w : Writing) (n : ℕ) (text prefix remainder : List ℕ) (s s' : Among Column) → Some (prefix, remainder) ≡ cut_at 58 text → CutParts 58 text prefix remainder
+pub cell_labelled : (w : Writing) (n : ℕ) (text prefix remainder : List ℕ) (s s' : WithPlaces Column) → Some (prefix, remainder) ≡ cut_at 58 text → CutParts 58 text prefix remainder
     → instr_in w n (take (length prefix + 1) text) s ≡ Ok s' → cell_read w n text s ≡ instr_or_nothing w n remainder s'
 unfolding cell_read
 cell_labelled w n text prefix remainder s s' e p h = grind (arith, label_prefix)

@@ -1,22 +1,11 @@
 -- Reading the terms of a condition as a loop does.
-use Rattle.std.proofs.Common.{◌≡◌, ◌+◌, ◌<◌, ℕ, zero, suc, List, [], ◌∷◌, ◌++◌, Result, Ok, Err, arith, append_assoc}
-use Rattle.final_cond.specs.declared.read.Follow.{Follow}
 use Rattle.final_cond.specs.declared.read.Follow.TheVariants as follows
-use Rattle.final_cond.specs.{Conditions.TermSeen, ConditionReading.Fault, ConditionReading.follow_read}
-use Rattle.arch_trait.specs.Writing.{Writing}
-use Rattle.litmus_text.specs.declared.errors.{TextError.TextError, TestKind.TheVariants.BadCondition, TestKind.TheVariants.TooLarge}
-use Rattle.litmus_text.specs.{TextLines.bad, Condition.Setting}
-use Rattle.text_parts_laws.specs.ReadingSteps.{◌>>=◌}
-use Rattle.litmus_text.specs.ConditionScan.{Mentioned, TermRead, TermsRead, before_read, term_here, terms_here}
+use Rattle.litmus_text.proofs.Vocabulary.{BadCondition, Err, Fault, Follow, List, Mentioned, Ok, Result, Setting, TermRead, TermSeen, TermsRead, TextError, TooLarge, Writing, [], append_assoc, arith, bad, before_read, follow_read, suc, term_here, terms_here, zero, ℕ, ◌++◌, ◌+◌, ◌<◌, ◌>>=◌, ◌∷◌, ◌≡◌}
 
 -- the terms that were read before others
 abbrev pub remainder : List TermSeen → Result TermsRead TextError → Result TermsRead TextError
 remainder prefix (Ok r) = Ok (record r { terms = prefix ++ r.terms })
 remainder prefix (Err e) = Err e
-
--- where no term was read before, what is read is as it was
-pub nothing_after : (r : Result TermsRead TextError) → remainder [] r ≡ r
-nothing_after (x) = grind arith
 
 after_more : (prefix : List TermSeen) (t : TermSeen) (r : Result TermsRead TextError) → remainder (prefix ++ t ∷ []) r ≡ remainder prefix (r >>= λ others. Ok (before_read t others))
 after_more prefix t (x) = grind (arith, append_assoc)

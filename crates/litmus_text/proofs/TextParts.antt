@@ -1,16 +1,6 @@
 -- What a part of a text is that is appended to a page.
-use Rattle.std.proofs.Common.{◌≡◌, ◌≤◌, ◌<◌, ◌+◌, ◌-◌, ℕ, List, [], ◌∷◌, ◌++◌, length, length-append, drop, get_or, map, refl, sym, ap, arith, append_assoc}
-use Rattle.std.specs.{Prelude.codes, Prelude.Some, Prelude.None, List.flat_map, List.enumerate_from, List.range_with_len}
-use Rattle.std.proofs.lemmas.List.{length-map, get_or-map, drop_more, drop_all}
-use Rattle.std.proofs.lemmas.List.FromFn.{length-enumerate_from, length-range_with_len, get_or-range_with_len}
-use Rattle.diy_io.specs.declared.page.TheConstants.{LINE_ROOM}
-use Rattle.diy_io.specs.{Page.page_after, PageLaws.page_nothing, PageLaws.page_more}
-use Rattle.arch_trait.specs.{Codes.thread_code_of, Threads.ThreadCode, Writing.Writing, SeenTests.TestSeen}
-use Rattle.arch_trait.specs.declared.code.Code.{Code}
-use Rattle.final_cond.specs.CondText.{cond_text}
-use Rattle.litmus_text.specs.declared.parts.{TextPart.TextPart, TextPart.TheVariants.Edges, TextPart.TheVariants.Items, TextPart.TheVariants.Row}
-use Rattle.litmus_text.specs.TestText.{edges_line, items_lines, initial_lines, columns_of, row_line, row_count, table_lines, with_line_feed}
-use Rattle.litmus_text.specs.TextParts.{rows_from, part_lines, text_from, parts_left, PutsPart}
+use Rattle.std.proofs.lemmas.List.{get_or-map}
+use Rattle.litmus_text.proofs.Vocabulary.{Code, Edges, Items, LINE_ROOM, List, None, PutsPart, Row, Some, TestSeen, TextPart, ThreadCode, Writing, [], ap, append_assoc, arith, codes, columns_of, cond_text, drop, drop_all, drop_more, edges_line, enumerate_from, flat_map, get_or, get_or-range_with_len, initial_lines, items_lines, length, length-append, length-enumerate_from, length-map, length-range_with_len, map, page_after, page_more, page_nothing, part_lines, parts_left, range_with_len, refl, row_count, row_line, rows_from, sym, table_lines, text_from, thread_code_of, with_line_feed, ℕ, ◌++◌, ◌+◌, ◌-◌, ◌<◌, ◌∷◌, ◌≡◌, ◌≤◌}
 use Rattle.litmus_text.proofs.{ElementLaws.numbered_at, InitialLaws.printed_items}
 
 -- the edges and the opening brace

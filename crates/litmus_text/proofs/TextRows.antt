@@ -1,19 +1,8 @@
 -- Texts of tests, computed.
-use Rattle.std.proofs.Common.{◌≡◌, ℕ, List, [], ◌∷◌, ◌++◌, Some, None, refl}
-use Rattle.std.specs.{Prelude.codes, List.flat_map, Fmt.decimal, Fmt.digits}
-use Rattle.relax_edges.specs.declared.kinds.{ArchName.TheVariants.X86, ArchName.TheVariants.PPC, Sd.TheVariants.Diff, Com.TheVariants.Rf}
-use Rattle.relax_edges.specs.declared.kinds.{Com.TheVariants.Fr, Com.TheVariants.Ws, Reach.TheVariants.External, FenceKind.TheVariants.LwSync}
-use Rattle.relax_edges.specs.declared.kinds.{DepKind.TheVariants.Addr}
 use Rattle.relax_edges.specs.declared.kinds.Dir.TheVariants as dirs
 use Rattle.relax_edges.specs.declared.edge.Edge.TheVariants as edges
-use Rattle.micro_ops.specs.declared.operation.{Micro.Micro, Barrier.TheVariants.Fence}
 use Rattle.micro_ops.specs.declared.operation.Micro.TheVariants as ops
-use Rattle.arch_trait.specs.{Threads.ThreadCode, SeenTests.TestSeen}
-use Rattle.arch_trait.specs.Writing.{Writing, Written, none, two, three, bracketed, name_in}
-use Rattle.final_cond.specs.declared.cond.Quantifier.TheVariants.{Exists}
-use Rattle.final_cond.specs.Conditions.{LeftSeen, InRegister, AtPlace, TermSeen, CondSeen}
-use Rattle.final_cond.specs.CondText.{left_text, term_text, cond_text}
-use Rattle.litmus_text.specs.TestText.{header_line, edges_line, item_text, initial_lines, column_of, width_of, cell_text, row_line, row_count, table_lines, test_lines, test_text}
+use Rattle.litmus_text.proofs.Vocabulary.{Addr, AtPlace, CondSeen, Diff, Exists, External, Fence, Fr, InRegister, LeftSeen, List, LwSync, Micro, None, PPC, Rf, Some, TermSeen, TestSeen, ThreadCode, Writing, Written, Ws, X86, [], bracketed, cell_text, codes, column_of, cond_text, decimal, digits, edges_line, flat_map, header_line, initial_lines, item_text, left_text, name_in, none, refl, row_count, row_line, table_lines, term_text, test_lines, test_text, three, two, width_of, ℕ, ◌++◌, ◌∷◌, ◌≡◌}
 
 x86_registers : List (List ℕ)
 x86_registers = codes "EAX" ∷ codes "EBX" ∷ []

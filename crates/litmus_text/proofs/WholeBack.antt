@@ -1,31 +1,13 @@
 -- A printed test reads back.
-use Rattle.std.proofs.Common.{◌≡◌, ◌<◌, ◌≤◌, ◌+◌, ◌==◌, ℕ, suc, List, [], ◌∷◌, ◌++◌, Some, Ok, true, false, length, map, max, drop, fold, refl, ap, ◌∙◌, arith, append-nil}
-use Rattle.std.specs.Prelude.{Option, codes}
-use Rattle.std.specs.List.{join_by, AllByRecursion, enumerate_from, range_with_len}
-use Rattle.std.proofs.lemmas.{List.length-map, List.take_all, List.FromFn.length-range_with_len}
-use Rattle.list_laws.proofs.Elements.{all_append}
-use Rattle.relax_edges.specs.declared.{kinds.ArchName.ArchName, kinds.Value.Value, edge.Edge.Edge}
 use Rattle.relax_edges.specs.declared.kinds.Value.TheVariants as values
-use Rattle.final_cond.specs.{Conditions.CondSeen, CondText.cond_text}
-use Rattle.relax_edges.specs.WordParts.{word_of}
-use Rattle.micro_ops.specs.declared.operation.Micro.{Micro}
-use Rattle.arch_trait.specs.{Threads.Puts, Threads.ThreadCode, Cells.WritesCells, SeenTests.TestSeen}
-use Rattle.arch_trait.specs.Writing.{Writing, WritesBack, op_text, name_in}
-use Rattle.litmus_text.specs.{TextLines.Lines, TextLines.ends, TextLines.line, Header.header_read, Header.quote_read, Header.after_settings}
-use Rattle.litmus_text.specs.{InitialState.Begun, InitialState.initial_read, TableScan.rows_scanned, Condition.condition_read, Placing.place_in}
-use Rattle.litmus_text.specs.{Placing.op_renumbered, TablePlan.placed_from, TablePlan.column_so_far, Progress.CodeFits, Progress.code_lands}
-use Rattle.litmus_text.specs.{Progress.column_at, ReadTerms.terms_mention, Reread.thread_reread, Reread.reread, Reread.IsReadable}
-use Rattle.litmus_text.specs.TestTable.{Column, among, head_read, all_labels_judged, no_columns, after_locations}
-use Rattle.litmus_text.specs.TestReading.{ThreadRead, values_of_thread, threads_of, lines_read, test_read}
-use Rattle.litmus_text.specs.TestText.{initial_lines, column_of, columns_of, row_line, row_count, table_lines, test_lines, test_text}
-use Rattle.litmus_text.specs.Items.{Link, links_of, links_mention, link_values}
-use Rattle.litmus_text.proofs.{LineBack.IsLine, LineBack.before, LineBack.lines_back, NamesBack.within_trans, NamesBack.none_among}
-use Rattle.litmus_text.proofs.{InitBack.initial_back, InitBack.initial_lines_are, InitBack.links_there, ItemBack.links_among, HeadRowBack.head_back}
-use Rattle.litmus_text.proofs.{HeadRowBack.head_line_is, RowsScanned.rows_same, LabelBack.labels_back}
-use Rattle.litmus_text.proofs.HeadBack.{header_back, quote_back, settings_back, header_line_is, edges_line_is}
-use Rattle.litmus_text.proofs.RowBack.{IsReady, after_rows, rows_mention, rows_within, rows_among, rows_back}
+use Rattle.litmus_text.proofs.Vocabulary.{AllByRecursion, ArchName, Begun, CodeFits, Column, CondSeen, Edge, IsReadable, Lines, Link, List, Micro, Ok, Option, Puts, Some, TestSeen, ThreadCode, ThreadRead, Value, WritesBack, WritesCells, Writing, [], after_locations, after_settings, all_append, all_labels_judged, ap, append-nil, arith, code_lands, codes, column_at, column_of, column_so_far, columns_of, cond_text, condition_read, drop, ends, enumerate_from, false, fold, head_read, header_read, initial_lines, initial_read, join_by, length, length-map, length-range_with_len, line, lines_read, link_values, links_mention, links_of, map, max, name_in, no_columns, op_renumbered, op_text, place_in, placed_from, quote_read, range_with_len, refl, reread, row_count, row_line, rows_scanned, suc, table_lines, take_all, terms_mention, test_lines, test_read, test_text, thread_reread, threads_of, true, values_of_thread, with_places, word_of, ℕ, ◌++◌, ◌+◌, ◌<◌, ◌==◌, ◌∙◌, ◌∷◌, ◌≡◌, ◌≤◌}
+use Rattle.litmus_text.proofs.{NamesBack.within_trans, NamesBack.none_among, ItemBack.links_among, HeadRowBack.head_back, HeadRowBack.head_line_is, RowsScanned.rows_same, LabelBack.labels_back}
 use Rattle.litmus_text.proofs.TableBack.{AreTexts, code_texts, at_row, rows_are_read, rows_are_lines, rows_end}
+use Rattle.litmus_text.proofs.RowBack.{IsReady, after_rows, rows_mention, rows_within, rows_among, rows_back}
+use Rattle.litmus_text.proofs.HeadBack.{header_back, quote_back, settings_back, header_line_is, edges_line_is}
 use Rattle.litmus_text.proofs.CondBack.{terms_within, condition_back, cond_ends, no_locations, cond_line_is}
+use Rattle.litmus_text.proofs.LineBack.{IsLine, before, lines_back}
+use Rattle.litmus_text.proofs.InitBack.{initial_back, initial_lines_are, links_there}
 
 before_append : (n : ℕ) (xs ys : List (List ℕ)) (rest : ℕ → Lines) → before n (xs ++ ys) rest ≡ before n xs (λ k. before k ys rest)
 before_append n [] ys rest = refl
@@ -149,7 +131,7 @@ mentions w test =
 -- the parts of a text, one after another
 chain : (arch : ArchName) (w : Writing) (l0 l1 l2 l3 l4 l5 : Lines) (name : List ℕ) (quoted : Option (List ℕ)) (begun : Begun) (count : ℕ) (names table : List (List ℕ)) (columns : List Column) (condition : CondSeen)
     → header_read arch l0 ≡ Ok (name, l1) → quote_read l1 ≡ Ok (quoted, l2) → initial_read w (after_settings l2) ≡ Ok (begun, l3) → head_read begun l3 ≡ Ok (count, l4)
-    → rows_scanned w 0 (among begun.names (no_columns count)) l4 ≡ Ok (among names columns, l5) → all_labels_judged columns ≡ Ok tt
+    → rows_scanned w 0 (with_places begun.names (no_columns count)) l4 ≡ Ok (with_places names columns, l5) → all_labels_judged columns ≡ Ok tt
     → condition_read w count names (after_locations l5) ≡ Ok (record { cond = condition; names = table })
     → lines_read arch w l0 ≡ Ok (record { name = name; quoted = quoted; places = table; threads = threads_of begun columns; cond = condition })
 unfolding lines_read
@@ -223,8 +205,8 @@ parts_back a arch w name edges places t threads condition laws cells h =
       (table_is w places t threads),
       (head_back w places n t threads (record { names = m0; values = link_values m2 names links }) (before (n + 1) (rows ++ rest) ends) h.threads_few (links_there m2 names 0 (length all) all (omega arith))),
     ) in
-    let e5 : rows_scanned w 0 (among m0 (no_columns (length all))) (before (n + 1) (rows ++ rest) ends)
-    ≡ Ok (among m1 (map (column_at m2 names (n + 1)) (after_rows rows ps)), line ((n + 1) + length rows) (cond_text condition) (ends (((n + 1) + length rows) + 1))) =
+    let e5 : rows_scanned w 0 (with_places m0 (no_columns (length all))) (before (n + 1) (rows ++ rest) ends)
+    ≡ Ok (with_places m1 (map (column_at m2 names (n + 1)) (after_rows rows ps)), line ((n + 1) + length rows) (cond_text condition) (ends (((n + 1) + length rows) + 1))) =
     grind (
       arith,
       (start_columns m2 names (n + 1) all),

@@ -1,4 +1,4 @@
--- The table by which a printed test is read back names all that the test names.
+-- A printed test is read back as the test, its places numbered by a table of names that has the places which the test uses.
 -- Source: own.
 use Rattle.std.specs.Prelude.{◌≡◌, ℕ, Bool, true, is_some, List, Ok}
 use Rattle.std.specs.{List.AllByRecursion, List.IsDistinct, Str.bytes_eq}
@@ -9,24 +9,23 @@ use Rattle.final_cond.specs.Conditions.{LeftSeen, InRegister, AtPlace}
 use Rattle.arch_trait.specs.{PlaceNames.number_in, Writing.Writing, Writing.name_in, SeenTests.TestSeen}
 use Rattle.litmus_text.specs.{TestText.test_text, TestReading.test_read, Items.links_of, Reread.reread}
 
--- a name is in a table
+-- a name is in a table of names
 abbrev pub is_in : List (List ℕ) → List ℕ → Bool
 is_in table name = is_some (number_in table name)
 
--- the place of an operation is in a table, if it has one
+-- the name of the place of an operation is in a table, if the operation has a place; `names` gives the names of places by their numbers
 abbrev pub op_is_in : List (List ℕ) → (ℕ → List ℕ) → Micro → Bool
 op_is_in table names (ops.LoadAt dst place) = is_in table (names place)
 op_is_in table names (ops.StoreAt place n) = is_in table (names place)
 op_is_in table names op = true
 
--- the place of a left side is in a table, if it is one
+-- the place that a left side names is in a table, if it names one
 abbrev pub left_is_in : List (List ℕ) → LeftSeen → Bool
 left_is_in table (InRegister thread name) = true
 left_is_in table (AtPlace name) = is_in table name
 
--- The text of a test under a name is read as the test, its places numbered by a table. The table holds each name
--- once, no name but those of the test's places, and each place that is in an operation, in an address register
--- or in the condition.
+-- The text of a test under a name is read as the test, its places numbered by a table (`read`). The table holds each name once (`once`), no name but those
+-- of the test's places (`among`), and each place that an operation (`codes`), an address register (`links`) or a term of the condition (`terms`) names.
 pub record TestReadsBack (arch : ArchName) (w : Writing) (name : List ℕ) (test : TestSeen) : Type 0 where
   pub table : List (List ℕ)
   pub read : test_read arch w (test_text arch w name test) ≡ Ok (reread table name test)

@@ -9,7 +9,7 @@ use Rattle.litmus_text.specs.declared.{reading.cuts.Pieces.Pieces, reading.text.
 use Rattle.litmus_text.specs.declared.{reading.joined.Joined.Joined as JoinedText, reading.items.Worth.Worth as TextWorth}
 use Rattle.litmus_text.specs.declared.{reading.items.Item.Item as TextItem, reading.initial.Begun.Begun as State}
 use Rattle.litmus_text.specs.declared.{reading.initial.Braced.Braced as BracedText, reading.table.Cells.Cells as RowCells}
-use Rattle.litmus_text.specs.declared.{reading.table.Column.Column as ThreadColumn, reading.terms.Setting.Setting as Here}
+use Rattle.litmus_text.specs.declared.{reading.table.Column.Column as ThreadColumn, reading.terms.Setting.Setting as Here, reading.whole.Head.Head}
 use Rattle.litmus_text.specs.declared.{reading.terms.Mentioned.Mentioned as Names, errors.TextError.TextError}
 use Rattle.litmus_text.specs.declared.reading.lines.Lines.TheVariants as lefts
 use Rattle.litmus_text.specs.declared.reading.items.Worth.TheVariants as worths
@@ -21,7 +21,7 @@ use Rattle.litmus_text.specs.TextLines.{Lines, ends, line, lines_from}
 use Rattle.arch_trait.specs.Writing.{Writing}
 use Rattle.relax_edges.specs.declared.kinds.Value.{Value}
 use Rattle.litmus_text.specs.InitialState.{Worth, a_number, a_place, InitialItem, empty, gives, zero_at, Begun, items_read, initial_read, Braced, closed, open_to}
-use Rattle.litmus_text.specs.TestTable.{Cells, Column, Among, among, rows_read, head_read, all_labels_judged, after_locations}
+use Rattle.litmus_text.specs.TestTable.{Cells, Column, WithPlaces, with_places, rows_read, head_read, all_labels_judged, after_locations}
 use Rattle.litmus_text.specs.ConditionScan.{Mentioned, TermRead, TermsRead, terms_here}
 
 -- what the code sees of the two texts of a cut
@@ -103,25 +103,25 @@ cells_seen c = record { texts = pieces_left c.pieces; whole = c.whole }
 abbrev pub column_seen : ThreadColumn → Column
 column_seen c = record { ops = c.ops.items; labels = c.labels }
 
--- one column, and all columns, among the names of places
-abbrev pub column_among : List (List ℕ) → ThreadColumn → Among Column
-column_among names column = among names (column_seen column)
+-- one column, with the names of places
+abbrev pub column_with_places : List (List ℕ) → ThreadColumn → WithPlaces Column
+column_with_places names column = with_places names (column_seen column)
 
--- all columns, among the names of places
-abbrev pub columns_among : List (List ℕ) → List ThreadColumn → Among (List Column)
-columns_among names columns = among names (map column_seen columns)
+-- all columns, with the names of places
+abbrev pub columns_with_places : List (List ℕ) → List ThreadColumn → WithPlaces (List Column)
+columns_with_places names columns = with_places names (map column_seen columns)
 
 -- the columns of a table, and what is left of the text after its rows
-abbrev pub columns_before : List (List ℕ) → List ThreadColumn → Text → Among (List Column) × Lines
-columns_before names columns text = (columns_among names columns, text_left text)
+abbrev pub columns_before : List (List ℕ) → List ThreadColumn → Text → WithPlaces (List Column) × Lines
+columns_before names columns text = (columns_with_places names columns, text_left text)
 
 -- the cells of a row, read into the columns
-abbrev pub cells_read : Writing → ℕ → RowCells → List (List ℕ) → List ThreadColumn → Result (Among (List Column)) TextError
+abbrev pub cells_read : Writing → ℕ → RowCells → List (List ℕ) → List ThreadColumn → Result (WithPlaces (List Column)) TextError
 cells_read w n cells names columns = row_read w n (cells_seen cells).whole (cells_seen cells).texts names (map column_seen columns)
 
 -- an answer to the cells of a row after its last column, whatever the names of places are
 abbrev pub EndsRow : ℕ → Bool → List (List ℕ) → Result (Unit {0}) TextError → Type 0
-EndsRow n whole cells answer = (w : Writing) → (names : List (List ℕ)) → GivesTest (λ _. among names []) answer (row_read w n whole cells names [])
+EndsRow n whole cells answer = (w : Writing) → (names : List (List ℕ)) → GivesTest (λ _. with_places names []) answer (row_read w n whole cells names [])
 
 -- what the code sees of the text of a condition and its threads
 abbrev pub setting_seen : Here → Setting
@@ -155,10 +155,6 @@ terms_from w here m text = terms_here w (setting_seen here) MAX_TERMS (mentioned
 abbrev pub cond_read_seen : Cond × List (List ℕ) → CondRead
 cond_read_seen c = record { cond = cond_view c.0; names = c.1 }
 
--- a name and a text in quotes, which need not be there
-abbrev pub Head : Type 0
-Head = Bor (List ℕ) × Option (Bor (List ℕ))
-
 -- what the code sees of a text in quotes, which need not be there
 abbrev pub quoted_seen : Option (Bor (List ℕ)) → Option (List ℕ)
 quoted_seen quoted = option_map (λ text. text.now) quoted
@@ -168,10 +164,10 @@ abbrev pub only_values : List (ℕ × (ℕ × Value)) → Begun
 only_values values = record { names = []; values = values }
 
 -- the test of its parts
-abbrev pub test_of_parts : List ℕ → Option (Bor (List ℕ)) → List (ℕ × (ℕ × Value)) → List ThreadColumn → Cond → List (List ℕ) → TestRead
-test_of_parts name quoted values columns cond places = record {
-  name = name;
-  quoted = quoted_seen quoted;
+abbrev pub test_of_parts : Head → List (ℕ × (ℕ × Value)) → List ThreadColumn → Cond → List (List ℕ) → TestRead
+test_of_parts head values columns cond places = record {
+  name = head.name.now;
+  quoted = quoted_seen head.quoted;
   places = places;
   threads = threads_of (only_values values) (map column_seen columns);
   cond = cond_view cond;
@@ -188,7 +184,7 @@ unfoldable pub table_read : Writing → List ℕ → Option (List ℕ) → Begun
 table_read w name quoted begun threads ls = do
   rows ← rows_read w begun.names threads ls
   judged ← all_labels_judged rows.0.value
-  rest_read w name quoted begun rows.0.value threads rows.0.names rows.1
+  rest_read w name quoted begun rows.0.value threads rows.0.places rows.1
 
 -- a test, from its initial state on
 unfoldable pub body_read : Writing → List ℕ → Option (List ℕ) → Lines → Result TestRead TextError
@@ -200,12 +196,12 @@ body_read w name quoted ls = do
 -- the same by the values of the code
 abbrev pub rest_view : Writing → Head → List (ℕ × (ℕ × Value)) → List ThreadColumn → List (List ℕ) → Text → Result TestRead TextError
 rest_view w head values columns names text =
-    rest_read w head.0.now (quoted_seen head.1) (only_values values) (map column_seen columns) (length columns) names (text_left text)
+    rest_read w head.name.now (quoted_seen head.quoted) (only_values values) (map column_seen columns) (length columns) names (text_left text)
 
 -- a test by the values of the code, from the rows of its table on
 abbrev pub table_view : Writing → Head → State → ℕ → Text → Result TestRead TextError
-table_view w head begun threads text = table_read w head.0.now (quoted_seen head.1) (begun_seen begun) threads (text_left text)
+table_view w head begun threads text = table_read w head.name.now (quoted_seen head.quoted) (begun_seen begun) threads (text_left text)
 
 -- a test by the values of the code, from its initial state on
 abbrev pub body_of : Writing → Head → Text → Result TestRead TextError
-body_of w head text = body_read w head.0.now (quoted_seen head.1) (text_left text)
+body_of w head text = body_read w head.name.now (quoted_seen head.quoted) (text_left text)

@@ -163,24 +163,39 @@ pub(crate) fn set_widths<A: Arch>(
     }
 }
 
-/// Appends a thread's cell to a row, from the cells that are kept, where the first of its column is at place `first`, or printed again.
+/// Where a cell stands in a table.
+#[derive(Clone, Copy)]
+pub(crate) struct CellSpot {
+    pub(crate) row: usize,
+    /// The thread of its column.
+    pub(crate) thread: usize,
+    /// The place of the first cell of its column, where it is kept.
+    pub(crate) first: usize,
+    /// How wide its column is.
+    pub(crate) width: usize,
+}
+
+/// Appends a thread's cell to a row, from the cells that are kept, or printed again.
 pub(crate) fn put_cell<A: Arch>(
-    row: usize,
-    thread: usize,
-    first: usize,
+    spot: CellSpot,
     code: &Code,
     places: &Places,
     cells: &KeptCells,
-    width: usize,
     page: &mut Page,
 )
     requires printable { IsPrintable A.puts.has A.REGISTERS (length places.now) code.now }
-    requires near { first ≤ MAX_EDGES * (MAX_INSTRS + 1) }
-    requires kept { HoldsColumn cells.now first (column_of A.writing places.now (thread, thread_code_of code.now)) }
-    requires within { length (slice_index_or (column_of A.writing places.now (thread, thread_code_of code.now)) row []) ≤ width }
-    requires short { width ≤ MAX_INSTRUCTION_TEXT }
-    ensures { PutsCell thread (slice_index_or (column_of A.writing places.now (thread, thread_code_of code.now)) row []) width page.old page.new }
+    requires near { spot.first ≤ MAX_EDGES * (MAX_INSTRS + 1) }
+    requires kept { HoldsColumn cells.now spot.first (column_of A.writing places.now (spot.thread, thread_code_of code.now)) }
+    requires within { length (slice_index_or (column_of A.writing places.now (spot.thread, thread_code_of code.now)) spot.row []) ≤ spot.width }
+    requires short { spot.width ≤ MAX_INSTRUCTION_TEXT }
+    ensures { PutsCell spot.thread (slice_index_or (column_of A.writing places.now (spot.thread, thread_code_of code.now)) spot.row []) spot.width page.old page.new }
 {
+    let CellSpot {
+        row,
+        thread,
+        first,
+        width,
+    } = spot;
     if row > code.instrs.len() {
         PaddedCell::default().put(thread, width, page);
         return;

@@ -8,7 +8,7 @@ ghost use Rattle.litmus_text.specs.TestText.{columns_of, width_of, cell_text, ro
 ghost use Rattle.litmus_text.specs.Tests.{IsPrintable};
 
 use crate::cell::CELL_ROOM;
-use crate::column::{KeptCells, put_cell};
+use crate::column::{CellSpot, KeptCells, put_cell};
 use arch_trait::{Arch, Code, MAX_INSTRUCTION_TEXT, Places};
 use diy_io::Page;
 use relax_edges::MAX_EDGES;
@@ -58,16 +58,13 @@ fn print_cells<A: Arch>(
 {
     let mut first = 0;
     for (thread, code) in threads.iter().enumerate() {
-        put_cell::<A>(
+        let spot = CellSpot {
             row,
             thread,
             first,
-            code,
-            places,
-            cells,
-            widths[thread],
-            page,
-        );
+            width: widths[thread],
+        };
+        put_cell::<A>(spot, code, places, cells, page);
         first += code.instrs.len() + 1;
     }
 }

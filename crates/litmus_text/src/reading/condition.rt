@@ -59,6 +59,5 @@ pub(crate) fn read_condition<A: Arch>(
         begins: line.number,
         text: joined,
     };
-    let read = read_cond_here::<A>(&here, names)?;
-    Ok(read)
+    Ok(read_cond_here::<A>(&here, names)?)
 }

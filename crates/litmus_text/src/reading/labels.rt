@@ -1,6 +1,6 @@
 ghost use Rattle.std.specs.Prelude.{◌≡◌, map, count_by};
 ghost use Rattle.litmus_text.specs.ReadingAnswers.{GivesTest};
-ghost use Rattle.litmus_text.specs.TestTable.{is_label_row, comes_once, lands_among, labels_judged, all_labels_judged};
+ghost use Rattle.litmus_text.specs.TestTable.{is_label_row, lands_among, labels_judged, all_labels_judged};
 ghost use Rattle.litmus_text.specs.Views.{column_seen};
 
 use crate::errors::{TestKind, TextError, error_at_line};
@@ -22,20 +22,14 @@ fn count_labels(label: u8, ops: &[Placed]) -> usize
     ops.iter().filter(|placed| is_label(label, placed)).count()
 }
 
-/// Whether a label is in a thread once, after a branch.
-fn lands_once(label: u8, all: &[Placed], remainder: &[Placed]) -> bool
-    ensures { result ≡ comes_once (is_label_row label) all.now remainder.now }
-{
-    count_labels(label, all) == 1 && count_labels(label, remainder) == 1
-}
-
 /// Whether the label of an operation comes once in its thread, after it, if the operation is a branch.
 fn is_landing(op: &Micro, all: &[Placed], remainder: &[Placed]) -> bool
     ensures { result ≡ lands_among is_label_row op.now all.now remainder.now }
 {
     match *op {
-        Micro::BranchEq { label } => lands_once(label, all, remainder),
-        Micro::BranchNz { label, .. } => lands_once(label, all, remainder),
+        Micro::BranchEq { label } | Micro::BranchNz { label, .. } => {
+            count_labels(label, all) == 1 && count_labels(label, remainder) == 1
+        }
         _ => true,
     }
 }

@@ -29,6 +29,7 @@ fn is_comment(text: &[u8]) -> bool
 }
 
 /// Whether a line is passed over: blanks alone, or a comment between blanks.
+#[tactic(auto, using(crate::proofs::CutLaws::passed_is))]
 fn is_passed(text: &[u8]) -> bool
     ensures { result ≡ is_passed text.now }
 {

@@ -3,7 +3,7 @@ ghost use Rattle.arch_trait.specs.Cells.{is_access, ends_rows};
 ghost use Rattle.litmus_text.specs.ReadingAnswers.{GivesInMemory};
 ghost use Rattle.litmus_text.specs.TestTable.{no_columns, fits_in_column, after_locations};
 ghost use Rattle.litmus_text.specs.TableScan.{instr_in, instr_or_nothing, cell_read, rows_scanned};
-ghost use Rattle.litmus_text.specs.Views.{text_left, pieces_left, cells_read, column_among, columns_among, columns_before, column_seen, EndsRow};
+ghost use Rattle.litmus_text.specs.Views.{text_left, pieces_left, cells_read, column_with_places, columns_with_places, columns_before, column_seen, EndsRow};
 
 use crate::errors::{ReadError, TestKind, TextError, error_at_line};
 use crate::limits::{MAX_ACCESSES, MAX_ROWS};
@@ -66,7 +66,7 @@ fn read_instr<A: Arch>(
     names: &mut Places,
     column: &mut Column,
 ) -> Result<(), ReadError>
-    ensures { GivesInMemory (λ _. column_among names.new column.new) result (instr_in A.writing number text.now (column_among names.old column.old)) }
+    ensures { GivesInMemory (λ _. column_with_places names.new column.new) result (instr_in A.writing number text.now (column_with_places names.old column.old)) }
 {
     match read_cell::<A>(text, names, &mut column.labels) {
         Ok(op) => {
@@ -95,7 +95,7 @@ fn read_instr_or_nothing<A: Arch>(
     names: &mut Places,
     column: &mut Column,
 ) -> Result<(), ReadError>
-    ensures { GivesInMemory (λ _. column_among names.new column.new) result (instr_or_nothing A.writing number text.now (column_among names.old column.old)) }
+    ensures { GivesInMemory (λ _. column_with_places names.new column.new) result (instr_or_nothing A.writing number text.now (column_with_places names.old column.old)) }
 {
     if trim_blanks(text).is_empty() {
         return Ok(());
@@ -111,7 +111,7 @@ fn read_one_cell<A: Arch>(
     names: &mut Places,
     column: &mut Column,
 ) -> Result<(), ReadError>
-    ensures { GivesInMemory (λ _. column_among names.new column.new) result (cell_read A.writing number text.now (column_among names.old column.old)) }
+    ensures { GivesInMemory (λ _. column_with_places names.new column.new) result (cell_read A.writing number text.now (column_with_places names.old column.old)) }
 {
     match cut(b':', text) {
         None => read_instr_or_nothing::<A>(number, text, names, column),
@@ -144,7 +144,7 @@ fn read_row<A: Arch>(
     names: &mut Places,
     columns: &mut [Column],
 ) -> Result<(), ReadError>
-    ensures { GivesInMemory (λ _. columns_among names.new columns.new) result (cells_read A.writing number cells.entry names.old columns.old) }
+    ensures { GivesInMemory (λ _. columns_with_places names.new columns.new) result (cells_read A.writing number cells.entry names.old columns.old) }
 {
     let mut pieces = cells.pieces;
     for i in 0..columns.len() {
@@ -171,12 +171,13 @@ fn ends_rows(text: &[u8]) -> bool
 }
 
 /// Reads the rows, up to the line that ends them.
+#[tactic(auto, using(crate::proofs::TableLoops::rows_missing, crate::proofs::TableLoops::rows_stop, crate::proofs::TableLoops::rows_full))]
 pub(crate) fn read_rows<'a, A: Arch>(
     text: Text<'a>,
     names: &mut Places,
     columns: &mut [Column],
 ) -> Result<Text<'a>, ReadError>
-    ensures { GivesInMemory (columns_before names.new columns.new) result (rows_scanned A.writing 0 (columns_among names.old columns.old) (text_left text.entry)) }
+    ensures { GivesInMemory (columns_before names.new columns.new) result (rows_scanned A.writing 0 (columns_with_places names.old columns.old) (text_left text.entry)) }
 {
     let mut left = text;
     let mut rows = 0;

@@ -22,6 +22,13 @@ use relax_edges::{ArchName, Value};
 use std::alloc::{AllocError, Global};
 use std::marker::PhantomData;
 
+/// What comes before the initial state: the name of the test, and the text in quotes, if there is one.
+#[derive(Clone, Copy)]
+pub(crate) struct Head<'a> {
+    pub(crate) name: &'a [u8],
+    pub(crate) quoted: Option<&'a [u8]>,
+}
+
 /// The architecture that the header of a text names. The fault is BadHeader or EndMissing.
 #[tactic(auto, unfolding(crate::specs::TestReading::arch_in_text))]
 pub fn arch_of(bytes: &[u8]) -> Result<ArchName, TextError>
@@ -102,8 +109,7 @@ fn quoted_of(alloc: Global, quoted: Option<&[u8]>) -> Result<Option<Vec<u8>>, Al
 /// The test of the parts that were read.
 fn test_of<A: Arch>(
     alloc: Global,
-    name: &[u8],
-    quoted: Option<&[u8]>,
+    head: Head<'_>,
     values: &[Given],
     columns: &[Column],
     cond: Cond,
@@ -112,10 +118,10 @@ fn test_of<A: Arch>(
     requires few { length columns.now ≤ MAX_THREADS }
     requires registers { AllNameRegisters values.now }
     requires runnable { AllRunnable (map column_seen columns.now) }
-    ensures { IfOk result (λ t. t ≡ test_of_parts name.now quoted.entry values.now columns.now cond places) }
+    ensures { IfOk result (λ t. t ≡ test_of_parts head.entry values.now columns.now cond places) }
 {
-    let name = Vec::from_slice(alloc, name)?;
-    let quoted = quoted_of(alloc, quoted)?;
+    let name = Vec::from_slice(alloc, head.name)?;
+    let quoted = quoted_of(alloc, head.quoted)?;
     let threads = threads_of(alloc, values, columns)?;
     Ok(ReadTest {
         name,
@@ -131,7 +137,7 @@ fn test_of<A: Arch>(
 #[tactic(auto, unfolding(crate::specs::Views::rest_read))]
 fn read_rest<A: Arch>(
     alloc: Global,
-    head: (&[u8], Option<&[u8]>),
+    head: Head<'_>,
     values: &[Given],
     columns: &[Column],
     names: Places,
@@ -142,18 +148,16 @@ fn read_rest<A: Arch>(
     requires runnable { AllRunnable (map column_seen columns.now) }
     ensures { GivesInMemory (λ test. test) result (rest_view A.writing head.entry values.now columns.now names text.entry) }
 {
-    let (name, quoted) = head;
     let text = after_locations(text);
     let (cond, places) = read_condition::<A>(alloc, columns.len(), names, text)?;
-    let test = test_of::<A>(alloc, name, quoted, values, columns, cond, places)?;
-    Ok(test)
+    Ok(test_of::<A>(alloc, head, values, columns, cond, places)?)
 }
 
 /// Reads the rows of the table and what comes after them.
 #[tactic(auto, unfolding(crate::specs::Views::table_read))]
 fn read_table<A: Arch>(
     alloc: Global,
-    head: (&[u8], Option<&[u8]>),
+    head: Head<'_>,
     begun: Begun,
     threads: usize,
     text: Text<'_>,
@@ -173,7 +177,7 @@ fn read_table<A: Arch>(
 #[tactic(auto, unfolding(crate::specs::Views::body_read))]
 fn read_body<A: Arch>(
     alloc: Global,
-    head: (&[u8], Option<&[u8]>),
+    head: Head<'_>,
     text: Text<'_>,
 ) -> Result<ReadTest<A>, ReadError>
     ensures { GivesInMemory (λ test. test) result (body_of A.writing head.entry text.entry) }
@@ -191,7 +195,7 @@ fn read_lines<A: Arch>(alloc: Global, text: Text<'_>) -> Result<ReadTest<A>, Rea
 {
     let (name, text) = read_header(A::NAME, text)?;
     let (quoted, text) = read_quote(text)?;
-    read_body::<A>(alloc, (name, quoted), after_settings(text))
+    read_body::<A>(alloc, Head { name, quoted }, after_settings(text))
 }
 
 /// The test that a text is, as a test of the architecture. A text that is none is answered with its

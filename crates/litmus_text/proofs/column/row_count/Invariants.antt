@@ -1,5 +1,5 @@
 -- The longest of the columns so far gives the number of rows.
-use Rattle.std.proofs.Common.{◌≡◌, ◌+◌, take, max, fold, length}
+use Rattle.litmus_text.proofs.Vocabulary.{fold, length, max, take, ◌+◌, ◌≡◌}
 use Rattle.litmus_text.proofs.column.row_count.Given as goal
 
 -- the longest so far

@@ -1,6 +1,5 @@
 -- The cell of a row is the header, an instruction, or nothing.
-use Rattle.std.proofs.Common.{◌-◌, arith, refl}
-use Rattle.arch_trait.specs.Codes.{thread_code_of}
+use Rattle.litmus_text.proofs.Vocabulary.{arith, refl, thread_code_of, ◌-◌}
 use Rattle.litmus_text.proofs.TableLaws.{header_cell, op_cell, no_cell}
 use Rattle.litmus_text.proofs.column.set_cell.Goals as goal
 

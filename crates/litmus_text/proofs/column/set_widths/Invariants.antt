@@ -1,8 +1,5 @@
 -- The walk over the columns keeps their cells and widths.
-use Rattle.std.proofs.Common.{◌≡◌, ◌≤◌, take, map}
-use Rattle.std.specs.List.{All}
-use Rattle.litmus_text.specs.{TestText.columns_of, TestText.width_of, KeptCells.all_texts}
-use Rattle.arch_trait.specs.Codes.{thread_code_of}
+use Rattle.litmus_text.proofs.Vocabulary.{All, all_texts, columns_of, map, take, thread_code_of, width_of, ◌≡◌, ◌≤◌}
 use Rattle.litmus_text.proofs.column.set_widths.Given as goal
 
 -- the widths so far, and the cells of these columns are kept

@@ -1,5 +1,5 @@
 -- The words of the edges are appended one after another, with blanks between.
-use Rattle.std.proofs.Common.{arith}
+use Rattle.litmus_text.proofs.Vocabulary.{arith}
 use Rattle.litmus_text.proofs.JoinLaws.{none_put, one_put, all_put, all_short}
 use Rattle.litmus_text.proofs.head.print_words.Goals as goal
 

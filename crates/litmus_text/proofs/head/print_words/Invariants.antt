@@ -1,7 +1,5 @@
 -- The walk over the edges appends their words.
-use Rattle.std.proofs.Common.{codes}
-use Rattle.relax_edges.specs.WordParts.{word_of}
-use Rattle.litmus_text.specs.declared.head.TheConstants.{WORD_ROOM}
+use Rattle.litmus_text.proofs.Vocabulary.{WORD_ROOM, codes, word_of}
 use Rattle.litmus_text.proofs.JoinLaws.{Put}
 use Rattle.litmus_text.proofs.head.print_words.Given as goal
 

@@ -1,8 +1,5 @@
 -- The pieces that are sent are the header.
-use Rattle.std.proofs.Common.{◌≡◌, ◌++◌, codes}
-use Rattle.diy_io.specs.PageLaws.{sends_same}
-use Rattle.relax_edges.specs.Architectures.{arch_word}
-use Rattle.litmus_text.specs.TestText.{header_line, with_line_feed}
+use Rattle.litmus_text.proofs.Vocabulary.{arch_word, codes, header_line, sends_same, with_line_feed, ◌++◌, ◌≡◌}
 use Rattle.litmus_text.proofs.head.send_header.Goals as goal
 
 pub returns : goal.returns

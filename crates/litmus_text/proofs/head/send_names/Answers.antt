@@ -1,6 +1,5 @@
 -- The pieces that are sent are the architecture, a blank, the name and a line feed.
-use Rattle.std.proofs.Common.{◌++◌, codes, ap, append_assoc}
-use Rattle.diy_io.specs.PageLaws.{sends_same}
+use Rattle.litmus_text.proofs.Vocabulary.{ap, append_assoc, codes, sends_same, ◌++◌}
 use Rattle.litmus_text.proofs.head.send_names.Goals as goal
 
 pub returns : goal.returns

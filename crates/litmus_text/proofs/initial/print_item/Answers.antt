@@ -1,5 +1,5 @@
 -- An item has room.
-use Rattle.std.proofs.Common.{arith, ap, length}
+use Rattle.litmus_text.proofs.Vocabulary.{ap, arith, length}
 use Rattle.litmus_text.proofs.ItemText.{item_short}
 use Rattle.litmus_text.proofs.initial.print_item.Goals as goal
 

@@ -1,7 +1,5 @@
 -- The walk over the address registers appends their items.
-use Rattle.std.proofs.Common.{codes}
-use Rattle.litmus_text.specs.declared.initial.TheConstants.{ITEM_ROOM}
-use Rattle.litmus_text.specs.TestText.{item_text}
+use Rattle.litmus_text.proofs.Vocabulary.{ITEM_ROOM, codes, item_text}
 use Rattle.litmus_text.proofs.JoinLaws.{Put}
 use Rattle.litmus_text.proofs.initial.print_items.Given as goal
 

@@ -1,5 +1,5 @@
 -- A short item is put in one piece.
-use Rattle.std.proofs.Common.{arith}
+use Rattle.litmus_text.proofs.Vocabulary.{arith}
 use Rattle.litmus_text.proofs.ItemText.{short_link}
 use Rattle.litmus_text.proofs.initial.put_link.Goals as goal
 

@@ -1,8 +1,5 @@
 -- The walk over the threads appends the items of each.
-use Rattle.std.proofs.Common.{◌≡◌, ◌+◌, ◌-◌}
-use Rattle.diy_io.specs.declared.page.TheConstants.{LINE_ROOM}
-use Rattle.litmus_text.specs.Tests.{test_seen}
-use Rattle.litmus_text.specs.declared.parts.TextPart.TheVariants.{Items}
+use Rattle.litmus_text.proofs.Vocabulary.{Items, LINE_ROOM, test_seen, ◌+◌, ◌-◌, ◌≡◌}
 use Rattle.litmus_text.proofs.TextParts.{PutsParts}
 use Rattle.litmus_text.proofs.parts.put_items.Given as goal
 

@@ -1,8 +1,5 @@
 -- The walk over the rows appends each.
-use Rattle.std.proofs.Common.{◌≡◌}
-use Rattle.diy_io.specs.declared.page.TheConstants.{LINE_ROOM}
-use Rattle.litmus_text.specs.Tests.{test_seen}
-use Rattle.litmus_text.specs.declared.parts.TextPart.TheVariants.{Row}
+use Rattle.litmus_text.proofs.Vocabulary.{LINE_ROOM, Row, test_seen, ◌≡◌}
 use Rattle.litmus_text.proofs.TextParts.{PutsParts}
 use Rattle.litmus_text.proofs.parts.put_rows.Given as goal
 

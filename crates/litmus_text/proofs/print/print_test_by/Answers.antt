@@ -1,5 +1,5 @@
 -- What is sent by way of an empty page is what the sink takes.
-use Rattle.diy_io.specs.PageLaws.{sent_wrote, unsent_wrote, sends_of}
+use Rattle.litmus_text.proofs.Vocabulary.{sends_of, sent_wrote, unsent_wrote}
 use Rattle.litmus_text.proofs.print.print_test_by.Goals as goal
 
 pub returns-in_err-send_test-clause-wrote : goal.returns-in_err-send_test-clause-wrote

@@ -1,6 +1,5 @@
 -- The parts of a text are sent one after another, until there is none or the sink fails.
-use Rattle.std.proofs.Common.{subst}
-use Rattle.litmus_text.specs.Tests.{test_seen}
+use Rattle.litmus_text.proofs.Vocabulary.{subst, test_seen}
 use Rattle.litmus_text.proofs.SendLaws.{SentTo, parts_first, parts_more, parts_stop}
 use Rattle.litmus_text.proofs.print.send_parts.Goals as goal
 

@@ -1,5 +1,5 @@
 -- The walk over the parts of a text sends each, and fewer are left.
-use Rattle.litmus_text.specs.{Tests.test_seen, TextParts.parts_left}
+use Rattle.litmus_text.proofs.Vocabulary.{parts_left, test_seen}
 use Rattle.litmus_text.proofs.SendLaws.{SentTo}
 use Rattle.litmus_text.proofs.print.send_parts.Given as goal
 

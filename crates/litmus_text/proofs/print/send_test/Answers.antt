@@ -1,9 +1,5 @@
 -- The text of a test is its header, and then its parts.
-use Rattle.std.proofs.Common.{ap, sym}
-use Rattle.std.specs.Prelude.{Some}
-use Rattle.diy_io.specs.PageLaws.{sends_same, sends_stopped, sends_then}
-use Rattle.litmus_text.specs.declared.parts.TextPart.TheVariants.{Edges}
-use Rattle.litmus_text.specs.{TestText.header_line, TestText.with_line_feed, Tests.test_seen, TextParts.text_from, TextPartLaws.text_begins}
+use Rattle.litmus_text.proofs.Vocabulary.{Edges, Some, ap, header_line, sends_same, sends_stopped, sends_then, sym, test_seen, text_begins, text_from, with_line_feed}
 use Rattle.litmus_text.proofs.print.send_test.Goals as goal
 
 pub returns-in_err-send_header : goal.returns-in_err-send_header

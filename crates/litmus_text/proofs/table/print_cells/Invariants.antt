@@ -1,8 +1,5 @@
 -- The walk over the threads appends their cells of a row.
-use Rattle.std.proofs.Common.{◌≡◌, ◌≤◌, ◌*◌, codes, map, length, take}
-use Rattle.arch_trait.specs.Codes.{thread_code_of}
-use Rattle.litmus_text.specs.declared.cell.TheConstants.{CELL_ROOM}
-use Rattle.litmus_text.specs.{TestText.columns_of, TestText.cell_text, KeptCells.all_texts}
+use Rattle.litmus_text.proofs.Vocabulary.{CELL_ROOM, all_texts, cell_text, codes, columns_of, length, map, take, thread_code_of, ◌*◌, ◌≡◌, ◌≤◌}
 use Rattle.litmus_text.proofs.JoinLaws.{Put}
 use Rattle.litmus_text.proofs.table.print_cells.Given as goal
 

@@ -1,8 +1,5 @@
 -- The part of a padded cell that a row has.
-use Rattle.std.proofs.Common.{◌≡◌, ◌-◌, ◌∙◌, length, take, drop, ap, refl, arith}
-use Rattle.arch_trait.specs.declared.arch.TheConstants.{MAX_INSTRUCTION_TEXT}
-use Rattle.diy_io.specs.Page.{page_after}
-use Rattle.litmus_text.specs.PaddedCells.{text_in}
+use Rattle.litmus_text.proofs.Vocabulary.{MAX_INSTRUCTION_TEXT, ap, arith, drop, length, page_after, refl, take, text_in, ◌-◌, ◌∙◌, ◌≡◌}
 use Rattle.litmus_text.proofs.CellLaws.{first_put, later_put}
 use Rattle.litmus_text.proofs.cell.PaddedCell.put.Goals as goal
 

@@ -1,8 +1,5 @@
 -- One more text is kept where there is room.
-use Rattle.std.proofs.Common.{arith, ap, length, length-take, map}
-use Rattle.std.proofs.lemmas.List.{length-map}
-use Rattle.litmus_text.specs.PaddedCells.{text_in}
-use Rattle.litmus_text.specs.declared.column.TheConstants.{KEPT_CELLS}
+use Rattle.litmus_text.proofs.Vocabulary.{KEPT_CELLS, ap, arith, length, length-map, length-take, map, text_in}
 use Rattle.litmus_text.proofs.KeptLaws.{text_kept, text_lost}
 use Rattle.litmus_text.proofs.column.KeptCells.keep.Goals as goal
 

@@ -1,7 +1,5 @@
 -- What is kept is that of the table of the test.
-use Rattle.std.proofs.Common.{◌∙◌, ap, map, take}
-use Rattle.arch_trait.specs.Codes.{thread_code_of}
-use Rattle.litmus_text.specs.{KeptCells.all_texts, TestText.columns_of, TestText.width_of, TestText.row_count}
+use Rattle.litmus_text.proofs.Vocabulary.{all_texts, ap, columns_of, map, row_count, take, thread_code_of, width_of, ◌∙◌}
 use Rattle.litmus_text.proofs.TableLaws.{rows_are}
 use Rattle.litmus_text.proofs.kept.KeptTable.keep.Goals as goal
 

@@ -1,6 +1,5 @@
 -- The lines that were passed are settings.
-use Rattle.std.proofs.Common.{◌≡◌, length}
-use Rattle.litmus_text.specs.{Header.after_settings, Views.text_left}
+use Rattle.litmus_text.proofs.Vocabulary.{after_settings, length, text_left, ◌≡◌}
 use Rattle.litmus_text.proofs.reading.header.after_settings.Given as goal
 
 abbrev pub invariant-settings : goal.invariant-settings

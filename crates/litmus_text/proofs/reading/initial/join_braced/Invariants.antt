@@ -1,6 +1,5 @@
 -- The text so far and the lines that are left give what the whole gives.
-use Rattle.std.proofs.Common.{◌≡◌, length}
-use Rattle.litmus_text.specs.{InitialState.braced, Views.joined_seen, Views.text_left}
+use Rattle.litmus_text.proofs.Vocabulary.{braced, joined_seen, length, text_left, ◌≡◌}
 use Rattle.litmus_text.proofs.reading.initial.join_braced.Given as goal
 
 abbrev pub invariant-lines : goal.invariant-lines

@@ -1,7 +1,5 @@
 -- The blanks around an item are no more than the bytes of its piece, so its lines are found.
-use Rattle.std.proofs.Common.{◌≤◌, length, arith}
-use Rattle.text_parts_laws.specs.Blanks.{is_blank}
-use Rattle.text_parts_laws.proofs.{RunLaws.after_run-le, BlankLaws.before_blanks-le}
+use Rattle.litmus_text.proofs.Vocabulary.{after_run-le, arith, before_blanks-le, is_blank, length, ◌≤◌}
 use Rattle.litmus_text.proofs.reading.initial.read_item.Goals as goal
 
 pub overflow_sub-piece : goal.overflow_sub-piece

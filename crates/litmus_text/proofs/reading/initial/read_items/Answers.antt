@@ -1,7 +1,5 @@
 -- The items of a text are read one after another.
-use Rattle.std.proofs.{Common.sym, Common.◌∙◌, Common.arith, lemmas.Result.err_from_is_err_and}
-use Rattle.litmus_text.specs.Views.{joined_seen, begun_seen}
-use Rattle.text_parts_laws.proofs.CutLaws.{cut_length}
+use Rattle.litmus_text.proofs.Vocabulary.{arith, begun_seen, cut_length, err_from_is_err_and, joined_seen, sym, ◌∙◌}
 use Rattle.litmus_text.proofs.{GiveLaws.fails_map, ItemLoops.item_last, ItemLoops.item_more, ItemLoops.item_fails}
 use Rattle.litmus_text.proofs.reading.initial.read_items.Goals as goal
 

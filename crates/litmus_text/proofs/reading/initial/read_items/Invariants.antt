@@ -1,6 +1,5 @@
 -- The items so far and those that are left give what all give.
-use Rattle.std.proofs.Common.{◌≡◌, ◌+◌, length}
-use Rattle.litmus_text.specs.{TextCuts.pieces, InitialState.items_read, Views.joined_seen, Views.begun_seen}
+use Rattle.litmus_text.proofs.Vocabulary.{begun_seen, items_read, joined_seen, length, pieces, ◌+◌, ◌≡◌}
 use Rattle.litmus_text.proofs.reading.initial.read_items.Given as goal
 
 abbrev pub invariant-items : goal.invariant-items

@@ -1,5 +1,5 @@
 -- The number was appended as many times as were counted.
-use Rattle.std.proofs.{Common.◌≡◌, Common.◌++◌, Math.ListN.replicate}
+use Rattle.litmus_text.proofs.Vocabulary.{replicate, ◌++◌, ◌≡◌}
 use Rattle.litmus_text.proofs.reading.joined.push_times.Given as goal
 
 abbrev pub invariant-loop : goal.invariant-loop

@@ -1,5 +1,5 @@
 -- The columns that are left grow fewer.
-use Rattle.std.proofs.Common.{length}
+use Rattle.litmus_text.proofs.Vocabulary.{length}
 use Rattle.litmus_text.proofs.reading.labels.+judge_all_labels.Given as goal
 
 abbrev pub decreases-judge_all_labels : goal.decreases-judge_all_labels

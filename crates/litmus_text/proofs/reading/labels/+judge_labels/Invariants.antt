@@ -1,5 +1,5 @@
 -- The operations that are left grow fewer.
-use Rattle.std.proofs.Common.{length}
+use Rattle.litmus_text.proofs.Vocabulary.{length}
 use Rattle.litmus_text.proofs.reading.labels.+judge_labels.Given as goal
 
 abbrev pub decreases-judge_labels : goal.decreases-judge_labels

@@ -1,6 +1,5 @@
 -- So far there are as many empty columns as were counted.
-use Rattle.std.proofs.Common.{◌≡◌, map}
-use Rattle.litmus_text.specs.{TestTable.no_columns, Views.column_seen}
+use Rattle.litmus_text.proofs.Vocabulary.{column_seen, map, no_columns, ◌≡◌}
 use Rattle.litmus_text.proofs.reading.rows.no_columns.Given as goal
 
 abbrev pub invariant-loop : goal.invariant-loop

@@ -1,9 +1,6 @@
 -- The cells of a row are read one after another, one for each column.
-use Rattle.std.proofs.Common.{sym, ap, ◌∙◌, ◌<◌, ◌≡◌, Err, arith, map, take, length, []}
-use Rattle.std.proofs.lemmas.{List.length-map, Result.err_from_is_err_and}
-use Rattle.litmus_text.specs.Views.{pieces_left, column_seen}
-use Rattle.litmus_text.proofs.GiveLaws.{fails_map}
-use Rattle.litmus_text.proofs.TableLoops.{row_short, row_step, row_stops, row_ends, row_ends_bad}
+use Rattle.litmus_text.proofs.Vocabulary.{Err, [], ap, arith, column_seen, err_from_is_err_and, length, length-map, map, pieces_left, sym, take, ◌<◌, ◌∙◌, ◌≡◌}
+use Rattle.litmus_text.proofs.{GiveLaws.fails_map, TableLoops.row_short, TableLoops.row_step, TableLoops.row_stops, TableLoops.row_ends, TableLoops.row_ends_bad}
 use Rattle.litmus_text.proofs.reading.rows.read_row.Goals as goal
 
 pub returns-in_default : goal.returns-in_default

@@ -1,6 +1,5 @@
 -- The columns so far and the cells that are left give what the row gives.
-use Rattle.std.proofs.Common.{◌≡◌, map, take, drop}
-use Rattle.litmus_text.specs.{TableScan.row_read, Views.pieces_left, Views.column_seen}
+use Rattle.litmus_text.proofs.Vocabulary.{column_seen, drop, map, pieces_left, row_read, take, ◌≡◌}
 use Rattle.litmus_text.proofs.TableLoops.{carried}
 use Rattle.litmus_text.proofs.reading.rows.read_row.Given as goal
 

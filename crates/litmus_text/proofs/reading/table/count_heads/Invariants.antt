@@ -1,7 +1,5 @@
 -- The threads so far and the cells that are left give what the header gives.
-use Rattle.std.proofs.Common.{◌≡◌, ◌≤◌, length}
-use Rattle.litmus_text.specs.declared.limits.TheConstants.{MAX_THREADS}
-use Rattle.litmus_text.specs.{TestTable.heads_read, Views.pieces_left}
+use Rattle.litmus_text.proofs.Vocabulary.{MAX_THREADS, heads_read, length, pieces_left, ◌≡◌, ◌≤◌}
 use Rattle.litmus_text.proofs.reading.table.count_heads.Given as goal
 
 abbrev pub invariant-heads : goal.invariant-heads

@@ -1,9 +1,5 @@
 -- The terms of a condition are read one after another, up to the `)`.
-use Rattle.std.proofs.Common.{◌≡◌, ◌≢◌, ◌≤◌, ◌+◌, ◌-◌, ◌++◌, ℕ, false, nat_eq, ◌∷◌, [], map, length, ◌∙◌, sym, ap, Err, arith}
-use Rattle.std.proofs.lemmas.{Bool.eqb-true, Bool.eqb-false, List.map_push}
-use Rattle.final_cond.specs.declared.cond.TheConstants.{MAX_TERMS}
-use Rattle.final_cond.specs.{Conditions.term_view, ConditionAnswers.fault_view}
-use Rattle.litmus_text.specs.{ConditionScan.terms_here, Views.setting_seen, Views.mentioned_seen, Views.term_read_seen}
+use Rattle.litmus_text.proofs.Vocabulary.{Err, MAX_TERMS, [], ap, arith, eqb-false, eqb-true, false, fault_view, length, map, map_push, mentioned_seen, nat_eq, setting_seen, sym, term_read_seen, term_view, terms_here, ℕ, ◌++◌, ◌+◌, ◌-◌, ◌∙◌, ◌∷◌, ◌≡◌, ◌≢◌, ◌≤◌}
 use Rattle.litmus_text.proofs.TermLoops.{stops_at_term, stops_at_full, stops_at_follow, ends_at_follow, goes_on}
 use Rattle.litmus_text.proofs.reading.terms.read_terms.Goals as goal
 

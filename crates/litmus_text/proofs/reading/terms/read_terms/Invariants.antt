@@ -1,8 +1,5 @@
 -- The walk over the terms of a condition, for which less and less room is left.
-use Rattle.std.proofs.Common.{◌≡◌, ◌-◌, map, length}
-use Rattle.final_cond.specs.declared.cond.TheConstants.{MAX_TERMS}
-use Rattle.final_cond.specs.Conditions.{term_view}
-use Rattle.litmus_text.specs.{ConditionScan.terms_here, Views.setting_seen, Views.mentioned_seen}
+use Rattle.litmus_text.proofs.Vocabulary.{MAX_TERMS, length, map, mentioned_seen, setting_seen, term_view, terms_here, ◌-◌, ◌≡◌}
 use Rattle.litmus_text.proofs.TermLoops.{remainder}
 use Rattle.litmus_text.proofs.reading.terms.read_terms.Given as goal
 

@@ -1,5 +1,5 @@
 -- The operations so far are those of the column.
-use Rattle.std.proofs.Common.{◌≡◌, map, take}
+use Rattle.litmus_text.proofs.Vocabulary.{map, take, ◌≡◌}
 use Rattle.litmus_text.proofs.reading.whole.ops_of.Given as goal
 
 abbrev pub invariant-loop-placed : goal.invariant-loop-placed

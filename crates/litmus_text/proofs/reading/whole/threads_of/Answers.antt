@@ -1,6 +1,5 @@
 -- Each column gives a thread.
-use Rattle.std.proofs.Common.{◌∷◌, [], length-append, arith}
-use Rattle.litmus_text.specs.InitialState.{Begun}
+use Rattle.litmus_text.proofs.Vocabulary.{Begun, [], arith, length-append, ◌∷◌}
 use Rattle.litmus_text.proofs.{PartLoops.thread_step, RunnableRead.registers_of, RunnableRead.runnable_at}
 use Rattle.litmus_text.proofs.reading.whole.threads_of.Goals as goal
 

@@ -1,6 +1,5 @@
 -- The threads so far are those of as many columns.
-use Rattle.std.proofs.Common.{◌≡◌, map, take, [], length}
-use Rattle.litmus_text.specs.{TestReading.threads_of, Views.column_seen}
+use Rattle.litmus_text.proofs.Vocabulary.{[], column_seen, length, map, take, threads_of, ◌≡◌}
 use Rattle.litmus_text.proofs.reading.whole.threads_of.Given as goal
 
 abbrev pub invariant-loop-thread : goal.invariant-loop-thread

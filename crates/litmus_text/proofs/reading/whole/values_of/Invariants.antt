@@ -1,6 +1,5 @@
 -- The values so far are those of the thread.
-use Rattle.std.proofs.Common.{◌≡◌, take}
-use Rattle.litmus_text.specs.TestReading.{values_of_thread}
+use Rattle.litmus_text.proofs.Vocabulary.{take, values_of_thread, ◌≡◌}
 use Rattle.litmus_text.proofs.reading.whole.values_of.Given as goal
 
 abbrev pub invariant-loop-given : goal.invariant-loop-given

@@ -1,6 +1,5 @@
 -- Each line that is left is joined to the text after a blank.
-use Rattle.std.proofs.Common.{◌∙◌}
-use Rattle.litmus_text.specs.Views.{joined_seen, text_left}
+use Rattle.litmus_text.proofs.Vocabulary.{joined_seen, text_left, ◌∙◌}
 use Rattle.litmus_text.proofs.ItemLoops.{joined_ends, joined_more}
 use Rattle.litmus_text.proofs.reading.joined.Joined.push_all.Goals as goal
 

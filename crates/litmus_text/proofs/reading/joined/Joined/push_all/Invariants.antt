@@ -1,6 +1,5 @@
 -- The text so far and the lines that are left give what the whole gives.
-use Rattle.std.proofs.Common.{◌≡◌, length}
-use Rattle.litmus_text.specs.{Joined.all_joined, Views.joined_seen, Views.text_left}
+use Rattle.litmus_text.proofs.Vocabulary.{all_joined, joined_seen, length, text_left, ◌≡◌}
 use Rattle.litmus_text.proofs.reading.joined.Joined.push_all.Given as goal
 
 abbrev pub invariant-loop-line : goal.invariant-loop-line

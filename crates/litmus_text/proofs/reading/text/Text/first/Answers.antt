@@ -1,7 +1,5 @@
 -- The first line of a text ends at its first line feed, or with the text.
-use Rattle.std.proofs.Common.{sym, ap, ◌∙◌, ◌+◌, arith}
-use Rattle.litmus_text.specs.TextLines.{line_kept, lines_from}
-use Rattle.text_parts_laws.proofs.CutLaws.{cut_length}
+use Rattle.litmus_text.proofs.Vocabulary.{ap, arith, cut_length, line_kept, lines_from, sym, ◌+◌, ◌∙◌}
 use Rattle.litmus_text.proofs.LineLaws.{line_cut, line_last}
 use Rattle.litmus_text.proofs.reading.text.Text.first.Goals as goal
 

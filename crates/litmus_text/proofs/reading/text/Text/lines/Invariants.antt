@@ -1,6 +1,5 @@
 -- The bytes that were passed are lines that are passed over.
-use Rattle.std.proofs.Common.{◌≡◌, ◌≤◌, length}
-use Rattle.litmus_text.specs.Views.{text_left}
+use Rattle.litmus_text.proofs.Vocabulary.{length, text_left, ◌≡◌, ◌≤◌}
 use Rattle.litmus_text.proofs.reading.text.Text.lines.Given as goal
 
 abbrev pub invariant-loop-left : goal.invariant-loop-left
