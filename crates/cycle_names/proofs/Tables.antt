@@ -1,5 +1,5 @@
 -- Facts about all edges, each computed once over the list of all.
-use Rattle.cycle_names.proofs.Vocabulary.{arith, ◌≡◌, ◌≤◌, ◌==◌, ◌||◌, ℕ, Bool, true, false, not, Option, Some, None, List, length, nat_le, nat_cmp, ordering_index, booleans_Decides, slice_cmp, list_all, bytes_eq, refl, sym, ◌∙◌, ap, beq, eqb-true, leb-true, not-true, Edge, source_of, target_of, is_external, is_diff, rank_of, word_of, edges_in_order, each_edge, rank_injective, Slot, edge_of_slot, link_word, slot_edge, edge_slot, word_place, is_name_byte, is_plus, is_dash, link_between, link_with, same_index, implied}
+use Rattle.cycle_names.proofs.Vocabulary.{arith, ◌≡◌, ◌≤◌, ◌+◌, ◌==◌, ◌||◌, ℕ, Bool, true, false, not, Option, Some, None, List, [], length, nat_le, nat_cmp, ordering_index, booleans_Decides, slice_cmp, list_all, bytes_eq, refl, sym, ◌∙◌, ap, beq, eqb-true, leb-true, not-true, Edge, source_of, target_of, is_external, is_diff, rank_of, word_of, edges_in_order, kind_of, source_mark, target_mark, each_edge, rank_injective, Slot, edge_of_slot, link_word, mark_letters, kind_link_text, slot_edge, edge_slot, word_place, is_name_byte, is_plus, is_dash, link_between, link_with, same_index, implied}
 
 -- a test of two edges that passes for all that are listed passes for each two
 each_pair : (test : Edge → Edge → Bool) → list_all (λ a. list_all (test a) edges_in_order) edges_in_order ≡ true → (a b : Edge) → test a b ≡ true
@@ -118,6 +118,13 @@ link_back e t = grind (arith, slot_source, slot_target, link_found_back)
 pub link_word_short : (e : Edge) → length (link_word e) ≤ 11
 unfolding edges_in_order
 link_word_short e = leb-true (length (link_word e)) 11 (each_edge (λ e. nat_le (length (link_word e)) 11) refl e)
+
+-- a link's word without letters and the letters of its marks have up to 11 bytes
+pub link_parts_short : (e : Edge) → length (kind_link_text (kind_of e) []) + length (mark_letters (source_mark e) (target_mark e)) ≤ 11
+unfolding edges_in_order
+link_parts_short e =
+    leb-true (length (kind_link_text (kind_of e) []) + length (mark_letters (source_mark e) (target_mark e))) 11
+    (each_edge (λ e. nat_le (length (kind_link_text (kind_of e) []) + length (mark_letters (source_mark e) (target_mark e))) 11) refl e)
 
 -- a link's word has bytes of names only
 pub link_word_bytes : (e : Edge) → list_all is_name_byte (link_word e) ≡ true

@@ -1,6 +1,6 @@
 ghost use Rattle.std.specs.Prelude.{◌≡◌, ◌≤◌, ◌+◌, ◌++◌, [], true, length};
 ghost use Rattle.std.specs.Str.{bytes_eq};
-ghost use Rattle.relax_edges.specs.EdgeTable.{is_diff};
+ghost use Rattle.relax_edges.specs.EdgeTable.{is_diff, source_mark, target_mark};
 ghost use Rattle.relax_edges.specs.Order.{pick_rank};
 ghost use Rattle.cycle_names.specs.LinkWords.{link_word, fence_link, dependency_link, mark_letters, kind_link_text};
 ghost use Rattle.cycle_names.specs.Fitting.{letters_place, fence_place, dependency_place, kind_word_place, word_place, link_text};
@@ -209,15 +209,38 @@ pub(crate) fn is_spelled(edge: Edge, text: &[u8]) -> bool
     word.as_str().as_bytes() == text
 }
 
-/// Adds a `+` and the word of a link to a name, and nothing for another edge.
+/// Adds a `+` and the word of a link to a name, and nothing for another edge, which costs little.
 pub(crate) fn push_link<const N: usize>(edge: Edge, name: &mut ArrayString<N>)
     requires { length name.old.bytes + MAX_LINK ≤ N }
     ensures text { name.new.bytes ≡ name.old.bytes ++ link_text edge }
     ensures short { length name.new.bytes ≤ length name.old.bytes + MAX_LINK }
 {
     if edge.is_diff() {
-        name.push_str("+");
-        name.push_str(kind_link(edge.kind()));
-        name.push_str(mark_letters(edge.source_mark(), edge.target_mark()));
+        push_link_word(edge, name);
+    }
+}
+
+/// Adds a `+` and the word of a link to a name.
+#[tactic(auto, using(crate::proofs::Tables::link_parts_short))]
+#[inline(never)]
+fn push_link_word<const N: usize>(edge: Edge, name: &mut ArrayString<N>)
+    requires link { is_diff edge ≡ true }
+    requires room { length name.old.bytes + MAX_LINK ≤ N }
+    ensures text { name.new.bytes ≡ name.old.bytes ++ link_text edge }
+    ensures short { length name.new.bytes ≤ length name.old.bytes + MAX_LINK }
+{
+    name.push_str("+");
+    name.push_str(kind_link(edge.kind()));
+    push_letters(edge, name);
+}
+
+/// Adds the letters of an edge's marks, which most edges don't have.
+fn push_letters<const N: usize>(edge: Edge, name: &mut ArrayString<N>)
+    requires { length name.old.bytes + length (mark_letters (source_mark edge) (target_mark edge)) ≤ N }
+    ensures { name.new.bytes ≡ name.old.bytes ++ mark_letters (source_mark edge) (target_mark edge) }
+{
+    match edge {
+        Edge::Marked(_) => name.push_str(mark_letters(edge.source_mark(), edge.target_mark())),
+        _ => {}
     }
 }

@@ -9,7 +9,7 @@ ghost use Rattle.cycle_names.specs.Laws.{IsName};
 
 use crate::family::Family;
 use crate::fit::{Fit, named_fit, rotation_of};
-use crate::words::{Separator, push_links, push_rotation};
+use crate::words::{Separator, push_links, push_rotation, push_rotation_twice};
 use arrayvec::ArrayString;
 use edge_algebra::Cycle;
 use relax_edges::Edge;
@@ -137,6 +137,5 @@ fn push_own_words(
 {
     name.push_str("C+");
     let least = usize::from(cycle.least_place());
-    push_rotation(cycle.edges(), least, Separator::Dash, name);
-    push_rotation(cycle.edges(), least, Separator::Blank, words);
+    push_rotation_twice(cycle.edges(), least, name, words);
 }

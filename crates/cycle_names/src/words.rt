@@ -27,14 +27,12 @@ pub(crate) fn push_links<const N: usize>(edges: &[Edge], name: &mut ArrayString<
     let Some(link) = first_link(edges) else {
         return;
     };
-    if have_place(edges, PO_PLACE) {
-        return;
-    }
-    if have_place(edges, word_place(link)) {
+    let place = word_place(link);
+    if !have_place(edges, place) {
+        push_each(edges, name);
+    } else if place != PO_PLACE {
         push_link(link, name);
         name.push_str("s");
-    } else {
-        push_each(edges, name);
     }
 }
 
@@ -135,5 +133,49 @@ fn push_separated<const N: usize>(edges: &[Edge], between: Separator, words: &mu
 {
     for edge in edges {
         push_word(between, edge.text(), words);
+    }
+}
+
+/// Adds the words of the rotation of a list of edges from a place to two texts, joined by dashes and by
+/// blanks: each word is found once.
+pub(crate) fn push_rotation_twice<const N: usize, const M: usize>(
+    edges: &[Edge],
+    place: usize,
+    dashed: &mut ArrayString<N>,
+    spaced: &mut ArrayString<M>,
+)
+    requires dashed_room { length dashed.old.bytes + MAX_SEPARATED * length edges.now ≤ N }
+    requires spaced_room { length spaced.old.bytes + MAX_SEPARATED * length edges.now ≤ M }
+    requires place { place < length edges.now }
+    ensures dashed { dashed.new.bytes ≡ dashed.old.bytes ++ join_by word_of (separator_text Separator.Dash) (rotated place edges.now) }
+    ensures spaced { spaced.new.bytes ≡ spaced.old.bytes ++ join_by word_of (separator_text Separator.Blank) (rotated place edges.now) }
+{
+    let (prefix, back) = edges.split_at(place);
+    if let [edge, rest @ ..] = back {
+        let word = edge.text();
+        dashed.push_str(word);
+        spaced.push_str(word);
+        push_separated_twice(rest, dashed, spaced);
+        push_separated_twice(prefix, dashed, spaced);
+    }
+}
+
+/// Adds the word for each edge to two texts, after a dash and after a blank.
+fn push_separated_twice<const N: usize, const M: usize>(
+    edges: &[Edge],
+    dashed: &mut ArrayString<N>,
+    spaced: &mut ArrayString<M>,
+)
+    requires dashed_room { length dashed.old.bytes + MAX_SEPARATED * length edges.now ≤ N }
+    requires spaced_room { length spaced.old.bytes + MAX_SEPARATED * length edges.now ≤ M }
+    ensures dashed { dashed.new.bytes ≡ dashed.old.bytes ++ flat_map (λ edge. separator_text Separator.Dash ++ word_of edge) edges.now }
+    ensures dashed_short { length dashed.new.bytes ≤ length dashed.old.bytes + MAX_SEPARATED * length edges.now }
+    ensures spaced { spaced.new.bytes ≡ spaced.old.bytes ++ flat_map (λ edge. separator_text Separator.Blank ++ word_of edge) edges.now }
+    ensures spaced_short { length spaced.new.bytes ≤ length spaced.old.bytes + MAX_SEPARATED * length edges.now }
+{
+    for edge in edges {
+        let word = edge.text();
+        push_word(Separator::Dash, word, dashed);
+        push_word(Separator::Blank, word, spaced);
     }
 }

@@ -98,7 +98,10 @@ fn are_joined(edges: &[Edge], next: &Edge) -> bool
 {
     match edges {
         [] => true,
-        [edge, rest @ ..] => follow(directions(edge).1, marks(edge).1, rest, next),
+        [edge, rest @ ..] => {
+            let (_, _, dir, mark) = accesses(edge);
+            follow(dir, mark, rest, next)
+        }
     }
 }
 
@@ -108,41 +111,44 @@ fn follow(dir: Dir, mark: Mark, edges: &[Edge], next: &Edge) -> bool
     ensures { (edge : Edge) → target_of edge ≡ dir → target_mark edge ≡ mark → result ≡ is_joined (edge ∷ (edges.now ++ next.now ∷ [])) }
 {
     match edges {
-        [] => dir == directions(next).0 && mark == marks(next).0,
+        [] => {
+            let (source, source_mark, _, _) = accesses(next);
+            dir == source && mark == source_mark
+        }
         [edge, rest @ ..] => {
-            let (source, target) = directions(edge);
-            let (source_mark, target_mark) = marks(edge);
+            let (source, source_mark, target, target_mark) = accesses(edge);
             dir == source && mark == source_mark && follow(target, target_mark, rest, next)
         }
     }
 }
 
-/// What the accesses do that an edge leaves and enters. Edges without marks, which are met most often,
-/// are read where they are, which `Edge::source` and `Edge::target` don't do, and once for both.
-fn directions(edge: &Edge) -> (Dir, Dir)
+/// What the access does that an edge leaves, and its mark, and the same of the access that it enters.
+/// Edges without marks, which are met most often, are read where they are, which `Edge::source` and
+/// `Edge::target` don't do, and once for all.
+#[inline(always)]
+fn accesses(edge: &Edge) -> (Dir, Mark, Dir, Mark)
     ensures source { result.0 ≡ source_of edge.now }
-    ensures target { result.1 ≡ target_of edge.now }
+    ensures source_mark { result.1 ≡ source_mark edge.now }
+    ensures target { result.2 ≡ target_of edge.now }
+    ensures target_mark { result.3 ≡ target_mark edge.now }
 {
-    match *edge {
+    let (source, target) = match *edge {
         Edge::Com { com: Com::Rf, .. } => (Dir::W, Dir::R),
         Edge::Com { com: Com::Fr, .. } => (Dir::R, Dir::W),
         Edge::Com { com: Com::Ws, .. } => (Dir::W, Dir::W),
         Edge::Po { from, to, .. } | Edge::Fenced { from, to, .. } => (from, to),
         Edge::Dep { to, .. } => (Dir::R, to),
         Edge::Data { .. } => (Dir::R, Dir::W),
-        Edge::Marked(_) => (edge.source(), edge.target()),
-    }
-}
-
-/// The marks of the accesses that an edge leaves and enters.
-fn marks(edge: &Edge) -> (Mark, Mark)
-    ensures source { result.0 ≡ source_mark edge.now }
-    ensures target { result.1 ≡ target_mark edge.now }
-{
-    match *edge {
-        Edge::Marked(_) => (edge.source_mark(), edge.target_mark()),
-        _ => (Mark::Plain, Mark::Plain),
-    }
+        Edge::Marked(_) => {
+            return (
+                edge.source(),
+                edge.source_mark(),
+                edge.target(),
+                edge.target_mark(),
+            );
+        }
+    };
+    (source, Mark::Plain, target, Mark::Plain)
 }
 
 /// Makes `cycle` the one of edges that are known to make one. It is apart so that the edges are copied
