@@ -1,108 +1,45 @@
--- The pairs of each relation are the pairs of accesses between which it holds.
-use Rattle.std.proofs.Common.{◌≡◌, ◌<◌, ℕ, zero, suc, ◌+◌, arith, Bool, true, false, ◌==◌, ◌&&◌, List, [], ◌∷◌, ◌++◌, length, map, Option, Some, None, slice_get, refl, sym, ap, subst, ◌∙◌, inl, inr}
-use Rattle.std.specs.Prelude.{◌↔◌, ◌⊎◌, cond, slice_index_or, nat_lt}
-use Rattle.std.specs.{Bool.Decides, List.Contains, List.enumerate_from, List.filter, List.flat_map}
+-- What is drawn are the nodes, and the pairs of each relation are the pairs of nodes between which it holds.
+use Rattle.std.proofs.Common.{◌≡◌, ◌<◌, ℕ, suc, ◌+◌, arith, Bool, true, false, ◌==◌, ◌&&◌, List, [], ◌∷◌, length, map, Option, Some, None, slice_get, refl, sym, ap, subst, ◌∙◌, inl, inr}
+use Rattle.std.specs.Prelude.{◌↔◌, ◌⊎◌, cond, nat_lt, not}
+use Rattle.std.specs.{Bool.Decides, List.Contains, List.enumerate_from, List.filter, List.flat_map, List.list_any, List.prefix_len}
 use Rattle.std.proofs.lemmas.{Bool.and_parts, Bool.and_from, Bool.eqb-true, Bool.eq-eqb, Bool.lt-ltb, Bool.ltb-true, Option.same_Some}
+use Rattle.list_laws.specs.Numbers.{upto}
 use Rattle.relax_edges.specs.declared.kinds.Dir.{Dir}
 use Rattle.relax_edges.specs.declared.kinds.Dir.TheVariants as dirs
 use Rattle.litmus_text.specs.{TestReading.TestRead, ReadPrograms.program_read}
 use Rattle.program_meaning.specs.declared.WriteAt.{WriteAt}
 use Rattle.program_meaning.specs.{Accesses.Access, Accesses.Visit, Accesses.at_name, Accesses.got_from, Accesses.reads_by}
-use Rattle.program_meaning.specs.{Executions.Execution, Executions.same_write, Interleavings.writes_by, Coherence.coherence_place, Coherence.source_at, Standing.NamedAccess, Programs.accesses_in, Programs.visits_in}
-use Rattle.program_meaning.proofs.Names.{same_write-refl, same_write-true}
+use Rattle.program_meaning.specs.{Deciding.name, Executions.Execution, Executions.same_write, Interleavings.writes_by, Interleavings.writes_to, Standing.NamedAccess, Programs.accesses_in, Programs.visits_in}
+use Rattle.program_meaning.specs.Coherence.{coherence_place, from_one, order_at, order_place, placed_by, source_at}
+use Rattle.program_meaning.proofs.Names.{at_name_of, same_write-refl, same_write-true}
+use Rattle.exec_meaning.specs.declared.seen.SeenAccess.{SeenAccess}
 use Rattle.exec_meaning.specs.SeenAccesses.{seen_access, seen_in, seen_in_thread}
-use Rattle.exec_check.specs.declared.drawn.{Drawn.Drawn, Point.TheVariants.At}
+use Rattle.exec_check.specs.declared.drawn.{Drawn.Drawn, Point.TheVariants.At, Point.TheVariants.Initial, Relation.Relation}
 use Rattle.exec_check.specs.declared.drawn.Relation.TheVariants.{Po, Rf, Co, Fr}
-use Rattle.exec_check.specs.Graphs.{access_drawn, drawn_in, initial_places, initial_write, is_reached, pairs_by, relates}
-use Rattle.exec_check.specs.GraphLaws.{IsAccessIn, IsReadBy, IsNextWrite, IsReadBefore, IsNextAccess, drawn_as, PoPairsLaw, RfPairsLaw, CoPairsLaw, FrPairsLaw}
+use Rattle.exec_check.specs.Graphs.{access_drawn, drawn_in, initial_places, initial_write, is_initial, is_reached, pairs_by, reads_initial, relates}
+use Rattle.exec_check.specs.GraphLaws.{Node, Start, Made, IsDrawn, IsFirstWrite, IsNodeIn, ReadsInitial, FollowsInThread, IsReadFrom, FollowsInOrder, IsOverwritten, ListsPairs, drawn_as, NodesLaw, EndsLaw, PoPairsLaw, RfPairsLaw, CoPairsLaw, FrPairsLaw}
+use Rattle.exec_check.proofs.Members.{In, in_any, in_cases, in_filter, in_flat_map, in_left, in_map, in_numbered, in_of, in_right, in_to, in_upto, of_any, of_filter, of_flat_map, of_map, of_numbered, of_upto}
 
--- an element is in a list
-abbrev In : {X : Type 0} → X → List X → Type 0
-In x [] = ⊥
-In x (y ∷ ys) = (y ≡ x) ⊎ In x ys
-
-in_at : {X : Type 0} (xs : List X) (x : X) (k : ℕ) → k < length xs → slice_index_or xs k x ≡ x → In x xs
-in_at [] x k h e = absurd (omega arith)
-in_at (y ∷ ys) x zero h e = inl e
-in_at (y ∷ ys) x (suc k) h e = inr (in_at ys x k (omega arith) e)
-
-in_to : {X : Type 0} (xs : List X) (x : X) → In x xs → Contains xs x
-in_to [] x h = absurd h
-in_to (y ∷ ys) x (inl e) = (0, omega arith, e)
-in_to (y ∷ ys) x (inr h) = let c = in_to ys x h in (suc c.0, omega (arith, c.1), c.2)
-
-in_left : {X : Type 0} (xs ys : List X) (x : X) → In x xs → In x (xs ++ ys)
-in_left [] ys x h = absurd h
-in_left (z ∷ xs) ys x (inl e) = inl e
-in_left (z ∷ xs) ys x (inr h) = inr (in_left xs ys x h)
-
-in_right : {X : Type 0} (xs ys : List X) (x : X) → In x ys → In x (xs ++ ys)
-in_right [] ys x h = h
-in_right (z ∷ xs) ys x h = inr (in_right xs ys x h)
-
-in_map : {X Y : Type 0} (f : X → Y) (xs : List X) (x : X) → In x xs → In (f x) (map f xs)
-in_map f [] x h = absurd h
-in_map f (y ∷ xs) x (inl e) = inl (ap f e)
-in_map f (y ∷ xs) x (inr h) = inr (in_map f xs x h)
-
-in_flat_map : {X Y : Type 0} (f : X → List Y) (xs : List X) (x : X) (y : Y) → In x xs → In y (f x) → In y (flat_map f xs)
-in_flat_map f [] x y h g = absurd h
-in_flat_map f (z ∷ xs) x y (inl e) g = in_left (f z) (flat_map f xs) y (subst (λ v. In y (f v)) (sym e) g)
-in_flat_map f (z ∷ xs) x y (inr h) g = in_right (f z) (flat_map f xs) y (in_flat_map f xs x y h g)
-
-in_filter : {X : Type 0} (test : X → Bool) (xs : List X) (x : X) → test x ≡ true → In x xs → In x (filter test xs)
-in_filter test [] x p h = absurd h
-in_filter test (y ∷ xs) x p (inl e) = rw (ap test e ∙ p) (inl e)
-in_filter test (y ∷ xs) x p (inr h) = kept (test y) (in_filter test xs x p h)
-  where
-    kept : (b : Bool) → In x (filter test xs) → In x (cond b (y ∷ filter test xs) (filter test xs))
-    kept true g = inr g
-    kept false g = g
-
--- the pairs that begin with an element, and whose second passes
-passes_in_row : {X : Type 0} (test : X → Bool) (e : X) (xs : List X) (a b : X) → In {X = X × X} (a, b) (map (λ f. (e, f)) (filter test xs)) → (e ≡ a) × (test b ≡ true)
-passes_in_row test e [] a b h = absurd h
-passes_in_row {X} test e (x ∷ xs) a b h = split (test x) refl (passes_in_row test e xs a b) h
-  where
-    split : (t : Bool) → test x ≡ t → (In {X = X × X} (a, b) (map (λ f. (e, f)) (filter test xs)) → (e ≡ a) × (test b ≡ true))
-        → In {X = X × X} (a, b) (map (λ f. (e, f)) (cond t (x ∷ filter test xs) (filter test xs))) → (e ≡ a) × (test b ≡ true)
-    split true p others (inl q) = (ap (λ (pair : X × X). pair.0) q, sym (ap test (ap (λ (pair : X × X). pair.1) q)) ∙ p)
-    split true p others (inr g) = others g
-    split false p others g = others g
-
-in_cases : {X : Type 0} (xs ys : List X) (x : X) → In x (xs ++ ys) → In x xs ⊎ In x ys
-in_cases [] ys x h = inr h
-in_cases (z ∷ xs) ys x (inl e) = inl (inl e)
-in_cases (z ∷ xs) ys x (inr h) = more (in_cases xs ys x h)
-  where
-    more : In x xs ⊎ In x ys → In x (z ∷ xs) ⊎ In x ys
-    more (inl g) = inl (inr g)
-    more (inr g) = inr g
-
-pair_passes : {X : Type 0} (test : X → X → Bool) (all xs : List X) (a b : X) → In {X = X × X} (a, b) (flat_map (λ e. map (λ f. (e, f)) (filter (test e) all)) xs) → test a b ≡ true
-pair_passes test all [] a b h = absurd h
-pair_passes {X} test all (x ∷ xs) a b h =
-    of_case (pair_passes test all xs a b)
-    (in_cases (map (λ f. (x, f)) (filter (test x) all)) (flat_map (λ e. map (λ f. (e, f)) (filter (test e) all)) xs) (a, b) h)
-  where
-    of_case : (In {X = X × X} (a, b) (flat_map (λ e. map (λ f. (e, f)) (filter (test e) all)) xs) → test a b ≡ true)
-        → In {X = X × X} (a, b) (map (λ f. (x, f)) (filter (test x) all)) ⊎ In {X = X × X} (a, b) (flat_map (λ e. map (λ f. (e, f)) (filter (test e) all)) xs) → test a b ≡ true
-    of_case others (inl g) = let p = passes_in_row (test x) x all a b g in ap (λ (v : X). test v b) (sym p.0) ∙ p.1
-    of_case others (inr g) = others g
+-- a pair that passes a test is one of elements
+pair_of : {X : Type 0} (test : X → X → Bool) (xs : List X) (a b : X) → Contains (pairs_by test xs) (a, b) → In a xs × In b xs × (test a b ≡ true)
+pair_of {X} test xs a b c =
+    let row = of_flat_map (λ e. map (λ f. (e, f)) (filter (test e) xs)) xs (a, b) (in_of (pairs_by test xs) (a, b) c) in
+    let pair = of_map {Y = X × X} (λ f. (row.0, f)) (filter (test row.0) xs) (a, b) row.2 in
+    let passes = of_filter (test row.0) xs pair.0 pair.1 in
+    let first : row.0 ≡ a = ap (λ (p : X × X). p.0) pair.2 in
+    let second : pair.0 ≡ b = ap (λ (p : X × X). p.1) pair.2 in (
+      subst (λ e. In e xs) first row.1,
+      subst (λ f. In f xs) second passes.1,
+      subst (λ (p : X × X). test p.0 p.1 ≡ true) pair.2 passes.0,
+    )
 
 -- a pair of elements is among those that pass a test exactly where it passes
 listed : {X : Type 0} (test : X → X → Bool) (xs : List X) (a b : X) → In a xs → In b xs → (Contains (pairs_by test xs) (a, b) ↔ (test a b ≡ true))
 listed test xs a b h k = (
-  λ c. pair_passes test xs xs a b (in_at (pairs_by test xs) (a, b) c.0 c.1 c.2),
+  λ c. (pair_of test xs a b c).2,
   λ p. in_to (pairs_by test xs) (a, b)
       (in_flat_map (λ e. map (λ f. (e, f)) (filter (test e) xs)) xs a (a, b) h (in_map (λ f. (a, f)) (filter (test a) xs) b (in_filter (test a) xs b p k))),
 )
-
--- an element comes with its number
-in_numbered : {X : Type 0} (xs : List X) (n k m : ℕ) (x : X) → m ≡ n + k → slice_get xs k ≡ Some x → In {X = ℕ × X} (m, x) (enumerate_from n xs)
-in_numbered [] n k m x e h = cc h
-in_numbered (y ∷ xs) n zero m x e h = let s : n ≡ m = omega arith in let t : y ≡ x = same_Some y x h in inl (λ i. (s i, t i))
-in_numbered (y ∷ xs) n (suc k) m x e h = inr (in_numbered xs (n + 1) k m x (omega arith) h)
 
 -- an access with a name is seen
 seen_there : (threads : List (List Access)) (x : Execution) (visits : List (List Visit)) (w : WriteAt) (v : Visit) → at_name visits w ≡ Some v
@@ -118,15 +55,34 @@ seen_there threads x visits w v h = of_thread (slice_get visits w.thread) refl h
         (in_map (λ (visit : ℕ × Visit). seen_access threads x w.thread visit.0 visit.1.access visit.1.mark) (enumerate_from 0 vs) (w.access, v)
         (in_numbered vs 0 w.access w.access v (omega arith) g))
 
-access_there : (test : TestRead) (x : Execution) (e : NamedAccess) → IsAccessIn test x e → In (drawn_as test x e) (drawn_in test x)
-access_there test x e h =
-    let p = program_read test in
-    in_right (map initial_write (initial_places (length test.places) (seen_in p x))) (map access_drawn (seen_in p x)) (drawn_as test x e)
-    (in_map access_drawn (seen_in p x) (seen_access (accesses_in p x) x e.name.thread e.name.access e.visit.access e.visit.mark)
-    (seen_there (accesses_in p x) x (visits_in p x) e.name e.visit h))
+-- an access that is seen, by its name
+record Seen (threads : List (List Access)) (x : Execution) (visits : List (List Visit)) (seen : SeenAccess) : Type 0 where
+  named : NamedAccess
+  there : at_name visits named.name ≡ Some named.visit
+  is : seen_access threads x named.name.thread named.name.access named.visit.access named.visit.mark ≡ seen
+
+seen_of : (threads : List (List Access)) (x : Execution) (visits : List (List Visit)) (seen : SeenAccess)
+    → In seen (flat_map (seen_in_thread threads x) (enumerate_from 0 visits)) → Seen threads x visits seen
+seen_of threads x visits seen h =
+    let row = of_flat_map (seen_in_thread threads x) (enumerate_from 0 visits) seen h in
+    let thread = row.0.0 in
+    let one = of_map (λ (visit : ℕ × Visit). seen_access threads x thread visit.0 visit.1.access visit.1.mark) (enumerate_from 0 row.0.1) seen row.2 in
+    let k = of_numbered visits 0 row.0 row.1 in
+    let i = of_numbered row.0.1 0 one.0 one.1 in
+    let e : k.0 ≡ thread = omega (arith, k.1) in
+    let d : i.0 ≡ one.0.0 = omega (arith, i.1) in
+    record {
+      named = record { name = name thread one.0.0; visit = one.0.1 };
+      there = at_name_of visits thread one.0.0 row.0.1 one.0.1 (subst (λ n. slice_get visits n ≡ Some row.0.1) e k.2)
+          (subst (λ n. slice_get row.0.1 n ≡ Some one.0.1) d i.2);
+      is = one.2;
+    }
 
 both : {P Q : Type 0} (b c : Bool) → Decides b P → Decides c Q → Decides (b && c) (P × Q)
 both b c d e = (λ h. let p = and_parts b c h in (d.0 p.0, e.0 p.1), λ h. and_from b c (d.1 h.0) (e.1 h.1))
+
+three : {P Q R : Type 0} (a b c : Bool) → Decides a P → Decides b Q → Decides c R → Decides (a && (b && c)) (P × (Q × R))
+three a b c d e f = both a (b && c) d (both b c e f)
 
 same_decides : (m n : ℕ) → Decides (m == n) (m ≡ n)
 same_decides m n = (eqb-true m n, eq-eqb m n)
@@ -146,56 +102,212 @@ reached_decides (Some v) place w = (
   λ h. subst (λ u. same_write v u ≡ true) (same_Some v w h) (same_write-refl v),
 )
 
--- where a test decides a relation, the pairs that pass are those between which it holds
-pairs_are : (test : TestRead) (x : Execution) (related : Drawn → Drawn → Bool) (e f : NamedAccess) (P : Type 0) → IsAccessIn test x e → IsAccessIn test x f
-    → Decides (related (drawn_as test x e) (drawn_as test x f)) P → (Contains (pairs_by related (drawn_in test x)) (drawn_as test x e, drawn_as test x f) ↔ P)
-pairs_are test x related e f P h k d =
-    let l = listed related (drawn_in test x) (drawn_as test x e) (drawn_as test x f) (access_there test x e h) (access_there test x f k) in
+reached_initially : (o : Option WriteAt) (place other : ℕ) → Decides (is_reached o place (Initial other)) ((place ≡ other) × (o ≡ None))
+reached_initially None place other = (λ h. (sym (eqb-true other place h), refl), λ h. eq-eqb other place (sym h.0))
+reached_initially (Some w) place other = (λ h. cc h, λ h. let e = h.1 in cc e)
+
+later_place : (b : Bool) (n : ℕ) → (from_one (cond b (Some (1 + n)) None) == 1) ≡ true → ⊥
+later_place true n h = omega (arith, eqb-true (1 + n + 1) 1 h)
+later_place false n h = cc h
+
+-- a write has place 1 in an order exactly where it is the first
+first_place : (w : WriteAt) (order : List WriteAt) → Decides (order_place order (Some w) == 1) (slice_get order 0 ≡ Some w)
+first_place w [] = (λ h. cc h, λ h. cc h)
+first_place w (v ∷ order) = by_case (same_write w v) refl
+  where
+    rest : ℕ
+    rest = prefix_len (λ u. not (same_write w u)) order
+
+    by_case : (b : Bool) → same_write w v ≡ b
+        → Decides (from_one (cond (nat_lt (cond (not b) (1 + rest) 0) (suc (length order))) (Some (cond (not b) (1 + rest) 0)) None) == 1) (Some v ≡ Some w)
+    by_case true e = (λ h. ap Some (sym (same_write-true w v e)), λ h. rw (lt-ltb 0 (suc (length order)) (omega arith)) refl)
+    by_case false e = (
+      λ h. absurd (later_place (nat_lt (1 + rest) (suc (length order))) rest h),
+      λ h. let t : same_write w v ≡ true = subst (λ u. same_write w u ≡ true) (sym (same_Some v w h)) (same_write-refl w) in absurd (let f = sym e ∙ t in cc f),
+    )
+
+-- an access is next to the initial write exactly where it is the first write of the place
+first_write : (threads : List (List Access)) (x : Execution) (place : ℕ) (f : NamedAccess)
+    → Decides ((place == f.visit.access.place) && (writes_by f.visit.access.dir f.visit.access.place place && (coherence_place threads x f.name f.visit.access == 1))) (IsFirstWrite x place f)
+first_write threads x place f = (
+  λ h. let p = d.0 h in
+      record { writes = p.1.0.0; there = p.1.0.1; first = (first_place f.name (order_at x place)).0 (eq-eqb (order_place (order_at x place) (Some f.name)) 1 (sym (placed p.1.0.0 p.1.0.1) ∙ p.1.1)) },
+  λ r. d.1 (sym r.there, ((r.writes, r.there), placed r.writes r.there ∙ eqb-true (order_place (order_at x place) (Some f.name)) 1 ((first_place f.name (order_at x place)).1 r.first))),
+)
+  where
+    b : Access
+    b = f.visit.access
+
+    n : ℕ
+    n = coherence_place threads x f.name b
+
+    placed : b.dir ≡ dirs.W → b.place ≡ place → n ≡ order_place (order_at x place) (Some f.name)
+    placed e h = ap (λ (a : Dir × ℕ). order_place (order_at x a.1) (placed_by a.0 threads x f.name)) (λ i. (e i, h i))
+
+    d : Decides ((place == b.place) && (writes_by b.dir b.place place && (n == 1))) ((place ≡ b.place) × (((b.dir ≡ dirs.W) × (b.place ≡ place)) × (n ≡ 1)))
+    d = three (place == b.place) (writes_by b.dir b.place place) (n == 1) (same_decides place b.place) (writes_decides place b.dir b.place) (same_decides n 1)
+
+initial_decides : (o : Option WriteAt) → Decides (is_initial o) (o ≡ None)
+initial_decides None = (λ h. refl, λ h. refl)
+initial_decides (Some w) = (λ h. cc h, λ h. cc h)
+
+-- a read of the initial value of a place is seen as one
+reads_initial_decides : (threads : List (List Access)) (x : Execution) (place : ℕ) (e : NamedAccess)
+    → Decides (reads_initial place (seen_access threads x e.name.thread e.name.access e.visit.access e.visit.mark)) (ReadsInitial threads x place e)
+reads_initial_decides threads x place e =
+    let a = e.visit.access in
+    let source = source_at threads x e.name in
+    let d = three (reads_by a.dir) (a.place == place) (is_initial source) (reads_decides a.dir) (same_decides a.place place) (initial_decides source) in
+    (λ h. let p = d.0 h in record { reads = p.0; there = p.1.0; source = p.1.1 }, λ r. d.1 (r.reads, (r.there, r.source)))
+
+reads_seen : (test : TestRead) (x : Execution) (place : ℕ) (seen : SeenAccess) (s : Seen (accesses_in (program_read test) x) x (visits_in (program_read test) x) seen)
+    → reads_initial place seen ≡ true → ReadsInitial (accesses_in (program_read test) x) x place s.named
+reads_seen test x place seen s h = (reads_initial_decides (accesses_in (program_read test) x) x place s.named).0 (subst (λ a. reads_initial place a ≡ true) (sym s.is) h)
+
+-- each node is drawn
+node_there : (test : TestRead) (x : Execution) (n : Node) → IsNodeIn test x n → In (drawn_as (accesses_in (program_read test) x) x n) (drawn_in test x)
+node_there test x (Start place) h =
+    let seen = seen_in (program_read test) x in
+    let e = h.reader in
+    let s = seen_access (accesses_in (program_read test) x) x e.name.thread e.name.access e.visit.access e.visit.mark in
+    let there = seen_there (accesses_in (program_read test) x) x (visits_in (program_read test) x) e.name e.visit h.is_access in
+    in_left (map initial_write (initial_places (length test.places) seen)) (map access_drawn seen) (initial_write place)
+    (in_map initial_write (initial_places (length test.places) seen) place
+    (in_filter (λ place. list_any (reads_initial place) seen) (upto (length test.places)) place
+    (in_any (reads_initial place) seen s there ((reads_initial_decides (accesses_in (program_read test) x) x place e).1 h.reads))
+    (in_upto (length test.places) place h.within)))
+node_there test x (Made e) h =
+    let seen = seen_in (program_read test) x in
+    in_right (map initial_write (initial_places (length test.places) seen)) (map access_drawn seen) (drawn_as (accesses_in (program_read test) x) x (Made e))
+    (in_map access_drawn seen (seen_access (accesses_in (program_read test) x) x e.name.thread e.name.access e.visit.access e.visit.mark)
+    (seen_there (accesses_in (program_read test) x) x (visits_in (program_read test) x) e.name e.visit h))
+
+-- and nothing else
+node_of : (test : TestRead) (x : Execution) (d : Drawn) → In d (drawn_in test x) → IsDrawn test x d
+node_of test x d h = of_part (in_cases (map initial_write initial) (map access_drawn seen) d h)
+  where
+    seen : List SeenAccess
+    seen = seen_in (program_read test) x
+
+    initial : List ℕ
+    initial = initial_places (length test.places) seen
+
+    of_part : In d (map initial_write initial) ⊎ In d (map access_drawn seen) → IsDrawn test x d
+    of_part (inl g) =
+        let place = of_map initial_write initial d g in
+        let passes = of_filter (λ place. list_any (reads_initial place) seen) (upto (length test.places)) place.0 place.1 in
+        let reader = of_any (reads_initial place.0) seen passes.0 in
+        let s = seen_of (accesses_in (program_read test) x) x (visits_in (program_read test) x) reader.0 reader.1 in
+        record {
+          node = Start place.0;
+          is_node = record {
+            within = of_upto (length test.places) place.0 passes.1;
+            reader = s.named;
+            is_access = s.there;
+            reads = reads_seen test x place.0 reader.0 s reader.2;
+          };
+          is = sym place.2;
+        }
+    of_part (inr g) =
+        let one = of_map access_drawn seen d g in
+        let s = seen_of (accesses_in (program_read test) x) x (visits_in (program_read test) x) one.0 one.1 in
+        record { node = Made s.named; is_node = s.there; is = sym (ap access_drawn s.is ∙ one.2) }
+
+pub nodes_law : NodesLaw
+nodes_law test x d = (
+  λ c. node_of test x d (in_of (drawn_in test x) d c),
+  λ r. in_to (drawn_in test x) d (subst (λ e. In e (drawn_in test x)) (sym r.is) (node_there test x r.node r.is_node)),
+)
+
+pub ends_law : EndsLaw
+ends_law relation test x a b c =
+    let p = pair_of (relates relation) (drawn_in test x) a b c in (node_of test x a p.0, node_of test x b p.1)
+
+-- where the test of a relation decides what holds between nodes, the pairs of the relation are those between which it holds
+pairs_are : (relation : Relation) (Related : List (List Access) → Execution → Node → Node → Type 0)
+    → ((threads : List (List Access)) (x : Execution) (m n : Node) → Decides (relates relation (drawn_as threads x m) (drawn_as threads x n)) (Related threads x m n))
+    → ListsPairs (pairs_by (relates relation)) Related
+pairs_are relation Related decides test x m n h k =
+    let threads = accesses_in (program_read test) x in
+    let l = listed (relates relation) (drawn_in test x) (drawn_as threads x m) (drawn_as threads x n) (node_there test x m h) (node_there test x n k) in
+    let d = decides threads x m n in
     (λ c. d.0 (l.0 c), λ p. l.1 (d.1 p))
+
+-- a test that never passes
+never : (b : Bool) → (b ≡ true → ⊥) → Decides b ⊥
+never b h = (h, λ n. absurd n)
+
+-- that of three parts whose last never passes
+last_fails : (a b c : Bool) → (c ≡ true → ⊥) → Decides (a && (b && c)) ⊥
+last_fails a b c h = never (a && (b && c)) (λ t. h (and_parts b c (and_parts a (b && c) t).1).1)
 
 before_decides : (m n : ℕ) → Decides (nat_lt m n) (m < n)
 before_decides m n = (ltb-true m n, lt-ltb m n)
 
-pub po_pairs_law : PoPairsLaw
-po_pairs_law test x e f h k =
+po_decides : (threads : List (List Access)) (x : Execution) (m n : Node) → Decides (relates Po (drawn_as threads x m) (drawn_as threads x n)) (FollowsInThread threads x m n)
+po_decides threads x (Made e) (Made f) =
     let d = both (e.name.thread == f.name.thread) (f.name.access == e.name.access + 1) (same_decides e.name.thread f.name.thread)
     (same_decides f.name.access (e.name.access + 1)) in
-    pairs_are test x (relates Po) e f (IsNextAccess e f) h k
     (λ t. let p = d.0 t in record { thread = sym p.0; next = p.1 }, λ r. d.1 (sym r.thread, r.next))
+po_decides threads x (Made e) (Start place) = never false (λ h. cc h)
+po_decides threads x (Start place) n = never false (λ h. cc h)
 
-pub rf_pairs_law : RfPairsLaw
-rf_pairs_law test x e f h k =
-    let threads = accesses_in (program_read test) x in
+rf_decides : (threads : List (List Access)) (x : Execution) (m n : Node) → Decides (relates Rf (drawn_as threads x m) (drawn_as threads x n)) (IsReadFrom threads x m n)
+rf_decides threads x (Made e) (Made f) =
     let b = f.visit.access in
     let source = source_at threads x f.name in
     let d = both (reads_by b.dir) (is_reached source b.place (At e.name.thread e.name.access)) (reads_decides b.dir) (reached_decides source b.place e.name) in
-    pairs_are test x (relates Rf) e f (IsReadBy threads x e f) h k
     (λ t. let p = d.0 t in record { reads = p.0; source = p.1 }, λ r. d.1 (r.reads, r.source))
+rf_decides threads x (Start place) (Made f) =
+    let b = f.visit.access in
+    let source = source_at threads x f.name in
+    let d = both (reads_by b.dir) (is_reached source b.place (Initial place)) (reads_decides b.dir) (reached_initially source b.place place) in
+    (λ t. let p = d.0 t in record { reads = p.0; there = p.1.0; source = p.1.1 }, λ r. d.1 (r.reads, (r.there, r.source)))
+rf_decides threads x (Made e) (Start place) = never false (λ h. cc h)
+rf_decides threads x (Start place) (Start other) = never false (λ h. cc h)
 
-pub co_pairs_law : CoPairsLaw
-co_pairs_law test x e f h k =
-    let threads = accesses_in (program_read test) x in
+co_decides : (threads : List (List Access)) (x : Execution) (m n : Node) → Decides (relates Co (drawn_as threads x m) (drawn_as threads x n)) (FollowsInOrder threads x m n)
+co_decides threads x (Made e) (Made f) =
     let a = e.visit.access in
     let b = f.visit.access in
     let m = coherence_place threads x e.name a in
     let n = coherence_place threads x f.name b in
-    let d = both (writes_by a.dir a.place b.place) (writes_by b.dir b.place a.place && (n == m + 1)) (writes_decides b.place a.dir a.place)
-    (both (writes_by b.dir b.place a.place) (n == m + 1) (writes_decides a.place b.dir b.place) (same_decides n (m + 1))) in
-    pairs_are test x (relates Co) e f (IsNextWrite threads x e f) h k (
+    let d = three (writes_by a.dir a.place b.place) (writes_by b.dir b.place a.place) (n == m + 1) (writes_decides b.place a.dir a.place)
+    (writes_decides a.place b.dir b.place) (same_decides n (m + 1)) in (
       λ t. let p = d.0 t in record { first = p.0.0; second = p.1.0.0; there = p.0.1; next = p.1.1 },
       λ r. d.1 ((r.first, r.there), ((r.second, sym r.there), r.next)),
     )
+co_decides threads x (Start place) (Made f) = first_write threads x place f
+co_decides threads x (Made e) (Start place) =
+    let a = e.visit.access in
+    let m = coherence_place threads x e.name a in
+    last_fails (writes_to place a) (place == a.place) (0 == m + 1) (λ h. omega (arith, eqb-true 0 (m + 1) h))
+co_decides threads x (Start place) (Start other) = last_fails (place == other) (other == place) false (λ h. cc h)
 
-pub fr_pairs_law : FrPairsLaw
-fr_pairs_law test x e f h k =
-    let threads = accesses_in (program_read test) x in
+fr_decides : (threads : List (List Access)) (x : Execution) (m n : Node) → Decides (relates Fr (drawn_as threads x m) (drawn_as threads x n)) (IsOverwritten threads x m n)
+fr_decides threads x (Made e) (Made f) =
     let a = e.visit.access in
     let b = f.visit.access in
     let m = coherence_place threads x e.name a in
     let n = coherence_place threads x f.name b in
-    let d = both (reads_by a.dir) (writes_by b.dir b.place a.place && nat_lt m n) (reads_decides a.dir)
-    (both (writes_by b.dir b.place a.place) (nat_lt m n) (writes_decides a.place b.dir b.place) (before_decides m n)) in
-    pairs_are test x (relates Fr) e f (IsReadBefore threads x e f) h k (
+    let d = three (reads_by a.dir) (writes_by b.dir b.place a.place) (nat_lt m n) (reads_decides a.dir) (writes_decides a.place b.dir b.place) (before_decides m n) in (
       λ t. let p = d.0 t in record { reads = p.0; writes = p.1.0.0; there = sym p.1.0.1; later = p.1.1 },
       λ r. d.1 (r.reads, ((r.writes, sym r.there), r.later)),
     )
+fr_decides threads x (Made e) (Start place) =
+    let a = e.visit.access in
+    let m = coherence_place threads x e.name a in
+    last_fails (reads_by a.dir) (place == a.place) (nat_lt m 0) (λ h. omega (arith, ltb-true m 0 h))
+fr_decides threads x (Start place) n = never false (λ h. cc h)
+
+pub po_pairs_law : PoPairsLaw
+po_pairs_law = pairs_are Po FollowsInThread po_decides
+
+pub rf_pairs_law : RfPairsLaw
+rf_pairs_law = pairs_are Rf IsReadFrom rf_decides
+
+pub co_pairs_law : CoPairsLaw
+co_pairs_law = pairs_are Co FollowsInOrder co_decides
+
+pub fr_pairs_law : FrPairsLaw
+fr_pairs_law = pairs_are Fr IsOverwritten fr_decides

@@ -3,17 +3,18 @@ use Rattle.std.proofs.Common.{◌≡◌, ◌≤◌, ◌<◌, ℕ, zero, suc, ◌
 use Rattle.std.specs.{Prelude.codes, Fmt.decimal, List.enumerate_from, List.filter, List.flat_map, List.list_any}
 use Rattle.std.proofs.lemmas.{List.drop_all, List.take_all, List.Elements.filter-append, List.Folds.flat_map-map, Option.slice_get-get_or, Bool.eq-eqb, Bool.ne_eqb, Grind.flat_map-append}
 use Rattle.list_laws.proofs.{Cases.by_same, Elements.drop_given}
-use Rattle.diy_io.specs.declared.page.TheConstants.{LINE_ROOM, PAGE_ROOM}
+use Rattle.diy_io.specs.declared.page.TheConstants.{LINE_ROOM}
 use Rattle.diy_io.specs.{Page.page_after, PageLaws.page_fits, Pieces.joined_text, SinkLaws.flat_map_more}
 use Rattle.diy_io.proofs.PiecesLemmas.{joined_text_more}
 use Rattle.list_laws.specs.Numbers.{upto}
 use Rattle.exec_meaning.specs.declared.seen.SeenAccess.{SeenAccess}
 use Rattle.relax_edges.specs.declared.edge.Edge.{Edge}
-use Rattle.exec_check.specs.{Verdicts.answer_word, Graphs.condition_line, Graphs.event_word, Graphs.initial_places, Graphs.kind_look, Graphs.lap_word}
-use Rattle.exec_check.specs.Graphs.{pairs_by, quoted_byte, reads_initial, standing_line}
+use Rattle.exec_check.specs.{Verdicts.answer_word, Graphs.access_name, Graphs.arrow_line, Graphs.arrow_of, Graphs.condition_line, Graphs.initial_places, Graphs.kind_look, Graphs.lap_word}
+use Rattle.exec_check.specs.Graphs.{pairs_by, quoted_byte, reads_initial, standing_edges, standing_lines}
 use Rattle.final_cond.specs.{Conditions.CondSeen, CondText.cond_text}
 use Rattle.relax_edges.specs.{WordParts.word_of, EdgeTable.kind_of}
 use Rattle.cycle_events.specs.Resolution.{event_after}
+use Rattle.program_meaning.specs.Standing.{event_name}
 
 -- one more piece
 pub piece_more : (old text more : List ℕ) (pieces : List (Bor (List ℕ))) (i : ℕ) (d : Bor (List ℕ)) → i < length pieces
@@ -54,36 +55,40 @@ pairs_text g test all (x ∷ xs) =
 
 -- the lines of the edges that stand, from a number on
 abbrev pub standing_from : List Edge → ℕ → List (Edge × Bool) → List ℕ
-standing_from es k judged = flat_map (λ (j : ℕ × (Edge × Bool)). standing_line es j.0 j.1.0) (filter (λ (j : ℕ × (Edge × Bool)). j.1.1) (enumerate_from k judged))
+standing_from es k judged = flat_map (λ (j : ℕ × (Edge × Bool)). arrow_line (arrow_of es j.0 j.1.0)) (filter (λ (j : ℕ × (Edge × Bool)). j.1.1) (enumerate_from k judged))
 
 first_standing : (es : List Edge) (k : ℕ) (edge : Edge) (stands : Bool) (more : List (Edge × Bool))
-    → cond stands (standing_line es k edge) [] ++ standing_from es (k + 1) more ≡ standing_from es k ((edge, stands) ∷ more)
+    → cond stands (arrow_line (arrow_of es k edge)) [] ++ standing_from es (k + 1) more ≡ standing_from es k ((edge, stands) ∷ more)
 first_standing es k edge true more = refl
 first_standing es k edge false more = refl
 
 -- after an edge, its line is appended, if it stands
 pub standing_more : (es : List Edge) (judged : List (Edge × Bool)) (k : ℕ) (j : Edge × Bool) (text more all : List ℕ) → slice_get judged k ≡ Some j
-    → text ++ standing_from es k (drop k judged) ≡ all → more ≡ text ++ cond j.1 (standing_line es k j.0) []
+    → text ++ standing_from es k (drop k judged) ≡ all → more ≡ text ++ cond j.1 (arrow_line (arrow_of es k j.0)) []
     → more ++ standing_from es (k + 1) (drop (k + 1) judged) ≡ all
 standing_more es judged k j text more all is h e =
     ap (λ t. t ++ standing_from es (k + 1) (drop (k + 1) judged)) e
-    ∙ append_assoc text (cond j.1 (standing_line es k j.0) []) (standing_from es (k + 1) (drop (k + 1) judged))
+    ∙ append_assoc text (cond j.1 (arrow_line (arrow_of es k j.0)) []) (standing_from es (k + 1) (drop (k + 1) judged))
     ∙ ap (λ t. text ++ t) (first_standing es k j.0 j.1 (drop (k + 1) judged))
     ∙ sym (ap (λ l. text ++ standing_from es k l) (drop_given judged k j is)) ∙ h
 
 -- the same, where the edges are known as those of a cycle
 pub standing_next : (es resolved : List Edge) (judged : List (Edge × Bool)) (k : ℕ) (d : Edge × Bool) (text more all : List ℕ) → es ≡ resolved → k < length judged
     → text ++ standing_from es k (drop k judged) ≡ all
-    → more ≡ text ++ cond (get_or judged k d).1 (standing_line resolved k (get_or judged k d).0) []
+    → more ≡ text ++ cond (get_or judged k d).1 (arrow_line (arrow_of resolved k (get_or judged k d).0)) []
     → more ++ standing_from es (k + 1) (drop (k + 1) judged) ≡ all
 standing_next es resolved judged k d text more all e inside h m =
     standing_more es judged k (get_or judged k d) text more all (slice_get-get_or judged k d inside) h
-    (subst (λ l. more ≡ text ++ cond (get_or judged k d).1 (standing_line l k (get_or judged k d).0) []) (sym e) m)
+    (subst (λ l. more ≡ text ++ cond (get_or judged k d).1 (arrow_line (arrow_of l k (get_or judged k d).0)) []) (sym e) m)
 
--- where no edge is left, the lines are appended
-pub standing_all : (es : List Edge) (judged : List (Edge × Bool)) (k : ℕ) (text all : List ℕ) → length judged ≤ k
-    → text ++ standing_from es k (drop k judged) ≡ all → text ≡ all
-standing_all es judged k text all h e = sym (append-nil text) ∙ sym (ap (λ l. text ++ standing_from es k l) (drop_all k judged h)) ∙ e
+-- where no edge is left, the lines of all that stand are appended
+pub standing_all : (judged : List (Edge × Bool)) (k : ℕ) (old text : List ℕ) → length judged ≤ k
+    → text ++ standing_from (map (λ j. j.0) judged) k (drop k judged) ≡ old ++ standing_from (map (λ j. j.0) judged) 0 judged
+    → text ≡ old ++ standing_lines judged
+standing_all judged k old text h e =
+    let es = map (λ (j : Edge × Bool). j.0) judged in
+    sym (append-nil text) ∙ sym (ap (λ l. text ++ standing_from es k l) (drop_all k judged h)) ∙ e
+    ∙ ap (λ t. old ++ t) (sym (flat_map-map arrow_line (λ (j : ℕ × (Edge × Bool)). arrow_of es j.0 j.1.0) (standing_edges judged)))
 
 -- a page that holds a short text alone
 pub short_page : (old page text : List ℕ) → old ≡ [] → page ≡ page_after old text → length text < LINE_ROOM → page ≡ text
@@ -165,14 +170,14 @@ four_and_four : (old l e n f m word s look a b c d : List ℕ) → a ≡ old ++ 
 four_and_four old l e n f m word s look a b c d h k p q = rw (q, p, k, h) (simp append_assoc)
 
 -- the line of an edge that stands, appended piece by piece
-pub standing_appended : (es : List Edge) (i : ℕ) (edge : Edge) (old a b c d word look : List ℕ) → a ≡ old ++ codes "  " → b ≡ a ++ event_word es i
-    → c ≡ b ++ codes " -> " → d ≡ c ++ event_word es (event_after es i) → word ≡ word_of edge → look ≡ kind_look (kind_of edge)
-    → d ++ (codes " [taillabel=\"" ++ word ++ codes "\", style=bold, " ++ look) ≡ old ++ standing_line es i edge
-unfolding standing_line
+pub standing_appended : (es : List Edge) (i : ℕ) (edge : Edge) (old a b c d word look : List ℕ) → a ≡ old ++ codes "  " → b ≡ a ++ access_name (event_name es i)
+    → c ≡ b ++ codes " -> " → d ≡ c ++ access_name (event_name es (event_after es i)) → word ≡ word_of edge → look ≡ kind_look (kind_of edge)
+    → d ++ (codes " [taillabel=\"" ++ word ++ codes "\", style=bold, " ++ look) ≡ old ++ arrow_line (arrow_of es i edge)
+unfolding arrow_line
 standing_appended es i edge old a b c d word look h k m n w l =
     ap (λ t. d ++ (codes " [taillabel=\"" ++ t ++ codes "\", style=bold, " ++ look)) w
     ∙ ap (λ t. d ++ (codes " [taillabel=\"" ++ word_of edge ++ codes "\", style=bold, " ++ t)) l
-    ∙ four_and_four old (codes "  ") (event_word es i) (codes " -> ") (event_word es (event_after es i)) (codes " [taillabel=\"") (word_of edge)
+    ∙ four_and_four old (codes "  ") (access_name (event_name es i)) (codes " -> ") (access_name (event_name es (event_after es i))) (codes " [taillabel=\"") (word_of edge)
     (codes "\", style=bold, ") (kind_look (kind_of edge)) a b c d h k m n
 
 -- six texts, appended one after another

@@ -5,4 +5,6 @@ pub mod CheckedFileLaws
 pub mod CheckedEndLaws
 pub mod GraphLines
 pub mod ShownLaws
+pub mod Members
 pub mod DrawnLaws
+pub mod ArrowLaws

@@ -1,29 +1,89 @@
--- Laws of the pairs that a graph shows: a pair of accesses is in the list of a relation exactly where the relation holds between them.
+-- Laws of what a graph shows: its nodes are the accesses of the execution and the initial writes that are read, a pair of nodes is in the
+-- list of a relation exactly where the relation holds between them, and a bold arrow is drawn exactly where an edge of the quoted cycle stands.
 -- Source: own.
-use Rattle.std.specs.Prelude.{ℕ, ◌≡◌, ◌↔◌, ◌+◌, List, Some}
+use Rattle.std.specs.Prelude.{ℕ, ◌≡◌, ◌↔◌, ◌+◌, ◌<◌, true, List, length, Option, Some, None, slice_get}
 use Rattle.std.specs.List.{Contains}
+use Rattle.relax_edges.specs.declared.{kinds.ArchName.ArchName, edge.Edge.Edge}
 use Rattle.relax_edges.specs.declared.kinds.Dir.TheVariants as dirs
 use Rattle.litmus_text.specs.{TestReading.TestRead, ReadPrograms.program_read}
-use Rattle.program_meaning.specs.{Accesses.Access, Accesses.at_name, Executions.Execution, Coherence.coherence_place, Coherence.source_at}
-use Rattle.program_meaning.specs.Programs.{accesses_in, visits_in}
+use Rattle.program_meaning.specs.{Accesses.Access, Accesses.at_name, Executions.Execution}
+use Rattle.program_meaning.specs.Coherence.{coherence_place, order_at, source_at}
+use Rattle.program_meaning.specs.Programs.{Program, accesses_in, visits_in}
 use Rattle.program_meaning.specs.Standing.{NamedAccess, ComesBefore, access_at}
-use Rattle.exec_meaning.specs.SeenAccesses.{seen_access}
-use Rattle.exec_check.specs.declared.drawn.Drawn.{Drawn}
-use Rattle.exec_check.specs.Graphs.{access_drawn, co_pairs, drawn_in, fr_pairs, po_pairs, rf_pairs}
+use Rattle.exec_meaning.specs.{SeenAccesses.seen_access, StandingEdges.EdgeStands}
+use Rattle.exec_check.specs.declared.{drawn.Drawn.Drawn, drawn.Relation.Relation, verdict.Verdict.Verdict}
+use Rattle.exec_check.specs.Graphs.{Arrow, access_drawn, co_pairs, drawn_in, fr_pairs, initial_write, pairs_by, po_pairs, relates, rf_pairs, standing_arrows}
+use Rattle.exec_check.specs.Verdicts.{IsVerdict, judged_cycle}
+
+-- a node of a graph: the initial write of a place, or an access
+pub data Node : Type 0 where
+  Start : ℕ → Node
+  Made : NamedAccess → Node
 
 -- an access of an execution of a test
 abbrev pub IsAccessIn : TestRead → Execution → NamedAccess → Type 0
 IsAccessIn test x e = at_name (visits_in (program_read test) x) e.name ≡ Some e.visit
 
+-- an access reads the initial value of a place
+pub record ReadsInitial (threads : List (List Access)) (x : Execution) (place : ℕ) (e : NamedAccess) : Type 0 where
+  pub reads : e.visit.access.dir ≡ dirs.R
+  pub there : e.visit.access.place ≡ place
+  pub source : source_at threads x e.name ≡ None
+
+-- an access reads the initial value of a place of the test
+pub record IsInitiallyRead (test : TestRead) (x : Execution) (place : ℕ) : Type 0 where
+  pub within : place < length test.places
+  pub reader : NamedAccess
+  pub is_access : IsAccessIn test x reader
+  pub reads : ReadsInitial (accesses_in (program_read test) x) x place reader
+
+-- a node of the graph of an execution of a test: the initial write of a place whose initial value is read, or an access
+abbrev pub IsNodeIn : TestRead → Execution → Node → Type 0
+IsNodeIn test x (Start place) = IsInitiallyRead test x place
+IsNodeIn test x (Made e) = IsAccessIn test x e
+
 -- as it is drawn
-abbrev pub drawn_as : TestRead → Execution → NamedAccess → Drawn
-drawn_as test x e =
-    access_drawn (seen_access (accesses_in (program_read test) x) x e.name.thread e.name.access e.visit.access e.visit.mark)
+abbrev pub drawn_as : List (List Access) → Execution → Node → Drawn
+drawn_as threads x (Start place) = initial_write place
+drawn_as threads x (Made e) = access_drawn (seen_access threads x e.name.thread e.name.access e.visit.access e.visit.mark)
+
+-- a node of the graph of an execution, drawn so
+pub record IsDrawn (test : TestRead) (x : Execution) (drawn : Drawn) : Type 0 where
+  pub node : Node
+  pub is_node : IsNodeIn test x node
+  pub is : drawn ≡ drawn_as (accesses_in (program_read test) x) x node
+
+-- what is drawn are the nodes
+abbrev pub NodesLaw : Type 0
+NodesLaw = (test : TestRead) (x : Execution) (drawn : Drawn) → (Contains (drawn_in test x) drawn ↔ IsDrawn test x drawn)
+
+-- each pair of a relation is one of nodes
+abbrev pub EndsLaw : Type 0
+EndsLaw = (relation : Relation) (test : TestRead) (x : Execution) (a b : Drawn) → Contains (pairs_by (relates relation) (drawn_in test x)) (a, b)
+    → IsDrawn test x a × IsDrawn test x b
+
+-- the second is the next access of the thread of the first
+pub record IsNextAccess (e f : NamedAccess) : Type 0 where
+  pub thread : f.name.thread ≡ e.name.thread
+  pub next : f.name.access ≡ e.name.access + 1
+
+-- program order leads to the next access, and no initial write is in it
+abbrev pub FollowsInThread : List (List Access) → Execution → Node → Node → Type 0
+FollowsInThread threads x (Made e) (Made f) = IsNextAccess e f
+FollowsInThread threads x (Made e) (Start place) = ⊥
+FollowsInThread threads x (Start place) n = ⊥
 
 -- the second reads, and reads the first
 pub record IsReadBy (threads : List (List Access)) (x : Execution) (e f : NamedAccess) : Type 0 where
   pub reads : f.visit.access.dir ≡ dirs.R
   pub source : source_at threads x f.name ≡ Some e.name
+
+-- reads-from leads from what is read, a write or an initial write, to what reads it
+abbrev pub IsReadFrom : List (List Access) → Execution → Node → Node → Type 0
+IsReadFrom threads x (Made e) (Made f) = IsReadBy threads x e f
+IsReadFrom threads x (Start place) (Made f) = ReadsInitial threads x place f
+IsReadFrom threads x (Made e) (Start place) = ⊥
+IsReadFrom threads x (Start place) (Start other) = ⊥
 
 -- both write to one place, and the second is next in its coherence order
 pub record IsNextWrite (threads : List (List Access)) (x : Execution) (e f : NamedAccess) : Type 0 where
@@ -32,6 +92,19 @@ pub record IsNextWrite (threads : List (List Access)) (x : Execution) (e f : Nam
   pub there : e.visit.access.place ≡ f.visit.access.place
   pub next : coherence_place threads x f.name f.visit.access ≡ coherence_place threads x e.name e.visit.access + 1
 
+-- an access writes to a place, and is the first in its coherence order
+pub record IsFirstWrite (x : Execution) (place : ℕ) (e : NamedAccess) : Type 0 where
+  pub writes : e.visit.access.dir ≡ dirs.W
+  pub there : e.visit.access.place ≡ place
+  pub first : slice_get (order_at x place) 0 ≡ Some e.name
+
+-- coherence order leads to the next write, and from an initial write to the first one
+abbrev pub FollowsInOrder : List (List Access) → Execution → Node → Node → Type 0
+FollowsInOrder threads x (Made e) (Made f) = IsNextWrite threads x e f
+FollowsInOrder threads x (Start place) (Made f) = IsFirstWrite x place f
+FollowsInOrder threads x (Made e) (Start place) = ⊥
+FollowsInOrder threads x (Start place) (Start other) = ⊥
+
 -- the first reads, and the second writes to its place, later in the coherence order than what is read
 pub record IsReadBefore (threads : List (List Access)) (x : Execution) (e f : NamedAccess) : Type 0 where
   pub reads : e.visit.access.dir ≡ dirs.R
@@ -39,25 +112,44 @@ pub record IsReadBefore (threads : List (List Access)) (x : Execution) (e f : Na
   pub there : e.visit.access.place ≡ f.visit.access.place
   pub later : ComesBefore threads x (access_at e) (access_at f)
 
--- the second is the next access of the thread of the first
-pub record IsNextAccess (e f : NamedAccess) : Type 0 where
-  pub thread : f.name.thread ≡ e.name.thread
-  pub next : f.name.access ≡ e.name.access + 1
+-- from-read leads from a read to each later write, and never from or to an initial write
+abbrev pub IsOverwritten : List (List Access) → Execution → Node → Node → Type 0
+IsOverwritten threads x (Made e) (Made f) = IsReadBefore threads x e f
+IsOverwritten threads x (Made e) (Start place) = ⊥
+IsOverwritten threads x (Start place) n = ⊥
 
--- a pair of accesses is in a list exactly where this relation holds between them
-abbrev pub ListsPairs : (List Drawn → List (Drawn × Drawn)) → (List (List Access) → Execution → NamedAccess → NamedAccess → Type 0) → Type 0
+-- a pair of nodes is in a list exactly where this relation holds between them
+abbrev pub ListsPairs : (List Drawn → List (Drawn × Drawn)) → (List (List Access) → Execution → Node → Node → Type 0) → Type 0
 ListsPairs pairs Related =
-    (test : TestRead) (x : Execution) (e f : NamedAccess) → IsAccessIn test x e → IsAccessIn test x f
-    → (Contains (pairs (drawn_in test x)) (drawn_as test x e, drawn_as test x f) ↔ Related (accesses_in (program_read test) x) x e f)
+    (test : TestRead) (x : Execution) (m n : Node) → IsNodeIn test x m → IsNodeIn test x n → let threads = accesses_in (program_read test) x in
+    (Contains (pairs (drawn_in test x)) (drawn_as threads x m, drawn_as threads x n) ↔ Related threads x m n)
 
 abbrev pub PoPairsLaw : Type 0
-PoPairsLaw = ListsPairs po_pairs (λ threads x e f. IsNextAccess e f)
+PoPairsLaw = ListsPairs po_pairs FollowsInThread
 
 abbrev pub RfPairsLaw : Type 0
-RfPairsLaw = ListsPairs rf_pairs IsReadBy
+RfPairsLaw = ListsPairs rf_pairs IsReadFrom
 
 abbrev pub CoPairsLaw : Type 0
-CoPairsLaw = ListsPairs co_pairs IsNextWrite
+CoPairsLaw = ListsPairs co_pairs FollowsInOrder
 
 abbrev pub FrPairsLaw : Type 0
-FrPairsLaw = ListsPairs fr_pairs IsReadBefore
+FrPairsLaw = ListsPairs fr_pairs IsOverwritten
+
+-- an arrow is that of an edge of a cycle which stands in an execution: it leads from the access of its event to that of the next event
+pub record IsOfStandingEdge (cycle : Option (List Edge)) (p : Program) (x : Execution) (arrow : Arrow) : Type 0 where
+  pub es : List Edge
+  pub number : ℕ
+  pub cycle_is : cycle ≡ Some es
+  pub edge_is : slice_get es number ≡ Some arrow.edge
+  pub stands : EdgeStands es p x number
+  pub source_is : arrow.source ≡ stands.source.name
+  pub target_is : arrow.target ≡ stands.target.name
+
+-- with the verdict on a candidate exactly the edges of the quoted cycle that stand in it are drawn, each from the access of its event to that
+-- of the next event
+abbrev pub StandingArrowsLaw : Type 0
+StandingArrowsLaw =
+    (arch : ArchName) (register_number : List ℕ → Option ℕ) (test : TestRead) (x : Execution) (v : Verdict) (arrow : Arrow)
+    → IsVerdict arch register_number test x v → v.candidate ≡ true
+    → (Contains (standing_arrows v.edges.items) arrow ↔ IsOfStandingEdge (judged_cycle arch test) (program_read test) x arrow)

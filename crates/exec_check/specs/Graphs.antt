@@ -1,7 +1,7 @@
 -- The graph of a candidate execution, and its text, for Graphviz: the accesses of each thread in program order, the initial writes that
 -- are read, the relations between them, the edges of the quoted cycle that stand, and the condition.
 -- Source: own; the relations are the usual ones of axiomatic memory models, and the words of the accesses those of the literature.
-use Rattle.std.specs.Prelude.{ℕ, ◌≡◌, ◌+◌, ◌-◌, ◌*◌, ◌/◌, ◌%◌, ◌==◌, ◌&&◌, ◌||◌, zero, suc, Bool, true, false, cond, count_by, nat_lt, List, [], ◌∷◌, ◌++◌, codes, length, map, Option, Some, None, slice_index_or}
+use Rattle.std.specs.Prelude.{ℕ, ◌+◌, ◌-◌, ◌*◌, ◌/◌, ◌%◌, ◌==◌, ◌&&◌, ◌||◌, zero, suc, Bool, true, false, cond, count_by, nat_lt, List, [], ◌∷◌, ◌++◌, codes, length, map, Option, Some, None, slice_index_or}
 use Rattle.std.specs.{Fmt.decimal, List.enumerate_from, List.filter, List.flat_map, List.list_any}
 use Rattle.list_laws.specs.Numbers.{upto}
 use Rattle.relax_edges.specs.declared.{kinds.Dir.Dir, kinds.Mark.Mark, kinds.Kind.Kind, edge.Edge.Edge}
@@ -14,7 +14,7 @@ use Rattle.cycle_events.specs.Resolution.{event_after}
 use Rattle.final_cond.specs.{Conditions.CondSeen, CondText.cond_text}
 use Rattle.litmus_text.specs.{TestReading.TestRead, ReadPrograms.program_read}
 use Rattle.program_meaning.specs.declared.WriteAt.{WriteAt}
-use Rattle.program_meaning.specs.{Accesses.Access, Accesses.write, Accesses.is_read, Executions.Execution, Interleavings.writes_to, Standing.event_name}
+use Rattle.program_meaning.specs.{Accesses.write, Accesses.is_read, Executions.Execution, Interleavings.writes_to, Standing.event_name}
 use Rattle.exec_meaning.specs.declared.seen.SeenAccess.{SeenAccess}
 use Rattle.exec_meaning.specs.SeenAccesses.{seen_in}
 use Rattle.exec_check.specs.declared.{verdict.Verdict.Verdict, drawn.Point.Point, drawn.Drawn.Drawn, drawn.Relation.Relation, shown.Shown.Shown}
@@ -89,6 +89,21 @@ fr_pairs drawn = pairs_by (relates Fr) drawn
 -- the edges of a judged cycle that stand, with their numbers
 abbrev pub standing_edges : List (Edge × Bool) → List (ℕ × (Edge × Bool))
 standing_edges judged = filter (λ (j : ℕ × (Edge × Bool)). j.1.1) (enumerate_from 0 judged)
+
+-- a bold arrow: an edge of a cycle, with the names of the access that it leaves and of that which it enters
+pub record Arrow : Type 0 where
+  pub edge : Edge
+  pub source : WriteAt
+  pub target : WriteAt
+
+-- the arrow of edge i of a cycle: it leads from event i to the next event
+abbrev pub arrow_of : List Edge → ℕ → Edge → Arrow
+arrow_of es i edge = record { edge = edge; source = event_name es i; target = event_name es (event_after es i) }
+
+-- the arrows of the edges of a judged cycle that stand
+abbrev pub standing_arrows : List (Edge × Bool) → List Arrow
+standing_arrows judged =
+    map (λ (j : ℕ × (Edge × Bool)). arrow_of (map (λ (e : Edge × Bool). e.0) judged) j.0 j.1.0) (standing_edges judged)
 
 -- what follows the letter of an access, where all letters were used so many times before
 abbrev pub lap_word : ℕ → List ℕ
@@ -193,19 +208,19 @@ kind_look (edges.Com coms.Ws _) = codes "labeldistance=4, color=\"#1a56a8\", fon
 kind_look (edges.Com coms.Fr _) = codes "labeldistance=4, color=\"#8a5a00\", fontcolor=\"#8a5a00\"]\n"
 kind_look _ = codes "labeldistance=5, labelangle=-40]\n"
 
--- the name of the access that is event i of a cycle
-abbrev pub event_word : List Edge → ℕ → List ℕ
-event_word es i = name_word (event_name es i).thread (event_name es i).access
+-- the name of an access, as a point has it
+abbrev pub access_name : WriteAt → List ℕ
+access_name name = name_word name.thread name.access
 
--- the line of edge i of a cycle, which stands, from the access of event i to that of the next event
-unfoldable pub standing_line : List Edge → ℕ → Edge → List ℕ
-standing_line es i edge =
-    codes "  " ++ event_word es i ++ codes " -> " ++ event_word es (event_after es i) ++ codes " [taillabel=\"" ++ word_of edge
-    ++ codes "\", style=bold, " ++ kind_look (kind_of edge)
+-- the line of a bold arrow
+unfoldable pub arrow_line : Arrow → List ℕ
+arrow_line arrow =
+    codes "  " ++ access_name arrow.source ++ codes " -> " ++ access_name arrow.target ++ codes " [taillabel=\"" ++ word_of arrow.edge
+    ++ codes "\", style=bold, " ++ kind_look (kind_of arrow.edge)
 
 -- the lines of the edges of a judged cycle that stand
 abbrev pub standing_lines : List (Edge × Bool) → List ℕ
-standing_lines judged = flat_map (λ (j : ℕ × (Edge × Bool)). standing_line (map (λ (e : Edge × Bool). e.0) judged) j.0 j.1.0) (standing_edges judged)
+standing_lines judged = flat_map arrow_line (standing_arrows judged)
 
 -- a byte of a text in double quotes: a backslash and a double quote come after a backslash
 abbrev pub quoted_byte : ℕ → List ℕ

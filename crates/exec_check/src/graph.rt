@@ -6,11 +6,11 @@ ghost use Rattle.cycle_events.specs.Resolution.{event_after};
 ghost use Rattle.final_cond.specs.Conditions.{cond_view};
 ghost use Rattle.final_cond.specs.CondText.{cond_text};
 ghost use Rattle.litmus_text.specs.ReadPrograms.{program_read};
-ghost use Rattle.program_meaning.specs.Programs.{IsCandidate};
+ghost use Rattle.program_meaning.specs.{Programs.IsCandidate, Standing.event_name};
 ghost use Rattle.relax_edges.specs.declared.TheConstants.{MAX_EDGES};
 ghost use Rattle.exec_check.specs.Verdicts.{judged_cycle};
 ghost use Rattle.exec_check.specs.CheckingSteps.{AreEdgesOf};
-ghost use Rattle.exec_check.specs.Graphs.{access_line, access_word, cluster_line, cluster_opening, column, condition_line, dir_word, event_word, graph_text, initial_line, is_in_thread, kind_look, lap_word, letter_word, lines_drawn, mark_word, member_word, name_word, opening, pair_line, pair_lines, pairs_by, place_word, point_lines, point_word, position_word, quoted_byte, relates, relation_lines, relation_look, standing_line, standing_lines};
+ghost use Rattle.exec_check.specs.Graphs.{access_line, access_name, access_word, arrow_line, arrow_of, cluster_line, cluster_opening, column, condition_line, dir_word, graph_text, initial_line, is_in_thread, kind_look, lap_word, letter_word, lines_drawn, mark_word, member_word, name_word, opening, pair_line, pair_lines, pairs_by, place_word, point_lines, point_word, position_word, quoted_byte, relates, relation_lines, relation_look, standing_lines};
 
 use crate::drawn::{Drawn, Point, Relation, initial_places, points_drawn, relates};
 use crate::edges::resolved_cycle;
@@ -376,7 +376,7 @@ fn kind_look(kind: Kind) -> &'static [u8]
 /// Appends the name of the access that is event `i` of a cycle.
 fn push_event(resolved: &Resolved, i: u8, text: &mut Vec<u8>) -> Result<(), NoMemory>
     requires { i < length resolved.now }
-    ensures { OnOk result (text.new.items ≡ text.old.items ++ event_word resolved.now i) }
+    ensures { OnOk result (text.new.items ≡ text.old.items ++ access_name (event_name resolved.now i)) }
 {
     let event = resolved.event(i);
     push_name(event.thread, usize::from(event.slot), text)
@@ -394,10 +394,10 @@ fn event_after(resolved: &Resolved, i: u8) -> u8
 }
 
 /// Appends the line of edge `i` of a cycle, which stands.
-#[tactic(auto, unfolding(crate::specs::Graphs::standing_line))]
+#[tactic(auto, unfolding(crate::specs::Graphs::arrow_line))]
 fn push_standing(resolved: &Resolved, i: u8, edge: Edge, text: &mut Vec<u8>) -> Result<(), NoMemory>
     requires { i < length resolved.now }
-    ensures { OnOk result (text.new.items ≡ text.old.items ++ standing_line resolved.now i edge) }
+    ensures { OnOk result (text.new.items ≡ text.old.items ++ arrow_line (arrow_of resolved.now i edge)) }
 {
     text.extend_from_slice(b"  ")?;
     push_event(resolved, i, text)?;
@@ -425,7 +425,7 @@ fn push_if_standing(
     text: &mut Vec<u8>,
 ) -> Result<(), NoMemory>
     requires { i < length resolved.now }
-    ensures { OnOk result (text.new.items ≡ text.old.items ++ cond judged.1 (standing_line resolved.now i judged.0) []) }
+    ensures { OnOk result (text.new.items ≡ text.old.items ++ cond judged.1 (arrow_line (arrow_of resolved.now i judged.0)) []) }
 {
     let (edge, stands) = judged;
     if stands {

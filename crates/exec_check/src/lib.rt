@@ -19,7 +19,7 @@ pub use checked_errors::{CheckEnd, CheckedKind};
 pub use checking::check;
 pub use errors::CheckError;
 pub use files::{FileWords, check_files};
-pub use law::{drawn_relations, one_verdict};
+pub use law::{drawn_edges, drawn_relations, one_verdict};
 pub use shown::Shown;
 pub use verdict::{JudgedEdges, Verdict};
 pub use writing::write_verdict;

@@ -1,5 +1,5 @@
 -- That the accesses of the thread are appended.
-use Rattle.std.proofs.Common.{cond, [], arith}
+use Rattle.std.proofs.Common.{cond, []}
 use Rattle.exec_check.specs.Graphs.{is_in_thread, member_word}
 use Rattle.exec_check.proofs.GraphLines.{each_more, passing_all}
 use Rattle.exec_check.proofs.graph.push_members.Goals as goal

@@ -14,4 +14,4 @@ loop-i-preserved c =
 
 pub returns : goal.returns
 returns c =
-    standing_all (map (λ j. j.0) c.args.judged.now) c.args.judged.now c.loop-i.i c.loop-i.text.items _ c.loop-i-test.false c.loop-i.invariant
+    standing_all c.args.judged.now c.loop-i.i c.args.text.now.items c.loop-i.text.items c.loop-i-test.false c.loop-i.invariant

@@ -1,6 +1,12 @@
--- The laws of the coherence order and of from-read.
-use Rattle.exec_check.proofs.DrawnLaws.{co_pairs_law, fr_pairs_law}
+-- The laws of what is drawn.
+use Rattle.exec_check.proofs.DrawnLaws.{co_pairs_law, ends_law, fr_pairs_law, nodes_law}
 use Rattle.exec_check.proofs.law.drawn_relations.Goals as goal
+
+pub returns-clause-nodes : goal.returns-clause-nodes
+returns-clause-nodes c = nodes_law
+
+pub returns-clause-ends : goal.returns-clause-ends
+returns-clause-ends c = ends_law
 
 pub returns-clause-co : goal.returns-clause-co
 returns-clause-co c = co_pairs_law
