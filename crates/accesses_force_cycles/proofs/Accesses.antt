@@ -1,17 +1,6 @@
 -- Where each event of a cycle and each load of an observer is among the accesses of the cycle's test, and that these are
 -- all its accesses.
-use Rattle.std.proofs.Common.{◌≡◌, ℕ, ◌+◌, ◌-◌, ◌<◌, List, length, map, Some, slice_get, refl, sym, ◌∙◌, ap, arith}
-use Rattle.std.proofs.lemmas.Option.{slice_get_within}
-use Rattle.relax_edges.specs.declared.{kinds.ObsMode.ObsMode, edge.Edge.Edge}
-use Rattle.list_laws.specs.Numbers.{upto}
-use Rattle.list_laws.proofs.Cases.{by_less}
-use Rattle.list_laws.proofs.Numbers.{length-map-upto, slice_get-map-upto, slice_get-upto, length-upto}
-use Rattle.cycle_events.specs.Resolution.{external_count, thread_of, slot_of, events_in}
-use Rattle.cycle_events.specs.Values.{write_count}
-use Rattle.program_meaning.specs.declared.WriteAt.{WriteAt}
-use Rattle.program_meaning.specs.{Accesses.Access, Accesses.read, Accesses.at_name, Standing.event_name}
-use Rattle.program_meaning.specs.Intended.{observed_locations, event_access, observer_accesses, cycle_accesses}
-use Rattle.program_meaning.proofs.Names.{GotFrom, got_from_list}
+use Rattle.accesses_force_cycles.proofs.Vocabulary.{◌≡◌, ℕ, ◌+◌, ◌-◌, ◌<◌, List, length, map, Some, slice_get, refl, sym, ◌∙◌, ap, arith, slice_get_within, ObsMode, Edge, upto, by_less, length-map-upto, slice_get-map-upto, slice_get-upto, length-upto, external_count, thread_of, slot_of, events_in, write_count, WriteAt, Access, read, at_name, event_name, observed_locations, event_access, observer_accesses, cycle_accesses, GotFrom, got_from_list}
 use Rattle.accesses_force_cycles.proofs.Lists.{slice_get-append_left, slice_get-append_right, image_of, got_map}
 use Rattle.accesses_force_cycles.proofs.Resolves.{Resolves}
 
@@ -71,8 +60,7 @@ by_origin {G} es mode number name access r h event load =
 
     as_event : name.thread < external_count es → EventAt es number name access
     as_event l =
-        let s : Some g.list ≡ Some (map (event_access es number) (events_in es name.thread)) = sym g.list_is ∙ thread_accesses es mode number name.thread l in
-        let e : g.list ≡ map (event_access es number) (events_in es name.thread) = cc in
+        let e : g.list ≡ map (event_access es number) (events_in es name.thread) = cc (g.list_is, thread_accesses es mode number name.thread l) in
         let i = image_of (event_access es number) (events_in es name.thread) name.access access (rw e at g.got) in
         let w = r.event name.thread name.access i.element i.got in
         record { event = i.element; below = w.below; thread = sym w.thread; slot = sym w.slot; access_is = i.image }
@@ -82,6 +70,5 @@ by_origin {G} es mode number name access r h event load =
         let i = image_of (observer_accesses es number) (observed_locations es mode) o g.list (sym (observer_thread es mode number name.thread o t) ∙ g.list_is) in
         let q = image_of (λ k. read (number i.element) (k + 1)) (upto (write_count es i.element)) name.access access (rw (← i.image) at g.got) in
         let b : name.access < write_count es i.element = omega (arith, slice_get_within (upto (write_count es i.element)) name.access q.element q.got, length-upto (write_count es i.element)) in
-        let s : Some q.element ≡ Some name.access = sym q.got ∙ slice_get-upto (write_count es i.element) name.access b in
-        let e : q.element ≡ name.access = cc in
+        let e : q.element ≡ name.access = cc (q.got, slice_get-upto (write_count es i.element) name.access b) in
         record { observer = o; spot = i.element; observes = i.got; thread = t; below = b; access_is = ap (λ k. read (number i.element) (k + 1)) (sym e) ∙ q.image }

@@ -1,20 +1,6 @@
 -- All edges of a cycle stand in a program that makes its accesses and marks and ties them as the edges say.
-use Rattle.std.proofs.Common.{◌≡◌, ℕ, suc, ◌+◌, ◌-◌, ◌<◌, ◌≤◌, List, [], ◌∷◌, length, map, Some, slice_get, refl, sym, ◌∙◌, ap, subst, arith, length-append}
-use Rattle.std.proofs.lemmas.List.{length-map}
+use Rattle.accesses_force_cycles.proofs.Vocabulary.{◌≡◌, ℕ, suc, ◌+◌, ◌-◌, ◌<◌, ◌≤◌, List, [], ◌∷◌, length, map, Some, slice_get, refl, sym, ◌∙◌, ap, subst, arith, length-append, length-map, ObsMode, Edge, upto, length-map-upto, edge_at, external_count, event_after, events_in, after_below, write_count, WriteAt, Access, Visit, read, accesses_of, got_from, at_name, Execution, Program, visits_in, accesses_in, AccessAt, NamedAccess, access_at, IsEvent, Observes, HasEvents, AllStand, Joins, event_name, IsNumbering, event_access, event_at, observer_accesses, observed_locations, cycle_accesses, got_from_list, accesses-count, MeetsCondition, AreFree, IsTiedUp, AllJoin}
 use Rattle.relax_edges.specs.declared.kinds.Dir.TheVariants as dirs
-use Rattle.relax_edges.specs.declared.{kinds.ObsMode.ObsMode, edge.Edge.Edge}
-use Rattle.list_laws.specs.Numbers.{upto}
-use Rattle.list_laws.proofs.Numbers.{length-map-upto}
-use Rattle.cycle_events.specs.Resolution.{edge_at, external_count, event_after, events_in}
-use Rattle.cycle_events.proofs.Around.{after_below}
-use Rattle.cycle_events.specs.Values.{write_count}
-use Rattle.program_meaning.specs.declared.WriteAt.{WriteAt}
-use Rattle.program_meaning.specs.Accesses.{Access, Visit, read, accesses_of, got_from, at_name}
-use Rattle.program_meaning.specs.{Executions.Execution, Programs.Program, Programs.visits_in, Programs.accesses_in}
-use Rattle.program_meaning.specs.Standing.{AccessAt, NamedAccess, access_at, IsEvent, Observes, HasEvents, AllStand, Joins, event_name}
-use Rattle.program_meaning.specs.Intended.{IsNumbering, event_access, event_at, observer_accesses, observed_locations, cycle_accesses}
-use Rattle.program_meaning.proofs.{Names.got_from_list, Runs.accesses-count}
-use Rattle.accesses_force_cycles.specs.{Premises.MeetsCondition, Joining.AreFree, Joining.IsTiedUp, Laws.AllJoin}
 use Rattle.accesses_force_cycles.proofs.{Lists.image_of, Lists.got_map, Accesses.thread_accesses, Accesses.observer_thread, Accesses.event_at_name}
 use Rattle.accesses_force_cycles.proofs.{EdgesJoin.edges_join, Resolves.Resolves, Resolves.EntersLast}
 
@@ -73,8 +59,7 @@ has_events es mode number p x r m f = record {
 
     counted : (k : ℕ) (visits : List Visit) → k < external_count es → slice_get (visits_in p x) k ≡ Some visits → length visits ≡ length (events_in es k)
     counted k visits h g =
-        let s : Some (accesses_of visits) ≡ Some (map (event_access es number) (events_in es k)) = sym (made k visits g) ∙ thread_accesses es mode number k h in
-        let e : accesses_of visits ≡ map (event_access es number) (events_in es k) = cc in
+        let e : accesses_of visits ≡ map (event_access es number) (events_in es k) = cc (made k visits g, thread_accesses es mode number k h) in
         sym (length-map visits (λ v. v.access)) ∙ ap length e ∙ length-map (events_in es k) (event_access es number)
 
     reads : (k : ℕ) (visits : List Visit) → external_count es ≤ k → slice_get (visits_in p x) k ≡ Some visits → (j : ℕ) (visit : Visit) → slice_get visits j ≡ Some visit → visit.access.dir ≡ dirs.R

@@ -1,21 +1,7 @@
 -- A resolved cycle has the facts that the executions rest on.
-use Rattle.std.proofs.Common.{◌≡◌, ◌≢◌, ℕ, ◌+◌, ◌<◌, ◌≤◌, true, false, cond, List, length, Some, refl, sym, ◌∙◌, ap, arith, add-one}
-use Rattle.std.specs.{Prelude.◌==◌, List.count_by}
-use Rattle.std.proofs.lemmas.Bool.{cond-true, cond-false, eqb-true, eq-eqb}
-use Rattle.list_laws.specs.Numbers.{upto}
-use Rattle.list_laws.proofs.Counts.{count_upto_past}
-use Rattle.relax_edges.specs.declared.{kinds.Dir.Dir, kinds.Sd.Sd, kinds.Sd.TheVariants.Same, kinds.Sd.TheVariants.Diff, kinds.Reach.Reach}
-use Rattle.relax_edges.specs.declared.{kinds.Reach.TheVariants.Internal, kinds.Reach.TheVariants.External, edge.Edge.Edge}
+use Rattle.accesses_force_cycles.proofs.Vocabulary.{◌≡◌, ◌≢◌, ℕ, ◌+◌, ◌<◌, ◌≤◌, true, false, cond, List, length, Some, refl, sym, ◌∙◌, ap, arith, add-one, ◌==◌, count_by, cond-true, cond-false, eqb-true, eq-eqb, upto, count_upto_past, Dir, Sd, Same, Diff, Reach, Internal, External, Edge, source_of, sd_of, reach_of, is_external, is_diff, same_dir, IsResolved, edge_at, move_count, thread_of, slot_of, location_of, event_after, thread_out, event_in_slot, slot_of_event, SameRun, thread_below, several_locations, one_run, one_location, none_moves, source_after, mark_after, internal_follows, external_leads, keeps_location, changes_location, value_of, write_at, value_after, value_most, write_value, values_in_thread, values_in_thread_grow, write_at_parts, write_at_from, is_write_number, write_number, MayFollow}
 use Rattle.relax_edges.specs.declared.kinds.Dir.TheVariants as dirs
-use Rattle.relax_edges.specs.EdgeTable.{source_of, sd_of, reach_of, is_external, is_diff, same_dir}
-use Rattle.cycle_events.specs.Resolution.{IsResolved, edge_at, move_count, thread_of, slot_of, location_of, event_after}
-use Rattle.cycle_events.proofs.Threads.{thread_out, event_in_slot, slot_of_event}
-use Rattle.cycle_events.proofs.Arcs.{SameRun, thread_below, several_locations, one_run, one_location, none_moves}
-use Rattle.cycle_events.proofs.Around.{source_after, mark_after, internal_follows, external_leads, keeps_location, changes_location}
-use Rattle.cycle_events.specs.Values.{value_of, write_at}
-use Rattle.cycle_events.proofs.Along.{value_after, value_most, write_value, values_in_thread, values_in_thread_grow}
-use Rattle.cycle_events.proofs.Writes.{write_of as write_from, write_at_parts, write_at_from, is_write_number, write_number}
-use Rattle.program_meaning.specs.Coherence.{MayFollow}
+use Rattle.cycle_events.proofs.Writes.{write_of as write_from}
 use Rattle.accesses_force_cycles.proofs.Resolves.{IsWrite, Resolves, written_by}
 
 keeps : (e : Edge) → sd_of e ≡ Same → is_diff e ≡ false

@@ -1,14 +1,6 @@
 -- Each edge of a cycle joins its events in the intended execution, and so in each one that meets the condition.
-use Rattle.std.proofs.Common.{◌≡◌, ℕ, ◌+◌, ◌<◌, List, length, Some, refl, sym, ◌∙◌, ap, arith}
+use Rattle.accesses_force_cycles.proofs.Vocabulary.{◌≡◌, ℕ, ◌+◌, ◌<◌, List, length, Some, refl, sym, ◌∙◌, ap, arith, Same, ObsMode, Kind, Edge, kind_of, source_of, target_of, sd_of, edge_at, location_of, event_after, value_of, after_below, Execution, source_at, CommunicatesBy, ComesBefore, Joins, event_name, IsNumbering, event_access, event_at, cycle_accesses, write_of, intended, MeetsCondition}
 use Rattle.relax_edges.specs.declared.kinds.Dir.TheVariants as dirs
-use Rattle.relax_edges.specs.declared.{kinds.Sd.TheVariants.Same, kinds.ObsMode.ObsMode, kinds.Kind.Kind, edge.Edge.Edge}
-use Rattle.relax_edges.specs.EdgeTable.{kind_of, source_of, target_of, sd_of}
-use Rattle.cycle_events.specs.{Resolution.edge_at, Resolution.location_of, Resolution.event_after, Values.value_of}
-use Rattle.cycle_events.proofs.Around.{after_below}
-use Rattle.program_meaning.specs.{Executions.Execution, Coherence.source_at}
-use Rattle.program_meaning.specs.Standing.{CommunicatesBy, ComesBefore, Joins, event_name}
-use Rattle.program_meaning.specs.Intended.{IsNumbering, event_access, event_at, cycle_accesses, write_of, intended}
-use Rattle.accesses_force_cycles.specs.Premises.{MeetsCondition}
 use Rattle.accesses_force_cycles.proofs.{Numbering.location_of_number, Accesses.event_at_name, IntendedOrders.placed_write}
 use Rattle.accesses_force_cycles.proofs.{IntendedOrders.place_is_value, OnlyOne.only_the_intended, Resolves.Resolves, Resolves.EntersLast}
 use Rattle.accesses_force_cycles.proofs.{Resolves.written_by}

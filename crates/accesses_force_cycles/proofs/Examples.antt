@@ -1,12 +1,6 @@
 -- The definitions tried on small cycles, by computing.
-use Rattle.std.proofs.Common.{◌≡◌, ℕ, List, [], ◌∷◌, Some, None, refl}
+use Rattle.accesses_force_cycles.proofs.Vocabulary.{◌≡◌, ℕ, List, [], ◌∷◌, Some, None, refl, Accept, Edge, pod, wse, wsi, fre, thread_of, slot_of, location_of, moves_before, events_in, value_of, way_place, write_count, write_at, is_observed, read, write, name, cycle_accesses, intended, location_order, location_numbered}
 use Rattle.relax_edges.specs.declared.kinds.Dir.TheVariants as dirs
-use Rattle.relax_edges.specs.declared.{kinds.ObsMode.TheVariants.Accept, edge.Edge.Edge}
-use Rattle.relax_edges.specs.NamedEdges.{pod, wse, wsi, fre}
-use Rattle.cycle_events.specs.Resolution.{thread_of, slot_of, location_of, moves_before, events_in}
-use Rattle.cycle_events.specs.Values.{value_of, way_place, write_count, write_at, is_observed}
-use Rattle.program_meaning.specs.{Accesses.read, Accesses.write, Deciding.name}
-use Rattle.program_meaning.specs.Intended.{cycle_accesses, intended, location_order, location_numbered}
 
 -- two threads that each write both of two locations, in opposite orders
 abbrev pub two_writes : List Edge

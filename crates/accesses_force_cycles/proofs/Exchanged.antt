@@ -1,26 +1,7 @@
 -- Where an external edge enters an inner write of a location without an observer, the exchanged execution is coherent and
 -- has the reads and the final values of the intended one, but the edge doesn't stand in it.
-use Rattle.std.proofs.Common.{◌≡◌, ℕ, zero, suc, ◌+◌, ◌<◌, ◌≤◌, true, false, List, [], length, Some, slice_get, refl, sym, ◌∙◌, ap, subst, arith, add-one}
-use Rattle.std.specs.{Prelude.◌==◌, List.filter_map, Option.option_and_then}
-use Rattle.std.proofs.lemmas.Bool.{cond-true, cond-false, eq-eqb, ne_eqb}
-use Rattle.std.proofs.lemmas.Option.{slice_get_within}
-use Rattle.relax_edges.specs.declared.{kinds.Dir.Dir, kinds.Sd.TheVariants.Same, kinds.Reach.TheVariants.Internal, kinds.Reach.TheVariants.External}
-use Rattle.relax_edges.specs.declared.{kinds.ObsMode.TheVariants.Avoid, edge.Edge.Edge}
+use Rattle.accesses_force_cycles.proofs.Vocabulary.{◌≡◌, ℕ, zero, suc, ◌+◌, ◌<◌, ◌≤◌, true, false, List, [], length, Some, slice_get, refl, sym, ◌∙◌, ap, subst, arith, add-one, ◌==◌, filter_map, option_and_then, cond-true, cond-false, eq-eqb, ne_eqb, slice_get_within, Dir, Same, Internal, External, Avoid, Edge, source_of, sd_of, reach_of, upto, by_same, by_less, unrank_upto, length-map-upto, length-upto, slice_get-upto, slice_get-map-upto, edge_at, move_count, thread_of, location_of, event_after, event_before, by_after, before_below, after_before, value_of, write_count, is_observed, edge_into, WriteAt, Access, at_name, IsExecutionOf, IsOrderOf, Joins, event_name, MayFollow, IsCoherent, order_at, coherence_place, last_write, value_of_access, final_value, IsNumbering, event_access, event_at, cycle_accesses, ordered_write, location_order, location_numbered, intended, MeetsCondition, swapped, exchanged_value, exchanged_order, exchanged}
 use Rattle.relax_edges.specs.declared.kinds.Dir.TheVariants as dirs
-use Rattle.relax_edges.specs.EdgeTable.{source_of, sd_of, reach_of}
-use Rattle.list_laws.specs.Numbers.{upto}
-use Rattle.list_laws.proofs.{Cases.by_same, Cases.by_less, Ranks.unrank_upto}
-use Rattle.list_laws.proofs.Numbers.{length-map-upto, length-upto, slice_get-upto, slice_get-map-upto}
-use Rattle.cycle_events.specs.Resolution.{edge_at, move_count, thread_of, location_of, event_after, event_before}
-use Rattle.cycle_events.proofs.Around.{by_after, before_below, after_before}
-use Rattle.cycle_events.specs.Values.{value_of, write_count, is_observed, edge_into}
-use Rattle.program_meaning.specs.declared.WriteAt.{WriteAt}
-use Rattle.program_meaning.specs.{Accesses.Access, Accesses.at_name, Executions.IsExecutionOf, Executions.IsOrderOf, Standing.Joins}
-use Rattle.program_meaning.specs.{Standing.event_name}
-use Rattle.program_meaning.specs.Coherence.{MayFollow, IsCoherent, order_at, coherence_place, last_write, value_of_access, final_value}
-use Rattle.program_meaning.specs.Intended.{IsNumbering, event_access, event_at, cycle_accesses, ordered_write, location_order, location_numbered, intended}
-use Rattle.accesses_force_cycles.specs.Premises.{MeetsCondition}
-use Rattle.accesses_force_cycles.specs.Exchange.{swapped, exchanged_value, exchanged_order, exchanged}
 use Rattle.accesses_force_cycles.proofs.{Lists.image_of, Numbering.Numbers, Numbering.numbering_onto, Numbering.location_of_number, Accesses.EventAt}
 use Rattle.accesses_force_cycles.proofs.{Accesses.by_origin, Accesses.event_at_name, IntendedOrders.intended_order, IntendedOrders.placed_write}
 use Rattle.accesses_force_cycles.proofs.{IntendedExists.values_follow, IntendedExists.last_of_order, IntendedExists.intended_meets}
@@ -58,8 +39,7 @@ unfolding exchanged exchanged_order
 orders_exchanged es number event place order r n q h =
     let i = image_of (λ p. exchanged_order es event (location_numbered es number p)) (upto (move_count es)) place order h in
     let b : place < move_count es = omega (arith, slice_get_within (upto (move_count es)) place i.element i.got, length-upto (move_count es)) in
-    let s : Some i.element ≡ Some place = sym i.got ∙ slice_get-upto (move_count es) place b in
-    let e : i.element ≡ place = cc in
+    let e : i.element ≡ place = cc (i.got, slice_get-upto (move_count es) place b) in
     let w = numbering_onto es number place n b in
     let o : order_under es w.spot (exchanged_value es event w.spot) ≡ order = ap (exchanged_order es event) (sym w.read_back ∙ ap (location_numbered es number) (sym e)) ∙ i.image in
     subst (λ (p : ℕ). IsOrderOf (cycle_accesses es Avoid number) p order) w.number_is
@@ -147,8 +127,7 @@ apart es event i j r q h b t l s u v =
     by_value w (suc k) e =
         let a = r.found (location_of es event) k w.write (record { below = w.below; writes = w.writes; location = w.location ∙ s; value = w.value ∙ e }) in
         let c = r.found (location_of es event) k event (record { below = q.below; writes = q.writes; location = refl; value = e }) in
-        let o : Some w.write ≡ Some event = sym a ∙ c in
-        let m : w.write ≡ event = cc in
+        let m : w.write ≡ event = cc (a, c) in
         let x : Internal ≡ External = sym w.inside ∙ ap (λ z. reach_of (edge_into es z)) m ∙ q.outside in
         cc
 

@@ -1,19 +1,6 @@
 -- The intended execution is an execution of the cycle's accesses, it is coherent per location, and each location's place
 -- has its last value at the end.
-use Rattle.std.proofs.Common.{◌≡◌, ℕ, zero, suc, ◌+◌, ◌<◌, ◌≤◌, List, length, Some, slice_get, refl, sym, ◌∙◌, ap, subst, arith}
-use Rattle.relax_edges.specs.declared.{kinds.Dir.Dir, kinds.ObsMode.ObsMode, edge.Edge.Edge}
-use Rattle.relax_edges.specs.declared.kinds.Dir.TheVariants as dirs
-use Rattle.relax_edges.specs.EdgeTable.{source_of}
-use Rattle.list_laws.specs.Numbers.{upto}
-use Rattle.list_laws.proofs.Numbers.{length-map-upto, length-upto, slice_get-upto}
-use Rattle.std.proofs.lemmas.Option.{slice_get_within}
-use Rattle.cycle_events.specs.Resolution.{edge_at, move_count, thread_of, location_of}
-use Rattle.cycle_events.specs.Values.{value_of, write_count}
-use Rattle.program_meaning.specs.declared.WriteAt.{WriteAt}
-use Rattle.program_meaning.specs.{Accesses.Access, Accesses.at_name, Executions.IsExecutionOf, Executions.IsOrderOf, Standing.event_name}
-use Rattle.program_meaning.specs.Coherence.{MayFollow, IsCoherent, last_write, final_value}
-use Rattle.program_meaning.specs.Intended.{IsNumbering, cycle_accesses, ordered_write, location_order, location_numbered, intended}
-use Rattle.accesses_force_cycles.specs.Premises.{MeetsCondition}
+use Rattle.accesses_force_cycles.proofs.Vocabulary.{◌≡◌, ℕ, zero, suc, ◌<◌, ◌≤◌, List, length, Some, slice_get, refl, sym, ◌∙◌, ap, subst, arith, Dir, ObsMode, Edge, source_of, upto, length-map-upto, length-upto, slice_get-upto, slice_get_within, edge_at, move_count, thread_of, location_of, value_of, write_count, WriteAt, Access, at_name, IsExecutionOf, IsOrderOf, event_name, MayFollow, IsCoherent, last_write, final_value, IsNumbering, cycle_accesses, ordered_write, location_order, location_numbered, intended, MeetsCondition}
 use Rattle.accesses_force_cycles.proofs.{Lists.image_of, Lists.length-filter_map-upto, Lists.slice_get-filter_map-upto, Orders.Holds}
 use Rattle.accesses_force_cycles.proofs.{Orders.order_given, Numbering.numbering_onto, Accesses.EventAt, Accesses.LoadAt, Accesses.by_origin}
 use Rattle.accesses_force_cycles.proofs.{IntendedReads.reads-count, IntendedReads.intended_are_reads, IntendedOrders.gives_writes}
@@ -97,12 +84,7 @@ values_follow es mode number thread e f a b r n less h k p =
         subst (λ (z : Dir × ℕ × ℕ). MayFollow z.0 z.1 z.2) (λ t. (d t, v t, w t)) (r.order i.event j.event o j.below t l)
 
     both_loads : LoadAt es mode number (record { thread = thread; access = e }) a → LoadAt es mode number (record { thread = thread; access = f }) b → MayFollow b.dir a.value b.value
-    both_loads i j =
-        let v : e + 1 ≡ a.value = ap (λ c. c.value) i.access_is in
-        let w : f + 1 ≡ b.value = ap (λ c. c.value) j.access_is in
-        let d : dirs.R ≡ b.dir = ap (λ c. c.dir) j.access_is in
-        let u : a.value ≤ b.value = omega (arith, v, w, less) in
-        subst (λ (z : Dir). MayFollow z a.value b.value) d u
+    both_loads i j = grind arith
 
 -- the intended execution is coherent per location
 pub intended_is_coherent : (es : List Edge) (mode : ObsMode) (number : ℕ → ℕ) → Resolves es → IsNumbering es number → IsCoherent (cycle_accesses es mode number) (intended es mode number)

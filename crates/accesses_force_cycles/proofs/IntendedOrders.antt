@@ -1,16 +1,7 @@
 -- The coherence order of a location's place: in an execution it holds the location's writes, and in the intended one
 -- they come in the order of their values, so that the coherence place of each access is its value.
-use Rattle.std.proofs.Common.{◌≡◌, ℕ, zero, suc, ◌<◌, ◌≤◌, List, length, Some, slice_get, refl, sym, ◌∙◌, ap, subst, arith, add-one}
-use Rattle.relax_edges.specs.declared.{kinds.Dir.Dir, kinds.ObsMode.ObsMode, edge.Edge.Edge}
+use Rattle.accesses_force_cycles.proofs.Vocabulary.{◌≡◌, ℕ, zero, suc, ◌<◌, ◌≤◌, List, length, Some, slice_get, refl, sym, ◌∙◌, ap, subst, arith, add-one, Dir, ObsMode, Edge, slice_get-map-upto, move_count, write_count, WriteAt, Access, at_name, Execution, IsExecutionOf, IsOrderOf, event_name, order_place, order_at, placed_by, coherence_place, IsNumbering, cycle_accesses, ordered_write, write_of, location_order, location_numbered, intended, GotFrom, got_from_list}
 use Rattle.relax_edges.specs.declared.kinds.Dir.TheVariants as dirs
-use Rattle.list_laws.proofs.Numbers.{slice_get-map-upto}
-use Rattle.cycle_events.specs.{Resolution.move_count, Values.value_of, Values.write_count}
-use Rattle.program_meaning.specs.declared.WriteAt.{WriteAt}
-use Rattle.program_meaning.specs.{Accesses.Access, Accesses.at_name, Executions.Execution, Executions.IsExecutionOf, Executions.IsOrderOf}
-use Rattle.program_meaning.specs.{Standing.event_name}
-use Rattle.program_meaning.specs.Coherence.{order_place, order_at, placed_by, coherence_place}
-use Rattle.program_meaning.specs.Intended.{IsNumbering, cycle_accesses, ordered_write, write_of, location_order, location_numbered, intended}
-use Rattle.program_meaning.proofs.Names.{GotFrom, got_from_list}
 use Rattle.accesses_force_cycles.proofs.{Lists.got_below, Orders.Holds, Orders.Gives, Orders.place_given, Numbering.location_of_number}
 use Rattle.accesses_force_cycles.proofs.{ReadLists.source_given, Resolves.Resolves}
 use Rattle.accesses_force_cycles.proofs.WriteEvents.{nth_write, write_event, write_at_name, ordered_write-is, rank_below, source_fixed}
@@ -24,13 +15,7 @@ same_event es i j r h k e = grind arith
 pub gives_writes : (es : List Edge) (l : ℕ) → Resolves es → Gives (ordered_write es l) (write_count es l)
 gives_writes es l r = record {
   some = λ k h. let w = nth_write es l k r h in (event_name es w.event, w.name_is);
-  once = λ j k w h g p q.
-      let a = nth_write es l j r h in
-      let b = nth_write es l k r g in
-      let s : Some (event_name es a.event) ≡ Some (event_name es b.event) = sym a.name_is ∙ p ∙ sym q ∙ b.name_is in
-      let n : event_name es a.event ≡ event_name es b.event = cc in
-      let e : a.event ≡ b.event = same_event es a.event b.event r a.is_write.below b.is_write.below n in
-      omega (arith, a.is_write.value, b.is_write.value, ap (value_of es) e);
+  once = λ j k w h g p q. grind (arith, nth_write es l j r h, nth_write es l k r g, same_event);
 }
 
 -- an execution has an order for each location's place

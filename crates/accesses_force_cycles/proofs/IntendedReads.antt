@@ -1,15 +1,5 @@
 -- What each thread reads in the intended execution, and that in each execution of these accesses it reads the same.
-use Rattle.std.proofs.Common.{◌≡◌, ℕ, ◌+◌, ◌-◌, ◌<◌, ◌≤◌, List, length, map, Option, Some, slice_get, refl, sym, ◌∙◌, ap, subst, arith, add-one, length-append}
-use Rattle.std.specs.List.{filter}
-use Rattle.std.proofs.lemmas.List.{length-map}
-use Rattle.relax_edges.specs.declared.{kinds.ObsMode.ObsMode, edge.Edge.Edge}
-use Rattle.list_laws.proofs.{Cases.by_less, Numbers.length-map-upto, Numbers.slice_get-map-upto, Ranks.unrank_upto}
-use Rattle.cycle_events.specs.Resolution.{external_count, move_count, location_of, events_in}
-use Rattle.cycle_events.specs.Values.{value_of, write_count, is_observed}
-use Rattle.program_meaning.specs.declared.WriteAt.{WriteAt}
-use Rattle.program_meaning.specs.Accesses.{Access, got_from, at_name, is_read}
-use Rattle.program_meaning.specs.Executions.{Execution, IsExecutionOf, AreReadsOf, CanRead}
-use Rattle.program_meaning.specs.Intended.{IsNumbering, observed_locations, event_access, observer_accesses, cycle_accesses, write_of, event_read, observer_reads, reads_in, location_numbered, intended}
+use Rattle.accesses_force_cycles.proofs.Vocabulary.{◌≡◌, ℕ, ◌+◌, ◌-◌, ◌<◌, ◌≤◌, List, length, map, Option, Some, slice_get, refl, sym, ◌∙◌, ap, subst, arith, add-one, length-append, filter, length-map, ObsMode, Edge, by_less, length-map-upto, slice_get-map-upto, unrank_upto, external_count, move_count, location_of, events_in, value_of, write_count, is_observed, WriteAt, Access, got_from, at_name, is_read, Execution, IsExecutionOf, AreReadsOf, CanRead, IsNumbering, observed_locations, event_access, observer_accesses, cycle_accesses, write_of, event_read, observer_reads, reads_in, location_numbered, intended}
 use Rattle.accesses_force_cycles.proofs.Lists.{slice_get-append_left, slice_get-append_right, same_below, got_below, image_of, got_map, map_same, map-map, filter-map, filter_all, kept}
 use Rattle.accesses_force_cycles.proofs.{Numbering.location_of_number, WriteEvents.source_fixed, WriteEvents.can_read, ReadLists.reads_by_source}
 use Rattle.accesses_force_cycles.proofs.{ReadLists.reads_given, ReadLists.reads_fixed, Resolves.Resolves}
@@ -87,10 +77,7 @@ intended_reads es mode number k accesses r n h =
     by_less k (external_count es) prefix (λ g. back (k - external_count es) (omega arith))
   where
     prefix : k < external_count es → slice_get (intended es mode number).reads k ≡ Some (reads_by_source (source_for es number) (filter is_read accesses))
-    prefix l =
-        let s : Some (map (event_access es number) (events_in es k)) ≡ Some accesses = sym (thread_accesses es mode number k l) ∙ h in
-        let e : map (event_access es number) (events_in es k) ≡ accesses = cc in
-        first_reads es mode number k l ∙ ap Some (event_reads es number k r n ∙ ap (λ l. reads_by_source (source_for es number) (filter is_read l)) e)
+    prefix l = grind (arith, thread_accesses, first_reads, event_reads es number k r n)
 
     back : (o : ℕ) → k ≡ external_count es + o → slice_get (intended es mode number).reads k ≡ Some (reads_by_source (source_for es number) (filter is_read accesses))
     back o t =
@@ -103,8 +90,7 @@ intended_reads es mode number k accesses r n h =
 -- the reads of the intended execution are reads of these accesses
 pub intended_are_reads : (es : List Edge) (mode : ObsMode) (number : ℕ → ℕ) (k : ℕ) (accesses : List Access) (reads : List (ℕ × Option WriteAt)) → Resolves es → IsNumbering es number → slice_get (cycle_accesses es mode number) k ≡ Some accesses → slice_get (intended es mode number).reads k ≡ Some reads → AreReadsOf (cycle_accesses es mode number) (filter is_read accesses) reads
 intended_are_reads es mode number k accesses reads r n t h =
-    let s : Some (reads_by_source (source_for es number) (filter is_read accesses)) ≡ Some reads = sym (intended_reads es mode number k accesses r n t) ∙ h in
-    let e : reads_by_source (source_for es number) (filter is_read accesses) ≡ reads = cc in
+    let e : reads_by_source (source_for es number) (filter is_read accesses) ≡ reads = cc (intended_reads es mode number k accesses r n t, h) in
     subst (AreReadsOf (cycle_accesses es mode number) (filter is_read accesses)) e
     (reads_given (cycle_accesses es mode number) (source_for es number) (filter is_read accesses)
     (λ j access g. let w = kept is_read accesses j access g in

@@ -1,6 +1,5 @@
 -- The laws of this crate, from the facts of a resolved cycle.
-use Rattle.std.proofs.Common.{arith}
-use Rattle.accesses_force_cycles.specs.Laws.{EdgesJoin, OnlyTheIntended, TheIntendedMeets, NoConditionServes, AllEdgesStand, OneOutcome, AnOutcome}
+use Rattle.accesses_force_cycles.proofs.Vocabulary.{arith, EdgesJoin, OnlyTheIntended, TheIntendedMeets, NoConditionServes, AllEdgesStand, OneOutcome, AnOutcome}
 use Rattle.accesses_force_cycles.proofs.{Bridge.resolves, Needs.enters_last, Needs.refused_entry, OnlyOne.only_the_intended, EdgesJoin.edges_join}
 use Rattle.accesses_force_cycles.proofs.{EdgesJoin.intended_joins, IntendedExists.intended_meets, Programs.outcome_makes, Programs.outcome_meets}
 use Rattle.accesses_force_cycles.proofs.{Programs.intended_outcome, AllStand.all_stand}
@@ -26,14 +25,7 @@ no_condition_serves_law es number need r n o =
 -- all edges stand in each outcome of a program that makes, marks and ties the accesses of the cycle's test
 pub all_edges_stand_law : AllEdgesStand
 all_edges_stand_law es mode number p x r s n m t o =
-    grind (
-      arith,
-      (resolves es r),
-      (all_stand es mode number p x),
-      (enters_last es mode),
-      (outcome_makes es mode number p x m o),
-      (outcome_meets es mode number p x m o),
-    )
+    grind (arith, resolves es r, all_stand es mode number p x, enters_last es mode, outcome_makes es mode number p x m o, outcome_meets es mode number p x m o)
 
 -- each outcome of such a program is the intended execution
 pub one_outcome_law : OneOutcome

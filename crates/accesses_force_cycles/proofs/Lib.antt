@@ -1,3 +1,4 @@
+pub mod Vocabulary
 pub mod Examples
 pub mod Lists
 pub mod Orders

@@ -1,10 +1,5 @@
 -- Lists by their elements: joined lists, equal lists, what a map and a filter hold, and the place of an element.
-use Rattle.std.proofs.Common.{◌≡◌, ℕ, zero, suc, ◌+◌, ◌<◌, Bool, true, cond, List, [], ◌∷◌, ◌++◌, length, map, Option, Some, None, slice_get, take, refl, sym, ◌∙◌, ap, arith}
-use Rattle.std.specs.{List.count_by, List.filter, List.filter_map, Option.option_map}
-use Rattle.std.proofs.lemmas.{Bool.cond-true, Bool.cond-false, Option.slice_get-map, Option.slice_get_past, List.Elements.filter_map-append}
-use Rattle.std.proofs.lemmas.{List.Sums.sum_by-cons, List.length_push}
-use Rattle.list_laws.specs.Numbers.{upto}
-use Rattle.list_laws.proofs.Cases.{by_test, by_less}
+use Rattle.accesses_force_cycles.proofs.Vocabulary.{◌≡◌, ℕ, zero, suc, ◌+◌, ◌<◌, Bool, true, cond, List, [], ◌∷◌, ◌++◌, length, map, Option, Some, None, slice_get, take, refl, sym, ◌∙◌, ap, arith, count_by, filter, filter_map, option_map, cond-true, cond-false, slice_get-map, slice_get_past, filter_map-append, sum_by-cons, length_push, upto, by_test, by_less}
 
 -- an element of the first of two joined lists
 pub slice_get-append_left : {X : Type 0} (xs ys : List X) (i : ℕ) → i < length xs → slice_get (xs ++ ys) i ≡ slice_get xs i
@@ -22,8 +17,7 @@ same_by_gets [] [] h = refl
 same_by_gets [] (y ∷ ys) h = let e : None ≡ Some y = h 0 in cc
 same_by_gets (x ∷ xs) [] h = let e : Some x ≡ None = h 0 in cc
 same_by_gets {X} (x ∷ xs) (y ∷ ys) h =
-    let e : Some x ≡ Some y = h 0 in
-    let s : x ≡ y = cc in
+    let s : x ≡ y = cc (h 0) in
     let r : xs ≡ ys = same_by_gets xs ys (λ k. h (suc k)) in
     cc
 

@@ -1,18 +1,7 @@
 -- Where a mode serves a cycle, a write of a location without an observer that an external edge enters is its first or its
 -- last; and what the mode avoid refuses is an inner one.
-use Rattle.std.proofs.Common.{◌≡◌, ℕ, zero, suc, ◌<◌, Bool, true, false, List, [], ◌∷◌, length, Option, Some, None, slice_get, refl, sym, ◌∙◌, ap, arith}
-use Rattle.std.specs.{Prelude.Ok, List.find, List.filter_map}
-use Rattle.std.proofs.lemmas.{Bool.leb-false, Bool.cond-true, Bool.cond-false, Option.slice_get_within}
+use Rattle.accesses_force_cycles.proofs.Vocabulary.{◌≡◌, ℕ, zero, suc, ◌<◌, Bool, true, false, List, [], ◌∷◌, length, Option, Some, None, slice_get, refl, sym, ◌∙◌, ap, arith, Ok, find, filter_map, leb-false, cond-true, cond-false, slice_get_within, External, ObsMode, Accept, Avoid, Force, Edge, source_of, reach_of, upto, by_test, slice_get-upto, any_upto_fails, edge_at, move_count, location_of, NeedsObserver, value_of, write_at, write_count, edge_into, is_inner_entry, is_observed, first_inner_entry, first_need, observer_need, Valuation, valuation_of, IsServed}
 use Rattle.relax_edges.specs.declared.kinds.Dir.TheVariants as dirs
-use Rattle.relax_edges.specs.declared.{kinds.Reach.TheVariants.External, kinds.ObsMode.ObsMode, kinds.ObsMode.TheVariants.Accept}
-use Rattle.relax_edges.specs.declared.{kinds.ObsMode.TheVariants.Avoid, kinds.ObsMode.TheVariants.Force, edge.Edge.Edge}
-use Rattle.relax_edges.specs.EdgeTable.{source_of, reach_of}
-use Rattle.list_laws.specs.Numbers.{upto}
-use Rattle.list_laws.proofs.{Cases.by_test, Cases.by_less, Numbers.slice_get-upto, Finds.any_upto_fails}
-use Rattle.cycle_events.specs.Resolution.{edge_at, move_count, location_of}
-use Rattle.cycle_events.specs.declared.needs.NeedsObserver.{NeedsObserver}
-use Rattle.cycle_events.specs.Values.{value_of, write_at, write_count, edge_into, is_inner_entry, is_observed, first_inner_entry, first_need, observer_need, Valuation, valuation_of}
-use Rattle.accesses_force_cycles.specs.Premises.{IsServed}
 use Rattle.accesses_force_cycles.proofs.Lists.{length-filter_map-upto, slice_get-filter_map-upto, Kept}
 use Rattle.accesses_force_cycles.proofs.Resolves.{IsWrite, Resolves, EntersLast, InnerEntry}
 
@@ -88,10 +77,7 @@ pub enters_last : (es : List Edge) (mode : ObsMode) → Resolves es → IsServed
 enters_last es mode r s = record { last = λ i h w u e v. by_mode mode s i h w u e v }
   where
     not_inner : (i : ℕ) → i < length es → source_of (edge_at es i) ≡ dirs.W → reach_of (edge_into es i) ≡ External → 1 < value_of es i → is_inner_entry es (location_of es i) i ≡ false → value_of es i ≡ write_count es (location_of es i)
-    not_inner i h w e v f =
-        by_less (value_of es i) (write_count es (location_of es i))
-        (λ l. let t : false ≡ true = sym f ∙ is_entry es (location_of es i) i w refl e v l in cc)
-        (λ g. omega (arith, g, r.within i h))
+    not_inner i h w e v f = grind (arith, is_entry, r.within i h)
 
     rank : (i : ℕ) → (v : ℕ) → value_of es i ≡ v → 1 < v → (k : ℕ) × (value_of es i ≡ suc k)
     rank i zero e h = absurd (omega arith)

@@ -1,14 +1,5 @@
 -- A numbering of the places can be read back: it takes each number below the count of the locations.
-use Rattle.std.proofs.Common.{◌≡◌, ℕ, zero, suc, ◌<◌, ◌≤◌, Bool, true, false, ◌||◌, List, [], ◌∷◌, refl, sym, ◌∙◌, ap, arith}
-use Rattle.std.specs.{Prelude.◌==◌, Prelude.unwrap_or, List.count_by, List.list_any}
-use Rattle.std.proofs.lemmas.{List.Folds.list_any-append, Bool.eqb-true, Bool.eq-eqb, Bool.ne_eqb}
-use Rattle.relax_edges.specs.declared.edge.Edge.{Edge}
-use Rattle.list_laws.specs.Numbers.{upto}
-use Rattle.list_laws.proofs.Cases.{by_test}
-use Rattle.list_laws.proofs.Counts.{count_upto-le, count_upto_one_more, count_upto_less, count_upto_none}
-use Rattle.list_laws.proofs.Finds.{find_upto_only, any_upto, any_upto_none, any_upto_passing}
-use Rattle.cycle_events.specs.Resolution.{move_count}
-use Rattle.program_meaning.specs.Intended.{IsNumbering, location_numbered}
+use Rattle.accesses_force_cycles.proofs.Vocabulary.{◌≡◌, ℕ, zero, suc, ◌<◌, ◌≤◌, Bool, true, false, ◌||◌, List, [], ◌∷◌, refl, sym, ◌∙◌, ap, arith, ◌==◌, unwrap_or, count_by, list_any, list_any-append, eqb-true, eq-eqb, ne_eqb, Edge, upto, by_test, count_upto-le, count_upto_one_more, count_upto_less, count_upto_none, find_upto_only, any_upto, any_upto_none, any_upto_passing, move_count, IsNumbering, location_numbered}
 
 -- where all numbers below n are counted, each passes
 all_pass : (p : ℕ → Bool) (n i : ℕ) → count_by p (upto n) ≡ n → i < n → p i ≡ true

@@ -1,20 +1,6 @@
 -- An execution that meets the condition is the intended one: its reads are fixed by their values, and its orders by the
 -- edges into the writes.
-use Rattle.std.proofs.Common.{◌≡◌, ℕ, suc, ◌+◌, ◌-◌, ◌<◌, ◌≤◌, true, false, List, length, Option, Some, slice_get, refl, sym, ◌∙◌, ap, subst, arith, add-one}
-use Rattle.std.specs.{Option.option_and_then, List.count_by}
-use Rattle.std.proofs.lemmas.Option.{slice_get_within}
-use Rattle.relax_edges.specs.declared.{kinds.Dir.Dir, kinds.Sd.Sd, kinds.Sd.TheVariants.Same, kinds.Sd.TheVariants.Diff, kinds.Reach.Reach}
-use Rattle.relax_edges.specs.declared.{kinds.Reach.TheVariants.Internal, kinds.Reach.TheVariants.External, kinds.ObsMode.ObsMode, edge.Edge.Edge}
-use Rattle.relax_edges.specs.EdgeTable.{source_of, sd_of, reach_of}
-use Rattle.list_laws.proofs.{Cases.by_test, Ranks.rank_upto}
-use Rattle.list_laws.specs.Numbers.{upto}
-use Rattle.cycle_events.specs.Resolution.{edge_at, external_count, move_count, thread_of, slot_of, location_of, event_after}
-use Rattle.cycle_events.specs.Values.{value_of, write_count, is_observed, edge_into}
-use Rattle.program_meaning.specs.declared.WriteAt.{WriteAt}
-use Rattle.program_meaning.specs.{Accesses.read, Accesses.at_name, Executions.Execution, Standing.event_name}
-use Rattle.program_meaning.specs.Coherence.{MayFollow, order_place, order_at, coherence_place, last_write, value_of_access, final_value}
-use Rattle.program_meaning.specs.Intended.{IsNumbering, observed_locations, event_access, cycle_accesses, ordered_write, write_of, location_order, intended}
-use Rattle.accesses_force_cycles.specs.Premises.{MeetsCondition}
+use Rattle.accesses_force_cycles.proofs.Vocabulary.{◌≡◌, ℕ, suc, ◌+◌, ◌-◌, ◌<◌, ◌≤◌, true, false, List, length, Option, Some, slice_get, refl, sym, ◌∙◌, ap, subst, arith, add-one, count_by, slice_get_within, Dir, Sd, Same, Diff, Reach, Internal, External, ObsMode, Edge, source_of, sd_of, reach_of, by_test, rank_upto, upto, edge_at, external_count, move_count, thread_of, slot_of, location_of, event_after, value_of, write_count, is_observed, edge_into, WriteAt, read, at_name, Execution, event_name, MayFollow, order_place, order_at, coherence_place, last_write, final_value, IsNumbering, observed_locations, event_access, cycle_accesses, ordered_write, write_of, location_order, intended, MeetsCondition}
 use Rattle.accesses_force_cycles.proofs.{Lists.same_below, Lists.got_below, Orders.Holds, Orders.place_held, Orders.order_by_steps}
 use Rattle.accesses_force_cycles.proofs.{Numbering.numbering_onto, Numbering.location_of_number, Accesses.event_at_name, Accesses.observer_at_name}
 use Rattle.accesses_force_cycles.proofs.{WriteEvents.NthWrite, WriteEvents.nth_write, WriteEvents.write_at_name, IntendedReads.reads_are_intended}
@@ -167,9 +153,7 @@ ends_with es mode number x l k r n c h z v =
     let j = q.only (length (order_at x (number l)) - 1) e.element e.got in
     let a = nth_write es l j.0 r j.1 in
     let t : last_write (order_at x (number l)) ≡ Some (event_name es a.event) = e.got ∙ sym j.2 ∙ a.name_is in
-    let f : final_value (cycle_accesses es mode number) x (number l) ≡ suc j.0 =
-    ap (λ w. value_of_access (option_and_then (at_name (cycle_accesses es mode number)) w)) t
-    ∙ ap value_of_access (write_at_name es mode number l j.0 a.event r a.is_write) in
+    let f : final_value (cycle_accesses es mode number) x (number l) ≡ suc j.0 = grind (arith, write_at_name es mode number l j.0 a.event r a.is_write) in
     let d : j.0 ≡ k = omega (arith, f, v) in
     e.got ∙ sym j.2 ∙ ap (ordered_write es l) d
 

@@ -1,33 +1,12 @@
 -- The place of a write in a coherence order, and orders that are fixed by their steps.
-use Rattle.std.proofs.Common.{◌≡◌, ℕ, zero, suc, ◌+◌, ◌<◌, ◌≤◌, true, false, List, length, get_or, Option, Some, slice_get, sym, ◌∙◌, ap, arith}
-use Rattle.std.specs.List.{filter_map, position_or_len}
-use Rattle.std.proofs.lemmas.{Bool.lt-ltb, Bool.cond-true, Option.slice_get_within, Option.slice_get-get_or, Option.get_or_from_slice_get}
-use Rattle.std.proofs.lemmas.{List.Sums.position_or_len_is}
-use Rattle.list_laws.specs.Numbers.{upto}
-use Rattle.list_laws.proofs.Cases.{by_test, by_less}
-use Rattle.program_meaning.specs.declared.WriteAt.{WriteAt}
-use Rattle.program_meaning.specs.{Executions.same_write, Coherence.order_place}
-use Rattle.program_meaning.proofs.Names.{same_write-refl, same_write-true}
+use Rattle.accesses_force_cycles.proofs.Vocabulary.{◌≡◌, ℕ, zero, suc, ◌+◌, ◌<◌, ◌≤◌, List, length, Option, Some, slice_get, sym, ◌∙◌, ap, arith, filter_map, position_or_len, lt-ltb, cond-true, slice_get_within, slice_get-get_or, get_or_from_slice_get, position_or_len_is, upto, by_less, WriteAt, same_write, order_place, same_write-refl, same_write-true}
 use Rattle.accesses_force_cycles.proofs.Lists.{same_below, length-filter_map-upto, slice_get-filter_map-upto, got_below}
 
 -- a write that is listed once in an order is found where it is
 pub found_at : (order : List WriteAt) (j : ℕ) (w : WriteAt) → slice_get order j ≡ Some w → ((i : ℕ) → slice_get order i ≡ Some w → i ≡ j)
     → position_or_len (same_write w) order ≡ j
-found_at order j w h once = position_or_len_is (same_write w) order j w (omega (arith, within)) before (λ _. here)
-  where
-    within : j < length order
-    within = slice_get_within order j w h
-
-    before : (k : ℕ) → k < j → same_write w (get_or order k w) ≡ false
-    before k l =
-        by_test (same_write w (get_or order k w))
-        (λ t. let e : w ≡ get_or order k w = same_write-true w (get_or order k w) t in
-        let g : slice_get order k ≡ Some w = slice_get-get_or order k w (omega (arith, l, within)) ∙ ap Some (sym e) in
-        absurd (omega (arith, once k g, l)))
-        (λ f. f)
-
-    here : same_write w (get_or order j w) ≡ true
-    here = ap (same_write w) (get_or_from_slice_get order j w w h) ∙ same_write-refl w
+found_at order j w h once =
+    grind (arith, position_or_len_is, slice_get_within, same_write-true, slice_get-get_or, get_or_from_slice_get order j w w h, same_write-refl w)
 
 -- so its coherence place is one more
 pub order_place_at : (order : List WriteAt) (j : ℕ) (w : WriteAt) → slice_get order j ≡ Some w → ((i : ℕ) → slice_get order i ≡ Some w → i ≡ j) → order_place order (Some w) ≡ j + 1
@@ -112,6 +91,4 @@ order_given g m r = grind (arith, (slice_get-filter_map-upto g m), (slice_get_wi
 
 -- the write of number k is in place k + 1 of that list
 pub place_given : (g : ℕ → Option WriteAt) (m k : ℕ) → Gives g m → k < m → order_place (filter_map g (upto m)) (g k) ≡ k + 1
-place_given g m k r l =
-    let w = r.some k l in
-    place_held (filter_map g (upto m)) g m k k w.0 (order_given g m r) (slice_get-filter_map-upto g m k r.some l ∙ w.1) w.1
+place_given g m k r l = grind (arith, r.some k l, place_held, order_given g m r, slice_get-filter_map-upto g m k r.some l)

@@ -1,15 +1,6 @@
 -- From a program to its accesses: a candidate execution of a program that makes the accesses of the cycle's test and
 -- meets its condition is an execution of which the laws of this crate hold.
-use Rattle.std.proofs.Common.{◌≡◌, ℕ, ◌<◌, List, [], ◌∷◌, length, map, Some, slice_get, refl, sym, ◌∙◌, ap, arith}
-use Rattle.std.specs.List.{filter}
-use Rattle.relax_edges.specs.declared.{kinds.ObsMode.ObsMode, edge.Edge.Edge}
-use Rattle.micro_ops.specs.Running.{Outcome}
-use Rattle.program_meaning.specs.{Accesses.Access, Accesses.is_read, Executions.Execution, Intended.IsNumbering, Intended.cycle_accesses}
-use Rattle.program_meaning.specs.{Intended.intended}
-use Rattle.program_meaning.specs.Programs.{Program, HasEnded, runs_of, accesses_in}
-use Rattle.program_meaning.proofs.Runs.{accesses-count}
-use Rattle.accesses_force_cycles.specs.Premises.{MeetsCondition}
-use Rattle.accesses_force_cycles.specs.Joining.{accesses_filled, MakesAccesses, ReadsAsAsked, IsOutcome}
+use Rattle.accesses_force_cycles.proofs.Vocabulary.{◌≡◌, ℕ, ◌<◌, List, [], ◌∷◌, length, map, Some, slice_get, refl, sym, ◌∙◌, ap, arith, filter, ObsMode, Edge, Outcome, Access, is_read, Execution, IsNumbering, cycle_accesses, intended, Program, HasEnded, runs_of, accesses_in, accesses-count, MeetsCondition, accesses_filled, MakesAccesses, ReadsAsAsked, IsOutcome}
 use Rattle.accesses_force_cycles.proofs.{Lists.same_below, Lists.got_below, Lists.map-map, IntendedReads.reads-count, IntendedReads.intended_reads}
 use Rattle.accesses_force_cycles.proofs.{IntendedExists.intended_meets, Resolves.Resolves}
 

@@ -1,9 +1,5 @@
 -- Lists of reads: what each read reads is fixed where its access can read one thing alone.
-use Rattle.std.proofs.Common.{◌≡◌, ℕ, suc, true, List, [], ◌∷◌, map, Option, Some, slice_get, refl, arith}
-use Rattle.std.specs.List.{filter}
-use Rattle.program_meaning.specs.declared.WriteAt.{WriteAt}
-use Rattle.program_meaning.specs.{Accesses.Access, Accesses.is_read, Executions.Execution, Executions.CanRead, Executions.AreReadsOf}
-use Rattle.program_meaning.specs.{Coherence.source_at}
+use Rattle.accesses_force_cycles.proofs.Vocabulary.{◌≡◌, ℕ, suc, true, List, [], ◌∷◌, map, Option, Some, slice_get, refl, arith, filter, WriteAt, Access, is_read, Execution, CanRead, AreReadsOf, source_at}
 use Rattle.accesses_force_cycles.proofs.Lists.{rank_filter, got_map}
 
 -- the reads that accesses make, where each reads the write that `source` gives it

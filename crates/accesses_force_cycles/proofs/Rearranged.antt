@@ -1,12 +1,5 @@
 -- The writes of a location in another order: that of their values under a function that exchanges values in pairs.
-use Rattle.std.proofs.Common.{◌≡◌, ℕ, zero, suc, ◌+◌, ◌-◌, ◌<◌, ◌≤◌, List, [], Option, Some, sym, ◌∙◌, ap, subst, arith, add-one}
-use Rattle.std.specs.List.{filter_map}
-use Rattle.relax_edges.specs.declared.{kinds.ObsMode.ObsMode, edge.Edge.Edge}
-use Rattle.list_laws.specs.Numbers.{upto}
-use Rattle.cycle_events.specs.{Resolution.move_count, Values.write_count}
-use Rattle.program_meaning.specs.declared.WriteAt.{WriteAt}
-use Rattle.program_meaning.specs.{Accesses.at_name, Executions.IsOrderOf, Coherence.order_place, Coherence.last_write, Standing.event_name}
-use Rattle.program_meaning.specs.Intended.{IsNumbering, cycle_accesses, ordered_write, write_of}
+use Rattle.accesses_force_cycles.proofs.Vocabulary.{◌≡◌, ℕ, zero, suc, ◌+◌, ◌-◌, ◌<◌, ◌≤◌, List, [], Option, Some, sym, ◌∙◌, ap, subst, arith, add-one, filter_map, ObsMode, Edge, upto, move_count, write_count, WriteAt, at_name, IsOrderOf, order_place, last_write, event_name, IsNumbering, cycle_accesses, ordered_write, write_of}
 use Rattle.accesses_force_cycles.proofs.{Lists.length-filter_map-upto, Lists.slice_get-filter_map-upto, IntendedOrders.gives_writes, Resolves.IsWrite}
 use Rattle.accesses_force_cycles.proofs.{Resolves.Resolves}
 use Rattle.accesses_force_cycles.proofs.Orders.{Holds, Gives, order_given, place_given}
@@ -53,12 +46,7 @@ one_value es l u v w r a b c d p q =
 gives_under : (es : List Edge) (l : ℕ) (f : ℕ → ℕ) → Resolves es → Exchanges f (write_count es l) → Gives (under es l f) (write_count es l)
 gives_under es l f r e = record {
   some = λ k h. let w = value_write es l (f (k + 1)) r (e.above (k + 1) (omega arith) (omega arith)) (e.within (k + 1) (omega arith) (omega arith)) in (event_name es w.event, w.name_is);
-  once = λ j k w h g p q.
-      let s : f (j + 1) ≡ f (k + 1) =
-      one_value es l (f (j + 1)) (f (k + 1)) w r
-      (e.above (j + 1) (omega arith) (omega arith)) (e.within (j + 1) (omega arith) (omega arith))
-      (e.above (k + 1) (omega arith) (omega arith)) (e.within (k + 1) (omega arith) (omega arith)) p q in
-      omega (arith, sym (e.back (j + 1)) ∙ ap f s ∙ e.back (k + 1));
+  once = λ j k w h g p q. grind (arith, one_value, e.back (j + 1), e.back (k + 1));
 }
 
 -- the write of value v is in place f v of the order

@@ -1,14 +1,6 @@
 -- What the executions of a cycle rest on: the facts of its threads, its locations and its values.
-use Rattle.std.proofs.Common.{refl, arith}
-use Rattle.std.specs.Prelude.{◌≡◌, ◌≢◌, ℕ, suc, ◌+◌, ◌<◌, ◌≤◌, false, List, length, Some, slice_get}
-use Rattle.relax_edges.specs.declared.{kinds.Dir.Dir, kinds.Sd.TheVariants.Same, kinds.Sd.TheVariants.Diff, kinds.Reach.TheVariants.Internal}
-use Rattle.relax_edges.specs.declared.{kinds.Reach.TheVariants.External, kinds.ObsMode.ObsMode, edge.Edge.Edge}
+use Rattle.accesses_force_cycles.proofs.Vocabulary.{refl, arith, ◌≡◌, ◌≢◌, ℕ, suc, ◌+◌, ◌<◌, ◌≤◌, false, List, length, Some, slice_get, Dir, Same, Diff, Internal, External, ObsMode, Edge, source_of, target_of, sd_of, reach_of, source_mark, target_mark, edge_at, external_count, move_count, thread_of, slot_of, location_of, event_after, event_before, events_in, before_below, after_before, IsAt, value_of, write_at, write_count, edge_into, is_observed, MayFollow}
 use Rattle.relax_edges.specs.declared.kinds.Dir.TheVariants as dirs
-use Rattle.relax_edges.specs.EdgeTable.{source_of, target_of, sd_of, reach_of, source_mark, target_mark}
-use Rattle.cycle_events.specs.Resolution.{edge_at, external_count, move_count, thread_of, slot_of, location_of, event_after, event_before, events_in}
-use Rattle.cycle_events.proofs.{Around.before_below, Around.after_before, Threads.IsAt}
-use Rattle.cycle_events.specs.Values.{value_of, write_at, write_count, edge_into, is_observed}
-use Rattle.program_meaning.specs.Coherence.{MayFollow}
 
 -- event i is write number k of location l, from 0
 pub record IsWrite (es : List Edge) (l k i : ℕ) : Type 0 where

@@ -1,11 +1,6 @@
 -- Two values that follow each other, exchanged.
-use Rattle.std.proofs.Common.{◌≡◌, ℕ, ◌+◌, ◌-◌, ◌<◌, cond, refl, arith}
-use Rattle.std.specs.Prelude.{◌==◌}
-use Rattle.std.proofs.lemmas.Bool.{cond-true, eq-eqb}
-use Rattle.relax_edges.specs.declared.kinds.Dir.{Dir}
+use Rattle.accesses_force_cycles.proofs.Vocabulary.{◌≡◌, ℕ, ◌+◌, ◌-◌, ◌<◌, cond, refl, arith, ◌==◌, cond-true, eq-eqb, Dir, MayFollow, swapped}
 use Rattle.relax_edges.specs.declared.kinds.Dir.TheVariants as dirs
-use Rattle.program_meaning.specs.Coherence.{MayFollow}
-use Rattle.accesses_force_cycles.specs.Exchange.{swapped}
 
 -- the greater of the two values becomes the one before it
 pub swapped_here : (value : ℕ) → swapped value value ≡ value - 1

@@ -1,21 +1,10 @@
 -- Each premise of the laws is needed: all executions of small cycles, tried by computing.
-use Rattle.std.proofs.Common.{◌≡◌, ℕ, Bool, true, List, [], ◌∷◌, length, map, Some, refl, ◌||◌, ◌&&◌}
-use Rattle.std.specs.Prelude.{◌==◌, nat_lt, not}
-use Rattle.std.specs.List.{filter, flat_map, list_all, list_any}
+use Rattle.accesses_force_cycles.proofs.Vocabulary.{◌≡◌, ℕ, Bool, true, List, [], ◌∷◌, length, map, Some, refl, ◌||◌, ◌&&◌, ◌==◌, nat_lt, not, filter, flat_map, list_all, list_any, Diff, ObsMode, Accept, Avoid, Force, Kind, Edge, kind_of, pod, wse, fre, upto, edge_at, event_after, move_count, thread_of, slot_of, location_of, moves_before, events_in, value_of, way_place, write_count, write_at, is_observed, Access, read, write, Execution, coherence_place, final_value, event_name, name, coheres, cycle_accesses, event_access, intended, location_order, location_numbered}
 use Rattle.relax_edges.specs.declared.kinds.Dir.TheVariants as dirs
-use Rattle.relax_edges.specs.declared.{kinds.Sd.TheVariants.Diff, kinds.ObsMode.ObsMode, kinds.ObsMode.TheVariants.Accept}
-use Rattle.relax_edges.specs.declared.{kinds.ObsMode.TheVariants.Avoid, kinds.ObsMode.TheVariants.Force, kinds.Kind.Kind, edge.Edge.Edge}
 use Rattle.relax_edges.specs.declared.kinds.FenceKind.TheVariants as fences
 use Rattle.relax_edges.specs.declared.kinds.Com.TheVariants as coms
 use Rattle.relax_edges.specs.declared.kinds.Kind.TheVariants as kinds
 use Rattle.relax_edges.specs.declared.edge.Edge.TheVariants as edges
-use Rattle.relax_edges.specs.{EdgeTable.kind_of, NamedEdges.pod, NamedEdges.wse, NamedEdges.fre}
-use Rattle.list_laws.specs.Numbers.{upto}
-use Rattle.cycle_events.specs.Resolution.{edge_at, event_after, move_count, thread_of, slot_of, location_of, moves_before, events_in}
-use Rattle.cycle_events.specs.Values.{value_of, way_place, write_count, write_at, is_observed}
-use Rattle.program_meaning.specs.{Accesses.Access, Accesses.read, Accesses.write, Executions.Execution, Coherence.coherence_place}
-use Rattle.program_meaning.specs.{Coherence.final_value, Standing.event_name, Deciding.name, Deciding.coheres}
-use Rattle.program_meaning.specs.Intended.{cycle_accesses, event_access, intended, location_order, location_numbered}
 use Rattle.accesses_force_cycles.proofs.Examples.{two_writes, W3, W3O, here}
 
 abbrev MFencedWR : Edge

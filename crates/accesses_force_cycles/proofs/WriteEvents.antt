@@ -1,13 +1,6 @@
 -- A value names its write: the writes at a location's place are its write events, with the values from 1.
-use Rattle.std.proofs.Common.{◌≡◌, ℕ, zero, suc, ◌<◌, ◌≤◌, List, Option, Some, None, refl, sym, ◌∙◌, ap, arith}
-use Rattle.std.specs.Option.{option_map}
+use Rattle.accesses_force_cycles.proofs.Vocabulary.{◌≡◌, ℕ, zero, suc, ◌<◌, ◌≤◌, List, Option, Some, None, refl, sym, ◌∙◌, ap, arith, option_map, ObsMode, Edge, source_of, edge_at, move_count, location_of, value_of, write_count, WriteAt, Access, write, at_name, CanRead, event_name, IsNumbering, cycle_accesses, ordered_write, write_of}
 use Rattle.relax_edges.specs.declared.kinds.Dir.TheVariants as dirs
-use Rattle.relax_edges.specs.declared.{kinds.ObsMode.ObsMode, edge.Edge.Edge}
-use Rattle.relax_edges.specs.EdgeTable.{source_of}
-use Rattle.cycle_events.specs.{Resolution.edge_at, Resolution.move_count, Resolution.location_of, Values.value_of, Values.write_count}
-use Rattle.program_meaning.specs.declared.WriteAt.{WriteAt}
-use Rattle.program_meaning.specs.{Accesses.Access, Accesses.write, Accesses.at_name, Executions.CanRead, Standing.event_name}
-use Rattle.program_meaning.specs.Intended.{IsNumbering, cycle_accesses, ordered_write, write_of}
 use Rattle.accesses_force_cycles.proofs.Accesses.{EventAt, LoadAt, by_origin, event_at_name}
 use Rattle.accesses_force_cycles.proofs.Resolves.{IsWrite, Resolves}
 

@@ -1,20 +1,7 @@
 -- The arc of a cut cycle begins behind the cut, and the values count the writes along it.
-use Rattle.std.proofs.Common.{◌≡◌, ℕ, zero, suc, ◌+◌, ◌<◌, ◌≤◌, Bool, true, false, not, List, [], ◌∷◌, ◌++◌, length, drop, take, Some, slice_get, refl, sym, ◌∙◌, ap, arith, add-one, eq-eqb}
-use Rattle.std.specs.List.{count_by, filter}
-use Rattle.std.proofs.lemmas.{Bool.ne_eqb, Option.slice_get-get_or}
-use Rattle.std.proofs.lemmas.List.{take-append-le, drop-append-le, take_all, drop_all}
-use Rattle.list_laws.specs.Numbers.{upto}
-use Rattle.list_laws.proofs.{Cases.by_less, Numbers.length-upto, Ranks.filter_upto_yes, Ranks.filter_upto_no}
+use Rattle.co_tests_laws.proofs.Vocabulary.{◌≡◌, ℕ, zero, suc, ◌+◌, ◌<◌, ◌≤◌, Bool, true, false, not, List, [], ◌∷◌, ◌++◌, length, drop, take, Some, slice_get, refl, sym, ◌∙◌, ap, arith, add-one, eq-eqb, count_by, filter, ne_eqb, slice_get-get_or, take-append-le, drop-append-le, take_all, drop_all, upto, by_less, length-upto, filter_upto_yes, filter_upto_no, Internal, Rf, Edge, source_of, same_dir, edge_at, is_after_moves, way, arc, arc_of, writes_counted, value_on_arc, filter_all, position_first, is_ordering, cut_of, cut_open, arc_behind, ValuesCountAlongArc}
 use Rattle.relax_edges.specs.declared.kinds.Dir.TheVariants as dirs
-use Rattle.relax_edges.specs.declared.{kinds.Reach.TheVariants.Internal, kinds.Com.TheVariants.Rf, edge.Edge.Edge}
 use Rattle.relax_edges.specs.declared.edge.Edge.TheVariants as edges
-use Rattle.relax_edges.specs.EdgeTable.{source_of, same_dir}
-use Rattle.cycle_events.specs.Resolution.{edge_at}
-use Rattle.cycle_events.specs.Values.{is_after_moves, way, arc, arc_of, writes_counted}
-use Rattle.cycle_events.proofs.ValueArcs.{value_on_arc}
-use Rattle.accesses_force_cycles.proofs.Lists.{filter_all}
-use Rattle.tests_force_cycles.proofs.Everywhere.{position_first}
-use Rattle.co_tests_laws.specs.{CutResolution.is_ordering, CutResolution.cut_of, CutResolution.cut_open, Arc.arc_behind, Arc.ValuesCountAlongArc}
 use Rattle.co_tests_laws.proofs.{Opened.source_same, Opened.same_at, Opened.opened-length, Printed.has_code}
 use Rattle.co_tests_laws.proofs.Values.{Cut, IsCut, one_move, one_location, moves_early, moves_late}
 
@@ -70,8 +57,7 @@ cut_is : (es : List Edge) (c : Cut es) (k : ℕ) → cut_of es ≡ Some k → c.
 cut_is es c k h =
     let found = position_first is_ordering 0 es c.at (edge_at es c.at) (slice_get-get_or es c.at (edges.Com Rf Internal) c.below) c.ordering
     (λ j e less g. ap is_ordering (edge_there es j e g) ∙ c.first j less) in
-    let s : Some (0 + c.at) ≡ Some k = sym found ∙ h in
-    let t : 0 + c.at ≡ k = cc in
+    let t : 0 + c.at ≡ k = cc (found, h) in
     omega (arith, t)
   where
     edge_there : (es : List Edge) (j : ℕ) (e : Edge) → slice_get es j ≡ Some e → e ≡ edge_at es j

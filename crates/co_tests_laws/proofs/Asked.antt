@@ -1,31 +1,6 @@
 -- The condition of a coherence test is met by a candidate execution exactly where each load reads the number that is asked for
 -- and the place, where there are two writes, ends with the last value.
-use Rattle.std.proofs.Common.{◌≡◌, ℕ, ◌≤◌, Bool, true, not, cond, List, [], ◌∷◌, length, map, Option, Some, slice_get, sym, ◌∙◌, ap, subst, arith}
-use Rattle.std.specs.{Prelude.nat_le, List.AllByRecursion, List.filter, Option.option_map, Option.option_and_then}
-use Rattle.std.proofs.lemmas.Bool.{and_from, and_parts, leb-true, le-leb}
-use Rattle.std.proofs.lemmas.{List.length-map, Option.slice_get_within}
-use Rattle.relax_edges.specs.declared.{kinds.Value.Value, kinds.Value.TheVariants.Num, kinds.ObsMode.TheVariants.Avoid, edge.Edge.Edge}
-use Rattle.list_laws.specs.Numbers.{upto}
-use Rattle.list_laws.proofs.Cases.{by_test}
-use Rattle.cycle_events.specs.{Resolution.move_count, Values.is_observed, Values.write_count}
-use Rattle.final_cond.specs.Conditions.{LeftSeen, TermSeen, AtPlace}
-use Rattle.arch_trait.specs.declared.step.Step.{Step}
-use Rattle.arch_trait.specs.{Codes.AllBelow, Codes.MakesSteps, Laws.IsArch, PlaceNames.location_name, PlaceNames.number_in, PlaceRenumbering.step_at}
-use Rattle.arch_trait.specs.{PlaceRenumbering.renumbered}
-use Rattle.arch_trait.specs.Threads.{Puts, ThreadCode, compiled, HoldNumbers, shape_of}
-use Rattle.arch_trait_laws.proofs.{CodeLaws.makes_steps, CodeLaws.is_formed, Renumbered.renumbered_makes}
-use Rattle.program_meaning.specs.declared.WriteAt.{WriteAt}
-use Rattle.program_meaning.specs.{Accesses.Access, Accesses.is_read, Executions.Execution, Coherence.final_value, Intended.cycle_accesses}
-use Rattle.program_meaning.specs.Programs.{IsCandidate, accesses_in, held_at_last, register_in}
-use Rattle.accesses_force_cycles.specs.Joining.{ReadsAsAsked, values_read}
-use Rattle.accesses_force_cycles.proofs.Lists.{got_below, got_map}
-use Rattle.tests_force_cycles.specs.{CycleSteps.cycle_steps, CycleSteps.numbers_read, FinalStates.final_state, TestHeadline.FindsRegisters}
-use Rattle.tests_force_cycles.specs.TestOf.{plain, is_named_location, last_term, last_terms, thread_terms, load_terms}
-use Rattle.tests_force_cycles.proofs.{Terms.reads-count, Visits.step_access, ThreadRuns.AreCodesOf, ThreadRuns.DidThread, ThreadRuns.did_thread}
-use Rattle.tests_force_cycles.proofs.Making.{planned_at, planned-count, planned_reads, candidate_enough, candidate_lists}
-use Rattle.tests_force_cycles.proofs.TestCodes.{cycle_codes, cycle_program, steps_numbered, Origin, origin_of, numbers_kept}
-use Rattle.tests_force_cycles.proofs.Meeting.{IsMet, ShowsRegisters, terms_of_thread, terms_from_threads, terms_read, read_terms}
-use Rattle.co_tests_laws.specs.{CutResolution.cut_open, CoherenceTests.writes_in, CoherenceTests.coherence_steps}
+use Rattle.co_tests_laws.proofs.Vocabulary.{◌≡◌, ℕ, ◌≤◌, cond, List, [], ◌∷◌, length, map, Option, Some, slice_get, sym, ◌∙◌, ap, subst, arith, AllByRecursion, filter, and_from, and_parts, leb-true, le-leb, length-map, slice_get_within, Value, Num, Avoid, Edge, upto, move_count, LeftSeen, AtPlace, Step, AllBelow, MakesSteps, IsArch, location_name, number_in, step_at, renumbered, Puts, ThreadCode, compiled, HoldNumbers, shape_of, makes_steps, is_formed, renumbered_makes, WriteAt, Access, is_read, Execution, final_value, cycle_accesses, IsCandidate, accesses_in, register_in, ReadsAsAsked, values_read, got_below, got_map, cycle_steps, numbers_read, final_state, FindsRegisters, plain, is_named_location, last_term, last_terms, thread_terms, load_terms, reads-count, step_access, AreCodesOf, DidThread, did_thread, planned_at, planned-count, planned_reads, candidate_enough, candidate_lists, cycle_codes, cycle_program, steps_numbered, Origin, origin_of, numbers_kept, IsMet, ShowsRegisters, terms_of_thread, terms_from_threads, terms_read, read_terms, cut_open, writes_in, coherence_steps}
 use Rattle.co_tests_laws.proofs.{Values.IsCut, Values.one_move, Values.write_count_is, Events.unobserved, Fits.IsLoopOf, Fits.loop_thread}
 
 -- such a cycle has code on an architecture: no thread needs more registers than there are
@@ -67,8 +42,7 @@ shows : (a : Puts) (es : List Edge) (number : ℕ → ℕ) (names : List (List �
     → Option ℕ) (x : Execution) (k : ℕ) (steps : List Step) (reads : List (ℕ × Option WriteAt))
     → FindsRegisters a register_name register_number → (d : DidThread (loop_codes a es number) (move_count (cut_open es)) x k steps reads)
     → ShowsRegisters (final_state (cycle_program a (cut_open es) Avoid number) names register_number x) register_name k a.registers d.regs
-shows a es number names register_name register_number x k steps reads finds d q h =
-    ap (option_and_then (register_in (cycle_program a (cut_open es) Avoid number) x k)) (finds q h) ∙ ap (λ o. held_at_last o q) d.run_is
+shows a es number names register_name register_number x k steps reads finds d q h = grind (arith, register_in (cycle_program a (cut_open es) Avoid number) x k)
 
 -- what a thread of the test reads and what is known of its run
 record Ran (a : Puts) (es : List Edge) (number : ℕ → ℕ) (x : Execution) (k : ℕ) (steps : List Step) (reads : List (ℕ × Option WriteAt)) : Type 0 where
@@ -87,8 +61,7 @@ ran a es number x k steps reads laws t c g h =
     let n = candidate_enough (loop_codes a es number) (cut_open es) Avoid number x m c k steps reads g h in
     let d = did_thread (loop_codes a es number) (cycle_steps (cut_open es) Avoid number) (move_count (cut_open es)) x k steps reads m g h n in
     let p = origin_of a (cut_open es) Avoid number k steps g in
-    let s : Some d.code ≡ Some (renumbered number (compiled a p.plain_steps)) = sym d.code_at ∙ p.code_at in
-    let q : d.code ≡ renumbered number (compiled a p.plain_steps) = cc in
+    let q : d.code ≡ renumbered number (compiled a p.plain_steps) = cc (d.code_at, p.code_at) in
     let e : numbers_read p.plain_steps ≡ numbers_read steps = sym (numbers_kept number p.plain_steps) ∙ ap numbers_read p.steps_are in
     record {
       did = d;
@@ -109,8 +82,7 @@ pub reads_asked : (a : Puts) (es : List Edge) (number : ℕ → ℕ) (names : Li
 reads_asked a es number names register_name register_number x laws t finds c met k planned reads g h =
     let s = got_below (cycle_steps (cut_open es) Avoid number) k
     (omega (arith, slice_get_within (cycle_accesses (cut_open es) Avoid number) k planned g, planned-count (cut_open es) Avoid number)) in
-    let f : Some (map step_access s.element) ≡ Some planned = sym (planned_at (cut_open es) Avoid number k s.element s.got) ∙ g in
-    let q : map step_access s.element ≡ planned = cc in
+    let q : map step_access s.element ≡ planned = cc (planned_at (cut_open es) Avoid number k s.element s.got, g) in
     let r = ran a es number x k s.element reads laws t c s.got h in
     let final = final_state (cycle_program a (cut_open es) Avoid number) names register_number x in
     terms_read a final register_name k r.origin.plain_steps r.did.regs (values_read reads)
@@ -147,8 +119,7 @@ asked_met a es number names register_name register_number x laws t finds c asked
           slice_get_within (cycle_steps (cut_open es) Avoid number) k (map (step_at number) steps) made,
         )) in
         let r = ran a es number x k (map (step_at number) steps) reads.element laws t c made reads.got in
-        let s : Some r.origin.plain_steps ≡ Some steps = sym r.origin.plain_at ∙ g in
-        let q : r.origin.plain_steps ≡ steps = cc in
+        let q : r.origin.plain_steps ≡ steps = cc (r.origin.plain_at, g) in
         subst (λ l. AllByRecursion (IsMet final) (thread_terms a register_name k l)) q
         (read_terms a final register_name k r.origin.plain_steps r.did.regs (values_read reads.element)
         (shows a es number names register_name register_number x k (map (step_at number) steps) reads.element finds r.did) r.below r.loaded
@@ -162,8 +133,7 @@ place_shows : (a : Puts) (es : List Edge) (number : ℕ → ℕ) (names : List (
     → number_in names (location_name 0) ≡ Some 0
     → final_state (cycle_program a (cut_open es) Avoid number) names register_number x (AtPlace (location_name 0))
     ≡ Some (Num (final_value (accesses_in (cycle_program a (cut_open es) Avoid number) x) x 0))
-place_shows a es number names register_number x named =
-    ap (option_map (λ place. Num (final_value (accesses_in (cycle_program a (cut_open es) Avoid number) x) x place))) named
+place_shows a es number names register_number x named = grind arith
 
 -- the term of the place is there where it has two writes
 pub ends_terms : (es : List Edge) → IsCut es
@@ -176,14 +146,7 @@ pub ends_asked : (a : Puts) (es : List Edge) (number : ℕ → ℕ) (names : Lis
     → AllByRecursion (IsMet (final_state (cycle_program a (cut_open es) Avoid number) names register_number x)) (last_terms (cut_open es) Avoid)
     → 2 ≤ writes_in es → final_value (accesses_in (cycle_program a (cut_open es) Avoid number) x) x 0 ≡ writes_in es
 ends_asked a es number names register_number x c named met two =
-    let t : is_named_location (cut_open es) Avoid 0 ≡ true = and_from (nat_le 2 (write_count (cut_open es) 0)) (not (is_observed (cut_open es) Avoid 0))
-    (le-leb 2 (write_count (cut_open es) 0) (omega (arith, two, write_count_is es c))) (ap not (unobserved (cut_open es) 0)) in
-    let m = subst (AllByRecursion (IsMet (final_state (cycle_program a (cut_open es) Avoid number) names register_number x))) (ends_terms es c
-    ∙ ap (λ b. map (last_term (cut_open es)) (cond b (0 ∷ []) [])) t) met in
-    let e : Some (Num (final_value (accesses_in (cycle_program a (cut_open es) Avoid number) x) x 0)) ≡ Some (Num (write_count (cut_open es) 0)) =
-    sym (place_shows a es number names register_number x named) ∙ m.0 in
-    let f : final_value (accesses_in (cycle_program a (cut_open es) Avoid number) x) x 0 ≡ write_count (cut_open es) 0 = cc in
-    f ∙ write_count_is es c
+    grind (arith, and_from, le-leb, write_count_is es c, unobserved (cut_open es) 0, ends_terms es c, place_shows a es number names register_number x named)
 
 -- and back
 pub asked_ends : (a : Puts) (es : List Edge) (number : ℕ → ℕ) (names : List (List ℕ)) (register_number : List ℕ → Option ℕ) (x : Execution) → IsCut es
@@ -191,18 +154,4 @@ pub asked_ends : (a : Puts) (es : List Edge) (number : ℕ → ℕ) (names : Lis
     → (2 ≤ writes_in es → final_value (accesses_in (cycle_program a (cut_open es) Avoid number) x) x 0 ≡ writes_in es)
     → AllByRecursion (IsMet (final_state (cycle_program a (cut_open es) Avoid number) names register_number x)) (last_terms (cut_open es) Avoid)
 asked_ends a es number names register_number x c named asked =
-    by_test (is_named_location (cut_open es) Avoid 0)
-    (λ t. let two = leb-true 2 (write_count (cut_open es) 0) (and_parts (nat_le 2 (write_count (cut_open es) 0))
-    (not (is_observed (cut_open es) Avoid 0)) t).0 in
-    subst met (sym (ends_terms es c ∙ ap terms t)) (
-      place_shows a es number names register_number x named ∙ ap (λ v. Some (Num v)) (asked (omega (arith, two, write_count_is es c))
-          ∙ sym (write_count_is es c)),
-      tt,
-    ))
-    (λ f. subst met (sym (ends_terms es c ∙ ap terms f)) tt)
-  where
-    met : List TermSeen → Type 0
-    met = AllByRecursion (IsMet (final_state (cycle_program a (cut_open es) Avoid number) names register_number x))
-
-    terms : Bool → List TermSeen
-    terms b = map (last_term (cut_open es)) (cond b (0 ∷ []) [])
+    grind (arith, leb-true, and_parts, ends_terms es c, place_shows a es number names register_number x named, write_count_is es c)

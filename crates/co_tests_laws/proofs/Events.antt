@@ -1,34 +1,10 @@
 -- The accesses of a coherence test are at one place and their writes are numbered by their values, so one execution alone
 -- has these values: the stated one. Each edge joins its accesses in it, and it has a cycle.
-use Rattle.std.proofs.Common.{◌≡◌, ◌≢◌, ℕ, zero, suc, ◌+◌, ◌-◌, ◌<◌, ◌≤◌, true, false, List, [], ◌∷◌, ◌++◌, length, map, Option, Some, None, slice_get, refl, sym, ◌∙◌, ap, subst, arith, add-one}
-use Rattle.std.specs.{List.filter, List.filter_map, Option.option_map}
-use Rattle.std.proofs.lemmas.List.{map-append}
-use Rattle.list_laws.specs.Numbers.{upto}
-use Rattle.list_laws.proofs.Cases.{by_less}
-use Rattle.relax_edges.specs.declared.{kinds.Dir.Dir, kinds.Sd.Sd, kinds.Sd.TheVariants.Same, kinds.Sd.TheVariants.Diff, kinds.Reach.Reach}
-use Rattle.relax_edges.specs.declared.{kinds.Reach.TheVariants.Internal, kinds.Reach.TheVariants.External, kinds.Com.Com, kinds.Kind.Kind}
-use Rattle.relax_edges.specs.declared.{kinds.ObsMode.TheVariants.Avoid, edge.Edge.Edge}
+use Rattle.co_tests_laws.proofs.Vocabulary.{◌≡◌, ◌≢◌, ℕ, suc, ◌+◌, ◌-◌, ◌<◌, ◌≤◌, true, false, List, [], ◌∷◌, ◌++◌, length, map, Option, Some, None, slice_get, refl, sym, ◌∙◌, ap, subst, arith, add-one, filter, filter_map, option_map, map-append, upto, by_less, Dir, Sd, Same, Diff, Reach, Internal, External, Com, Kind, Avoid, Edge, kind_of, kind_source, kind_target, source_of, target_of, sd_of, reach_of, is_external, same_dir, IsCycle, edge_at, ends_outside, external_count, move_count, thread_of, slot_of, location_of, events_in, event_after, thread_in, thread_out, thread_up, thread_end, thread-zero, slot_in, event_in_slot, slot_of_event, by_after, after_below, source_after, write_at_from, is_write_number, is_observed, value_of, write_count, WriteAt, Access, write, is_read, reads_by, got_from, at_name, Execution, source_at, AreAt, CommunicatesBy, ComesBefore, Reaches, Joins, event_name, IsNumbering, observed_locations, event_access, event_at, observer_accesses, cycle_accesses, ordered_write, write_of, event_read, observer_reads, reads_in, location_order, location_numbered, intended, GotFrom, got_from_list, got_map, image_of, map_same, map-map, filter-map, location_of_number, EventAt, thread_accesses, observer_thread, reads_by_source, written_by, moves, stays_inside, goes_outside, orders_by, cut_open, writes_in, HasCycle}
 use Rattle.relax_edges.specs.declared.kinds.Dir.TheVariants as dirs
 use Rattle.relax_edges.specs.declared.kinds.Com.TheVariants as coms
 use Rattle.relax_edges.specs.declared.kinds.Kind.TheVariants as kinds
-use Rattle.relax_edges.specs.EdgeTable.{kind_of, kind_source, kind_target, source_of, target_of, sd_of, reach_of, is_external, same_dir}
-use Rattle.edge_algebra_laws.specs.Composable.{IsCycle}
-use Rattle.cycle_events.specs.Resolution.{edge_at, ends_outside, external_count, move_count, thread_of, slot_of, location_of, events_in, event_after}
 use Rattle.cycle_events.proofs.Locations as outside
-use Rattle.cycle_events.proofs.Threads.{thread_in, thread_out, thread_up, thread_end, thread-zero, slot_in, event_in_slot, slot_of_event}
-use Rattle.cycle_events.proofs.{Around.by_after, Around.after_below, Around.source_after, Writes.write_at_from, Writes.is_write_number}
-use Rattle.cycle_events.specs.Values.{is_observed, value_of, write_count}
-use Rattle.program_meaning.specs.declared.WriteAt.{WriteAt}
-use Rattle.program_meaning.specs.Accesses.{Access, write, is_read, reads_by, got_from, at_name}
-use Rattle.program_meaning.specs.{Executions.Execution, Coherence.source_at}
-use Rattle.program_meaning.specs.Standing.{AreAt, CommunicatesBy, ComesBefore, Reaches, Joins, event_name}
-use Rattle.program_meaning.specs.Intended.{IsNumbering, observed_locations, event_access, event_at, observer_accesses, cycle_accesses, ordered_write, write_of, event_read, observer_reads, reads_in, location_order, location_numbered, intended}
-use Rattle.program_meaning.proofs.Names.{GotFrom, got_from_list}
-use Rattle.accesses_force_cycles.proofs.Lists.{got_map, image_of, map_same, map-map, filter-map}
-use Rattle.accesses_force_cycles.proofs.{Numbering.location_of_number, Accesses.EventAt, Accesses.thread_accesses, Accesses.observer_thread}
-use Rattle.accesses_force_cycles.proofs.{ReadLists.reads_by_source, Resolves.written_by, Bridge.moves, Bridge.stays_inside, Bridge.goes_outside}
-use Rattle.co_tests_laws.specs.{CutResolution.orders_by, CutResolution.is_ordering, CutResolution.cut_open, CoherenceTests.writes_in}
-use Rattle.co_tests_laws.specs.{Incoherence.HasCycle}
 use Rattle.co_tests_laws.proofs.OnePlace.{Numbered, by_value, source_in, by_values, by_values_source, by_values_place}
 use Rattle.co_tests_laws.proofs.Turning.{Falls, has_cycle}
 use Rattle.co_tests_laws.proofs.Opened.{source_same, external_same, same_at, opened-length, opened-threads, opened_thread, opened_slot}
@@ -108,9 +84,8 @@ event_from es number name access h =
 
     as_event : name.thread < external_count (cut_open es) → EventAt (cut_open es) number name access
     as_event l =
-        let s : Some g.list ≡ Some (map (event_access (cut_open es) number) (events_in (cut_open es) name.thread)) = sym g.list_is
-        ∙ thread_accesses (cut_open es) Avoid number name.thread l in
-        let e : g.list ≡ map (event_access (cut_open es) number) (events_in (cut_open es) name.thread) = cc in
+        let e : g.list ≡ map (event_access (cut_open es) number) (events_in (cut_open es) name.thread) =
+        cc (g.list_is, thread_accesses (cut_open es) Avoid number name.thread l) in
         let i = image_of (event_access (cut_open es) number) (events_in (cut_open es) name.thread) name.access access (rw e at g.got) in
         let w = slot_of_event (cut_open es) name.thread name.access i.element i.got in
         record { event = i.element; below = w.below; thread = sym w.thread; slot = sym w.slot; access_is = i.image }
@@ -161,14 +136,10 @@ numbered es number r n = record {
         below = omega (arith, some, value_within es e.event c below);
         place_is = sym (ap (λ (a : Access). a.place) e.access_is) ∙ place_zero es number e.event c n;
         value_is = sym v ∙ q;
-        named = named_write es e.event (value_of (cut_open es) e.event - 1) c below d q
-            ∙ ap Some (λ t. record { thread = sym e.thread t; access = sym e.slot t });
+        named = grind (arith, named_write es e.event (value_of (cut_open es) e.event - 1) c below d q);
       };
   place = λ name access h. let e = event_from es number name access h in sym (ap (λ (a : Access). a.place) e.access_is) ∙ place_zero es number e.event c n;
-  within = λ name access h.
-      let e = event_from es number name access h in
-      let v : value_of (cut_open es) e.event ≡ access.value = ap (λ (a : Access). a.value) e.access_is in
-      omega (arith, v, value_within es e.event c (omega (arith, e.below, opened-length es)));
+  within = λ name access h. grind (arith, event_from es number name access h, value_within, opened-length es);
 }
   where
     c : IsCut es
@@ -176,8 +147,7 @@ numbered es number r n = record {
 
 -- the write of a value
 write_is : (es : List Edge) (v : ℕ) → write_of (cut_open es) 0 v ≡ by_value (loop_write es) v
-write_is es zero = refl
-write_is es (suc k) = refl
+write_is es v = grind arith
 
 -- what a thread reads in the stated execution
 thread_reads : (es : List Edge) (number : ℕ → ℕ) (k : ℕ) → IsCut es
@@ -209,8 +179,7 @@ stated_is es number c n =
     (λ k. thread_reads es number k c) ∙ sym (map-map events f threads))
     ∙ ap (λ l. map f (map events threads) ++ map f (map (observer_accesses (cut_open es) number) l)) (sym (none_observed (cut_open es)))
     ∙ sym (map-append f (map events threads) (map (observer_accesses (cut_open es) number) (observed_locations (cut_open es) Avoid))) in
-    let at : location_numbered (cut_open es) number 0 ≡ 0 = ap (location_numbered (cut_open es) number) (sym (number_zero es number c n))
-    ∙ location_of_number (cut_open es) number 0 n (omega (arith, one_move es c)) in
+    let at : location_numbered (cut_open es) number 0 ≡ 0 = grind (arith, number_zero es number c n, location_of_number, one_move es c) in
     let orders : map (λ place. filter_map (ordered_write (cut_open es) (location_numbered (cut_open es) number place))
     (upto (write_count (cut_open es) (location_numbered (cut_open es) number place)))) (upto (move_count (cut_open es))) ≡ filter_map (loop_write es)
     (upto (writes_in es)) ∷ [] =
@@ -222,9 +191,7 @@ stated_is es number c n =
 
 -- a communication isn't the cut
 com_not_cut : (es : List Edge) (i : ℕ) (k : Com) (reach : Reach) (c : IsCut es) → kind_of (edge_at es i) ≡ kinds.Com k reach → i ≡ c.cut.at → ⊥
-com_not_cut es i k reach c e q =
-    let f : false ≡ true = sym (ap orders_by e) ∙ ap (λ j. is_ordering (edge_at es j)) q ∙ c.cut.ordering in
-    cc
+com_not_cut es i k reach c e q = grind arith
 
 -- along a communication the value grows by one into a write, and stays into a read
 pub value_through : (es : List Edge) (i : ℕ) (k : Com) (reach : Reach) → IsLoop es → i < length es → kind_of (edge_at es i) ≡ kinds.Com k reach
@@ -236,10 +203,7 @@ value_through es i k reach r h e =
 -- the write of a write event's value is the event
 own_write : (es : List Edge) (i : ℕ) → IsLoop es → i < length es → source_of (edge_at es i) ≡ dirs.W
     → by_value (loop_write es) (value_of (cut_open es) i) ≡ Some (event_name (cut_open es) i)
-own_write es i r h w =
-    let some : 0 < value_of (cut_open es) i = value_positive es i r.is_cut h w in
-    let q : value_of (cut_open es) i ≡ suc (value_of (cut_open es) i - 1) = omega (arith, some) in
-    ap (by_value (loop_write es)) q ∙ named_write es i (value_of (cut_open es) i - 1) r.is_cut h w q
+own_write es i r h w = grind (arith, value_positive es i r.is_cut h w, named_write)
 
 -- the execution that has these values
 abbrev pub loop_execution : List Edge → (ℕ → ℕ) → Execution
@@ -252,8 +216,7 @@ reads_from es number i reach r h e =
     let after = after_below es i h in
     let d : source_of (edge_at (cut_open es) (event_after es i)) ≡ dirs.R = same_at source_of source_same es (event_after es i)
     ∙ source_after es i r.composes h ∙ ap kind_target e in
-    let v : value_of (cut_open es) (event_after es i) ≡ value_of (cut_open es) i =
-    omega (arith, value_through es i coms.Rf reach r h e, ap written_by (ap kind_target e)) in
+    let v : value_of (cut_open es) (event_after es i) ≡ value_of (cut_open es) i = grind (arith, value_through es i coms.Rf reach r h e, written_by) in
     by_values_source (loop_accesses es number) (loop_write es) (writes_in es) (event_name (cut_open es) (event_after es i))
     (event_access (cut_open es) number (event_after es i)) (event_there es number (event_after es i) r after) (ap reads_by d)
     ∙ ap (by_value (loop_write es)) v
@@ -283,10 +246,7 @@ communicates : (es : List Edge) (number : ℕ → ℕ) (i : ℕ) → IsLoop es �
 communicates es number i r n h (kinds.Com coms.Rf reach) e = reads_from es number i reach r h e
 communicates es number i r n h (kinds.Com coms.Fr reach) e = comes_before es number i coms.Fr reach r n h e refl
 communicates es number i r n h (kinds.Com coms.Ws reach) e = comes_before es number i coms.Ws reach r n h e refl
-communicates es number i r n h (kinds.Po sd from to) e = tt
-communicates es number i r n h (kinds.Fenced kind sd from to) e = tt
-communicates es number i r n h (kinds.Dep kind sd to) e = tt
-communicates es number i r n h (kinds.Data sd) e = tt
+communicates es number i r n h k e = tt
 
 -- an internal edge leads to the next event, in the next slot of its thread
 pub record Follows (es : List Edge) (i : ℕ) : Type 0 where
@@ -331,9 +291,7 @@ loop_joins es number i r n h = record {
     by_place Diff p = let f : true ≡ false = sym (moves (edge_at es i) p) ∙ r.is_cut.same i h in cc
 
     by_reach : (p : Reach) → reach_of (edge_at es i) ≡ p → Reaches p (event_name (cut_open es) i) (event_name (cut_open es) (event_after es i))
-    by_reach Internal p =
-        let f = internal_follows es i r h (stays_inside (edge_at es i) p) in
-        (ap (thread_of (cut_open es)) f.next ∙ f.thread, ap (slot_of (cut_open es)) f.next ∙ f.slot)
+    by_reach Internal p = grind (arith, internal_follows es i r h (stays_inside (edge_at es i) p), stays_inside (edge_at es i) p, thread_of (cut_open es))
     by_reach External p = external_leads es i r h (goes_outside (edge_at es i) p)
 
 -- an edge to another thread leaves or enters a write
@@ -342,10 +300,7 @@ outside_write : (es : List Edge) (i : ℕ) → IsCycle es → i < length es → 
 outside_write es i r h (kinds.Com coms.Rf reach) e t = (i, h, ap kind_source e)
 outside_write es i r h (kinds.Com coms.Ws reach) e t = (i, h, ap kind_source e)
 outside_write es i r h (kinds.Com coms.Fr reach) e t = (event_after es i, after_below es i h, source_after es i r h ∙ ap kind_target e)
-outside_write es i r h (kinds.Po sd from to) e t = let a = rw e at t in cc
-outside_write es i r h (kinds.Fenced kind sd from to) e t = let a = rw e at t in cc
-outside_write es i r h (kinds.Dep kind sd to) e t = let a = rw e at t in cc
-outside_write es i r h (kinds.Data sd) e t = let a = rw e at t in cc
+outside_write es i r h k e t = let a = rw e at t in cc
 
 -- so there is a write
 pub some_write : (es : List Edge) → IsLoop es → 0 < writes_in es
@@ -358,16 +313,11 @@ some_write es r =
 
 -- the cut stays in its thread
 pub ordering_inside : (e : Edge) (k : Kind) → kind_of e ≡ k → orders_by k ≡ true → is_external e ≡ false
-ordering_inside e (kinds.Com kind reach) q h = cc
-ordering_inside e (kinds.Po sd from to) q h = rw q refl
-ordering_inside e (kinds.Fenced kind sd from to) q h = rw q refl
-ordering_inside e (kinds.Dep kind sd to) q h = rw q refl
-ordering_inside e (kinds.Data sd) q h = rw q refl
+ordering_inside e k q h = grind arith
 
 -- along the cut the value falls
 falls : (d : Dir) (u v : ℕ) → 0 < u → v ≡ written_by d → Falls d u v
-falls dirs.R u v h e = omega (arith, h, e)
-falls dirs.W u v h e = omega (arith, h, e)
+falls d u v h e = grind arith
 
 -- the stated execution has a cycle
 pub loop_cycle : (es : List Edge) (number : ℕ → ℕ) → IsLoop es → IsNumbering (cut_open es) number

@@ -1,24 +1,6 @@
 -- The accesses of each thread of a coherence test are some and not too many, and can follow one another on the architecture.
-use Rattle.std.proofs.Common.{◌≡◌, ℕ, zero, suc, ◌+◌, ◌<◌, ◌≤◌, Bool, true, false, List, length, Some, slice_get, refl, sym, ◌∙◌, ap, subst, arith, add-one}
-use Rattle.std.specs.List.{list_all}
-use Rattle.std.proofs.lemmas.List.{length-map}
-use Rattle.list_laws.proofs.Cases.{by_test}
-use Rattle.relax_edges.specs.declared.{kinds.Dir.Dir, kinds.Reach.TheVariants.Internal, kinds.Com.TheVariants.Rf, kinds.ArchName.ArchName}
-use Rattle.relax_edges.specs.declared.{kinds.ObsMode.TheVariants.Avoid, edge.Edge.Edge}
+use Rattle.co_tests_laws.proofs.Vocabulary.{◌≡◌, ℕ, zero, suc, ◌+◌, ◌<◌, ◌≤◌, Bool, true, false, List, length, Some, slice_get, refl, sym, ◌∙◌, ap, subst, arith, add-one, list_all, length-map, by_test, Dir, Internal, Rf, ArchName, Avoid, Edge, kind_of, source_of, source_mark, mark_fits, mark_is_of, is_of_arch, is_external, source_mark_fits, edge_at, events_in, thread_of, slot_of, slot-zero, slot_out, slot_of_event, source_after, only_in_slot, thread_has_events, thread_size_most, Step, Plain, edge_link, link_is_of, depends_on_load, is_data, FitStep, FitSteps, is_load_dir, image_of, event_link, event_step, thread_steps, cycle_steps, has_edge, by_steps, Before, IsThread, all_at, link_between, link_first, link_enters, link_leaves, fit_from, cut_open, writes_in}
 use Rattle.relax_edges.specs.declared.edge.Edge.TheVariants as edges
-use Rattle.relax_edges.specs.EdgeTable.{kind_of, source_of, source_mark, mark_fits, mark_is_of, is_of_arch, is_external}
-use Rattle.edge_algebra_laws.proofs.Marks.{source_mark_fits}
-use Rattle.cycle_events.specs.Resolution.{edge_at, events_in, thread_of, slot_of}
-use Rattle.cycle_events.proofs.{Threads.slot-zero, Threads.slot_out, Threads.slot_of_event, Around.source_after, Sizes.only_in_slot}
-use Rattle.cycle_events.proofs.{Sizes.thread_has_events, Sizes.thread_size_most}
-use Rattle.arch_trait.specs.declared.{step.Step.Step, link.Link.TheVariants.Plain}
-use Rattle.arch_trait.specs.Links.{edge_link, link_is_of, depends_on_load, is_data}
-use Rattle.arch_trait.specs.Threads.{FitStep, FitSteps, is_load_dir}
-use Rattle.accesses_force_cycles.proofs.Lists.{image_of}
-use Rattle.tests_force_cycles.specs.CycleSteps.{event_link, event_step, thread_steps, cycle_steps}
-use Rattle.tests_force_cycles.proofs.{EdgeMarks.has_edge, StepsAt.by_steps}
-use Rattle.tests_force_cycles.proofs.StepsFit.{Before, IsThread, all_at, link_between, link_first, link_enters, link_leaves, fit_from}
-use Rattle.co_tests_laws.specs.{CutResolution.cut_open, CoherenceTests.writes_in}
 use Rattle.co_tests_laws.proofs.Opened.{source_same, source_mark_same, external_same, link_same, same_at, opened-length, opened_after}
 use Rattle.co_tests_laws.proofs.{Values.value_within, Events.IsLoop, Events.unobserved, Events.internal_follows}
 
@@ -38,21 +20,13 @@ event_marked : (es : List Edge) (arch : ArchName) (number : ℕ → ℕ) (i : �
     → IsMarked arch (event_step (cut_open es) number i)
 event_marked es arch number i r h = record {
   fits = source_mark_fits (edge_at (cut_open es) i);
-  of_arch = ap (λ m. mark_is_of m arch) (same_at source_mark source_mark_same es i)
-      ∙ (has_edge (edge_at es i) arch (all_at (λ e. is_of_arch e arch) es i (edges.Com Rf Internal) r.of_arch h)).source;
+  of_arch = grind (arith, same_at source_mark source_mark_same es i, source_mark_same, has_edge, all_at);
   small = omega (arith, value_within es i r.loop.is_cut h, r.few_writes);
 }
 
 -- an access that no edge of its thread ties fits at any place
 untied_fits : (arch : ArchName) (b : Bool) (s : Step) → s.link ≡ Plain → IsMarked arch s → FitStep arch b s
-untied_fits arch b s e m = record {
-  of_arch = ap (λ l. link_is_of l arch) e;
-  after = λ h. let f : false ≡ true = sym (ap depends_on_load e) ∙ h in cc;
-  to_store = λ h. let f : false ≡ true = sym (ap is_data e) ∙ h in cc;
-  mark_fitting = m.fits;
-  mark_of_arch = m.of_arch;
-  value = m.small;
-}
+untied_fits arch b s e m = grind arith
 
 -- an event that isn't the first of its thread has an event before it, to which an internal edge joins it
 pub before_event : (es : List Edge) (i : ℕ) → IsLoop es → i < length es → 0 < slot_of (cut_open es) i → Before (cut_open es) i
@@ -81,10 +55,8 @@ event_fits es arch number i r h b = record {
       ap (λ l. link_is_of l arch) link
       ∙ (has_edge (edge_at es b.event) arch (all_at (λ e. is_of_arch e arch) es b.event (edges.Com Rf Internal) r.of_arch below)).link;
   after = λ d. ap is_load_dir (same_at source_of source_same es b.event) ∙ link_leaves (kind_of (edge_at es b.event)) (sym (ap depends_on_load link) ∙ d);
-  to_store = λ d. same_at source_of source_same es i
-      ∙ ap (λ j. source_of (edge_at es j)) (sym b.next ∙ opened_after es b.event)
-      ∙ source_after es b.event r.loop.composes below
-      ∙ link_enters (kind_of (edge_at es b.event)) (sym (ap is_data link) ∙ d);
+  to_store = λ d.
+      grind (arith, same_at source_of source_same es i, source_same, opened_after es b.event, source_after es b.event r.loop.composes below, link_enters (kind_of (edge_at es b.event)) (sym (ap is_data link) ∙ d));
   mark_fitting = marked.fits;
   mark_of_arch = marked.of_arch;
   value = marked.small;
@@ -121,8 +93,7 @@ thread_fits es arch number thread r = fit_from arch false (thread_steps (cut_ope
         let w = slot_of_event (cut_open es) thread (suc k) j.element j.got in
         let below : j.element < length es = omega (arith, w.below, opened-length es) in
         let b = before_event es j.element r.loop below (omega (arith, w.slot)) in
-        let same : b.event ≡ i.element = only_in_slot (cut_open es) b.event i.element b.below u.below (b.thread ∙ w.thread
-        ∙ sym u.thread) (omega (arith, b.slot, w.slot, u.slot)) in
+        let same : b.event ≡ i.element = grind (arith, only_in_slot) in
         let dir : source_of (edge_at (cut_open es) b.event) ≡ s.dir = ap (λ m. source_of (edge_at (cut_open es) m)) same ∙ ap (λ (x : Step). x.dir) i.image in
         subst (λ (x : Dir × Step). FitStep arch (is_load_dir x.0) x.1) (λ z. (dir z, j.image z))
         (event_fits es arch number j.element r below b)

@@ -1,3 +1,4 @@
+pub mod Vocabulary
 pub mod OnePlace
 pub mod Turning
 pub mod Opened

@@ -1,21 +1,8 @@
 -- Threads whose accesses are all at one place and whose writes write 1, 2, .., each once: with at most two writes one
 -- execution alone ends with the last value, in which each read reads the write of its value and the writes come in the order
 -- of their values.
-use Rattle.std.proofs.Common.{◌≡◌, ℕ, zero, suc, ◌-◌, ◌<◌, ◌≤◌, true, List, [], ◌∷◌, length, map, Option, Some, None, slice_get, refl, sym, ◌∙◌, ap, subst, arith, add-one}
-use Rattle.std.specs.{List.filter, List.filter_map, Option.option_and_then}
-use Rattle.std.proofs.lemmas.{List.length-map, Option.slice_get_within}
-use Rattle.list_laws.specs.Numbers.{upto}
-use Rattle.relax_edges.specs.declared.kinds.Dir.{Dir}
+use Rattle.co_tests_laws.proofs.Vocabulary.{◌≡◌, ℕ, zero, suc, ◌-◌, ◌<◌, ◌≤◌, true, List, [], ◌∷◌, length, map, Option, Some, None, slice_get, refl, sym, ◌∙◌, ap, subst, arith, add-one, filter, filter_map, length-map, slice_get_within, upto, Dir, WriteAt, Access, write, is_read, at_name, Execution, CanRead, AreReadsOf, IsOrderOf, IsExecutionOf, order_place, order_at, source_at, placed_by, coherence_place, last_write, final_value, got_from_list, got_below, got_map, kept, same_below, length-filter_map-upto, slice_get-filter_map-upto, Holds, Gives, place_held, order_by_steps, order_given, place_given, reads_by_source, reads_given, reads_fixed, source_given, order_got, stands_at}
 use Rattle.relax_edges.specs.declared.kinds.Dir.TheVariants as dirs
-use Rattle.program_meaning.specs.declared.WriteAt.{WriteAt}
-use Rattle.program_meaning.specs.Accesses.{Access, write, is_read, at_name}
-use Rattle.program_meaning.specs.Executions.{Execution, CanRead, AreReadsOf, IsOrderOf, IsExecutionOf}
-use Rattle.program_meaning.specs.Coherence.{order_place, order_at, source_at, placed_by, coherence_place, last_write, value_of_access, final_value}
-use Rattle.program_meaning.proofs.Names.{got_from_list}
-use Rattle.accesses_force_cycles.proofs.Lists.{got_below, got_map, kept, same_below, length-filter_map-upto, slice_get-filter_map-upto}
-use Rattle.accesses_force_cycles.proofs.Orders.{Holds, Gives, place_held, order_by_steps, order_given, place_given}
-use Rattle.accesses_force_cycles.proofs.ReadLists.{reads_by_source, reads_given, reads_fixed, source_given}
-use Rattle.accesses_force_cycles.proofs.{IntendedOrders.order_got, IntendedReads.stands_at}
 
 -- a write access writes one more than its number among the writes, at place 0
 pub record IsNth (g : ℕ → Option WriteAt) (n : ℕ) (w : WriteAt) (place value : ℕ) : Type 0 where
@@ -58,9 +45,7 @@ by_values threads g n = record {
 fixed : (threads : List (List Access)) (g : ℕ → Option WriteAt) (n : ℕ) (access : Access) (o : Option WriteAt) → Numbered threads g n
     → CanRead threads access o → o ≡ source_in g access
 fixed threads g n access None r c = ap (by_value g) (sym c)
-fixed threads g n access (Some w) r c =
-    let k = r.writes w access.place access.value c in
-    sym k.named ∙ ap (by_value g) (sym k.value_is)
+fixed threads g n access (Some w) r c = grind (arith, r.writes w access.place access.value c)
 
 -- the write of a value can be read
 can_value : (threads : List (List Access)) (g : ℕ → Option WriteAt) (n : ℕ) (access : Access) (v : ℕ) → Numbered threads g n → access.place ≡ 0
@@ -79,14 +64,7 @@ can_source threads g n name access r h = can_value threads g n access access.val
 pub gives_once : (threads : List (List Access)) (g : ℕ → Option WriteAt) (n : ℕ) → Numbered threads g n → Gives g n
 gives_once threads g n r = record {
   some = λ k h. let w = r.gives k h in (w.name, w.named);
-  once = λ j k w h l p q.
-      let a = r.gives j h in
-      let b = r.gives k l in
-      let s : Some a.name ≡ Some b.name = sym a.named ∙ p ∙ sym q ∙ b.named in
-      let e : a.name ≡ b.name = cc in
-      let t : Some (write 0 (suc j)) ≡ Some (write 0 (suc k)) = sym a.there ∙ ap (at_name threads) e ∙ b.there in
-      let u : suc j ≡ suc k = ap value_of_access t in
-      omega (arith, u);
+  once = λ j k w h l p q. grind (arith, r.gives j h, r.gives k l);
 }
 
 -- the order of the place holds the writes
@@ -94,11 +72,7 @@ holds : (threads : List (List Access)) (g : ℕ → Option WriteAt) (n : ℕ) (o
     → Holds order g n
 holds threads g n order r o = record {
   some = (gives_once threads g n r).some;
-  each = λ k w h e.
-      let a = r.gives k h in
-      let s : Some a.name ≡ Some w = sym a.named ∙ e in
-      let q : a.name ≡ w = cc in
-      o.each w (suc k) (ap (at_name threads) (sym q) ∙ a.there);
+  each = λ k w h e. grind (arith, r.gives k h);
   only = λ j w e.
       let v = o.writes j w e in
       let k = r.writes w 0 v.0 v.1 in
@@ -115,8 +89,7 @@ ends_with threads g n k x r q some v =
     let j = q.only (length (order_at x 0) - 1) e.element e.got in
     let a = r.gives j.0 j.1 in
     let t : last_write (order_at x 0) ≡ Some a.name = e.got ∙ sym j.2 ∙ a.named in
-    let f : final_value threads x 0 ≡ suc j.0 =
-    ap (λ w. value_of_access (option_and_then (at_name threads) w)) t ∙ ap value_of_access a.there in
+    let f : final_value threads x 0 ≡ suc j.0 = grind arith in
     let d : j.0 ≡ k = omega (arith, f, v) in
     e.got ∙ sym j.2 ∙ ap g d
 
@@ -171,8 +144,7 @@ is_order threads g n r = record {
   writes = λ j w e.
       let k = q.only j w e in
       let a = r.gives k.0 k.1 in
-      let s : Some a.name ≡ Some w = sym a.named ∙ k.2 in
-      let f : a.name ≡ w = cc in
+      let f : a.name ≡ w = cc (a.named, k.2) in
       (suc k.0, ap (at_name threads) (sym f) ∙ a.there);
   each = λ w v e. let k = r.writes w 0 v e in q.each k.rank w k.below k.named;
   once = q.once;
@@ -188,9 +160,8 @@ by_values_execution threads g n r = record {
   read_lists = length-map threads (λ accesses. reads_by_source (source_in g) (filter is_read accesses));
   write_lists = refl;
   reads = λ k accesses reads t h.
-      let s : Some (reads_by_source (source_in g) (filter is_read accesses)) ≡ Some reads =
-      sym (got_map (λ accesses. reads_by_source (source_in g) (filter is_read accesses)) threads k accesses t) ∙ h in
-      let e : reads_by_source (source_in g) (filter is_read accesses) ≡ reads = cc in
+      let e : reads_by_source (source_in g) (filter is_read accesses) ≡ reads =
+      cc (got_map (λ accesses. reads_by_source (source_in g) (filter is_read accesses)) threads k accesses t, h) in
       subst (AreReadsOf threads (filter is_read accesses)) e
       (reads_given threads (source_in g) (filter is_read accesses)
       (λ j access q. let w = kept is_read accesses j access q in

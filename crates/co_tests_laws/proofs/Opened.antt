@@ -1,15 +1,5 @@
 -- A cycle that is cut open has the threads, slots, directions, marks and links of the cycle.
-use Rattle.std.proofs.Common.{◌≡◌, ℕ, suc, ◌+◌, Bool, true, false, cond, List, [], ◌∷◌, length, take, refl, ◌∙◌, ap, arith}
-use Rattle.std.specs.{Prelude.◌==◌, Prelude.if◌then◌else◌, List.count_by, List.filter}
-use Rattle.std.proofs.lemmas.List.Sums.{sum_by-cons}
-use Rattle.list_laws.specs.Numbers.{upto}
-use Rattle.relax_edges.specs.declared.edge.Edge.{Edge}
-use Rattle.relax_edges.specs.EdgeTable.{source_of, source_mark, is_external, is_diff}
-use Rattle.cycle_events.specs.Resolution.{edge_at, external_count, thread_of, slot_of, events_in, event_before, event_after}
-use Rattle.arch_trait.specs.declared.link.Link.TheVariants.{Plain}
-use Rattle.arch_trait.specs.Links.{edge_link}
-use Rattle.tests_force_cycles.specs.CycleSteps.{event_link}
-use Rattle.co_tests_laws.specs.CutResolution.{is_ordering, elsewhere, cut_open}
+use Rattle.co_tests_laws.proofs.Vocabulary.{◌≡◌, ℕ, suc, ◌+◌, Bool, true, false, cond, List, [], ◌∷◌, length, take, refl, arith, ◌==◌, if◌then◌else◌, count_by, filter, sum_by-cons, upto, Edge, source_of, source_mark, is_external, is_diff, edge_at, external_count, thread_of, slot_of, events_in, event_before, event_after, edge_link, event_link, is_ordering, elsewhere, cut_open}
 
 -- and so does an edge
 pub source_same : (e : Edge) → source_of (elsewhere e) ≡ source_of e
@@ -39,9 +29,7 @@ count_same p h [] = refl
 count_same p h (e ∷ es) = by_case (is_ordering e) (count_same p h es)
   where
     by_case : (b : Bool) → count_by p (cut_open es) ≡ count_by p es → count_by p (if b then elsewhere e ∷ es else e ∷ cut_open es) ≡ count_by p (e ∷ es)
-    by_case true rest =
-        let one : ◌≡◌ {A = ℕ} (cond (p (elsewhere e)) 1 0) (cond (p e) 1 0) = ap (λ b. cond {A = ℕ} b 1 0) (h e) in
-        omega (arith, one, sum_by-cons (λ x. cond {A = ℕ} (p x) 1 0) (elsewhere e) es, sum_by-cons (λ x. cond {A = ℕ} (p x) 1 0) e es)
+    by_case true rest = grind (arith, elsewhere e, sum_by-cons)
     by_case false rest = omega (arith, rest, sum_by-cons (λ x. cond {A = ℕ} (p x) 1 0) e (cut_open es), sum_by-cons (λ x. cond {A = ℕ} (p x) 1 0) e es)
 
 take_same : (p : Edge → Bool) → ((e : Edge) → p (elsewhere e) ≡ p e) → (es : List Edge) (i : ℕ) → count_by p (take i (cut_open es)) ≡ count_by p (take i es)
@@ -49,9 +37,7 @@ take_same p h (e ∷ es) (suc i) = by_case (is_ordering e) (take_same p h es i)
   where
     by_case : (b : Bool) → count_by p (take i (cut_open es)) ≡ count_by p (take i es)
         → count_by p (take (suc i) (if b then elsewhere e ∷ es else e ∷ cut_open es)) ≡ count_by p (take (suc i) (e ∷ es))
-    by_case true rest =
-        let one : ◌≡◌ {A = ℕ} (cond (p (elsewhere e)) 1 0) (cond (p e) 1 0) = ap (λ b. cond {A = ℕ} b 1 0) (h e) in
-        omega (arith, one, sum_by-cons (λ x. cond {A = ℕ} (p x) 1 0) (elsewhere e) (take i es), sum_by-cons (λ x. cond {A = ℕ} (p x) 1 0) e (take i es))
+    by_case true rest = grind (arith, elsewhere e, sum_by-cons)
     by_case false rest = omega (
       arith,
       rest,
@@ -92,7 +78,4 @@ opened_after es i = λ t. if i + 1 == opened-length es t then 0 else i + 1
 
 -- the link that ties an event to the one before it in its thread
 pub opened_link : (es : List Edge) (i : ℕ) → event_link (cut_open es) i ≡ event_link es i
-opened_link es i =
-    let link : edge_link (edge_at (cut_open es) (event_before (cut_open es) i)) ≡ edge_link (edge_at es (event_before es i)) =
-    same_at edge_link link_same es (event_before (cut_open es) i) ∙ ap (λ j. edge_link (edge_at es j)) (before_same es i) in
-    λ t. if opened_slot es i t == 0 then Plain else link t
+opened_link es i = grind (arith, same_at edge_link link_same es (event_before (cut_open es) i), link_same, before_same es i, opened_slot)

@@ -1,31 +1,5 @@
 -- The printed text of a coherence test is read as a test that shows incoherence.
-use Rattle.std.proofs.Common.{◌≡◌, ℕ, ◌+◌, ◌<◌, true, false, List, [], ◌∷◌, length, get_or, map, Some, slice_get, refl, sym, ◌∙◌, ap, subst, arith}
-use Rattle.std.specs.List.{AllByRecursion}
-use Rattle.std.proofs.lemmas.Option.{slice_get_within, slice_get-get_or}
-use Rattle.list_laws.proofs.Cases.{by_same}
-use Rattle.relax_edges.specs.declared.{kinds.ArchName.ArchName, kinds.ObsMode.TheVariants.Avoid, edge.Edge.Edge}
-use Rattle.relax_edges.specs.EdgeTable.{kind_of, is_external}
-use Rattle.final_cond.specs.States.{Meets}
-use Rattle.cycle_events.specs.Resolution.{edge_at, ends_outside, move_count, thread_of, slot_of}
-use Rattle.cycle_events.proofs.Locations.{ends_with}
-use Rattle.arch_trait.specs.{Cells.WritesCells, Cells.MakesOneAccess, Laws.IsArch, PlaceNames.location_name, PlaceNames.number_in, Threads.Puts}
-use Rattle.arch_trait.specs.{Threads.ThreadCode, Threads.compiled, Writing.Writing, Writing.WritesBack, Writing.name_in}
-use Rattle.arch_trait_laws.proofs.{CodeLaws.makes_steps, NameLaws.length-letters}
-use Rattle.litmus_text.specs.{Items.links_of, Mentioned.TestReadsBack, Mentioned.is_in, Mentioned.op_is_in, Placing.place_in, Placing.or_zero}
-use Rattle.litmus_text.specs.{Reread.reread, TestReading.TestRead, TestText.test_text}
-use Rattle.litmus_text.proofs.NamesBack.{IsAmong, none_among, push_among, few_names}
-use Rattle.program_meaning.specs.{Executions.Execution, Intended.IsNumbering, Standing.AllStand}
-use Rattle.program_meaning.specs.Programs.{Program, IsCandidate, IsCoherentIn, accesses_in}
-use Rattle.accesses_force_cycles.proofs.Lists.{got_map}
-use Rattle.tests_force_cycles.specs.{CycleSteps.event_step, CycleSteps.thread_steps, FinalStates.final_state, TestHeadline.IsRenumbered, TestOf.plain}
-use Rattle.tests_force_cycles.specs.{TestOf.test_of}
-use Rattle.tests_force_cycles.proofs.{Everywhere.all_gets, Headline.renumbered_program, RegisterNames.registers_found}
-use Rattle.bytes_force_cycles.specs.Readings.{program_read}
-use Rattle.bytes_force_cycles.proofs.{BackLaws.reads_back, BackLaws.numbered_in, Mentioning.place_is_in}
-use Rattle.bytes_force_cycles.proofs.Rereading.{by_table, got_is, reread_test, threads_numbered, intended_same, links_apart}
-use Rattle.co_tests_laws.specs.CutResolution.{cut_open}
-use Rattle.co_tests_laws.specs.CoherenceTests.{HasCoherenceTest, coherence_steps, coherence_test_of, incoherent_execution}
-use Rattle.co_tests_laws.specs.Incoherence.{MeetsReading, HasCycle, BytesShowIncoherence, PrintedShowIncoherence}
+use Rattle.co_tests_laws.proofs.Vocabulary.{◌≡◌, ℕ, ◌+◌, ◌<◌, true, List, [], ◌∷◌, length, get_or, map, Some, slice_get, refl, sym, ◌∙◌, ap, subst, arith, AllByRecursion, slice_get_within, slice_get-get_or, ArchName, Avoid, Edge, kind_of, Meets, edge_at, ends_outside, move_count, thread_of, slot_of, ends_with, WritesCells, MakesOneAccess, IsArch, location_name, number_in, Puts, ThreadCode, compiled, Writing, WritesBack, name_in, makes_steps, length-letters, links_of, TestReadsBack, is_in, op_is_in, place_in, or_zero, reread, TestRead, test_text, IsAmong, none_among, push_among, few_names, Execution, IsNumbering, AllStand, Program, IsCandidate, IsCoherentIn, accesses_in, got_map, event_step, thread_steps, final_state, IsRenumbered, plain, test_of, all_gets, renumbered_program, registers_found, program_read, reads_back, numbered_in, place_is_in, by_table, got_is, reread_test, threads_numbered, intended_same, links_apart, cut_open, HasCoherenceTest, coherence_steps, coherence_test_of, incoherent_execution, MeetsReading, HasCycle, BytesShowIncoherence, PrintedShowIncoherence}
 use Rattle.co_tests_laws.proofs.Values.{Cut, IsCut, cut_there, none_diff, one_move, one_location}
 use Rattle.co_tests_laws.proofs.{Events.loop_execution, Events.stated_is, Events.ordering_inside, Fits.loop_thread, Asked.HasLoopCode}
 use Rattle.co_tests_laws.proofs.Showing.{IsSetUp, IsMetBy, loop_program, stated_meets, only_stated, met_stand, met_cyclic, met_incoherent}
@@ -78,11 +52,7 @@ table_zero : (es : List Edge) (table : List (List ℕ)) → IsCut es → IsTable
 table_zero es table c t = ap (place_in table) (got_is (place_names es) 0 (location_name 0) (place_name es c)) ∙ t.numbers
 
 table_numbering : (es : List Edge) (table : List (List ℕ)) → IsCut es → IsTable es table → IsNumbering (cut_open es) (by_table table (place_names es))
-table_numbering es table c t = record {
-  below = λ l h. let z : l ≡ 0 = omega (arith, h, one_move es c) in
-      omega (arith, ap (by_table table (place_names es)) z, table_zero es table c t, one_move es c);
-  injective = λ l m h k e. omega (arith, h, k, one_move es c);
-}
+table_numbering es table c t = grind (arith, one_move es c, table_zero es table c t)
 
 -- what is read of the printed test by way of the table is the test but for the numbers of places
 read_renumbered : (a : Puts) (register_name : ℕ → List ℕ) (es : List Edge) (table : List (List ℕ)) → IsCut es → IsTable es table
@@ -91,13 +61,7 @@ read_renumbered a register_name es table c t = record {
   threads = refl;
   count = omega (arith, t.count, length-letters (move_count (cut_open es)), one_move es c);
   names = λ place name g.
-      let z : place ≡ 0 = omega (arith, slice_get_within (place_names es) place name g, length-letters (move_count (cut_open es)), one_move es c) in
-      ap (λ k. slice_get table (by_table table (place_names es) k)) z
-      ∙ ap (slice_get table) (table_zero es table c t)
-      ∙ t.first
-      ∙ sym (place_name es c)
-      ∙ ap (slice_get (place_names es)) (sym z)
-      ∙ g;
+      grind (arith, slice_get_within (place_names es) place name g, length-letters (move_count (cut_open es)), one_move es c, table_zero es table c t, place_name es c);
   cond = refl;
 }
 
@@ -133,13 +97,7 @@ bytes_show a arch w name es laws back t r = record {
     table = one_name es r.table c (record { once = r.once; inside = r.among }) (name_is_in a es r.table laws t r.codes r.links)
 
     set_up : IsSetUp a (name_in w.registers) (number_in w.registers) es number r.table
-    set_up = record {
-      laws = laws;
-      finds = registers_found a w back;
-      code = t;
-      numbering = table_numbering es r.table c table;
-      named = first_found r.table (location_name 0) table.first;
-    }
+    set_up = grind (arith, registers_found a w back, table_numbering es r.table c table, first_found r.table (location_name 0) table.first)
 
     stated : loop_execution es number ≡ incoherent_execution es
     stated = sym (stated_is es number c (table_numbering es r.table c table))
@@ -170,12 +128,7 @@ bytes_show a arch w name es laws back t r = record {
 
 -- the cut isn't the last edge
 cut_within : (es : List Edge) (c : Cut es) → ends_outside es ≡ true → c.at + 1 < length es
-cut_within es c o =
-    by_same (c.at + 1) (length es)
-    (λ e. let t : is_external (edge_at es c.at) ≡ true = sym (ends_with es c.at (sym e)) ∙ o in
-    let f : true ≡ false = sym t ∙ ordering_inside (edge_at es c.at) (kind_of (edge_at es c.at)) refl c.ordering in
-    cc)
-    (λ d. omega (arith, c.below, d))
+cut_within es c o = grind (arith, ends_with, ordering_inside (edge_at es c.at) (kind_of (edge_at es c.at)) refl c.ordering)
 
 -- a cycle that has a coherence test is one over one location, with code
 pub has_code : (a : Puts) (es : List Edge) → HasCoherenceTest a es → HasLoopCode a es
@@ -200,7 +153,4 @@ has_code a es t = record {
 
 -- the printed text of each coherence test shows incoherence
 pub printed_show : (a : Puts) (arch : ArchName) (w : Writing) → IsArch a → WritesBack a w → WritesCells a w → MakesOneAccess a → PrintedShowIncoherence a arch w
-printed_show a arch w laws back cells one name es named t =
-    let code = has_code a es t in
-    bytes_show a arch w name es laws back code
-    (reads_back a arch w name (coherence_test_of a (name_in w.registers) es) back cells (readable a arch w name es laws back cells one named code))
+printed_show a arch w laws back cells one name es named t = grind (arith, has_code a es t, bytes_show, reads_back, readable)

@@ -1,47 +1,12 @@
 -- The coherence test of a cycle, under a name of a test's form, is within the limits of the format.
-use Rattle.std.proofs.Common.{◌≡◌, ℕ, suc, ◌+◌, ◌-◌, ◌<◌, ◌≤◌, ◌==◌, Bool, true, false, cond, List, [], ◌∷◌, ◌++◌, length, map, Some, slice_get, refl, sym, ◌∙◌, ap, subst, arith, append-nil, length-append}
-use Rattle.std.specs.Prelude.{◌&&◌, ◌||◌, is_some, nat_le, not, count_by}
-use Rattle.std.specs.{List.AllByRecursion, List.filter, List.sum_by, Str.bytes_eq}
-use Rattle.std.proofs.lemmas.Bool.{eqb-true, le-leb, and_from, leb-true}
-use Rattle.std.proofs.lemmas.{List.length-map, List.Sums.sum_by-cons, List.Sums.count_by-le-length, List.Sums.length-filter, Option.slice_get_within}
-use Rattle.std.proofs.lemmas.{Slice.Eq.bytes_eq-Decides}
-use Rattle.list_laws.specs.Numbers.{upto}
-use Rattle.list_laws.proofs.{Cases.by_test, Elements.all_append, Totals.sum_upto_same, Totals.classes_total}
-use Rattle.relax_edges.specs.declared.{TheConstants.MAX_EDGES, kinds.Dir.Dir, kinds.ArchName.ArchName, kinds.Kind.Kind}
-use Rattle.relax_edges.specs.declared.{kinds.ObsMode.TheVariants.Avoid, edge.Edge.Edge}
+use Rattle.co_tests_laws.proofs.Vocabulary.{◌≡◌, ℕ, suc, ◌+◌, ◌-◌, ◌<◌, ◌≤◌, ◌==◌, Bool, true, false, cond, List, [], ◌∷◌, ◌++◌, length, map, Some, slice_get, refl, sym, ◌∙◌, ap, subst, arith, append-nil, length-append, ◌&&◌, ◌||◌, is_some, count_by, AllByRecursion, sum_by, eqb-true, le-leb, and_from, leb-true, length-map, sum_by-cons, count_by-le-length, length-filter, slice_get_within, bytes_eq-Decides, upto, by_test, all_append, sum_upto_same, classes_total, MAX_EDGES, Dir, ArchName, Kind, Avoid, Edge, kind_of, kind_source, kind_target, source_of, target_of, is_external, edge_at, external_count, move_count, thread_of, slot_of, events_in, event_after, event_in_slot, after_below, source_after, TermSeen, is_place_name, place_name_short, MAX_INSTRS, Step, WritesCells, MakesOneAccess, IsArch, InOrder, branches, letters, location_name, number_in, Writing, WritesBack, name_in, Puts, ThreadCode, compiled, is_load_dir, is_store_dir, loads_in, visits, compiled_ordered, compiled_accesses, length-letters, location_new, is_formed, thread_short, IsTestName, LinkFits, links_of, CodeFits, code_lands, IsReadable, TermFits, got_map, image_of, written_by, event_step, thread_steps, cycle_steps, plain, is_named_location, last_term, last_terms, load_terms, position_first, letter_at, load_terms-count, sum_map, thread_steps_at, by_steps, steps-count, steps_few, HasPlaces, code_fits, lands_once, links_fit, links_single, IsThreadCode, each_code, all_read_terms, numbers_small, all_links, AreShort, IsSmall, text_short, got_is, term_most, counted_one, cut_open, writes_in, coherence_steps, coherence_test_of, texts_short, registers_short, formed_terms, ordered_few}
 use Rattle.relax_edges.specs.declared.kinds.Dir.TheVariants as dirs
 use Rattle.relax_edges.specs.declared.kinds.Com.TheVariants as coms
 use Rattle.relax_edges.specs.declared.kinds.Kind.TheVariants as kinds
-use Rattle.relax_edges.specs.EdgeTable.{kind_of, kind_source, kind_target, source_of, target_of, is_external}
-use Rattle.cycle_events.specs.Resolution.{edge_at, external_count, move_count, thread_of, slot_of, events_in, event_after}
-use Rattle.cycle_events.proofs.{Threads.event_in_slot, Around.after_below, Around.source_after}
-use Rattle.cycle_events.specs.Values.{write_count, is_observed}
-use Rattle.final_cond.specs.Conditions.{TermSeen}
-use Rattle.text_parts_laws.specs.Names.{is_place_name}
-use Rattle.text_parts_laws.proofs.NameLaws.{place_name_short}
-use Rattle.arch_trait.specs.declared.{arch.TheConstants.MAX_INSTRS, step.Step.Step}
-use Rattle.arch_trait.specs.{Cells.WritesCells, Cells.MakesOneAccess, Laws.IsArch, Laws.InOrder, Links.branches, PlaceNames.letters}
-use Rattle.arch_trait.specs.{PlaceNames.location_name, PlaceNames.number_in, Writing.Writing, Writing.WritesBack, Writing.name_in}
-use Rattle.arch_trait.specs.Threads.{Puts, ThreadCode, compiled, is_load_dir, is_store_dir, loads_in, setting_out, visits}
-use Rattle.arch_trait_laws.proofs.{Ordered.compiled_ordered, Ordered.compiled_accesses, NameLaws.length-letters, NameLaws.location_new}
-use Rattle.arch_trait_laws.proofs.{CodeLaws.is_formed, CodeLaws.thread_short}
-use Rattle.litmus_text.specs.{Printable.IsTestName, Items.LinkFits, Items.links_of, Progress.CodeFits, Progress.code_lands, Reread.IsReadable}
-use Rattle.litmus_text.specs.{ReadTerms.TermFits}
-use Rattle.accesses_force_cycles.proofs.{Lists.got_map, Lists.image_of, Resolves.written_by}
-use Rattle.tests_force_cycles.specs.CycleSteps.{event_step, thread_steps, observer_steps, cycle_steps}
-use Rattle.tests_force_cycles.specs.TestOf.{plain, is_named_location, last_term, last_terms, load_terms}
-use Rattle.tests_force_cycles.proofs.{Everywhere.position_first, PlaceNames.letter_at, Terms.load_terms-count, Terms.sum_map}
-use Rattle.tests_force_cycles.proofs.StepsAt.{thread_steps_at, by_steps, steps-count, steps_few}
-use Rattle.bytes_force_cycles.proofs.FormedFits.{HasPlaces, code_fits, lands_once, links_fit, links_single}
-use Rattle.bytes_force_cycles.proofs.Fits.{IsThreadCode, each_code, all_read_terms, numbers_small, all_links}
-use Rattle.bytes_force_cycles.proofs.{Lengths.AreShort, Lengths.IsSmall, Lengths.text_short, Rereading.got_is, SomeTerm.term_most}
-use Rattle.bytes_force_cycles.proofs.{SomeTerm.counted_one}
-use Rattle.co_tests_laws.specs.{CutResolution.cut_open, CoherenceTests.writes_in, CoherenceTests.coherence_steps, CoherenceTests.coherence_test_of}
 use Rattle.co_tests_laws.proofs.Opened.{source_same, same_at, opened-length, opened-threads, opened_thread}
 use Rattle.co_tests_laws.proofs.Values.{IsCut, one_move, one_location, write_count_is, value_positive, value_within, value_written}
 use Rattle.co_tests_laws.proofs.Events.{IsLoop, last_outside, thread_under, unobserved, none_observed, some_write, value_through}
 use Rattle.co_tests_laws.proofs.{Fits.loop_thread, Asked.HasLoopCode, Asked.ends_terms}
-use Rattle.bytes_force_cycles.proofs.Readable.{texts_short, registers_short, formed_terms, ordered_few}
 
 -- the names of the test's places
 abbrev pub place_names : List Edge → List (List ℕ)
@@ -53,8 +18,7 @@ place_name es c = letter_at (move_count (cut_open es)) 0 (omega (arith, one_move
 
 -- which is found in each table that begins with it
 pub first_found : (names : List (List ℕ)) (name : List ℕ) → slice_get names 0 ≡ Some name → number_in names name ≡ Some 0
-first_found names name g = position_first (λ x. bytes_eq x name) 0 names 0 name g ((bytes_eq-Decides name name).1 refl)
-    (λ j y less. absurd (omega (arith, less)))
+first_found names name g = grind (arith, position_first, bytes_eq-Decides name name)
 
 -- each access is at the one place
 placed : (es : List Edge) (k j : ℕ) (ss : List Step) (s : Step) → IsCut es → slice_get (coherence_steps es) k ≡ Some ss → slice_get ss j ≡ Some s → s.place ≡ 0
@@ -89,9 +53,7 @@ thread_is a es k ss laws t g =
 
 code_short : (a : Puts) (es : List Edge) (k : ℕ) (ss : List Step) → IsArch a → HasLoopCode a es → slice_get (coherence_steps es) k ≡ Some ss
     → length (compiled a ss).instrs ≤ MAX_INSTRS
-code_short a es k ss laws t g =
-    let thread = (thread_is a es k ss laws t g).thread in
-    omega (arith, thread_short a laws false (setting_out a.registers) ss thread.fit, thread.few)
+code_short a es k ss laws t g = grind (arith, thread_is a es k ss laws t g, thread_short)
 
 thread_code_fits : (a : Puts) (es : List Edge) (k : ℕ) (ss : List Step) → IsArch a → MakesOneAccess a → HasLoopCode a es
     → slice_get (coherence_steps es) k ≡ Some ss → CodeFits a (place_names es) (name_in (place_names es)) 0 0 (compiled a ss).instrs
@@ -104,9 +66,7 @@ thread_code_fits a es k ss laws one t g =
 
 thread_lands : (a : Puts) (es : List Edge) (k : ℕ) (ss : List Step) → IsArch a → HasLoopCode a es → slice_get (coherence_steps es) k ≡ Some ss
     → code_lands (compiled a ss).instrs (compiled a ss).instrs ≡ true
-thread_lands a es k ss laws t g =
-    let c = thread_is a es k ss laws t g in
-    lands_once (compiled a ss).instrs (count_by (λ (s : Step). branches s.link) ss) c.formed.jumps c.formed.labels
+thread_lands a es k ss laws t g = grind (arith, thread_is a es k ss laws t g, lands_once)
 
 all_links_fit : (a : Puts) (w : Writing) (es : List Edge) → IsArch a → WritesBack a w → HasLoopCode a es → length (coherence_steps es) ≤ MAX_EDGES
     → AllByRecursion (LinkFits w (place_names es) (name_in (place_names es))) (links_of 0 (map (compiled a) (coherence_steps es)))
@@ -127,20 +87,10 @@ last_terms_fit w es threads c few = subst (AllByRecursion (TermFits w threads (p
   where
     by_case : (b : Bool) → AllByRecursion (TermFits w threads (place_names es)) (map (last_term (cut_open es)) (cond b (0 ∷ []) []))
     by_case false = tt
-    by_case true = (
-      record {
-        formed = record { form = (location_new 0 (omega arith)).formed; value = omega (arith, write_count_is es c, few) };
-        known = ap is_some (first_found (place_names es) (location_name 0) (place_name es c));
-      },
-      tt,
-    )
+    by_case true = grind (arith, location_new, write_count_is es c, is_some, first_found (place_names es) (location_name 0) (place_name es c), place_name es c)
 
 last_terms_few : (es : List Edge) → IsCut es → length (last_terms (cut_open es) Avoid) ≤ 1
-last_terms_few es c = subst (λ l. length l ≤ 1) (sym (ends_terms es c)) (by_case (is_named_location (cut_open es) Avoid 0))
-  where
-    by_case : (b : Bool) → length (map (last_term (cut_open es)) (cond b (0 ∷ []) [])) ≤ 1
-    by_case true = omega arith
-    by_case false = omega arith
+last_terms_few es c = grind (arith, ends_terms es c)
 
 -- how many accesses of a thread store
 stores_in : List Step → ℕ
@@ -160,8 +110,7 @@ loads_and_stores (s ∷ ss) =
     )
   where
     one : (d : Dir) → cond {A = ℕ} (is_load_dir d) 1 0 + cond {A = ℕ} (is_store_dir d) 1 0 ≡ 1
-    one dirs.R = refl
-    one dirs.W = refl
+    one d = grind arith
 
 sum_both : (threads : List (List Step)) → sum_by loads_in threads + sum_by stores_in threads ≡ sum_by length threads
 sum_both [] = refl
@@ -177,17 +126,12 @@ sum_both (ss ∷ threads) = omega (
 -- the threads of the test are those of the cycle
 threads_are : (es : List Edge) → coherence_steps es ≡ map (thread_steps (cut_open es) plain) (upto (external_count (cut_open es)))
 unfolding cycle_steps
-threads_are es =
-    ap (λ l. map (thread_steps (cut_open es) plain) (upto (external_count (cut_open es))) ++ map (observer_steps (cut_open es) plain) l)
-    (none_observed (cut_open es))
-    ∙ append-nil (map (thread_steps (cut_open es) plain) (upto (external_count (cut_open es))))
+threads_are es = grind (arith, none_observed (cut_open es), append-nil (map (thread_steps (cut_open es) plain) (upto (external_count (cut_open es)))))
 
 thread_size : (es : List Edge) (k : ℕ)
     → length (thread_steps (cut_open es) plain k) ≡ count_by (λ i. thread_of (cut_open es) i == k) (upto (length (cut_open es)))
 unfolding events_in
-thread_size es k =
-    length-map (filter (λ i. thread_of (cut_open es) i == k) (upto (length (cut_open es)))) (event_step (cut_open es) plain)
-    ∙ length-filter (λ i. thread_of (cut_open es) i == k) (upto (length (cut_open es)))
+thread_size es k = grind (arith, length-map, thread_of, length-filter)
 
 -- they have as many accesses as there are edges
 sum_sizes : (es : List Edge) → IsLoop es → sum_by length (coherence_steps es) ≡ length es
@@ -208,30 +152,18 @@ pub record IsStep (es : List Edge) (i : ℕ) : Type 0 where
 -- each event is so
 pub is_step : (es : List Edge) (i : ℕ) → IsLoop es → i < length es → IsStep es i
 is_step es i r h = record {
-  steps_at = thread_steps_at (cut_open es) Avoid plain (thread_of (cut_open es) i)
-      (omega (arith, thread_under es i r h, opened_thread es i, opened-threads es));
+  steps_at = grind (arith, thread_steps_at, thread_of (cut_open es) i, thread_under es i r h, opened_thread es i, opened-threads es);
   step_at = got_map (event_step (cut_open es) plain) (events_in (cut_open es) (thread_of (cut_open es) i)) (slot_of (cut_open es) i) i
       (event_in_slot (cut_open es) i (omega (arith, h, opened-length es)));
 }
 
 -- an event that reads is a load, one that writes a store
 event_loads : (es : List Edge) (i : ℕ) → IsLoop es → i < length es → source_of (edge_at es i) ≡ dirs.R → 1 ≤ sum_by loads_in (coherence_steps es)
-event_loads es i r h d =
-    let s = is_step es i r h in
-    let one = counted_one (λ (t : Step). is_load_dir t.dir) (thread_steps (cut_open es) plain (thread_of (cut_open es) i)) (slot_of (cut_open es) i)
-    (event_step (cut_open es) plain i) s.step_at (ap is_load_dir (same_at source_of source_same es i ∙ d)) in
-    let all = term_most loads_in (coherence_steps es) (thread_of (cut_open es) i) (thread_steps (cut_open es) plain (thread_of (cut_open es) i)) s.steps_at in
-    omega (arith, one, all)
+event_loads es i r h d = grind (arith, is_step es i r h, counted_one, thread_of (cut_open es) i, same_at source_of source_same es i, source_same, term_most)
 
 event_stores : (es : List Edge) (i : ℕ) → IsLoop es → i < length es → source_of (edge_at es i) ≡ dirs.W → 1 ≤ sum_by stores_in (coherence_steps es)
 unfolding stores_in
-event_stores es i r h d =
-    let s = is_step es i r h in
-    let one = counted_one (λ (t : Step). is_store_dir t.dir) (thread_steps (cut_open es) plain (thread_of (cut_open es) i)) (slot_of (cut_open es) i)
-    (event_step (cut_open es) plain i) s.step_at (ap is_store_dir (same_at source_of source_same es i ∙ d)) in
-    let all = term_most (λ (ss : List Step). count_by (λ (t : Step). is_store_dir t.dir) ss) (coherence_steps es) (thread_of (cut_open es) i)
-    (thread_steps (cut_open es) plain (thread_of (cut_open es) i)) s.steps_at in
-    omega (arith, one, all)
+event_stores es i r h d = grind (arith, is_step es i r h, counted_one, thread_of (cut_open es) i, same_at source_of source_same es i, source_same, term_most)
 
 -- the terms of the condition
 abbrev loop_terms : Puts → (ℕ → List ℕ) → List Edge → List TermSeen
@@ -253,11 +185,7 @@ terms_few a name es r =
 
 -- with two writes the last value is a term
 last_term_there : (es : List Edge) → IsCut es → 2 ≤ writes_in es → 1 ≤ length (last_terms (cut_open es) Avoid)
-last_term_there es c two =
-    let t : is_named_location (cut_open es) Avoid 0 ≡ true = and_from (nat_le 2 (write_count (cut_open es) 0)) (not (is_observed (cut_open es) Avoid 0))
-    (le-leb 2 (write_count (cut_open es) 0) (omega (arith, two, write_count_is es c))) (ap not (unobserved (cut_open es) 0)) in
-    let one : length (last_terms (cut_open es) Avoid) ≡ 1 = ap length (ends_terms es c ∙ ap (λ b. map (last_term (cut_open es)) (cond b (0 ∷ []) [])) t) in
-    omega (arith, one)
+last_term_there es c two = grind (arith, and_from, le-leb, write_count_is es c, unobserved (cut_open es) 0, ends_terms es c)
 
 -- there is a term: the last edge leaves or enters a read, or it joins two writes
 term_there : (a : Puts) (name : ℕ → List ℕ) (es : List Edge) (i : ℕ) → IsLoop es → i < length es → (k : Kind) → kind_of (edge_at es i) ≡ k
@@ -285,20 +213,13 @@ term_there a name es i r h (kinds.Com coms.Ws reach) e t =
       length-append (last_terms (cut_open es) Avoid) (load_terms a name 0 (coherence_steps es)),
       last_term_there es r.is_cut (omega (arith, first, next, one, value_within es (event_after es i) r.is_cut (after_below es i h))),
     )
-term_there a name es i r h (kinds.Po sd from to) e t = let f = rw e at t in cc
-term_there a name es i r h (kinds.Fenced kind sd from to) e t = let f = rw e at t in cc
-term_there a name es i r h (kinds.Dep kind sd to) e t = let f = rw e at t in cc
-term_there a name es i r h (kinds.Data sd) e t = let f = rw e at t in cc
+term_there a name es i r h k e t = let f = rw e at t in cc
 
 some_term : (a : Puts) (name : ℕ → List ℕ) (es : List Edge) → IsLoop es → 0 < length (loop_terms a name es)
-some_term a name es r =
-    let long : 0 < length es = omega (arith, r.is_cut.within) in
-    let e : length es ≡ (length es - 1) + 1 = omega (arith, long) in
-    term_there a name es (length es - 1) r (omega (arith, long)) (kind_of (edge_at es (length es - 1))) refl (last_outside es (length es - 1) r e)
+some_term a name es r = grind (arith, term_there, last_outside)
 
 names_short : (es : List Edge) → IsCut es → AreShort (place_names es)
-names_short es c =
-    subst (λ n. AreShort (letters n)) (sym (one_move es c)) (place_name_short (location_name 0) (location_new 0 (omega arith)).formed, tt)
+names_short es c = grind (arith, one_move es c, place_name_short, location_new)
 
 -- the coherence test of a cycle, under a name of a test's form, is within the limits of the format
 pub readable : (a : Puts) (arch : ArchName) (w : Writing) (name : List ℕ) (es : List Edge) → IsArch a → WritesBack a w → WritesCells a w → MakesOneAccess a

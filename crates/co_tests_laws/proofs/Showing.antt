@@ -1,29 +1,7 @@
 -- What the program and the condition of a coherence test ask for: one candidate execution alone meets the condition, all
 -- edges stand in it, it has a cycle, and so it isn't coherent per location.
-use Rattle.std.proofs.Common.{◌≡◌, ℕ, suc, ◌-◌, ◌≤◌, List, length, Option, Some, sym, ◌∙◌, ap, subst, arith}
-use Rattle.std.specs.List.{filter}
-use Rattle.std.proofs.lemmas.List.{length-map}
-use Rattle.list_laws.proofs.Elements.{all_append, all_parts}
-use Rattle.relax_edges.specs.declared.{kinds.ObsMode.TheVariants.Avoid, edge.Edge.Edge}
-use Rattle.cycle_events.specs.Resolution.{move_count}
-use Rattle.final_cond.specs.States.{Meets}
-use Rattle.arch_trait.specs.{Laws.IsArch, PlaceNames.location_name, PlaceNames.number_in, Threads.Puts}
-use Rattle.program_meaning.specs.declared.WriteAt.{WriteAt}
-use Rattle.program_meaning.specs.{Accesses.Access, Accesses.is_read, Accesses.at_name, Executions.Execution, Executions.IsExecutionOf}
-use Rattle.program_meaning.specs.{Coherence.final_value, Standing.AllStand, Intended.IsNumbering}
-use Rattle.program_meaning.specs.Programs.{Program, IsCandidate, IsCoherentIn, accesses_in}
-use Rattle.program_meaning.proofs.Runs.{accesses-count}
-use Rattle.accesses_force_cycles.specs.Joining.{ReadsAsAsked, values_read}
-use Rattle.accesses_force_cycles.proofs.{Lists.got_map, Lists.map-map, Programs.makes_planned, ReadLists.reads_by_source}
-use Rattle.sc_and_interleavings.specs.CoherenceLaws.{WritesWithin}
-use Rattle.sc_and_interleavings.proofs.CoherenceLaws.{candidates_are_sc_per_location}
-use Rattle.tests_force_cycles.specs.{CycleSteps.cycle_steps, TestOf.last_terms, TestOf.load_terms, FinalStates.final_state}
-use Rattle.tests_force_cycles.specs.{TestHeadline.FindsRegisters}
-use Rattle.tests_force_cycles.proofs.{Meeting.IsMet, TestCodes.cycle_program, ThreadRuns.all_end}
-use Rattle.tests_force_cycles.proofs.Making.{makes, makes_enough, asked_enough, planned-count}
-use Rattle.co_tests_laws.specs.{CutResolution.cut_open, CoherenceTests.writes_in, CoherenceTests.coherence_steps, CoherenceTests.coherence_test_of}
-use Rattle.co_tests_laws.specs.{Incoherence.HasCycle}
-use Rattle.co_tests_laws.proofs.OnePlace.{source_in, only_by_values, by_values_execution, by_values_ends}
+use Rattle.co_tests_laws.proofs.Vocabulary.{◌≡◌, ℕ, suc, ◌-◌, ◌≤◌, List, length, Option, Some, sym, ◌∙◌, ap, subst, arith, length-map, all_append, all_parts, Avoid, Edge, move_count, Meets, IsArch, location_name, number_in, Puts, Access, at_name, Execution, IsExecutionOf, final_value, AllStand, IsNumbering, Program, IsCandidate, IsCoherentIn, accesses_in, accesses-count, ReadsAsAsked, values_read, got_map, map-map, makes_planned, WritesWithin, candidates_are_sc_per_location, cycle_steps, last_terms, load_terms, final_state, FindsRegisters, IsMet, cycle_program, all_end, makes, makes_enough, asked_enough, planned-count, cut_open, writes_in, coherence_steps, coherence_test_of, HasCycle}
+use Rattle.co_tests_laws.proofs.OnePlace.{only_by_values, by_values_execution, by_values_ends}
 use Rattle.co_tests_laws.proofs.{Values.one_move, Stands.all_stand}
 use Rattle.co_tests_laws.proofs.Events.{IsLoop, loop_accesses, loop_write, loop_execution, numbered, loop_cycle}
 use Rattle.co_tests_laws.proofs.Asked.{HasLoopCode, loop_codes, are_codes, reads_asked, asked_met, ends_asked, asked_ends}
@@ -75,12 +53,7 @@ stated a register_name register_number es number names x s w =
 
 -- the execution by values reads what is asked for
 reads_stated : (es : List Edge) (number : ℕ → ℕ) → ReadsAsAsked (cut_open es) Avoid number (loop_execution es number)
-reads_stated es number k planned reads t g =
-    let s : Some (reads_by_source (source_in (loop_write es)) (filter is_read planned)) ≡ Some reads =
-    sym (got_map (λ accesses. reads_by_source (source_in (loop_write es)) (filter is_read accesses)) (loop_accesses es number) k planned t) ∙ g in
-    let e : reads_by_source (source_in (loop_write es)) (filter is_read planned) ≡ reads = cc in
-    ap values_read (sym e) ∙ map-map (λ (access : Access). (access.value, source_in (loop_write es) access)) (λ (r : ℕ × Option WriteAt). r.0)
-    (filter is_read planned)
+reads_stated es number k planned reads t g = grind (arith, got_map, values_read, map-map)
 
 -- what is known of it
 record Runs (a : Puts) (es : List Edge) (number : ℕ → ℕ) : Type 0 where
@@ -92,8 +65,7 @@ runs a es number laws t n =
     let loop = t.loop_of.loop in
     let m = are_codes a es number laws t.loop_of in
     let enough = asked_enough (cut_open es) Avoid number (loop_execution es number) (reads_stated es number) in
-    let lists : length (loop_execution es number).reads ≡ length (loop_accesses es number) = length-map (loop_accesses es number)
-    (λ accesses. reads_by_source (source_in (loop_write es)) (filter is_read accesses)) in
+    let lists : length (loop_execution es number).reads ≡ length (loop_accesses es number) = grind (arith, length-map) in
     let made = makes_enough (loop_codes a es number) (cut_open es) Avoid number (loop_execution es number) m enough in
     let same : accesses_in (loop_program a es number) (loop_execution es number) ≡ loop_accesses es number =
     makes_planned (cut_open es) Avoid number (loop_program a es number) (loop_execution es number) made (reads_stated es number) (lists ∙ sym made.threads) in
@@ -101,9 +73,7 @@ runs a es number laws t n =
       candidate = record {
         ended = all_end (loop_codes a es number) (cycle_steps (cut_open es) Avoid number) (move_count (cut_open es)) (loop_execution es number) m (lists
             ∙ planned-count (cut_open es) Avoid number) enough;
-        execution = subst (λ (t : List (List Access) × ℕ). IsExecutionOf t.0 t.1 (loop_execution es number))
-            (λ i. (sym same i, sym (one_move es loop.is_cut) i))
-            (by_values_execution (loop_accesses es number) (loop_write es) (writes_in es) (numbered es number loop n));
+        execution = grind (arith, one_move es loop.is_cut, by_values_execution, numbered es number loop n);
       };
       accesses = same;
     }
@@ -155,9 +125,7 @@ pub met_cyclic : (a : Puts) (register_name : ℕ → List ℕ) (register_number 
     → ℕ) (names : List (List ℕ)) (x : Execution) → IsSetUp a register_name register_number es number names
     → IsMetBy a register_name register_number es number names x → HasCycle (accesses_in (loop_program a es number) x) x
 met_cyclic a register_name register_number es number names x s w =
-    let t = stated a register_name register_number es number names x s w in
-    subst (λ (z : List (List Access) × Execution). HasCycle z.0 z.1) (λ i. (sym t.accesses i, sym t.is i))
-    (loop_cycle es number s.code.loop_of.loop s.numbering)
+    grind (arith, stated a register_name register_number es number names x s w, loop_cycle es number s.code.loop_of.loop s.numbering)
 
 -- and so it isn't coherent
 pub met_incoherent : (a : Puts) (register_name : ℕ → List ℕ) (register_number : List ℕ → Option ℕ) (es : List Edge) (number : ℕ

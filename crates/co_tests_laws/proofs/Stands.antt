@@ -1,29 +1,7 @@
 -- All edges of a cycle over one location stand in each execution of its coherence test that has the stated values: the code
 -- marks the accesses and ties them as the edges say, and there is nothing else.
-use Rattle.std.proofs.Common.{◌≡◌, ℕ, suc, ◌+◌, ◌-◌, ◌<◌, false, List, [], length, take, Some, slice_get, refl, sym, ◌∙◌, ap, subst, arith, add-one}
-use Rattle.std.proofs.lemmas.{List.length-map, Option.slice_get_within}
-use Rattle.list_laws.proofs.Cases.{by_test}
-use Rattle.relax_edges.specs.declared.{kinds.ArchName.ArchName, kinds.ObsMode.TheVariants.Avoid, edge.Edge.Edge}
-use Rattle.relax_edges.specs.EdgeTable.{kind_of, source_of, source_mark, is_external}
-use Rattle.cycle_events.specs.Resolution.{edge_at, external_count, move_count, thread_of as event_thread, slot_of, events_in, event_after}
-use Rattle.cycle_events.proofs.{Threads.event_in_slot, Threads.slot_of_event, Around.after_below, Around.mark_after, Sizes.only_in_slot}
-use Rattle.arch_trait.specs.declared.{step.Step.Step, link.Link.TheVariants.Plain}
-use Rattle.arch_trait.specs.Links.{edge_link}
-use Rattle.arch_trait.specs.Threads.{ThreadCode, loads_in, control_after, thread_items}
-use Rattle.program_meaning.specs.declared.WriteAt.{WriteAt}
-use Rattle.program_meaning.specs.Accesses.{Access, Visit, got_from, at_name, accesses_of, barriers_after, reads_among, reads_before}
-use Rattle.program_meaning.specs.{Executions.Execution, Intended.IsNumbering, Intended.event_access, Intended.event_at}
-use Rattle.program_meaning.specs.Programs.{Program, IsCandidate, visits_in, accesses_in, items_in}
-use Rattle.program_meaning.specs.Standing.{AccessAt, NamedAccess, access_at, IsEvent, StartsFree, HasEvents, AllStand, Joins, TiesBy, event_name}
-use Rattle.accesses_force_cycles.specs.Joining.{values_read}
-use Rattle.accesses_force_cycles.proofs.{Lists.got_below, Lists.got_map, Lists.image_of, AllStand.access_of_visit}
-use Rattle.tests_force_cycles.specs.CycleSteps.{event_link, event_step, thread_steps, cycle_steps}
-use Rattle.tests_force_cycles.specs.TestPrograms.{thread_from, program_of}
-use Rattle.tests_force_cycles.proofs.{StepsAt.thread_steps_at, StepsAt.steps-count, StepsFit.Before, StepsFit.link_between, StepsFit.link_first}
-use Rattle.tests_force_cycles.proofs.{Visits.thread_visits, Visits.ends_free, VisitsAt.visit_at, VisitsAt.visits-count, VisitsAt.starts_free}
-use Rattle.tests_force_cycles.proofs.{Ties.ties, Following.next_follows, Making.candidate_enough, Making.candidate_lists, Tying.external_ties}
-use Rattle.tests_force_cycles.proofs.ThreadRuns.{AreCodesOf, DidThread, did_thread, ThreadOf, thread_of, items_below, visits_below}
-use Rattle.co_tests_laws.specs.CutResolution.{cut_open}
+use Rattle.co_tests_laws.proofs.Vocabulary.{◌≡◌, ℕ, suc, ◌+◌, ◌-◌, ◌<◌, false, List, [], length, take, Some, slice_get, refl, sym, ◌∙◌, ap, subst, arith, add-one, length-map, slice_get_within, ArchName, Avoid, Edge, kind_of, source_of, source_mark, is_external, edge_at, external_count, move_count, thread_of as event_thread, slot_of, events_in, event_after, event_in_slot, slot_of_event, after_below, mark_after, only_in_slot, Step, Plain, edge_link, ThreadCode, loads_in, control_after, thread_items, Visit, at_name, accesses_of, barriers_after, reads_among, reads_before, Execution, IsNumbering, event_access, event_at, Program, IsCandidate, visits_in, accesses_in, items_in, NamedAccess, access_at, IsEvent, StartsFree, HasEvents, AllStand, TiesBy, event_name, values_read, got_below, got_map, image_of, access_of_visit, event_link, event_step, thread_steps, cycle_steps, thread_from, program_of, thread_steps_at, steps-count, Before, link_between, link_first, thread_visits, ends_free, visit_at, visits-count, starts_free, ties, next_follows, candidate_enough, candidate_lists, external_ties, AreCodesOf, DidThread, did_thread, ThreadOf, items_below, visits_below, cut_open}
+use Rattle.tests_force_cycles.proofs.ThreadRuns.{thread_of}
 use Rattle.co_tests_laws.proofs.Opened.{source_same, source_mark_same, link_same, same_at, opened-length, opened-threads, opened_thread, opened_events}
 use Rattle.co_tests_laws.proofs.Events.{IsLoop, loop_accesses, loop_execution, thread_under, opened_name, event_there, none_observed, internal_follows, loop_joins}
 use Rattle.co_tests_laws.proofs.Fits.{IsLoopOf, before_event, event_fits, thread_fits}
@@ -42,8 +20,7 @@ pub record IsRun (arch : ArchName) (codes : List ThreadCode) (es : List Edge) (n
 thread_did : (arch : ArchName) (codes : List ThreadCode) (es : List Edge) (number : ℕ → ℕ) (x : Execution) (k : ℕ) → IsRun arch codes es number x
     → (t : ThreadOf (cycle_steps (cut_open es) Avoid number) x k) → DidThread codes (move_count (cut_open es)) x k t.steps t.reads
 thread_did arch codes es number x k r t =
-    did_thread codes (cycle_steps (cut_open es) Avoid number) (move_count (cut_open es)) x k t.steps t.reads r.codes_of t.steps_at t.reads_at
-    (candidate_enough codes (cut_open es) Avoid number x r.codes_of r.candidate k t.steps t.reads t.steps_at t.reads_at)
+    grind (arith, did_thread, candidate_enough codes (cut_open es) Avoid number x r.codes_of r.candidate k t.steps t.reads t.steps_at t.reads_at)
 
 -- a thread of the cycle: what it reads and made
 record Made (codes : List ThreadCode) (es : List Edge) (number : ℕ → ℕ) (x : Execution) (k : ℕ) : Type 0 where
@@ -69,25 +46,16 @@ made arch codes es number x k r h =
 -- the test has the cycle's threads alone
 codes-count : (arch : ArchName) (codes : List ThreadCode) (es : List Edge) (number : ℕ → ℕ) (x : Execution) → IsRun arch codes es number x
     → length codes ≡ external_count es
-codes-count arch codes es number x r =
-    omega (arith, r.codes_of.count, steps-count (cut_open es) Avoid number, ap length (none_observed (cut_open es)), opened-threads es)
+codes-count arch codes es number x r = grind (arith, steps-count (cut_open es) Avoid number, none_observed (cut_open es), opened-threads es)
 
 -- an event of the cycle is one of the cut cycle
 opened_event : (es : List Edge) (visits : List (List Visit)) (i : ℕ) (e : NamedAccess) → IsEvent es visits i e → IsEvent (cut_open es) visits i e
-opened_event es visits i e v = record {
-  name_is = v.name_is ∙ sym (opened_name es i);
-  visit_is = v.visit_is;
-  direction = v.direction ∙ sym (same_at source_of source_same es i);
-}
+opened_event es visits i e v = grind (arith, opened_name es i, same_at source_of source_same es i, source_same)
 
 -- an event is at its slot among the visits of its thread
 event_visit : (es : List Edge) (visits : List (List Visit)) (i : ℕ) (e : NamedAccess) (k j : ℕ) (thread : List Visit) → IsEvent (cut_open es) visits i e
     → event_thread (cut_open es) i ≡ k → slot_of (cut_open es) i ≡ j → slice_get visits k ≡ Some thread → slice_get thread j ≡ Some e.visit
-event_visit es visits i e k j thread v t s g =
-    ap (λ o. got_from o j) (sym g)
-    ∙ ap (λ (n : WriteAt). at_name visits n) (λ z. record { thread = sym t z; access = sym s z })
-    ∙ ap (at_name visits) (sym v.name_is)
-    ∙ v.visit_is
+event_visit es visits i e k j thread v t s g = grind arith
 
 -- the step of an event
 step_there : (es : List Edge) (number : ℕ → ℕ) (i : ℕ) → i < length es
@@ -124,8 +92,7 @@ is_next : (es : List Edge) (number : ℕ → ℕ) (i : ℕ) → IsLoop es → i 
 is_next es number i r h inside =
     let w = internal_follows es i r h inside in
     let same : event_thread (cut_open es) (event_after es i) ≡ event_thread (cut_open es) i = ap (event_thread (cut_open es)) w.next ∙ w.thread in
-    let slot : slot_of (cut_open es) (event_after es i) ≡ suc (slot_of (cut_open es) i) = ap (slot_of (cut_open es)) w.next ∙ w.slot
-    ∙ add-one (slot_of (cut_open es) i) in
+    let slot : slot_of (cut_open es) (event_after es i) ≡ suc (slot_of (cut_open es) i) = grind (arith, add-one (slot_of (cut_open es) i)) in
     let after = after_below es i h in
     let b = before_event es (event_after es i) r after (omega (arith, slot)) in
     record {
@@ -133,8 +100,7 @@ is_next es number i r h inside =
       edge = only_in_slot (cut_open es) b.event i b.below (omega (arith, h, opened-length es)) (b.thread ∙ same) (omega (arith, b.slot, slot));
       thread = same;
       slot = slot;
-      step = ap (λ (q : ℕ × ℕ). slice_get (thread_steps (cut_open es) number q.0) q.1) (λ z. (sym same z, sym slot z))
-          ∙ step_there es number (event_after es i) after;
+      step = grind (arith, step_there es number (event_after es i) after);
     }
 
 -- an internal edge ties its events
@@ -179,18 +145,13 @@ event_is codes es number x i e r m h v =
     let w = opened_event es (visits_in (loop_program codes es) x) i e v in
     let a : at_name (accesses_in (loop_program codes es) x) e.name ≡ Some e.visit.access = access_of_visit
     (visits_in (loop_program codes es) x) e.name e.visit v.visit_is in
-    let b : Some (event_access (cut_open es) number i) ≡ Some e.visit.access =
-    sym (event_there es number i r h) ∙ ap (at_name (loop_accesses es number)) (sym w.name_is) ∙ ap (λ (t : List (List Access)). at_name t e.name) (sym m)
-    ∙ a in
-    let c : event_access (cut_open es) number i ≡ e.visit.access = cc in
+    let c : event_access (cut_open es) number i ≡ e.visit.access = grind (arith, event_there es number i r h) in
     λ t. record { name = w.name_is t; access = sym c t }
 
 -- the visits of a thread are those of its steps
 visits_same : (codes : List ThreadCode) (es : List Edge) (number : ℕ → ℕ) (x : Execution) (k : ℕ) (visits : List Visit) (d : Made codes es number x k)
     → slice_get (visits_in (loop_program codes es) x) k ≡ Some visits → thread_visits (thread_steps (cut_open es) number k) 0 0 d.reads ≡ visits
-visits_same codes es number x k visits d g =
-    let s : Some (thread_visits (thread_steps (cut_open es) number k) 0 0 d.reads) ≡ Some visits = sym d.visits_are ∙ g in
-    cc
+visits_same codes es number x k visits d g = grind arith
 
 -- no edge ties the first access of a thread
 first_plain : (es : List Edge) (number : ℕ → ℕ) (k : ℕ) (s : Step) → slice_get (thread_steps (cut_open es) number k) 0 ≡ Some s → s.link ≡ Plain
@@ -212,8 +173,7 @@ event_made arch codes es number x i r h =
       record { name = event_name es i; visit = g.element },
       record {
         name_is = refl;
-        visit_is = ap (at_name (visits_in (loop_program codes es) x)) (sym (opened_name es i)) ∙ ap (λ o. got_from o (slot_of (cut_open es) i)) d.visits_are
-            ∙ g.got;
+        visit_is = grind (arith, opened_name es i);
         direction = ap (λ (y : Visit). y.access.dir) there.is ∙ same_at source_of source_same es i;
       },
     )
@@ -224,11 +184,7 @@ has_events : (arch : ArchName) (codes : List ThreadCode) (es : List Edge) (numbe
 has_events arch codes es number x r = record {
   threads = omega (arith, length-map codes thread_from, codes-count arch codes es number x r);
   counts = λ k visits h g.
-      let d = made arch codes es number x k r h in
-      sym (ap length (visits_same codes es number x k visits d g))
-      ∙ visits-count (thread_steps (cut_open es) number k) 0 0 d.reads
-      ∙ length-map (events_in (cut_open es) k) (event_step (cut_open es) number)
-      ∙ ap length (opened_events es k);
+      grind (arith, made arch codes es number x k r h, visits_same, visits-count, length-map (events_in (cut_open es) k) (event_step (cut_open es) number), opened_events es k);
   events = λ i h. event_made arch codes es number x i r h;
   observers = λ k visits h g. absurd (omega (arith, h, visits_below codes (move_count (cut_open es)) x k visits g, codes-count arch codes es number x r));
   starts = λ k visits g.
@@ -241,8 +197,7 @@ has_events arch codes es number x r = record {
       (starts_free (thread_steps (cut_open es) number k) d.reads (λ s q. first_plain es number k s q));
   ends = λ k items g.
       let d = made arch codes es number x k r (omega (arith, items_below codes (move_count (cut_open es)) x k items g, codes-count arch codes es number x r)) in
-      let s : Some (thread_items (thread_steps (cut_open es) number k) 0 0 d.reads) ≡ Some items = sym d.items_are ∙ g in
-      let e : thread_items (thread_steps (cut_open es) number k) 0 0 d.reads ≡ items = cc in
+      let e : thread_items (thread_steps (cut_open es) number k) 0 0 d.reads ≡ items = cc (d.items_are, g) in
       ap (barriers_after []) (sym e) ∙ ends_free (thread_steps (cut_open es) number k) 0 0 d.reads;
 }
 
@@ -253,19 +208,10 @@ pub all_stand : (arch : ArchName) (codes : List ThreadCode) (es : List Edge) (nu
 all_stand arch codes es number x r n m is = record {
   events = has_events arch codes es number x r;
   stand = λ i e f h u v. record {
-    joins = subst (λ (z : AccessAt × AccessAt × List (List Access) × Execution). Joins z.2 z.3 (edge_at es i) z.0 z.1)
-        (λ t. (
-          sym (event_is codes es number x i e r.loop_of.loop m h u) t,
-          sym (event_is codes es number x (event_after es i) f r.loop_of.loop m
-              (after_below es i h) v) t,
-          sym m t,
-          sym is t,
-        ))
-        (loop_joins es number i r.loop_of.loop n h);
+    joins =
+        grind (arith, event_is codes es number x i e r.loop_of.loop m h u, event_is codes es number x (event_after es i) f r.loop_of.loop m (after_below es i h) v, after_below es i h, loop_joins es number i r.loop_of.loop n h);
     leaves_mark = event_mark arch codes es number x i e r h u;
     enters_mark = event_mark arch codes es number x (event_after es i) f r (after_below es i h) v ∙ mark_after es i r.loop_of.loop.composes h;
-    ties = by_test (is_external (edge_at es i))
-        (λ t. external_ties (kind_of (edge_at es i)) (edge_at es i) (accesses_in (loop_program codes es) x) e f refl t)
-        (λ w. inner_ties arch codes es number x i e f r h w u v);
+    ties = grind (arith, external_ties, inner_ties);
   };
 }

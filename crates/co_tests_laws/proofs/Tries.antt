@@ -1,17 +1,8 @@
 -- The definitions tried on worked tests: where a cycle is cut, the values, the condition's first term and the refusals.
-use Rattle.std.proofs.Common.{◌≡◌, ℕ, true, List, [], ◌∷◌, map, Some, refl}
+use Rattle.co_tests_laws.proofs.Vocabulary.{◌≡◌, ℕ, true, List, [], ◌∷◌, map, Some, refl, Same, Diff, External, Avoid, Edge, thread_of, slot_of, location_of, events_in, moves_before, way_place, value_of, write_count, is_observed, location_name, AtPlace, cycle_steps, last_terms, cut_of, cut_open, writes_in, coherence_steps, is_no_coherence}
 use Rattle.relax_edges.specs.declared.kinds.Dir.TheVariants as dirs
-use Rattle.relax_edges.specs.declared.{kinds.Sd.TheVariants.Same, kinds.Sd.TheVariants.Diff, kinds.Reach.TheVariants.External}
-use Rattle.relax_edges.specs.declared.{kinds.ObsMode.TheVariants.Avoid, edge.Edge.Edge}
 use Rattle.relax_edges.specs.declared.kinds.Com.TheVariants as coms
 use Rattle.relax_edges.specs.declared.edge.Edge.TheVariants as edges
-use Rattle.cycle_events.specs.Resolution.{thread_of, slot_of, location_of, events_in, moves_before}
-use Rattle.cycle_events.specs.Values.{way_place, value_of, write_count, is_observed}
-use Rattle.arch_trait.specs.PlaceNames.{location_name}
-use Rattle.final_cond.specs.Conditions.{AtPlace}
-use Rattle.tests_force_cycles.specs.{CycleSteps.cycle_steps, TestOf.last_terms}
-use Rattle.co_tests_laws.specs.{CutResolution.cut_of, CutResolution.cut_open, CoherenceTests.writes_in, CoherenceTests.coherence_steps}
-use Rattle.co_tests_laws.specs.{CoRefusals.is_no_coherence}
 
 -- CoRR: Rfe PosRR Fre
 abbrev two_reads : List Edge

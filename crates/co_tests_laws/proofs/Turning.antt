@@ -1,15 +1,8 @@
 -- Where the values of two accesses of a thread fall, the execution by values has a cycle of program order at one place,
 -- reads-from, coherence order and from-read: one of the shapes CoWW, CoRW1, CoRW2, CoWR and CoRR.
-use Rattle.std.proofs.Common.{◌≡◌, ℕ, zero, suc, ◌<◌, ◌≤◌, List, [], ◌∷◌, Option, Some, slice_get, refl, sym, ◌∙◌, ap, arith}
-use Rattle.list_laws.proofs.Cases.{by_same}
-use Rattle.relax_edges.specs.declared.kinds.Dir.{Dir}
+use Rattle.co_tests_laws.proofs.Vocabulary.{◌≡◌, ℕ, zero, suc, ◌<◌, ◌≤◌, List, [], ◌∷◌, Option, Some, slice_get, refl, sym, ◌∙◌, ap, arith, by_same, Dir, WriteAt, Access, read, write, at_name, order_at, slice_get-filter_map-upto, IsWriteTo, ProgramOrder, ReadsFrom, CoherenceOrder, FromRead, IsBefore, Po, Co, Fr, HasCycle}
 use Rattle.relax_edges.specs.declared.kinds.Dir.TheVariants as dirs
-use Rattle.program_meaning.specs.declared.WriteAt.{WriteAt}
-use Rattle.program_meaning.specs.Accesses.{Access, read, write, at_name}
-use Rattle.program_meaning.specs.Coherence.{order_at}
-use Rattle.accesses_force_cycles.proofs.Lists.{slice_get-filter_map-upto}
-use Rattle.sc_and_interleavings.specs.Relations.{IsWriteTo, ProgramOrder, ReadsFrom, CoherenceOrder, FromRead, IsBefore, Po, Rf, Co, Fr}
-use Rattle.co_tests_laws.specs.Incoherence.{HasCycle}
+use Rattle.sc_and_interleavings.specs.Relations.{Rf}
 use Rattle.co_tests_laws.proofs.OnePlace.{Numbered, by_value, by_values, gives_once, by_values_source}
 
 -- write number k is at place k of the order
@@ -62,8 +55,7 @@ after_write threads g n u v e f r pair h k less =
     let i = r.writes e 0 u h in
     let j = r.writes f 0 v k in
     by_same j.rank i.rank
-    (λ same. let s : Some e ≡ Some f = sym i.named ∙ ap g (sym same) ∙ j.named in
-    let t : e ≡ f = cc in
+    (λ same. let t : e ≡ f = cc (i.named, ap g (sym same), j.named) in
     absurd (omega (arith, pair.earlier, ap (λ (w : WriteAt). w.access) t)))
     (λ apart. record {
       access = e;

@@ -1,22 +1,8 @@
 -- The values of a cycle over one location that is cut open: how many writes there are on the arc, which begins behind the
 -- cut and goes once round, up to an event and with it.
-use Rattle.std.proofs.Common.{◌≡◌, ℕ, zero, suc, ◌+◌, ◌-◌, ◌<◌, ◌≤◌, Bool, true, false, cond, List, [], ◌∷◌, length, take, refl, sym, ◌∙◌, ap, arith, add-one, eq-eqb}
-use Rattle.std.specs.Prelude.{◌&&◌, ◌||◌, if◌then◌else◌, nat_le, min}
-use Rattle.std.specs.List.{count_by, list_any}
-use Rattle.std.proofs.lemmas.{Bool.le-leb, Bool.lt-leb, List.take_all}
-use Rattle.list_laws.specs.Numbers.{upto}
-use Rattle.list_laws.proofs.{Cases.by_test, Cases.by_less, Counts.count_upto-suc, Counts.count_upto_same, Counts.count_upto_none}
-use Rattle.relax_edges.specs.declared.{kinds.Dir.Dir, edge.Edge.Edge}
+use Rattle.co_tests_laws.proofs.Vocabulary.{nat_tests, ◌≡◌, ℕ, zero, suc, ◌+◌, ◌-◌, ◌<◌, ◌≤◌, Bool, true, false, cond, List, [], ◌∷◌, length, take, refl, sym, ◌∙◌, ap, arith, add-one, eq-eqb, ◌&&◌, ◌||◌, if◌then◌else◌, nat_le, min, count_by, list_any, le-leb, lt-leb, take_all, upto, by_test, by_less, count_upto-suc, count_upto_same, count_upto_none, Dir, Edge, source_of, is_diff, same_dir, edge_at, location_of, move_count, moves_before, event_after, counted_on, counted_kept, counted_up, passing, moves-zero, moves_on, moves_end, same_moves, by_after, way_after, way_ahead, is_write, is_write_at, way_place, value_of, write_count, is_ordering, elsewhere, cut_open, writes_in, is_writing, written_by}
 use Rattle.relax_edges.specs.declared.kinds.Dir.TheVariants as dirs
-use Rattle.relax_edges.specs.EdgeTable.{source_of, is_diff, same_dir}
-use Rattle.cycle_events.specs.Resolution.{edge_at, location_of, move_count, moves_before, event_after}
-use Rattle.cycle_events.proofs.EdgeCounts.{counted_on, counted_kept, counted_up, passing}
-use Rattle.cycle_events.proofs.{Locations.moves-zero, Locations.moves_on, Locations.moves_end, Arcs.same_moves, Around.by_after, Ways.way_after}
-use Rattle.cycle_events.proofs.{Ways.way_ahead}
-use Rattle.cycle_events.specs.Values.{is_write, is_write_at, way_place, value_of, write_count}
-use Rattle.co_tests_laws.specs.{CutResolution.is_ordering, CutResolution.elsewhere, CutResolution.cut_open, CoherenceTests.writes_in}
 use Rattle.co_tests_laws.proofs.Opened.{source_same, elsewhere_moves, same_at, opened-length}
-use Rattle.accesses_force_cycles.proofs.{Bridge.is_writing, Resolves.written_by}
 
 -- the cut of a cycle: its first edge in a thread that is no communication, which leads elsewhere once the cycle is cut open
 pub record Cut (es : List Edge) : Type 0 where
@@ -94,10 +80,7 @@ pub record IsCut (es : List Edge) : Type 0 where
 
 -- once it is cut open, no edge before the cut leads to another location
 pub moves_early : (es : List Edge) (c : IsCut es) (i : ℕ) → i ≤ c.cut.at → moves_before (cut_open es) i ≡ 0
-moves_early es c i h =
-    sym (same_moves (cut_open es) 0 i (omega arith) (omega (arith, opened-length es, c.within))
-    (λ m a b. ap is_diff (c.cut.others m (λ e. omega (arith, e, h, b))) ∙ c.same m (omega (arith, h, b, c.within))))
-    ∙ moves-zero (cut_open es)
+moves_early es c i h = grind (arith, same_moves, opened-length es, moves-zero (cut_open es))
 
 -- behind the cut, one has
 pub moves_late : (es : List Edge) (c : IsCut es) (i : ℕ) → c.cut.at < i → i ≤ length es → moves_before (cut_open es) i ≡ 1
@@ -125,9 +108,7 @@ place_late : (es : List Edge) (c : IsCut es) (i : ℕ) → c.cut.at < i → i < 
 place_late es c i h l = way_after (cut_open es) i (moves_late es c i h (omega (arith, l)) ∙ sym (one_move es c))
 
 place_early : (es : List Edge) (c : IsCut es) (i : ℕ) → i ≤ c.cut.at → way_place (cut_open es) i ≡ length es + i
-place_early es c i h =
-    way_ahead (cut_open es) i (omega (arith, moves_early es c i h, one_move es c))
-    ∙ ap (λ n. n + i) (opened-length es)
+place_early es c i h = grind (arith, way_ahead, moves_early es c i h, one_move es c, opened-length es)
 
 -- an edge leaves a write
 abbrev pub leaves_write : Edge → Bool
@@ -162,28 +143,7 @@ written-all es = ap (count_by leaves_write) (take_all (length es) es (omega arit
 -- the writes among the first edges up to a bound: one more place
 written_bounded : (es : List Edge) (m k : ℕ) → m < length es
     → written es (min (suc m) (k + 1)) ≡ written es (min m (k + 1)) + cond (leaves_write (edge_at es m) && nat_le m k) 1 0
-written_bounded es m k h =
-    by_less k m
-    (λ l. let a : min (suc m) (k + 1) ≡ k + 1 = omega arith in
-    let b : min m (k + 1) ≡ k + 1 = omega arith in
-    omega (arith, ap (written es) a, ap (written es) b, none (leaves_write (edge_at es m)) (lt-leb m k l)))
-    (λ l. let a : min (suc m) (k + 1) ≡ suc m = omega arith in
-    let b : min m (k + 1) ≡ m = omega arith in
-    omega (arith, ap (written es) a, ap (written es) b, written_more es m h, all (leaves_write (edge_at es m)) (le-leb m k l)))
-  where
-    none : (s : Bool) → nat_le m k ≡ false → cond {A = ℕ} (s && nat_le m k) 1 0 ≡ 0
-    none true e = ap (λ b. cond {A = ℕ} b 1 0) e
-    none false e = refl
-
-    all : (s : Bool) → nat_le m k ≡ true → cond {A = ℕ} (s && nat_le m k) 1 0 ≡ cond {A = ℕ} s 1 0
-    all true e = ap (λ b. cond {A = ℕ} b 1 0) e
-    all false e = refl
-
-yes : (m n : ℕ) → m ≤ n → cond {A = ℕ} (nat_le m n) 1 0 ≡ 1
-yes m n h = ap (λ b. cond {A = ℕ} b 1 0) (le-leb m n h)
-
-no : (m n : ℕ) → n < m → cond {A = ℕ} (nat_le m n) 1 0 ≡ 0
-no m n h = ap (λ b. cond {A = ℕ} b 1 0) (lt-leb m n h)
+written_bounded es m k h = grind (arith, lt-leb, written_more es m h, le-leb)
 
 -- a number for the place of each event on the arc: it grows along the arc
 record Places (n c : ℕ) (place : ℕ → ℕ) : Type 0 where
@@ -192,23 +152,11 @@ record Places (n c : ℕ) (place : ℕ → ℕ) : Type 0 where
 
 one_late : (n c : ℕ) (place : ℕ → ℕ) (i m : ℕ) (s : Bool) → Places n c place → c < i → i < n → m < n
     → cond {A = ℕ} (s && nat_le (place m) (place i)) 1 0 + cond {A = ℕ} (s && nat_le m c) 1 0 ≡ cond {A = ℕ} (s && nat_le m i) 1 0
-one_late n c place i m false p h l k = refl
-one_late n c place i m true p h l k =
-    by_less c m
-    (λ g. by_less i m
-    (λ q. omega (arith, no (place m) (place i) (omega (arith, p.late m g k, p.late i h l, q)), no m c g, no m i q))
-    (λ q. omega (arith, yes (place m) (place i) (omega (arith, p.late m g k, p.late i h l, q)), no m c g, yes m i q)))
-    (λ g. omega (arith, no (place m) (place i) (omega (arith, p.early m g, p.late i h l)), yes m c g, yes m i (omega (arith, g, h))))
+one_late n c place i m s p h l k = grind (arith, nat_tests, p.late m, p.late i, p.early m)
 
 one_early : (n c : ℕ) (place : ℕ → ℕ) (i m : ℕ) (s : Bool) → Places n c place → i ≤ c → m < n
     → cond {A = ℕ} (s && nat_le (place m) (place i)) 1 0 + cond {A = ℕ} (s && nat_le m c) 1 0 ≡ cond {A = ℕ} s 1 0 + cond {A = ℕ} (s && nat_le m i) 1 0
-one_early n c place i m false p h k = refl
-one_early n c place i m true p h k =
-    by_less c m
-    (λ g. omega (arith, yes (place m) (place i) (omega (arith, p.late m g k, p.early i h)), no m c g, no m i (omega (arith, g, h))))
-    (λ g. by_less i m
-    (λ q. omega (arith, no (place m) (place i) (omega (arith, p.early m g, p.early i h, q)), yes m c g, no m i q))
-    (λ q. omega (arith, yes (place m) (place i) (omega (arith, p.early m g, p.early i h, q)), yes m c g, yes m i q)))
+one_early n c place i m s p h k = grind (arith, nat_tests, p.late m, p.early i, p.early m)
 
 -- the writes on the arc up to an event, among the first events
 abbrev on_arc : List Edge → (ℕ → ℕ) → ℕ → ℕ → Bool
@@ -216,10 +164,7 @@ on_arc es place i j = leaves_write (edge_at es j) && nat_le (place j) (place i)
 
 counted_late : (es : List Edge) (c : ℕ) (place : ℕ → ℕ) (i m : ℕ) → Places (length es) c place → c < i → i < length es → m ≤ length es
     → count_by (on_arc es place i) (upto m) + written es (min m (c + 1)) ≡ written es (min m (i + 1))
-counted_late es c place i zero p h l k =
-    let a : min 0 (c + 1) ≡ 0 = omega arith in
-    let b : min 0 (i + 1) ≡ 0 = omega arith in
-    omega (arith, ap (written es) a, ap (written es) b, count_upto_none (on_arc es place i) 0 (λ j g. absurd (omega (arith, g))))
+counted_late es c place i zero p h l k = grind (arith, count_upto_none)
 counted_late es c place i (suc m) p h l k =
     omega (
       arith,
@@ -232,10 +177,7 @@ counted_late es c place i (suc m) p h l k =
 
 counted_early : (es : List Edge) (c : ℕ) (place : ℕ → ℕ) (i m : ℕ) → Places (length es) c place → i ≤ c → m ≤ length es
     → count_by (on_arc es place i) (upto m) + written es (min m (c + 1)) ≡ written es m + written es (min m (i + 1))
-counted_early es c place i zero p h k =
-    let a : min 0 (c + 1) ≡ 0 = omega arith in
-    let b : min 0 (i + 1) ≡ 0 = omega arith in
-    omega (arith, ap (written es) a, ap (written es) b, written-zero es, count_upto_none (on_arc es place i) 0 (λ j g. absurd (omega (arith, g))))
+counted_early es c place i zero p h k = grind (arith, written-zero es, count_upto_none)
 counted_early es c place i (suc m) p h k =
     omega (
       arith,
@@ -258,18 +200,12 @@ write_at_same es l j c e =
     ∙ same_at leaves_write (λ f. ap (λ d. same_dir d dirs.W) (source_same f)) es j
   where
     and_true : (b : Bool) → (b && true) ≡ b
-    and_true true = refl
-    and_true false = refl
+    and_true b = grind arith
 
 -- the value of an event counts the writes on the arc
 value_counts : (es : List Edge) (i : ℕ) → IsCut es → value_of (cut_open es) i ≡ count_by (on_arc es (way_place (cut_open es)) i) (upto (length es))
 unfolding value_of
-value_counts es i c =
-    count_upto_same (λ j. is_write_at (cut_open es) (location_of (cut_open es) i) j && nat_le (way_place (cut_open es) j) (way_place (cut_open es) i))
-    (on_arc es (way_place (cut_open es)) i) (length (cut_open es))
-    (λ j h. ap (λ b. b && nat_le (way_place (cut_open es) j) (way_place (cut_open es) i)) (write_at_same es (location_of (cut_open es) i) j c
-    (one_location es i c)))
-    ∙ ap (λ n. count_by (on_arc es (way_place (cut_open es)) i) (upto n)) (opened-length es)
+value_counts es i c = grind (arith, count_upto_same, write_at_same, one_location es i c, opened-length es)
 
 -- behind the cut: the writes since the cut
 pub value_late : (es : List Edge) (i : ℕ) (c : IsCut es) → c.cut.at < i → i < length es
@@ -319,8 +255,7 @@ write_count_is es c =
     )
 
 one_for : (d : Dir) → cond {A = ℕ} (same_dir d dirs.W) 1 0 ≡ written_by d
-one_for dirs.R = refl
-one_for dirs.W = refl
+one_for d = grind arith
 
 -- one more edge
 pub next_written : (es : List Edge) (i : ℕ) → i < length es → written es (i + 1) ≡ written es i + written_by (source_of (edge_at es i))

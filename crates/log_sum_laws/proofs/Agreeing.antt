@@ -1,15 +1,6 @@
 -- Facts that have no fault in any order: they agree.
-use Rattle.std.specs.{List.AllByRecursion, Option.option_map, Str.bytes_eq}
-use Rattle.std.proofs.Common.{◌≡◌, ℕ, ◌+◌, ◌≤◌, List, [], ◌∷◌, ◌++◌, true, false, refl, sym, ◌∙◌, arith, subst, append_assoc, append-nil, zero-add, Some, None}
-use Rattle.std.specs.Prelude.{Bool, cond, Option, nat_lt}
-use Rattle.std.proofs.lemmas.{List.map-append, List.Elements.filter-append, List.Sums.sum_by-append, Slice.Eq.bytes_eq-Decides}
-use Rattle.list_laws.proofs.{Cases.by_test, Elements.all_append, Elements.all_parts}
-use Rattle.log_sum.specs.declared.errors.{LogKind.LogKind, LogKind.TheVariants.HashDiffers}
-use Rattle.diy_io.specs.Count.{last_count}
-use Rattle.log_sum.specs.Facts.{Row, Fact, Entry, a_kind, a_row, a_condition, a_hash, kinds, rows, conditions, hashes, first_of, same_kind, same_state_mark, marked_sum, state_sum, mark_in, is_other, fault_if, fact_fault, facts_of}
-use Rattle.log_sum.specs.{JudgedLaws.same_mark_is, Summed.some_or}
+use Rattle.log_sum_laws.proofs.Vocabulary.{AllByRecursion, option_map, bytes_eq, ◌≡◌, ℕ, ◌+◌, ◌≤◌, List, [], ◌∷◌, ◌++◌, true, false, refl, sym, ◌∙◌, arith, subst, append_assoc, append-nil, zero-add, Some, None, Bool, cond, Option, nat_lt, map-append, filter-append, sum_by-append, bytes_eq-Decides, by_test, all_append, all_parts, LogKind, HashDiffers, last_count, Row, Fact, Entry, a_kind, a_row, a_condition, a_hash, kinds, rows, conditions, hashes, first_of, same_kind, same_state_mark, marked_sum, state_sum, mark_in, is_other, fault_if, fact_fault, facts_of, same_mark_is, some_or, bytes_same}
 use Rattle.log_sum_laws.proofs.Cases.{Kind, Mark, Allowed, Plain}
-use Rattle.text_parts_laws.proofs.OrderLaws.{bytes_same}
 use Rattle.log_sum_laws.proofs.Blocks.{Clean}
 
 -- facts of a sort

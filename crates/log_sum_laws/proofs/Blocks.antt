@@ -1,15 +1,6 @@
 -- Printed blocks are read as what they print.
-use Rattle.std.proofs.Common.{◌≡◌, ◌==◌, ℕ, ◌≤◌, List, [], ◌∷◌, ◌++◌, true, false, refl, ap, ◌∙◌, arith, append_assoc, append-nil, Some, None}
-use Rattle.std.specs.Prelude.{not, Option, Ok, decimal}
-use Rattle.std.specs.List.{list_all}
-use Rattle.text_parts_laws.specs.Words.{is_nil}
-use Rattle.diy_io.specs.Count.{last_count}
-use Rattle.log_sum.specs.Facts.{Fact, Entry, facts_of, fact_fault}
-use Rattle.log_sum.specs.LineReading.{Said, log_line_said, place_after, fact_said, test_after}
-use Rattle.log_sum.specs.LogReading.{LogSeen, is_too_long, next_line, text_judged, line_judged, lines_judged}
-use Rattle.text_parts_laws.specs.Lines.{is_line_feed, without_return, whole_lines, unended}
+use Rattle.log_sum_laws.proofs.Vocabulary.{◌≡◌, ◌==◌, ℕ, ◌≤◌, List, [], ◌∷◌, ◌++◌, true, false, refl, ap, ◌∙◌, arith, append_assoc, append-nil, Some, None, not, Option, Ok, decimal, list_all, is_nil, last_count, Fact, Entry, facts_of, fact_fault, Said, log_line_said, place_after, fact_said, test_after, LogSeen, is_too_long, next_line, text_judged, line_judged, lines_judged, is_line_feed, without_return, whole_lines, unended, all_both, class_kept, first_piece, split_off}
 use Rattle.log_sum_laws.proofs.{Cases.Place, Texts.no_feed, Lines.digits_pass}
-use Rattle.text_parts_laws.proofs.{CutLaws.all_both, LineLaws.class_kept, PieceLaws.first_piece, PieceLaws.split_off}
 
 -- what was seen, by its parts
 abbrev pub seen_at : List Entry → List ℕ → Place → ℕ → LogSeen

@@ -1,6 +1,5 @@
 -- The kinds, marks, verdicts and places of logs.
-use Rattle.std.proofs.Common.{true, false}
-use Rattle.std.specs.Prelude.{Bool}
+use Rattle.log_sum_laws.proofs.Vocabulary.{true, false, Bool}
 pub use Rattle.log_sum.specs.declared.kinds.Kind.{Kind}
 pub use Rattle.log_sum.specs.declared.kinds.Kind.TheVariants.{Allowed, Forbidden, Required}
 pub use Rattle.log_sum.specs.declared.kinds.Mark.{Mark}

@@ -1,22 +1,6 @@
 -- The laws tried on logs.
-use Rattle.std.proofs.Common.{◌≡◌, ℕ, ◌≤◌, List, [], ◌∷◌, ◌++◌, length, drop, refl, sym, ◌∙◌, arith, subst, Some}
-use Rattle.std.specs.{Str.bytes_eq, Fmt.digits}
-use Rattle.std.proofs.lemmas.Slice.Eq.{bytes_eq-Decides}
-use Rattle.log_sum.specs.Facts.{Fact, Entry, a_kind, a_row, a_condition, a_hash, row_with, facts_of, marked_sum, state_sum, states_of, mark_in, fact_fault}
-use Rattle.log_sum_laws.specs.Laws.{IsSum}
+use Rattle.log_sum_laws.proofs.Vocabulary.{◌≡◌, ℕ, ◌≤◌, List, [], ◌∷◌, ◌++◌, length, drop, refl, sym, ◌∙◌, arith, subst, Some, bytes_eq, digits, bytes_eq-Decides, Fact, Entry, a_kind, a_row, a_condition, a_hash, row_with, facts_of, marked_sum, state_sum, states_of, mark_in, fact_fault, IsSum, codes, Result, Ok, Err, by_test, HashDiffers, LogError, leading_run, after_run, before_blanks, words, cut_at, without_return, whole_lines, unended, last_count, count_read, log_texts, summed, logs_text, form_read, with_pieces, state_read, state_form, test_line, histogram_line, log_row, condition_line, hash_line, log_line_said, place_after, fact_said, text_judged, line_judged, last_judged, file_judged, state_line, head_text, sum_verdict_text, condition_text, claim_text, hash_text, observation_text, summed_text, sum_text}
 use Rattle.log_sum_laws.proofs.{Cases.Forbidden, Cases.Plain, Cases.NotValidated, Blocks.entry, Agreeing.fact_elsewhere}
-use Rattle.std.specs.Prelude.{codes, Result, Ok, Err}
-use Rattle.list_laws.proofs.Cases.{by_test}
-use Rattle.log_sum.specs.declared.errors.{LogKind.TheVariants.HashDiffers, LogError.LogError}
-use Rattle.text_parts_laws.specs.{LeadingRuns.leading_run, LeadingRuns.after_run, Blanks.before_blanks, Words.words, Cuts.cut_at}
-use Rattle.text_parts_laws.specs.{Lines.without_return, Lines.whole_lines, Lines.unended}
-use Rattle.diy_io.specs.Count.{last_count}
-use Rattle.log_sum.specs.{Counts.count_read, LogGrammar.log_texts, Summed.summed, Representing.logs_text}
-use Rattle.log_sum.specs.LogStates.{form_read, with_pieces, state_read, state_form}
-use Rattle.log_sum.specs.LogLines.{test_line, histogram_line, log_row, condition_line, hash_line}
-use Rattle.log_sum.specs.LineReading.{log_line_said, place_after, fact_said}
-use Rattle.log_sum.specs.LogReading.{text_judged, line_judged, last_judged, file_judged}
-use Rattle.log_sum.specs.SumText.{state_line, head_text, sum_verdict_text, condition_text, claim_text, hash_text, observation_text, summed_text, sum_text}
 
 abbrev nl : List ℕ → List ℕ
 nl line = line ++ 10 ∷ []

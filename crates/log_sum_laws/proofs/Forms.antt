@@ -1,20 +1,7 @@
 -- A printed form is read as itself.
-use Rattle.std.proofs.Common.{◌≡◌, ◌==◌, ℕ, List, [], ◌∷◌, ◌++◌, length, drop, true, false, refl, sym, ap, ◌∙◌, subst, append_assoc, append-nil, Some, None, arith}
-use Rattle.std.specs.Prelude.{Bool, not, ◌&&◌, ◌||◌, cond, Option, Ok, map}
-use Rattle.std.specs.List.{list_any, list_all, slice_split, AllByRecursion}
-use Rattle.std.specs.{Option.option_map, Ordering.nat_cmp, Cmp.Lexicographic.slice_cmp, BTreeSet.insert_key, Str.bytes_eq}
-use Rattle.std.specs.declared.cmp.Ordering.TheVariants.{Less}
-use Rattle.std.proofs.lemmas.{Bool.and_parts, Bool.and_from, Bool.not-true, List.take_at, List.take-append-drop, Slice.Eq.bytes_eq-Decides}
-use Rattle.text_parts_laws.specs.{Blanks.is_inked, Blanks.before_blanks, Blanks.unblanked, Words.is_nil, LeadingRuns.after_run, Cuts.cut_at}
-use Rattle.text_parts_laws.specs.{Cuts.CutParts, Lines.without_return}
-use Rattle.log_sum.specs.Texts.{begins_with}
-use Rattle.log_sum.specs.LogStates.{is_bracketed, left_kept, is_side, sides_read, has_left, with_equality, and_then, with_pieces, later_unblanked, state_read, later_forms, state_form, or_bad, form_read}
-use Rattle.text_parts_laws.proofs.{PieceLaws.split_off, CutLaws.all_both, CutLaws.cut_back, CutLaws.cut_parts, RunLaws.after_class}
-use Rattle.text_parts_laws.proofs.{BlankLaws.end_stays, BlankLaws.ink_stays}
+use Rattle.log_sum_laws.proofs.Vocabulary.{◌≡◌, ◌==◌, ℕ, List, [], ◌∷◌, ◌++◌, length, drop, true, false, refl, sym, ap, ◌∙◌, subst, append_assoc, append-nil, Some, None, arith, Bool, not, ◌&&◌, ◌||◌, cond, Option, Ok, map, list_any, list_all, slice_split, AllByRecursion, option_map, nat_cmp, slice_cmp, insert_key, bytes_eq, Less, and_parts, and_from, not-true, take_at, take-append-drop, bytes_eq-Decides, is_inked, before_blanks, unblanked, is_nil, after_run, cut_at, CutParts, without_return, begins_with, is_bracketed, left_kept, is_side, sides_read, has_left, with_equality, and_then, with_pieces, later_unblanked, state_read, later_forms, state_form, or_bad, form_read, split_off, all_both, cut_back, cut_parts, after_class, end_stays, ink_stays, list_all-weaker, all_append, by_test, compare, Above, Ascends, insert_ascends, bytes_same}
 use Rattle.log_sum_laws.proofs.{Texts.all_parts, Texts.all_and, Texts.no_feed, Blocks.IsLine, Blocks.append_line, Printed.IsForm}
 use Rattle.log_sum_laws.proofs.{Orders.reversed_less}
-use Rattle.list_laws.proofs.{Elements.list_all-weaker, Elements.all_append, Cases.by_test}
-use Rattle.text_parts_laws.proofs.OrderLaws.{compare, Above, Ascends, insert_ascends, bytes_same}
 
 -- bytes of an equality, and of its left side
 abbrev pub is_part : ℕ → Bool

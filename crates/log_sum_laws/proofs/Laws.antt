@@ -1,16 +1,7 @@
 -- The laws of sums of sums.
-use Rattle.std.proofs.Common.{◌≡◌, ℕ, ◌≤◌, List, [], ◌∷◌, ◌++◌, true, refl, sym, ap, ◌∙◌, arith, subst, append_assoc, append-nil, Some}
-use Rattle.std.specs.{Prelude.Ok, Prelude.map, Prelude.codes, List.list_any, List.flat_map, List.AllByRecursion, Str.bytes_eq}
-use Rattle.list_laws.proofs.Cases.{by_test}
-use Rattle.diy_io.specs.Count.{last_count}
-use Rattle.log_sum.specs.Facts.{Row, Fact, Entry, a_hash, rows, hashes, first_of, marked_sum, state_sum, facts_of, tests_of}
-use Rattle.log_sum.specs.LogReading.{LogSeen, nothing_seen, file_judged, files_judged}
-use Rattle.log_sum.specs.{JudgedLaws.files_both, Summed.state_by, Summed.summed, SumText.summed_text, SumText.sum_text, Representing.logs_text}
-use Rattle.text_parts_laws.specs.Lines.{without_return}
-use Rattle.log_sum_laws.specs.Laws.{KeepsSumLimits, NoFault, IsSum, Represent, none, a_log, a_sum, SumsAreLogs, SumOfSums}
+use Rattle.log_sum_laws.proofs.Vocabulary.{◌≡◌, ℕ, ◌≤◌, List, [], ◌∷◌, ◌++◌, true, refl, sym, ap, ◌∙◌, arith, subst, append_assoc, append-nil, Some, Ok, map, codes, list_any, flat_map, AllByRecursion, bytes_eq, by_test, last_count, Row, Fact, Entry, a_hash, rows, hashes, first_of, marked_sum, state_sum, facts_of, tests_of, LogSeen, nothing_seen, file_judged, files_judged, files_both, state_by, summed, summed_text, sum_text, logs_text, without_return, KeepsSumLimits, NoFault, IsSum, Represent, none, a_log, a_sum, SumsAreLogs, SumOfSums, bytes_same, judged_text, files_by_blocks}
 use Rattle.log_sum_laws.proofs.Cases.{Mark, Outside, Starred, Plain}
 use Rattle.log_sum_laws.proofs.{Texts.is_word, Lines.line_of_hash, Sums.Marks, Sums.printed_facts, Said.IsRead}
-use Rattle.text_parts_laws.proofs.OrderLaws.{bytes_same}
 use Rattle.log_sum_laws.proofs.Blocks.{seen_at, Clean, clean_parts, return_prefix}
 use Rattle.log_sum_laws.proofs.Printed.{IsForm, AreForms, Printable, given, file_goes}
 use Rattle.log_sum_laws.proofs.Scans.{files_scan, files_end, IsEnd, clean_both}
@@ -18,7 +9,6 @@ use Rattle.log_sum_laws.proofs.Agreeing.{Agrees, facts_both, clean_facts, clean_
 use Rattle.log_sum_laws.proofs.Alike.{Complete, printed_alike, printed_agrees, agrees_between, alike_text, kind_summed, text_summed, hash_is, states_are, states_there, marks_fit}
 use Rattle.log_sum_laws.proofs.Whole.{IsPrintable, IsPrintableEntry, Keeps, WholeOrRunning, keeps_nothing, files_keep}
 use Rattle.log_sum_laws.proofs.Names.{tests_distinct, tests_between, printed_of, none_printed_of, test_there, no_facts}
-use Rattle.log_sum.proofs.Grammar.{judged_text, files_by_blocks}
 
 -- what is said of a test
 printable_facts_of : (name : List ℕ) (entries : List Entry) → AllByRecursion IsPrintableEntry entries → AllByRecursion IsPrintable (facts_of name entries)

@@ -1,3 +1,4 @@
+pub mod Vocabulary
 mod Examples
 pub mod Texts
 pub mod Cases

@@ -1,21 +1,7 @@
 -- What the printed lines say where they are read.
-use Rattle.std.proofs.Common.{◌≡◌, ◌==◌, ℕ, suc, ◌^◌, ◌<◌, ◌≤◌, List, [], ◌∷◌, ◌++◌, length, true, false, refl, sym, ap, ◌∙◌, arith, length-append, append_assoc, append-nil, Some, None}
-use Rattle.std.specs.Prelude.{Bool, not, Ok, codes, decimal, nat_le}
-use Rattle.std.specs.{Char.is_ascii_digit, List.filter, List.list_all, Str.bytes_eq, Str.Parse.digits_value}
-use Rattle.std.proofs.lemmas.{Bool.and_parts, List.drop_at, List.drop-drop, Fmt.digits_decimal, Fmt.digits_value-decimal, Fmt.decimal_nonempty}
-use Rattle.list_laws.proofs.{Digits.digits_model, Elements.list_all-weaker}
-use Rattle.text_parts_laws.specs.Blanks.{is_blank, is_inked, before_blanks, kept_before, unblanked, trim_blanks}
-use Rattle.text_parts_laws.specs.{Words.is_nil, Words.words, LeadingRuns.after_run}
-use Rattle.log_sum.specs.Texts.{later_words, joined_words, ends_with, begins_with}
-use Rattle.diy_io.specs.Count.{last_count}
-use Rattle.log_sum.specs.{Counts.count_read, Counts.count_of_digits, LogStates.form_read, Facts.row_with}
-use Rattle.log_sum.specs.LogLines.{test_line, histogram_line, log_row, condition_line, verdict_cut, hash_line, quantifier}
-use Rattle.log_sum.specs.LineReading.{passed_over, begins, counts, a_state, judged, conditioned, hashed, ends, log_line_said, states_left}
-use Rattle.log_sum.specs.SumText.{sum_kind_word, mark_sign, filling, verdict_word, verdict_end}
+use Rattle.log_sum_laws.proofs.Vocabulary.{◌≡◌, ◌==◌, ℕ, suc, ◌^◌, ◌<◌, ◌≤◌, List, [], ◌∷◌, ◌++◌, length, true, false, refl, sym, ap, ◌∙◌, arith, length-append, append_assoc, append-nil, Some, None, Bool, not, Ok, codes, decimal, nat_le, is_ascii_digit, filter, list_all, bytes_eq, digits_value, and_parts, drop_at, drop-drop, digits_decimal, digits_value-decimal, decimal_nonempty, digits_model, list_all-weaker, is_blank, is_inked, before_blanks, kept_before, unblanked, trim_blanks, is_nil, words, after_run, later_words, joined_words, ends_with, begins_with, last_count, count_read, count_of_digits, form_read, row_with, test_line, histogram_line, log_row, condition_line, verdict_cut, hash_line, quantifier, passed_over, begins, counts, a_state, judged, conditioned, hashed, ends, log_line_said, states_left, sum_kind_word, mark_sign, filling, verdict_word, verdict_end, end_stays, ink_stays, unblanked_spaces, first_piece, after_halts, stops, whole_run, words_both, one_word}
 use Rattle.log_sum_laws.proofs.Cases.{Kind, Mark, Verdict, Validated, NotValidated, Outside, Histogram, Judgement, Rest, Conditioned}
 use Rattle.log_sum_laws.proofs.Texts.{is_plain, is_word, word_is, ends_so, before_so, joined_both}
-use Rattle.text_parts_laws.proofs.{BlankLaws.end_stays, BlankLaws.ink_stays, BlankLaws.unblanked_spaces, PieceLaws.first_piece, RunLaws.after_halts}
-use Rattle.text_parts_laws.proofs.{RunLaws.stops, RunLaws.whole_run, WordLaws.words_both, WordLaws.one_word}
 
 -- counts
 below : (n : ℕ) → n ≤ last_count → n < 2 ^ 64

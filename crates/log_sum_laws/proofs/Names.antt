@@ -1,12 +1,5 @@
 -- Tests in the order in which each was first seen.
-use Rattle.std.proofs.Common.{◌≡◌, ℕ, List, [], ◌∷◌, ◌++◌, true, false, refl, sym, ◌∙◌, append-nil, arith}
-use Rattle.std.specs.{Prelude.◌||◌, Prelude.map, Prelude.fold, List.list_any, List.flat_map, List.AllByRecursion, Str.bytes_eq}
-use Rattle.std.proofs.{lemmas.Bool.or_right, lemmas.List.map-append, lemmas.List.Sums.fold-append, lemmas.List.Folds.list_any-append}
-use Rattle.std.proofs.{Math.Bool.or-false}
-use Rattle.list_laws.proofs.{Cases.by_test, Cases.eq_swap, Elements.all_append}
-use Rattle.log_sum.specs.Facts.{Entry, facts_of, with_test_name, tests_of}
-use Rattle.log_sum.specs.Summed.{Summed, StateSummed}
-use Rattle.text_parts_laws.proofs.OrderLaws.{bytes_same}
+use Rattle.log_sum_laws.proofs.Vocabulary.{◌≡◌, ℕ, List, [], ◌∷◌, ◌++◌, true, false, refl, sym, ◌∙◌, append-nil, arith, ◌||◌, map, fold, list_any, flat_map, AllByRecursion, bytes_eq, or_right, map-append, fold-append, list_any-append, or-false, by_test, eq_swap, all_append, Entry, facts_of, with_test_name, tests_of, Summed, StateSummed, bytes_same}
 use Rattle.log_sum_laws.proofs.{Printed.state_entries, Printed.given, Agreeing.facts_both, Agreeing.bytes_is, Sums.printed_facts, Sums.printed_here}
 use Rattle.log_sum_laws.proofs.{Sums.printed_elsewhere, Orders.Distinct}
 

@@ -1,10 +1,5 @@
 -- Texts in byte order, each once: two such lists with the same texts are the same.
-use Rattle.std.proofs.Common.{◌≡◌, ℕ, List, [], ◌∷◌, true, false, refl, sym, ap, ◌∙◌, subst, arith}
-use Rattle.std.specs.{Prelude.fold, List.list_any, Ordering.nat_cmp, Ordering.ordering_reverse, Cmp.Lexicographic.slice_cmp, BTreeSet.insert_key}
-use Rattle.std.specs.{Str.bytes_eq}
-use Rattle.std.specs.declared.cmp.{Ordering.Ordering, Ordering.TheVariants.Less, Ordering.TheVariants.Equal, Ordering.TheVariants.Greater}
-use Rattle.std.proofs.lemmas.Slice.Eq.{bytes_eq-Decides}
-use Rattle.text_parts_laws.proofs.OrderLaws.{order, is_text, compare, Above, Ascends, above_all, reversed, fold_ascends, none_above, any_fold, bytes_same}
+use Rattle.log_sum_laws.proofs.Vocabulary.{◌≡◌, ℕ, List, [], ◌∷◌, true, false, refl, sym, ap, ◌∙◌, subst, arith, fold, list_any, nat_cmp, ordering_reverse, slice_cmp, insert_key, bytes_eq, Ordering, Less, Equal, Greater, bytes_eq-Decides, order, is_text, compare, Above, Ascends, above_all, reversed, fold_ascends, none_above, any_fold, bytes_same}
 
 -- a text below another: the other is above it
 pub reversed_less : (k x : List ℕ) → compare k x ≡ Less → compare x k ≡ Greater

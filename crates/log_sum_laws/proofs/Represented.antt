@@ -1,7 +1,5 @@
 -- Laws of a summer that was fed in pieces, which log_sum proves for itself, stated again for the crates above.
-use Rattle.std.proofs.Common.{◌≡◌, List, [], ◌∷◌, ◌++◌, Ok, Err, ℕ}
-use Rattle.log_sum.specs.declared.errors.LogError.{LogError}
-use Rattle.log_sum.specs.Representing.{Kept, Represents, kept_text, logs_text}
+use Rattle.log_sum_laws.proofs.Vocabulary.{◌≡◌, List, [], ◌∷◌, ◌++◌, Ok, Err, ℕ, LogError, Kept, Represents, kept_text, logs_text}
 use Rattle.log_sum.proofs.RepresentingLaws as proved
 
 -- the printed sum of what represents whole logs is theirs

@@ -1,19 +1,7 @@
 -- What the lines of logs say.
-use Rattle.std.proofs.Common.{◌≡◌, ℕ, ◌+◌, ◌-◌, List, [], ◌∷◌, ◌++◌, length, true, false, refl, ap, ◌∙◌, arith, subst, Some, None}
-use Rattle.std.specs.Prelude.{Bool, Option, Result, Ok, Err, codes}
-use Rattle.std.specs.{List.list_all, Str.bytes_eq}
-use Rattle.std.proofs.lemmas.{Bool.and_parts, List.take-append-drop, List.append_cancel_right, Slice.Eq.bytes_eq-Decides}
-use Rattle.list_laws.proofs.Cases.{by_test}
-use Rattle.log_sum.specs.declared.errors.LogKind.{LogKind}
-use Rattle.text_parts_laws.specs.Blanks.{is_blank, before_blanks, unblanked, trim_blanks}
-use Rattle.text_parts_laws.specs.Words.{words}
-use Rattle.log_sum.specs.Texts.{later_words, joined_words, ends_with, before_end, begins_with}
-use Rattle.log_sum.specs.{Counts.count_read, LogStates.form_read, Facts.Row}
-use Rattle.log_sum.specs.LogLines.{test_line, mark_read, row_of, row_marked, row_counted, log_row, verdict_cut, condition_line, quantifier, hash_line}
-use Rattle.log_sum.specs.LineReading.{Said, passed_over, begins, counts, a_state, judged, conditioned, hashed, ends, outside_said, hash_said, condition_said, no_test, rest_said, log_line_said, kind_at}
+use Rattle.log_sum_laws.proofs.Vocabulary.{◌≡◌, ℕ, ◌+◌, ◌-◌, List, [], ◌∷◌, ◌++◌, length, true, false, refl, ap, ◌∙◌, arith, subst, Some, None, Bool, Option, Result, Ok, Err, codes, list_all, bytes_eq, and_parts, take-append-drop, append_cancel_right, bytes_eq-Decides, by_test, LogKind, is_blank, before_blanks, unblanked, trim_blanks, words, later_words, joined_words, ends_with, before_end, begins_with, count_read, form_read, Row, test_line, mark_read, row_of, row_marked, row_counted, log_row, verdict_cut, condition_line, quantifier, hash_line, Said, passed_over, begins, counts, a_state, judged, conditioned, hashed, ends, outside_said, hash_said, condition_said, no_test, rest_said, log_line_said, kind_at, words_both, after_class, trimmed_class, before_twice}
 use Rattle.log_sum_laws.proofs.Cases.{Kind, Mark, Verdict, Place, Outside, Histogram, Judgement, Rest, Conditioned, States, is_outside}
 use Rattle.log_sum_laws.proofs.Texts.{no_feed, is_word, words_plain, joined_is, joined_both, joined_no_feed, all_take, all_drop}
-use Rattle.text_parts_laws.proofs.{WordLaws.words_both, RunLaws.after_class, BlankLaws.trimmed_class, BlankLaws.before_twice}
 use Rattle.log_sum_laws.proofs.{Lines.line_of_hash, Printed.IsForm, Printed.IsCondition, Forms.form_is}
 
 -- a hash that was read

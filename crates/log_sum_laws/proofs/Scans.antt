@@ -1,10 +1,5 @@
 -- What logs say is the same after any entries, where it has no fault there.
-use Rattle.std.proofs.Common.{◌≡◌, ℕ, List, [], ◌∷◌, ◌++◌, refl, sym, ap, ◌∙◌, arith, subst, append_assoc, append-nil}
-use Rattle.std.specs.Prelude.{Result, Ok, Err}
-use Rattle.log_sum.specs.declared.errors.LogError.{LogError}
-use Rattle.log_sum.specs.Facts.{Entry}
-use Rattle.log_sum.specs.LogReading.{LogSeen, text_judged, line_judged, lines_judged, last_judged, end_judged, file_judged, files_judged}
-use Rattle.text_parts_laws.specs.{ReadingSteps.◌>>=◌, Lines.without_return}
+use Rattle.log_sum_laws.proofs.Vocabulary.{◌≡◌, ℕ, List, [], ◌∷◌, ◌++◌, refl, sym, ap, ◌∙◌, arith, subst, append_assoc, append-nil, Result, Ok, Err, LogError, Entry, LogSeen, text_judged, line_judged, lines_judged, last_judged, end_judged, file_judged, files_judged, ◌>>=◌, without_return}
 use Rattle.log_sum_laws.proofs.{Cases.Outside, Blocks.seen_at, Blocks.Clean, Blocks.clean_parts}
 
 -- entries without a fault, and others without a fault after them, have none together

@@ -1,17 +1,7 @@
 -- Logs give whole tests: after them each test has a kind and a condition, and what logs say of it can be printed.
-use Rattle.std.proofs.Common.{◌≡◌, ℕ, zero, suc, List, [], ◌∷◌, ◌++◌, true, false, refl, sym, ap, ◌∙◌, subst, Some, None, arith}
-use Rattle.std.specs.{Prelude.Bool, Prelude.Option, Prelude.Ok, List.list_any, List.list_all, List.AllByRecursion, Option.option_map, Str.bytes_eq}
-use Rattle.std.proofs.lemmas.{Bool.and_parts, Bool.not-false, List.Folds.list_any-append}
-use Rattle.list_laws.proofs.{Cases.by_test, Elements.all_append}
-use Rattle.log_sum.specs.declared.errors.LogKind.TheVariants.{ConditionDiffers}
-use Rattle.log_sum.specs.Facts.{Fact, Entry, a_kind, a_row, a_condition, a_hash, kinds, conditions, first_of, facts_of, fact_fault, is_other}
-use Rattle.log_sum.specs.LineReading.{Said, passed_over, begins, counts, a_state, judged, conditioned, hashed, ends, place_after, kind_at, left_at, states_left, after_state, fact_said}
-use Rattle.log_sum.specs.LogReading.{LogSeen, nothing_seen, next_line, fact_put, at_next_line, said_to, text_judged, line_judged, lines_judged, last_judged, file_judged, files_judged}
-use Rattle.text_parts_laws.specs.ReadingSteps.{◌>>=◌}
-use Rattle.text_parts_laws.specs.Lines.{without_return, but_last, last_of, whole_lines, unended}
+use Rattle.log_sum_laws.proofs.Vocabulary.{◌≡◌, ℕ, zero, suc, List, [], ◌∷◌, ◌++◌, true, false, refl, sym, ap, ◌∙◌, subst, Some, None, arith, Bool, Option, Ok, list_any, list_all, AllByRecursion, option_map, bytes_eq, and_parts, not-false, list_any-append, by_test, all_append, ConditionDiffers, Fact, Entry, a_kind, a_row, a_condition, a_hash, kinds, conditions, first_of, facts_of, fact_fault, is_other, Said, passed_over, begins, counts, a_state, judged, conditioned, hashed, ends, place_after, kind_at, left_at, states_left, after_state, fact_said, LogSeen, nothing_seen, next_line, fact_put, at_next_line, said_to, text_judged, line_judged, lines_judged, last_judged, file_judged, files_judged, ◌>>=◌, without_return, but_last, last_of, whole_lines, unended, bytes_same}
 use Rattle.log_sum_laws.proofs.Cases.{Kind, Verdict, Place, Histogram, Rest, Conditioned, is_outside}
 use Rattle.log_sum_laws.proofs.{Texts.no_feed, Texts.is_word, Blocks.entry, Printed.IsForm, Printed.IsCondition, Forms.split_lacks, Alike.Complete}
-use Rattle.text_parts_laws.proofs.OrderLaws.{bytes_same}
 use Rattle.log_sum_laws.proofs.Agreeing.{kinds_both, conditions_both, or_first, first_both, facts_both, fact_here, none_if, bytes_is}
 use Rattle.log_sum_laws.proofs.Said.{IsRead, SaidOf, is_after, line_says}
 

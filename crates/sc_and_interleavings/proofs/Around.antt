@@ -1,19 +1,8 @@
 -- Where all edges of a cycle stand, its events are a cycle of program order, reads-from, coherence order and from-read.
-use Rattle.std.proofs.Common.{◌≡◌, ℕ, zero, suc, ◌-◌, ◌<◌, List, [], ◌∷◌, ◌++◌, length, Some, refl, sym, ◌∙◌, ap, subst, arith}
+use Rattle.sc_and_interleavings.proofs.Vocabulary.{◌≡◌, ℕ, zero, suc, ◌-◌, ◌<◌, List, [], ◌∷◌, ◌++◌, length, Some, refl, sym, ◌∙◌, ap, subst, arith, Internal, External, Kind, Edge, kind_of, kind_source, kind_target, kind_place, kind_reach, edge_at, event_after, by_after, after_below, WriteAt, Access, read, write, at_name, Execution, coherence_place, Program, accesses_in, visits_in, AccessAt, AreAt, CommunicatesBy, Reaches, Joins, access_at, event_name, AllStand, access_of_visit, FromRead, CoherenceOrder, Precedes, StepBy, ByPo, ByRf, ByCo, ByFr, IsPathBy, IsSequential}
 use Rattle.relax_edges.specs.declared.kinds.Dir.TheVariants as dirs
-use Rattle.relax_edges.specs.declared.{kinds.Reach.TheVariants.Internal, kinds.Reach.TheVariants.External, kinds.Kind.Kind, edge.Edge.Edge}
 use Rattle.relax_edges.specs.declared.kinds.Com.TheVariants as coms
 use Rattle.relax_edges.specs.declared.kinds.Kind.TheVariants as kinds
-use Rattle.relax_edges.specs.EdgeTable.{kind_of, kind_source, kind_target, kind_place, kind_reach}
-use Rattle.cycle_events.specs.Resolution.{edge_at, event_after}
-use Rattle.cycle_events.proofs.Around.{by_after, after_below}
-use Rattle.program_meaning.specs.declared.WriteAt.{WriteAt}
-use Rattle.program_meaning.specs.Accesses.{Access, read, write, at_name}
-use Rattle.program_meaning.specs.{Executions.Execution, Coherence.coherence_place, Programs.Program, Programs.accesses_in, Programs.visits_in}
-use Rattle.program_meaning.specs.Standing.{AccessAt, AreAt, CommunicatesBy, Reaches, Joins, access_at, event_name, AllStand}
-use Rattle.accesses_force_cycles.proofs.AllStand.{access_of_visit}
-use Rattle.sc_and_interleavings.specs.Relations.{FromRead, CoherenceOrder}
-use Rattle.sc_and_interleavings.specs.Sequential.{Precedes, StepBy, ByPo, ByRf, ByCo, ByFr, IsPathBy, IsSequential}
 use Rattle.sc_and_interleavings.proofs.{Places.Held, Shapes.writes_ordered, Shapes.read_before}
 
 -- an access of a program's threads, with its name
@@ -54,7 +43,6 @@ step_along threads x edge e f held a b joins = by_kind (kind_of edge) refl
     communicates k s = subst (λ k. CommunicatesBy k threads x e f) s joins.communicates
 
     by_kind : (k : Kind) → kind_of edge ≡ k → StepBy (Precedes threads) threads x e.name f.name
-    by_kind (kinds.Com way Internal) s = inside (kinds.Com way Internal) s refl
     by_kind (kinds.Com coms.Rf External) s =
         ByRf (record { place = f.access.place; reads = (f.access.value, as_read threads f (record { at = b }) (enters (kinds.Com coms.Rf External) s)); source = communicates (kinds.Com coms.Rf External) s })
     by_kind (kinds.Com coms.Fr External) s =
@@ -75,10 +63,7 @@ step_along threads x edge e f held a b joins = by_kind (kind_of edge) refl
         let n : f.access ≡ write e.access.place f.access.value = λ i. record { dir = c i; place = sym p i; value = f.access.value } in
         ByCo e.access.place (co_step threads x e.name f.name e.access.place e.access.value f.access.value held (a ∙ ap Some m) (b ∙ ap Some n)
         (subst (λ (t : Access × Access). coherence_place threads x e.name t.0 < coherence_place threads x f.name t.1) (λ i. (m i, n i)) (communicates k s)))
-    by_kind (kinds.Po sd from to) s = inside (kinds.Po sd from to) s refl
-    by_kind (kinds.Fenced fence sd from to) s = inside (kinds.Fenced fence sd from to) s refl
-    by_kind (kinds.Dep dep sd to) s = inside (kinds.Dep dep sd to) s refl
-    by_kind (kinds.Data sd) s = inside (kinds.Data sd) s refl
+    by_kind k s = inside k s refl
 
 -- a path and one more step
 pub path_then : (kept : WriteAt → WriteAt → Type 0) (threads : List (List Access)) (x : Execution) (e : WriteAt) (between : List WriteAt) (f g : WriteAt) → IsPathBy kept threads x e between f → StepBy kept threads x f g → IsPathBy kept threads x e (between ++ f ∷ []) g

@@ -1,12 +1,5 @@
 -- An execution that goes along an interleaving has no cycle: each of its steps is one in the execution that the interleaving makes.
-use Rattle.std.proofs.Common.{◌≡◌, ℕ, List, [], ◌∷◌, length, Option, Some, slice_get, sym, ◌∙◌, arith}
-use Rattle.std.proofs.lemmas.Option.{slice_get_past}
-use Rattle.list_laws.proofs.Numbers.{slice_get-map-upto}
-use Rattle.program_meaning.specs.declared.WriteAt.{WriteAt}
-use Rattle.program_meaning.specs.{Accesses.Access, Accesses.read, Accesses.at_name, Executions.Execution, Coherence.order_at, Coherence.source_at}
-use Rattle.program_meaning.specs.{Interleavings.IsInterleaving}
-use Rattle.sc_and_interleavings.specs.{Relations.CoherenceOrder, Relations.IsBefore, Made.made_by, Along.IsAlong}
-use Rattle.sc_and_interleavings.specs.Sequential.{Precedes, StepBy, ByPo, ByRf, ByCo, ByFr, IsPathBy, IsSequential}
+use Rattle.sc_and_interleavings.proofs.Vocabulary.{◌≡◌, ℕ, List, [], ◌∷◌, length, Option, Some, slice_get, sym, ◌∙◌, arith, slice_get_past, slice_get-map-upto, WriteAt, Access, read, at_name, Execution, order_at, source_at, IsInterleaving, CoherenceOrder, IsBefore, made_by, IsAlong, Precedes, StepBy, ByPo, ByRf, ByCo, ByFr, IsPathBy, IsSequential}
 use Rattle.sc_and_interleavings.proofs.Rising.{source_is, made_sequential}
 
 -- what is in the order of a place is there in the execution that the interleaving makes

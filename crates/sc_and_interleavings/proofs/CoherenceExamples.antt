@@ -1,18 +1,7 @@
 -- The law tried on small programs: a coherent execution, the shapes that coherence forbids, each with its cycle, and a program
 -- that writes outside its places, of which the law doesn't hold.
-use Rattle.std.proofs.Common.{◌≡◌, ℕ, Bool, true, List, [], ◌∷◌, Some, None, refl, arith, ◌||◌}
-use Rattle.std.specs.Prelude.{nat_lt}
-use Rattle.std.proofs.lemmas.Bool.{ltb-true}
-use Rattle.micro_ops.specs.declared.operation.Micro.{Micro}
+use Rattle.sc_and_interleavings.proofs.Vocabulary.{is_candidate, ◌≡◌, ℕ, Bool, true, List, [], ◌∷◌, Some, None, refl, arith, ◌||◌, nat_lt, ltb-true, Micro, WriteAt, Access, read, write, is_read, Execution, Program, Thread, IsCandidate, IsCoherentIn, accesses_in, every, name, are_reads, are_distinct, every_name, candidate_means, coheres_means, IsPathOfSteps, IsScPerLocation, Po, Rf, Co, Fr, WritesWithin}
 use Rattle.micro_ops.specs.declared.operation.Micro.TheVariants as ops
-use Rattle.program_meaning.specs.declared.WriteAt.{WriteAt}
-use Rattle.program_meaning.specs.Accesses.{Access, read, write, is_read}
-use Rattle.program_meaning.specs.Executions.{Execution}
-use Rattle.program_meaning.specs.Programs.{Program, Thread, IsCandidate, IsCoherentIn, accesses_in}
-use Rattle.program_meaning.specs.Deciding.{every, name, are_reads, are_distinct}
-use Rattle.program_meaning.proofs.{Every.every_name, Candidates.candidate_means, CoherenceLaws.coheres_means}
-use Rattle.sc_and_interleavings.specs.Relations.{IsPathOfSteps, IsScPerLocation, Po, Rf, Co, Fr}
-use Rattle.sc_and_interleavings.specs.CoherenceLaws.{WritesWithin}
 use Rattle.sc_and_interleavings.proofs.CoherenceLaws.{candidates_are_sc_per_location}
 
 -- each write is to a place below a number, tried by computing
@@ -54,6 +43,11 @@ record HasCycle (p : Program) (x : Execution) (e : WriteAt) (between : List Writ
   within : WritesWithin (accesses_in p x) p.places
   cycle : IsPathOfSteps (accesses_in p x) x e between e
 
+-- of this, all but the cycle is found by computing
+has_cycle : (p : Program) (x : Execution) (e : WriteAt) (between : List WriteAt) → is_candidate p x ≡ true → writes_within p.places (accesses_in p x) ≡ true
+    → IsPathOfSteps (accesses_in p x) x e between e → HasCycle p x e between
+has_cycle p x e between c w path = record { candidate = candidate_means p x c; within = within_means (accesses_in p x) p.places w; cycle = path }
+
 not_coherent : (p : Program) (x : Execution) (e : WriteAt) (between : List WriteAt) → HasCycle p x e between → IsCoherentIn p x → ⊥
 not_coherent p x e between h coherent = (candidates_are_sc_per_location p x h.candidate h.within).0 coherent e between h.cycle
 
@@ -63,17 +57,13 @@ out_of_turn = record { reads = [] ∷ ((1, Some (name 0 0)) ∷ (0, None) ∷ []
 
 CoRR : HasCycle passes out_of_turn (name 1 0) (name 1 1 ∷ name 0 0 ∷ [])
 unfolding are_reads are_distinct
-CoRR = record {
-  candidate = candidate_means passes out_of_turn refl;
-  within = within_means (accesses_in passes out_of_turn) 1 refl;
-  cycle = (
-    Po (record { place = 0; first = (read 0 1, refl, refl); second = (read 0 0, refl, refl); thread = refl; earlier = omega arith }),
-    (
-      Fr (record { place = 0; reads = (0, refl); before = (1, refl) }),
-      Rf (record { place = 0; reads = (1, refl); source = refl }),
-    ),
-  );
-}
+CoRR = has_cycle passes out_of_turn (name 1 0) (name 1 1 ∷ name 0 0 ∷ []) refl refl (
+  Po (record { place = 0; first = (read 0 1, refl, refl); second = (read 0 0, refl, refl); thread = refl; earlier = omega arith }),
+  (
+    Fr (record { place = 0; reads = (0, refl); before = (1, refl) }),
+    Rf (record { place = 0; reads = (1, refl); source = refl }),
+  ),
+)
 
 -- CoWW: two writes of a thread come in the coherence order the other way round
 abbrev writes_twice : Program
@@ -84,14 +74,10 @@ turned_round = record { reads = [] ∷ []; orders = (name 0 1 ∷ name 0 0 ∷ [
 
 CoWW : HasCycle writes_twice turned_round (name 0 0) (name 0 1 ∷ [])
 unfolding are_reads are_distinct
-CoWW = record {
-  candidate = candidate_means writes_twice turned_round refl;
-  within = within_means (accesses_in writes_twice turned_round) 1 refl;
-  cycle = (
-    Po (record { place = 0; first = (write 0 1, refl, refl); second = (write 0 2, refl, refl); thread = refl; earlier = omega arith }),
-    Co 0 (record { earlier = 0; later = 1; first = refl; second = refl; before = omega arith }),
-  );
-}
+CoWW = has_cycle writes_twice turned_round (name 0 0) (name 0 1 ∷ []) refl refl (
+  Po (record { place = 0; first = (write 0 1, refl, refl); second = (write 0 2, refl, refl); thread = refl; earlier = omega arith }),
+  Co 0 (record { earlier = 0; later = 1; first = refl; second = refl; before = omega arith }),
+)
 
 -- CoRW1: a read reads the write after it
 abbrev reads_own : Program
@@ -102,14 +88,10 @@ from_after = record { reads = ((1, Some (name 0 1)) ∷ []) ∷ []; orders = (na
 
 CoRW1 : HasCycle reads_own from_after (name 0 0) (name 0 1 ∷ [])
 unfolding are_reads are_distinct
-CoRW1 = record {
-  candidate = candidate_means reads_own from_after refl;
-  within = within_means (accesses_in reads_own from_after) 1 refl;
-  cycle = (
-    Po (record { place = 0; first = (read 0 1, refl, refl); second = (write 0 1, refl, refl); thread = refl; earlier = omega arith }),
-    Rf (record { place = 0; reads = (1, refl); source = refl }),
-  );
-}
+CoRW1 = has_cycle reads_own from_after (name 0 0) (name 0 1 ∷ []) refl refl (
+  Po (record { place = 0; first = (read 0 1, refl, refl); second = (write 0 1, refl, refl); thread = refl; earlier = omega arith }),
+  Rf (record { place = 0; reads = (1, refl); source = refl }),
+)
 
 -- CoRW2: a read reads a write that comes after the write after it
 abbrev reads_other : Program
@@ -120,17 +102,13 @@ from_later = record { reads = ((2, Some (name 1 0)) ∷ []) ∷ [] ∷ []; order
 
 CoRW2 : HasCycle reads_other from_later (name 0 0) (name 0 1 ∷ name 1 0 ∷ [])
 unfolding are_reads are_distinct
-CoRW2 = record {
-  candidate = candidate_means reads_other from_later refl;
-  within = within_means (accesses_in reads_other from_later) 1 refl;
-  cycle = (
-    Po (record { place = 0; first = (read 0 2, refl, refl); second = (write 0 1, refl, refl); thread = refl; earlier = omega arith }),
-    (
-      Co 0 (record { earlier = 0; later = 1; first = refl; second = refl; before = omega arith }),
-      Rf (record { place = 0; reads = (2, refl); source = refl }),
-    ),
-  );
-}
+CoRW2 = has_cycle reads_other from_later (name 0 0) (name 0 1 ∷ name 1 0 ∷ []) refl refl (
+  Po (record { place = 0; first = (read 0 2, refl, refl); second = (write 0 1, refl, refl); thread = refl; earlier = omega arith }),
+  (
+    Co 0 (record { earlier = 0; later = 1; first = refl; second = refl; before = omega arith }),
+    Rf (record { place = 0; reads = (2, refl); source = refl }),
+  ),
+)
 
 -- CoWR: a read reads from before the write before it
 abbrev reads_after : List Thread
@@ -141,14 +119,10 @@ from_before = record { reads = ((0, None) ∷ []) ∷ []; orders = (name 0 0 ∷
 
 CoWR : HasCycle (over_x reads_after) from_before (name 0 0) (name 0 1 ∷ [])
 unfolding are_reads are_distinct
-CoWR = record {
-  candidate = candidate_means (over_x reads_after) from_before refl;
-  within = within_means (accesses_in (over_x reads_after) from_before) 1 refl;
-  cycle = (
-    Po (record { place = 0; first = (write 0 1, refl, refl); second = (read 0 0, refl, refl); thread = refl; earlier = omega arith }),
-    Fr (record { place = 0; reads = (0, refl); before = (1, refl) }),
-  );
-}
+CoWR = has_cycle (over_x reads_after) from_before (name 0 0) (name 0 1 ∷ []) refl refl (
+  Po (record { place = 0; first = (write 0 1, refl, refl); second = (read 0 0, refl, refl); thread = refl; earlier = omega arith }),
+  Fr (record { place = 0; reads = (0, refl); before = (1, refl) }),
+)
 
 -- The same threads over no place at all: their write is in no coherence order. So it has the coherence place of the
 -- initial value, and what is coherent by that has the cycle of CoWR.

@@ -1,7 +1,5 @@
 -- The law of this crate, from its two directions.
-use Rattle.sc_and_interleavings.specs.CoherenceLaws.{CoherenceIsScPerLocation, CandidatesAreScPerLocation, CycleTestsAreScPerLocation}
-use Rattle.program_meaning.specs.Programs.{accesses_in}
-use Rattle.accesses_force_cycles.proofs.Bridge.{resolves}
+use Rattle.sc_and_interleavings.proofs.Vocabulary.{CoherenceIsScPerLocation, CandidatesAreScPerLocation, CycleTestsAreScPerLocation, accesses_in, resolves}
 use Rattle.sc_and_interleavings.proofs.{Places.held, Steps.no_cycle, Shapes.coherent, SequentialMade.writes_to_own}
 
 -- an execution of threads is coherent per location exactly where its four relations have no cycle

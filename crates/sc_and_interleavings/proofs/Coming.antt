@@ -1,16 +1,7 @@
 -- Which access has to come before which: the earlier of a thread, and at one place the one of lesser coherence place, a write before
 -- its reads. So the relations of an execution lead from the one to the other.
-use Rattle.std.proofs.Common.{◌≡◌, ℕ, ◌+◌, ◌<◌, Bool, true, false, cond, ◌==◌, ◌&&◌, ◌||◌, List, [], ◌∷◌, ◌++◌, Option, Some, None, sym, subst, arith}
-use Rattle.std.specs.Prelude.{nat_lt}
-use Rattle.std.proofs.lemmas.Bool.{and_parts, and_from, eqb-true, eq-eqb, ltb-true, lt-ltb}
-use Rattle.relax_edges.specs.declared.kinds.Dir.{Dir}
+use Rattle.sc_and_interleavings.proofs.Vocabulary.{◌≡◌, ℕ, ◌+◌, ◌<◌, Bool, true, false, cond, ◌==◌, ◌&&◌, ◌||◌, List, [], ◌∷◌, ◌++◌, Option, Some, None, sym, subst, arith, nat_lt, and_parts, and_from, eqb-true, eq-eqb, ltb-true, lt-ltb, Dir, by_less, WriteAt, Access, reads_by, at_name, Execution, order_place, order_at, source_at, coherence_place, IsWriteTo, IsReadOf, Precedes, StepBy, ByRf, ByCo, ByFr, IsPathBy, IsSequential}
 use Rattle.relax_edges.specs.declared.kinds.Dir.TheVariants as dirs
-use Rattle.list_laws.proofs.Cases.{by_less}
-use Rattle.program_meaning.specs.declared.WriteAt.{WriteAt}
-use Rattle.program_meaning.specs.{Accesses.Access, Accesses.reads_by, Accesses.at_name, Executions.Execution}
-use Rattle.program_meaning.specs.Coherence.{order_place, order_at, source_at, coherence_place}
-use Rattle.sc_and_interleavings.specs.Relations.{IsWriteTo, IsReadOf}
-use Rattle.sc_and_interleavings.specs.Sequential.{Precedes, StepBy, ByRf, ByCo, ByFr, IsPathBy, IsSequential}
 use Rattle.sc_and_interleavings.proofs.{Places.Held, Places.place_in, Shapes.writes_ordered, Shapes.writes_same, Shapes.read_before}
 use Rattle.sc_and_interleavings.proofs.{Sorting.IsAcyclic}
 
@@ -79,8 +70,7 @@ by_dirs threads x place e f dirs.R dirs.R u v held a b l =
         ByFr (record {
           place = place;
           reads = (u, a);
-          before = read_before threads x place u (source_at threads x e) s.write held
-              (held.reads place u e a) s.writes (omega (arith, l, s.same));
+          before = grind (arith, read_before, held.reads place u e a);
         }),
         ByRf (record { place = place; reads = (v, b); source = s.source }),
       );

@@ -1,15 +1,6 @@
 -- How far round the cycle an event is from the target of an edge that leads to another location: along each arc, this distance
 -- rises, and so do values.
-use Rattle.std.proofs.Common.{◌≡◌, ℕ, ◌+◌, ◌-◌, ◌<◌, ◌≤◌, true, List, length, ◌∙◌, ap, arith}
-use Rattle.std.specs.Prelude.{if◌then◌else◌, nat_lt}
-use Rattle.std.proofs.lemmas.Bool.{cond-true, cond-false, lt-ltb, le-ltb}
-use Rattle.relax_edges.specs.declared.edge.Edge.{Edge}
-use Rattle.relax_edges.specs.EdgeTable.{is_diff}
-use Rattle.list_laws.proofs.Cases.{by_less}
-use Rattle.cycle_events.specs.Resolution.{IsResolved, edge_at, event_after, location_of, moves_before}
-use Rattle.cycle_events.proofs.{Around.by_after, Locations.moves_on, Locations.moves_up, Locations.moves_most, Along.values_up, Along.values_grow}
-use Rattle.cycle_events.proofs.{Ways.by_way, Ways.only_on_way}
-use Rattle.cycle_events.specs.Values.{value_of, way_place, is_write}
+use Rattle.sc_and_interleavings.proofs.Vocabulary.{◌≡◌, ℕ, ◌+◌, ◌-◌, ◌<◌, ◌≤◌, true, List, length, ◌∙◌, ap, arith, if◌then◌else◌, nat_lt, cond-true, cond-false, lt-ltb, le-ltb, Edge, is_diff, by_less, IsResolved, edge_at, event_after, location_of, moves_before, by_after, moves_on, moves_up, moves_most, values_up, values_grow, by_way, only_on_way, value_of, way_place, is_write}
 
 -- how far event j is from the target of edge i
 abbrev pub distance : List Edge → ℕ → ℕ → ℕ

@@ -1,8 +1,5 @@
 -- What a filter keeps of a list and of its first elements, and where it stands in the list.
-use Rattle.std.proofs.Common.{◌≡◌, ℕ, zero, suc, ◌+◌, ◌<◌, ◌≤◌, Bool, true, cond, List, [], ◌∷◌, Some, slice_get, take, refl, sym, ◌∙◌, ap, arith}
-use Rattle.std.specs.List.{count_by, filter}
-use Rattle.std.proofs.lemmas.{Bool.cond-true, Bool.cond-false, List.Sums.sum_by-cons}
-use Rattle.list_laws.proofs.Cases.{by_test}
+use Rattle.sc_and_interleavings.proofs.Vocabulary.{◌≡◌, ℕ, zero, suc, ◌+◌, ◌<◌, ◌≤◌, Bool, true, cond, List, [], ◌∷◌, Some, slice_get, take, refl, sym, ◌∙◌, ap, arith, count_by, filter, cond-true, cond-false, sum_by-cons, by_test}
 
 counted : {X : Type 0} (p : X → Bool) (x : X) (xs : List X) (k : ℕ) → count_by p (take (suc k) (x ∷ xs)) ≡ cond (p x) 1 0 + count_by p (take k xs)
 counted p x xs k = sum_by-cons (λ x. cond (p x) 1 0) x (take k xs)

@@ -1,13 +1,7 @@
 -- The laws of this crate.
-use Rattle.std.proofs.Common.{◌<◌, List, length, arith}
-use Rattle.std.proofs.lemmas.List.Sums.{count_by-le-length}
-use Rattle.relax_edges.specs.declared.edge.Edge.{Edge}
-use Rattle.relax_edges.specs.EdgeTable.{is_external}
-use Rattle.cycle_events.specs.Resolution.{IsResolved}
-use Rattle.program_meaning.specs.Programs.{accesses_in}
+use Rattle.sc_and_interleavings.proofs.Vocabulary.{◌<◌, List, length, arith, count_by-le-length, Edge, is_external, IsResolved, accesses_in, SequentialIsCoherent, StandingIsNotSequential}
 use Rattle.sc_and_interleavings.proofs.{Places.held, CoherenceLaws.candidates_are_sc_per_location, Sequential.sequential_per_location}
 use Rattle.sc_and_interleavings.proofs.{Around.all_stand_cycle}
-use Rattle.sc_and_interleavings.specs.InterleavingLaws.{SequentialIsCoherent, StandingIsNotSequential}
 
 -- a sequentially consistent candidate is coherent per location
 pub sequential_is_coherent : SequentialIsCoherent

@@ -1,26 +1,9 @@
 -- Where all edges of a cycle stand in a coherent execution of a program that makes the accesses of the cycle's test, the coherence
 -- place of each event is its value.
-use Rattle.std.proofs.Common.{◌≡◌, ℕ, zero, suc, ◌+◌, ◌<◌, ◌≤◌, true, List, length, Option, Some, None, refl, sym, ◌∙◌, ap, subst, arith}
-use Rattle.std.proofs.lemmas.Option.{slice_get_within}
-use Rattle.relax_edges.specs.declared.{kinds.Dir.Dir, kinds.Sd.Sd, kinds.Sd.TheVariants.Same, kinds.Sd.TheVariants.Diff}
-use Rattle.relax_edges.specs.declared.{kinds.Reach.TheVariants.Internal, kinds.Reach.TheVariants.External, kinds.Kind.Kind, edge.Edge.Edge}
+use Rattle.sc_and_interleavings.proofs.Vocabulary.{◌≡◌, ℕ, zero, suc, ◌+◌, ◌<◌, ◌≤◌, true, List, length, Option, Some, None, refl, sym, ◌∙◌, ap, subst, arith, slice_get_within, Dir, Sd, Same, Diff, Internal, External, Kind, Edge, kind_of, source_of, target_of, sd_of, is_diff, kind_source, kind_target, kind_reach, IsResolved, edge_at, event_after, event_before, thread_of, slot_of, location_of, move_count, leaving, after_below, after_before, before_below, value_at_end, value_of, write_count, WriteAt, Access, read, write, at_name, Execution, CanRead, IsNumbering, ordered_write, location_order, IsCoherent, MayFollow, order_place, order_at, source_at, placed_by, coherence_place, AreAt, CommunicatesBy, Reaches, Joins, event_name, gives_writes, place_of_value, length-filter_map-upto, FromBefore, from_before, Holds, order_by_steps, IsWrite, Resolves, written_by, moves, NthWrite, nth_write, ordered_write-is, rank_below, more_than, IsWriteTo}
 use Rattle.relax_edges.specs.declared.kinds.Dir.TheVariants as dirs
 use Rattle.relax_edges.specs.declared.kinds.Com.TheVariants as coms
 use Rattle.relax_edges.specs.declared.kinds.Kind.TheVariants as kinds
-use Rattle.relax_edges.specs.EdgeTable.{kind_of, source_of, target_of, sd_of, is_diff, kind_source, kind_target, kind_reach}
-use Rattle.cycle_events.specs.Resolution.{IsResolved, edge_at, event_after, event_before, thread_of, slot_of, location_of, move_count}
-use Rattle.cycle_events.proofs.{Arcs.leaving, Around.after_below, Around.after_before, Around.before_below, Along.value_at_end}
-use Rattle.cycle_events.specs.Values.{value_of, write_count}
-use Rattle.program_meaning.specs.declared.WriteAt.{WriteAt}
-use Rattle.program_meaning.specs.Accesses.{Access, read, write, at_name}
-use Rattle.program_meaning.specs.{Executions.Execution, Executions.CanRead, Intended.IsNumbering, Intended.ordered_write, Intended.location_order}
-use Rattle.program_meaning.specs.Coherence.{IsCoherent, MayFollow, order_place, order_at, source_at, placed_by, coherence_place}
-use Rattle.program_meaning.specs.Standing.{AreAt, CommunicatesBy, Reaches, Joins, event_name}
-use Rattle.accesses_force_cycles.proofs.{IntendedOrders.gives_writes, IntendedOrders.place_of_value, Lists.length-filter_map-upto, OnlyOne.FromBefore}
-use Rattle.accesses_force_cycles.proofs.{OnlyOne.from_before, Orders.Holds, Orders.order_by_steps, Resolves.IsWrite, Resolves.Resolves}
-use Rattle.accesses_force_cycles.proofs.{Resolves.written_by, Bridge.moves}
-use Rattle.accesses_force_cycles.proofs.WriteEvents.{NthWrite, nth_write, ordered_write-is, rank_below, more_than}
-use Rattle.sc_and_interleavings.specs.Relations.{IsWriteTo}
 use Rattle.sc_and_interleavings.proofs.Places.{Held, place_in, level, level_is, level_write}
 use Rattle.sc_and_interleavings.proofs.Distances.{distance, distance_next, distance_below}
 
@@ -106,17 +89,14 @@ along es number threads x i s h same = by_kind (kind_of (edge_at es i)) refl
 
     by_kind : (k : Kind) → kind_of (edge_at es i) ≡ k → MayFollow (target_of (edge_at es i)) (level_at es threads x i)
         (level_at es threads x (event_after es i))
-    by_kind (kinds.Com way Internal) e = inside (kinds.Com way Internal) e refl
     by_kind (kinds.Com coms.Rf External) e =
         let k = kinds.Com coms.Rf External in
         let c : source_at threads x (event_name es (event_after es i)) ≡ Some (event_name es i) = communicates k e in
         let d : a.access.dir ≡ dirs.W = j.leaves ∙ ap kind_source e in
         let f : b.access.dir ≡ dirs.R = j.enters ∙ ap kind_target e in
-        let l : coherence_place threads x (event_name es i) a.access ≡ order_place (order_at x a.access.place) (Some (event_name es i)) =
-        ap (λ d. order_place (order_at x a.access.place) (placed_by d threads x (event_name es i))) d in
+        let l : coherence_place threads x (event_name es i) a.access ≡ order_place (order_at x a.access.place) (Some (event_name es i)) = grind arith in
         let m : coherence_place threads x (event_name es (event_after es i)) b.access ≡ order_place (order_at x b.access.place) (Some (event_name es i)) =
-        ap (λ d. order_place (order_at x b.access.place) (placed_by d threads x (event_name es (event_after es i)))) f ∙ ap
-        (order_place (order_at x b.access.place)) c in
+        grind arith in
         let n : order_place (order_at x a.access.place) (Some (event_name es i)) ≡ order_place (order_at x b.access.place) (Some (event_name es i)) = ap
         (λ p. order_place (order_at x p) (Some (event_name es i))) places in
         subst (λ d. MayFollow d (level_at es threads x i) (level_at es threads x (event_after es i))) (sym (target k e)) (omega (arith, from, to, l, m, n))
@@ -128,10 +108,7 @@ along es number threads x i s h same = by_kind (kind_of (edge_at es i)) refl
         let k = kinds.Com coms.Ws External in
         levels (subst (λ d. MayFollow d (coherence_place threads x (event_name es i) a.access)
         (coherence_place threads x (event_name es (event_after es i)) b.access)) (sym (target k e)) (communicates k e))
-    by_kind (kinds.Po sd from to) e = inside (kinds.Po sd from to) e refl
-    by_kind (kinds.Fenced fence sd from to) e = inside (kinds.Fenced fence sd from to) e refl
-    by_kind (kinds.Dep dep sd to) e = inside (kinds.Dep dep sd to) e refl
-    by_kind (kinds.Data sd) e = inside (kinds.Data sd) e refl
+    by_kind k e = inside k e refl
 
 -- in numbers: it stays at a read at least, and rises by one at least at a write
 rises_along : (es : List Edge) (number : ℕ → ℕ) (threads : List (List Access)) (x : Execution) (i : ℕ) → Standing es number threads x → i < length es
@@ -145,8 +122,7 @@ same_write_event es j w r h l d e same v =
     let k = more_than (value_of es j) (r.positive j h d) in
     let a = r.found (location_of es j) k.0 w (record { below = l; writes = e; location = same; value = v ∙ k.1 }) in
     let b = r.found (location_of es j) k.0 j (record { below = h; writes = d; location = refl; value = k.1 }) in
-    let s : Some w ≡ Some j = sym a ∙ b in
-    cc s
+    cc (a, b)
 
 -- an edge that keeps the location isn't one that leads to another
 kept_apart : (es : List Edge) (k d : ℕ) → is_diff (edge_at es d) ≡ true → sd_of (edge_at es k) ≡ Same → k ≡ d → ⊥
@@ -205,9 +181,7 @@ all_at_write es number threads x j s h =
 -- a write event is a write to its location's place
 pub event_writes : (es : List Edge) (number : ℕ → ℕ) (threads : List (List Access)) (x : Execution) (i : ℕ) → Standing es number threads x → i < length es
     → source_of (edge_at es i) ≡ dirs.W → at_name threads (event_name es i) ≡ Some (write (number (location_of es i)) (value_of es i))
-event_writes es number threads x i s h d =
-    let a = s.made i h in
-    a.at ∙ (λ t. Some (record { dir = (a.dir ∙ d) t; place = a.place t; value = a.value d t }))
+event_writes es number threads x i s h d = grind (arith, s.made i h)
 
 -- what writes to a place is a write event
 pub record WriteOf (es : List Edge) (number : ℕ → ℕ) (w : WriteAt) (place value : ℕ) : Type 0 where
@@ -223,8 +197,7 @@ pub write_of_event : (es : List Edge) (number : ℕ → ℕ) (threads : List (Li
 write_of_event es number threads x w place value s h =
     let i = s.writes w place value h in
     let a = s.made i.0 i.1 in
-    let e : Some a.access ≡ Some (write place value) = sym a.at ∙ ap (at_name threads) (sym i.2) ∙ h in
-    let f : a.access ≡ write place value = cc e in
+    let f : a.access ≡ write place value = cc (a.at, ap (at_name threads) (sym i.2), h) in
     let d : source_of (edge_at es i.0) ≡ dirs.W = sym a.dir ∙ ap (λ b. b.dir) f in
     record { event = i.0; below = i.1; name = i.2; writes = d; place_is = sym a.place ∙ ap (λ b. b.place) f; value_is = sym (a.value d) ∙ ap (λ b. b.value) f }
 
@@ -235,8 +208,7 @@ holds es number threads x l s b = record {
   some = (gives_writes es l s.r).some;
   each = λ k w h e.
       let a = nth_write es l k s.r h in
-      let q : Some (event_name es a.event) ≡ Some w = sym a.name_is ∙ e in
-      let n : event_name es a.event ≡ w = cc q in
+      let n : event_name es a.event ≡ w = cc (a.name_is, e) in
       s.held.each (number l) w (
         value_of es a.event,
         ap (at_name threads) (sym n) ∙ event_writes es number threads x a.event s a.is_write.below a.is_write.writes ∙ ap
@@ -283,8 +255,7 @@ write_steps es number threads x l k s h =
     same =
         let p = s.r.found l (suc k) f.write f.is_write in
         let q = s.r.found l (suc k) b.event b.is_write in
-        let e : Some f.write ≡ Some b.event = sym p ∙ q in
-        cc e
+        cc (p, q)
 
     before : level_at es threads x a.event ≤ level_at es threads x f.from
     before = all_at_write es number threads x f.from s f.below a.event a.is_write.below a.is_write.writes (a.is_write.location ∙ sym f.spot)
@@ -301,11 +272,7 @@ write_steps es number threads x l k s h =
 pub order_is : (es : List Edge) (number : ℕ → ℕ) (threads : List (List Access)) (x : Execution) (l : ℕ) → Standing es number threads x → l < move_count es
     → order_at x (number l) ≡ location_order es l
 unfolding location_order
-order_is es number threads x l s b =
-    order_by_steps (order_at x (number l)) (ordered_write es l) (write_count es l) (holds es number threads x l s b)
-    (λ k h. let e : k + 1 ≡ suc k = omega arith in
-    subst (λ n. order_place (order_at x (number l)) (ordered_write es l k) < order_place (order_at x (number l)) (ordered_write es l n)) (sym e)
-    (write_steps es number threads x l k s (omega (arith, h))))
+order_is es number threads x l s b = grind (arith, order_by_steps, holds es number threads x l s b, write_steps)
 
 order-count : (es : List Edge) (l : ℕ) → Resolves es → length (location_order es l) ≡ write_count es l
 unfolding location_order

@@ -1,16 +1,5 @@
 -- The interleaving along which a sequentially consistent execution goes.
-use Rattle.std.proofs.Common.{◌≡◌, ℕ, zero, suc, ◌+◌, ◌<◌, ◌≤◌, Bool, true, cond, List, [], ◌∷◌, length, Option, Some, None, slice_get, take, refl, sym, ◌∙◌, ap, arith}
-use Rattle.std.specs.List.{count_by, filter, filter_map}
-use Rattle.std.proofs.lemmas.{Option.slice_get_within, List.Sums.length-filter, List.Sums.sum_by-cons}
-use Rattle.list_laws.specs.Numbers.{upto}
-use Rattle.list_laws.proofs.Cases.{by_less, by_option}
-use Rattle.program_meaning.specs.declared.WriteAt.{WriteAt}
-use Rattle.program_meaning.specs.Accesses.{Access, read, write, at_name}
-use Rattle.program_meaning.specs.{Executions.Execution, Executions.CanRead, Coherence.order_place, Coherence.order_at, Coherence.source_at}
-use Rattle.program_meaning.specs.Interleavings.{IsInterleaving, GivesValues, writes_in, latest}
-use Rattle.accesses_force_cycles.proofs.Lists.{same_below, got_below, rank_filter, length-filter_map-upto, slice_get-filter_map-upto}
-use Rattle.accesses_force_cycles.proofs.Orders.{Holds, order_by_steps, order_place_at}
-use Rattle.sc_and_interleavings.specs.{Sequential.IsSequential, Along.IsAlong}
+use Rattle.sc_and_interleavings.proofs.Vocabulary.{◌≡◌, ℕ, zero, suc, ◌+◌, ◌<◌, ◌≤◌, Bool, true, cond, List, [], ◌∷◌, length, Option, Some, None, slice_get, take, refl, sym, ◌∙◌, ap, arith, count_by, filter, filter_map, slice_get_within, length-filter, sum_by-cons, upto, by_less, by_option, WriteAt, Access, read, write, at_name, Execution, CanRead, order_place, order_at, source_at, IsInterleaving, GivesValues, writes_in, latest, same_below, got_below, rank_filter, length-filter_map-upto, slice_get-filter_map-upto, Holds, order_by_steps, order_place_at, IsSequential, IsAlong}
 use Rattle.sc_and_interleavings.proofs.{Places.Held, Places.place_in, Filtered.found, Filtered.count_rises, Filtered.count_one, Listed.all_names}
 use Rattle.sc_and_interleavings.proofs.{Listed.listed, Listed.named}
 use Rattle.sc_and_interleavings.proofs.Lines.{to_place, passes, passed, latest_at, none_before}
@@ -36,9 +25,7 @@ line_names threads x k e h = grind (arith, named, sorted_was_in, got_in)
 pub line_interleaves : (threads : List (List Access)) (x : Execution) → Held threads x → IsSequential threads x → IsInterleaving threads (line_of threads x)
 line_interleaves threads x held s = record {
   names = λ k e h. line_names threads x k e h;
-  each = λ e a h. in_got e (line_of threads x)
-      (sorted_in (comes threads x) (Leads threads x) (length (all_names threads)) (all_names threads) e (acyclic threads x held s) (omega arith)
-      (listed threads e a h));
+  each = λ e a h. grind (arith, in_got, sorted_in, acyclic threads x held s, listed threads e a h);
   once = λ j k e a b. stands_once (comes threads x) (line_of threads x) j k e
       (is_sorted (comes threads x) (length (all_names threads)) (all_names threads)) a b;
   in_order = λ j k e f a b t l.
@@ -227,8 +214,7 @@ line_reads threads x place value k r held s g a = by_source (source_at threads x
         (λ n. absurd (omega (arith, p, none_before threads line place k n)))
         (λ v m. let l = latest_at threads line place k v m in
         let j : count_by (to_place threads place) (take l.index line) ≡ i.0 = omega (arith, l.rank, p) in
-        let b : slice_get (writes_in threads place line) i.0 ≡ Some v = ap (slice_get (writes_in threads place line)) (sym j) ∙ rank_filter
-        (to_place threads place) line l.index v l.got l.passes in
+        let b : slice_get (writes_in threads place line) i.0 ≡ Some v = grind (arith, rank_filter (to_place threads place) line l.index v l.got l.passes) in
         sym i.1 ∙ ap (λ l. slice_get l i.0) (line_order threads x place held s) ∙ b ∙ sym m)
 
 -- the execution goes along it

@@ -1,14 +1,5 @@
 -- Where accesses stand in an interleaving, and the writes before them.
-use Rattle.std.proofs.Common.{◌≡◌, ℕ, ◌+◌, ◌-◌, ◌<◌, ◌≤◌, Bool, true, List, length, Some, None, slice_get, take, ◌∙◌, ap, arith}
-use Rattle.std.specs.List.{count_by, filter}
-use Rattle.std.proofs.lemmas.{Option.slice_get_within, Option.slice_get_past, List.Sums.length-filter}
-use Rattle.list_laws.proofs.Numbers.{length-map-upto, slice_get-map-upto}
-use Rattle.program_meaning.specs.declared.WriteAt.{WriteAt}
-use Rattle.program_meaning.specs.{Accesses.Access, Accesses.at_name, Coherence.order_at, Interleavings.writes_there, Interleavings.writes_in}
-use Rattle.program_meaning.specs.{Interleavings.latest}
-use Rattle.program_meaning.proofs.Candidates.{writes_there_means, writes_to_from}
-use Rattle.accesses_force_cycles.proofs.{Lists.got_below, Orders.found_at}
-use Rattle.sc_and_interleavings.specs.{Relations.IsWriteTo, Relations.IsReadOf, Made.before, Made.made_by}
+use Rattle.sc_and_interleavings.proofs.Vocabulary.{◌≡◌, ℕ, ◌+◌, ◌-◌, ◌<◌, ◌≤◌, Bool, true, List, length, Some, None, slice_get, take, ◌∙◌, ap, arith, count_by, filter, slice_get_within, slice_get_past, length-filter, length-map-upto, slice_get-map-upto, WriteAt, Access, at_name, order_at, writes_there, writes_in, latest, writes_there_means, writes_to_from, got_below, found_at, IsWriteTo, IsReadOf, before, made_by}
 use Rattle.sc_and_interleavings.proofs.Filtered.{found, count_rises, count_one, got_of_take, take_fewer}
 
 -- the accesses before one that stands at a number are as many

@@ -1,9 +1,5 @@
 -- All accesses of threads, by name.
-use Rattle.std.proofs.Common.{◌≡◌, ℕ, zero, suc, ◌+◌, List, [], ◌∷◌, ◌++◌, Some, slice_get, refl, ◌∙◌, ap, subst, arith, inl, inr}
-use Rattle.std.specs.Prelude.{◌⊎◌}
-use Rattle.program_meaning.specs.declared.WriteAt.{WriteAt}
-use Rattle.program_meaning.specs.{Accesses.Access, Accesses.at_name, Deciding.name}
-use Rattle.program_meaning.proofs.Names.{got_from_list, at_name_of}
+use Rattle.sc_and_interleavings.proofs.Vocabulary.{◌≡◌, ℕ, zero, suc, ◌+◌, List, [], ◌∷◌, ◌++◌, Some, slice_get, refl, ◌∙◌, ap, subst, arith, inl, inr, ◌⊎◌, WriteAt, Access, at_name, name, got_from_list, at_name_of}
 use Rattle.sc_and_interleavings.proofs.Sorting.{In}
 
 -- the names of the accesses of a thread, of which the first of these has a number

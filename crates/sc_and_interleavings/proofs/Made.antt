@@ -1,17 +1,5 @@
 -- The execution that an interleaving makes is one of its threads, and of its program where it is one of a program.
-use Rattle.std.proofs.Common.{◌≡◌, ℕ, ◌+◌, true, List, map, Option, Some, None, slice_get, take, refl, sym, ◌∙◌, ap, subst, arith}
-use Rattle.std.specs.{List.count_by, List.filter, Option.option_and_then}
-use Rattle.std.proofs.lemmas.Option.{slice_get_within}
-use Rattle.list_laws.specs.Numbers.{upto}
-use Rattle.list_laws.proofs.Numbers.{length-map-upto, slice_get-map-upto}
-use Rattle.program_meaning.specs.declared.WriteAt.{WriteAt}
-use Rattle.program_meaning.specs.Accesses.{Access, read, write, is_read, at_name}
-use Rattle.program_meaning.specs.Executions.{CanRead, AreReadsOf, IsOrderOf, IsExecutionOf}
-use Rattle.program_meaning.specs.{Coherence.value_of_access, Deciding.name}
-use Rattle.program_meaning.specs.Interleavings.{IsInterleaving, GivesValues, writes_in, latest, accesses_on}
-use Rattle.program_meaning.proofs.Names.{at_name_of}
-use Rattle.accesses_force_cycles.proofs.Lists.{rank_filter}
-use Rattle.sc_and_interleavings.specs.{Made.before, Made.reads_from, Made.made_by, InterleavingLaws.InterleavingsMakeExecutions}
+use Rattle.sc_and_interleavings.proofs.Vocabulary.{◌≡◌, ℕ, ◌+◌, true, List, map, Option, Some, None, slice_get, take, refl, sym, ◌∙◌, ap, subst, arith, count_by, filter, option_and_then, slice_get_within, upto, length-map-upto, slice_get-map-upto, WriteAt, Access, read, write, is_read, at_name, CanRead, AreReadsOf, IsOrderOf, IsExecutionOf, value_of_access, name, IsInterleaving, GivesValues, writes_in, latest, accesses_on, at_name_of, rank_filter, before, reads_from, made_by, InterleavingsMakeExecutions}
 use Rattle.sc_and_interleavings.proofs.{Filtered.found, Rising.made_sequential}
 use Rattle.sc_and_interleavings.proofs.Lines.{to_place, passes, passed, before_is, latest_at}
 use Rattle.sc_and_interleavings.proofs.MadeReads.{are_reads_from, thread_reads, reads_counted, same_runs}
@@ -70,11 +58,7 @@ made_execution threads places line h gives = record {
       each = λ w v a.
           let n = h.each w _ a in
           (count_by (to_place threads place) (take n.0 line), rank_filter (to_place threads place) line n.0 w n.1 (passes threads place w (v, a)));
-      once = λ j k w g q.
-          let a = found (to_place threads place) line j w g in
-          let b = found (to_place threads place) line k w q in
-          let s : a.index ≡ b.index = h.once a.index b.index w a.got b.got in
-          sym a.rank ∙ ap (λ n. count_by (to_place threads place) (take n line)) s ∙ b.rank;
+      once = λ j k w g q. grind (arith, found (to_place threads place) line j w g, found (to_place threads place) line k w q);
     }
 
 -- each interleaving of a program makes an execution of it

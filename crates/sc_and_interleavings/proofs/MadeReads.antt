@@ -1,16 +1,5 @@
 -- The reads of the execution that an interleaving makes.
-use Rattle.std.proofs.Common.{◌≡◌, ℕ, zero, suc, ◌+◌, true, false, cond, List, [], ◌∷◌, length, map, Option, Some, slice_get, take, refl, sym, ◌∙◌, ap, subst, arith}
-use Rattle.std.specs.{Prelude.unwrap_or, List.count_by, List.filter}
-use Rattle.std.proofs.lemmas.{Bool.cond-true, Bool.cond-false, List.Sums.sum_by-cons}
-use Rattle.list_laws.proofs.Cases.{by_test}
-use Rattle.micro_ops.specs.Running.{Outcome, runs}
-use Rattle.program_meaning.specs.declared.WriteAt.{WriteAt}
-use Rattle.program_meaning.specs.Accesses.{Access, is_read, visits_of, accesses_of, at_name, reads_among, reads_before}
-use Rattle.program_meaning.specs.{Executions.CanRead, Executions.AreReadsOf, Coherence.named_by, Coherence.source_at, Interleavings.runs_on}
-use Rattle.program_meaning.specs.{Deciding.name}
-use Rattle.program_meaning.specs.Programs.{Thread, HasEnded, made_in, runs_of}
-use Rattle.program_meaning.proofs.Names.{got_from_list}
-use Rattle.sc_and_interleavings.specs.Made.{reads_from, all_reads}
+use Rattle.sc_and_interleavings.proofs.Vocabulary.{◌≡◌, ℕ, zero, suc, ◌+◌, true, false, cond, List, [], ◌∷◌, length, map, Option, Some, slice_get, take, refl, sym, ◌∙◌, ap, subst, arith, unwrap_or, count_by, filter, cond-true, cond-false, sum_by-cons, by_test, Outcome, runs, WriteAt, Access, is_read, visits_of, accesses_of, at_name, reads_among, reads_before, CanRead, AreReadsOf, named_by, source_at, runs_on, name, Thread, HasEnded, made_in, runs_of, got_from_list, reads_from, all_reads}
 use Rattle.sc_and_interleavings.proofs.RunReads.{ended_reads}
 
 -- a read of a thread, its value and what it reads, before the reads of the accesses after it

@@ -1,25 +1,10 @@
 -- In the intended execution, without the pairs across one link, each step leads further from the target of that link, where a read
 -- of an observer comes right after the write that it reads.
-use Rattle.std.proofs.Common.{◌≡◌, ℕ, ◌+◌, ◌<◌, ◌≤◌, true, List, [], ◌∷◌, length, Option, Some, None, slice_get, refl, sym, ◌∙◌, ap, subst, arith}
+use Rattle.sc_and_interleavings.proofs.Vocabulary.{◌≡◌, ℕ, ◌+◌, ◌<◌, ◌≤◌, true, List, [], ◌∷◌, length, Option, Some, None, slice_get, refl, sym, ◌∙◌, ap, arith, ObsMode, Edge, source_of, is_diff, by_same, unrank_upto, IsResolved, edge_at, thread_of, slot_of, location_of, external_count, move_count, value_of, write_at, is_write, is_observed, WriteAt, Access, read, write, at_name, order_place, order_at, source_at, event_name, IsNumbering, cycle_accesses, intended, observed_locations, EventAt, LoadAt, by_origin, resolves, moves, intended_is_execution, place_is_value, Resolves, later_slot, write_event, WritesWithin, EachLinkCloses, PrecedesBut, IsWriteTo, ReadsFrom, CoherenceOrder, IsBefore, FromRead, StepBy, ByPo, ByRf, ByCo, ByFr, IsPathBy, thread_up}
 use Rattle.relax_edges.specs.declared.kinds.Dir.TheVariants as dirs
-use Rattle.relax_edges.specs.declared.{kinds.ObsMode.ObsMode, edge.Edge.Edge}
-use Rattle.relax_edges.specs.EdgeTable.{source_of, is_diff}
-use Rattle.list_laws.proofs.{Cases.by_same, Ranks.unrank_upto}
-use Rattle.cycle_events.specs.Resolution.{IsResolved, edge_at, thread_of, slot_of, location_of, external_count, move_count}
-use Rattle.cycle_events.specs.Values.{value_of, write_at, is_write, is_observed}
-use Rattle.program_meaning.specs.declared.WriteAt.{WriteAt}
-use Rattle.program_meaning.specs.Accesses.{Access, read, write, at_name}
-use Rattle.program_meaning.specs.{Executions.CanRead, Coherence.order_place, Coherence.order_at, Coherence.source_at, Standing.event_name}
-use Rattle.program_meaning.specs.Intended.{IsNumbering, cycle_accesses, intended, observed_locations}
-use Rattle.accesses_force_cycles.proofs.{Accesses.EventAt, Accesses.LoadAt, Accesses.by_origin, Bridge.resolves, Bridge.moves}
-use Rattle.accesses_force_cycles.proofs.{IntendedExists.intended_is_execution, IntendedOrders.place_is_value, Resolves.Resolves, Resolves.later_slot}
-use Rattle.accesses_force_cycles.proofs.{WriteEvents.write_event}
-use Rattle.sc_and_interleavings.specs.{CoherenceLaws.WritesWithin, LinkLaws.EachLinkCloses, Links.PrecedesBut}
-use Rattle.sc_and_interleavings.specs.Relations.{IsWriteTo, ReadsFrom, CoherenceOrder, IsBefore, FromRead}
-use Rattle.sc_and_interleavings.specs.Sequential.{StepBy, ByPo, ByRf, ByCo, ByFr, IsPathBy}
 use Rattle.sc_and_interleavings.proofs.Places.{Held, held, place_in}
 use Rattle.sc_and_interleavings.proofs.Distances.{distance, distance_beside, further_by_value, further_than_write}
-use Rattle.cycle_events.proofs.Threads.{thread_up}
+use Rattle.sc_and_interleavings.proofs.Levels.{WriteOf}
 
 -- the rank of an access: twice the distance of its event, or one more than that of the write that an observer's read reads
 data Ranked (es : List Edge) (mode : ObsMode) (i : ℕ) (e : WriteAt) (rank : ℕ) : Type 0 where
@@ -57,16 +42,8 @@ record Facts (es : List Edge) (mode : ObsMode) (number : ℕ → ℕ) (i : ℕ) 
   held : Held (cycle_accesses es mode number) (intended es mode number)
 
 -- a write's event
-record Written (es : List Edge) (number : ℕ → ℕ) (w : WriteAt) (place value : ℕ) : Type 0 where
-  event : ℕ
-  below : event < length es
-  name : w ≡ event_name es event
-  writes : source_of (edge_at es event) ≡ dirs.W
-  place_is : number (location_of es event) ≡ place
-  value_is : value_of es event ≡ value
-
 written : (es : List Edge) (mode : ObsMode) (number : ℕ → ℕ) (w : WriteAt) (place value : ℕ) → Resolves es
-    → at_name (cycle_accesses es mode number) w ≡ Some (write place value) → Written es number w place value
+    → at_name (cycle_accesses es mode number) w ≡ Some (write place value) → WriteOf es number w place value
 written es mode number w place value r h = grind (arith, write_event es mode number w place value r h)
 
 -- an observed location is one of the cycle's
@@ -75,13 +52,12 @@ observed_below es mode o l h = (unrank_upto (is_observed es mode) (move_count es
 
 -- from a write to a read of its value at its place
 to_read : (es : List Edge) (mode : ObsMode) (number : ℕ → ℕ) (i : ℕ) (w f : WriteAt)
-    (place value : ℕ) → Facts es mode number i → Written es number w place value
+    (place value : ℕ) → Facts es mode number i → WriteOf es number w place value
     → at_name (cycle_accesses es mode number) f ≡ Some (read place value) → Goes es mode i w f
 to_read es mode number i w f place value facts a h =
     by_origin es mode number f (read place value) facts.r h
     (λ (e : EventAt es number f (read place value)).
-    let l : location_of es a.event ≡ location_of es e.event = facts.numbering.injective (location_of es a.event) (location_of es e.event)
-    (facts.r.location a.event) (facts.r.location e.event) (a.place_is ∙ sym (ap (λ b. b.place) e.access_is)) in
+    let l : location_of es a.event ≡ location_of es e.event = grind (arith, facts.r.location a.event, facts.r.location e.event) in
     let v : value_of es a.event ≡ value_of es e.event = a.value_is ∙ sym (ap (λ b. b.value) e.access_is) in
     let d = further_than_write es i a.event e.event facts.resolved facts.below facts.moves a.below e.below l v (writes_test es a.event a.writes)
     (λ s. let x : dirs.W ≡ dirs.R = sym a.writes ∙ ap (λ j. source_of (edge_at es j)) s ∙ ap (λ b. b.dir) e.access_is in cc x) in
@@ -93,8 +69,7 @@ to_read es mode number i w f place value facts a h =
       rises = omega (arith, d);
     })
     (λ (e : LoadAt es mode number f (read place value)).
-    let spot : location_of es a.event ≡ e.spot = facts.numbering.injective (location_of es a.event) e.spot (facts.r.location a.event)
-    (observed_below es mode e.observer e.spot e.observes) (a.place_is ∙ sym (ap (λ b. b.place) e.access_is)) in
+    let spot : location_of es a.event ≡ e.spot = grind (arith, facts.r.location a.event, observed_below es mode e.observer e.spot e.observes) in
     let v : value_of es a.event ≡ f.access + 1 = a.value_is ∙ sym (ap (λ b. b.value) e.access_is) in
     record {
       from = distance es i a.event + distance es i a.event;
@@ -107,12 +82,11 @@ to_read es mode number i w f place value facts a h =
 
 -- from an access to a write of a greater value at its place
 to_write : (es : List Edge) (mode : ObsMode) (number : ℕ → ℕ) (i : ℕ) (e w : WriteAt) (a : Access) (value : ℕ) → Facts es mode number i
-    → at_name (cycle_accesses es mode number) e ≡ Some a → Written es number w a.place value → a.value < value → Goes es mode i e w
+    → at_name (cycle_accesses es mode number) e ≡ Some a → WriteOf es number w a.place value → a.value < value → Goes es mode i e w
 to_write es mode number i e w a value facts h b less =
     by_origin es mode number e a facts.r h
     (λ (o : EventAt es number e a).
-    let l : location_of es o.event ≡ location_of es b.event = facts.numbering.injective (location_of es o.event) (location_of es b.event)
-    (facts.r.location o.event) (facts.r.location b.event) (ap (λ c. c.place) o.access_is ∙ sym b.place_is) in
+    let l : location_of es o.event ≡ location_of es b.event = grind (arith, facts.r.location o.event, facts.r.location b.event) in
     let d = further_by_value es i o.event b.event facts.resolved facts.below facts.moves o.below b.below l
     (omega (arith, less, ap (λ c. c.value) o.access_is, b.value_is)) in
     record {
@@ -125,8 +99,7 @@ to_write es mode number i e w a value facts h b less =
     (λ (o : LoadAt es mode number e a).
     let n = facts.r.written o.spot e.access o.below in
     let q = facts.r.writes o.spot e.access n.0 n.1 in
-    let l : location_of es n.0 ≡ location_of es b.event = q.location ∙ facts.numbering.injective o.spot (location_of es b.event)
-    (observed_below es mode o.observer o.spot o.observes) (facts.r.location b.event) (ap (λ c. c.place) o.access_is ∙ sym b.place_is) in
+    let l : location_of es n.0 ≡ location_of es b.event = grind (arith, observed_below es mode o.observer o.spot o.observes, facts.r.location b.event) in
     let d = further_by_value es i n.0 b.event facts.resolved facts.below facts.moves q.below b.below l
     (omega (arith, less, ap (λ c. c.value) o.access_is, b.value_is, q.value)) in
     record {
@@ -140,8 +113,7 @@ to_write es mode number i e w a value facts h b less =
 rf_goes : (es : List Edge) (mode : ObsMode) (number : ℕ → ℕ) (i : ℕ) (w f : WriteAt) → Facts es mode number i
     → ReadsFrom (cycle_accesses es mode number) (intended es mode number) w f → Goes es mode i w f
 rf_goes es mode number i w f facts h =
-    let c : at_name (cycle_accesses es mode number) w ≡ Some (write h.place h.reads.0) =
-    subst (λ o. CanRead (cycle_accesses es mode number) (read h.place h.reads.0) o) h.source (facts.held.reads h.place h.reads.0 f h.reads.1) in
+    let c : at_name (cycle_accesses es mode number) w ≡ Some (write h.place h.reads.0) = grind (arith, facts.held.reads h.place h.reads.0 f h.reads.1) in
     to_read es mode number i w f h.place h.reads.0 facts (written es mode number w h.place h.reads.0 facts.r c) h.reads.1
 
 -- the value of a write is its coherence place
@@ -224,8 +196,7 @@ po_goes es mode number i e f facts h =
     loads : LoadAt es mode number e h.order.first.0 → LoadAt es mode number f h.order.second.0 → Goes es mode i e f
     loads a b =
         let o : a.observer ≡ b.observer = omega (arith, a.thread, b.thread, h.order.thread) in
-        let y : Some a.spot ≡ Some b.spot = sym a.observes ∙ ap (slice_get (observed_locations es mode)) o ∙ b.observes in
-        let z : a.spot ≡ b.spot = cc y in
+        let z : a.spot ≡ b.spot = cc (a.observes, ap (slice_get (observed_locations es mode)) o, b.observes) in
         let m = facts.r.written a.spot e.access a.below in
         let n = facts.r.written b.spot f.access b.below in
         let p = facts.r.writes a.spot e.access m.0 m.1 in
@@ -259,8 +230,7 @@ path_goes es mode number i e (g ∷ between) f facts h =
       to = b.to;
       first = a.first;
       second = b.second;
-      rises = omega
-          (arith, a.rises, b.rises, one_rank es mode i g a.to b.from facts.r a.second b.first);
+      rises = grind (arith, one_rank es mode i g a.to b.from facts.r a.second b.first);
     }
 
 -- the writes of a cycle's test are to its places

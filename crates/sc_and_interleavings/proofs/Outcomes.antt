@@ -1,53 +1,7 @@
 -- Where a cycle's test has no observers, a coherent candidate in which all edges stand reads and ends as the condition asks.
-use Rattle.std.proofs.Common.{◌≡◌, ℕ, zero, suc, ◌-◌, ◌<◌, ◌≤◌, List, [], ◌∷◌, length, map, Option, Some, slice_get, refl, sym, ◌∙◌, ap, subst, arith}
-use Rattle.std.specs.{List.filter, Option.option_and_then}
-use Rattle.std.proofs.lemmas.Option.{slice_get_within, slice_get_past}
-use Rattle.relax_edges.specs.declared.{kinds.Dir.Dir, kinds.ObsMode.ObsMode, edge.Edge.Edge}
-use Rattle.relax_edges.specs.declared.kinds.Dir.TheVariants as dirs
-use Rattle.list_laws.proofs.Cases.{by_less}
-use Rattle.cycle_events.specs.Resolution.{IsResolved, edge_at, event_after, events_in, external_count, thread_of, slot_of}
-use Rattle.cycle_events.proofs.Around.{after_below}
-use Rattle.cycle_events.specs.Values.{write_count}
-use Rattle.program_meaning.specs.declared.WriteAt.{WriteAt}
-use Rattle.program_meaning.specs.Accesses.{Access, write, is_read, got_from, at_name}
-use Rattle.program_meaning.specs.{Executions.Execution, Executions.AreReadsOf, Standing.Joins, Standing.AllStand, Standing.event_name}
-use Rattle.program_meaning.specs.Coherence.{last_write, order_at, value_of_access, final_value}
-use Rattle.program_meaning.specs.Programs.{Program, IsCandidate, IsCoherentIn, accesses_in, visits_in}
-use Rattle.program_meaning.specs.Intended.{IsNumbering, event_access, cycle_accesses, observed_locations}
-use Rattle.program_meaning.proofs.{Names.got_from_list, Runs.accesses-count}
-use Rattle.accesses_force_cycles.specs.Joining.{MakesAccesses, EndsAsAsked, ReadsAsAsked, accesses_filled, value_taken, values_left, values_read}
-use Rattle.accesses_force_cycles.proofs.{Accesses.thread_accesses, Accesses.observer_thread, AllStand.access_of_visit, Bridge.resolves}
-use Rattle.accesses_force_cycles.proofs.{IntendedExists.last_of_order, Resolves.Resolves, WriteEvents.nth_write}
-use Rattle.accesses_force_cycles.proofs.Lists.{got_below, got_map, image_of, same_by_gets}
-use Rattle.sc_and_interleavings.proofs.{SequentialMade.writes_to_own, Places.held}
-use Rattle.sc_and_interleavings.specs.LinkLaws.{StandingIsOutcome}
+use Rattle.sc_and_interleavings.proofs.Vocabulary.{◌≡◌, ℕ, zero, suc, ◌-◌, ◌<◌, ◌≤◌, List, [], ◌∷◌, length, map, Option, Some, slice_get, refl, sym, ◌∙◌, ap, subst, arith, filter, option_and_then, slice_get_within, slice_get_past, ObsMode, Edge, by_less, IsResolved, edge_at, event_after, events_in, external_count, thread_of, slot_of, after_below, write_count, WriteAt, Access, write, is_read, got_from, at_name, Execution, AreReadsOf, Joins, AllStand, event_name, last_write, order_at, value_of_access, final_value, Program, IsCandidate, IsCoherentIn, accesses_in, visits_in, IsNumbering, event_access, cycle_accesses, observed_locations, got_from_list, accesses-count, MakesAccesses, EndsAsAsked, ReadsAsAsked, accesses_filled, values_left, values_read, thread_accesses, observer_thread, access_of_visit, resolves, last_of_order, Resolves, nth_write, got_below, got_map, image_of, same_by_gets, StandingIsOutcome}
+use Rattle.sc_and_interleavings.proofs.{SequentialMade.filled_from, SequentialMade.writes_to_own, Places.held}
 use Rattle.sc_and_interleavings.proofs.Levels.{Made, Standing, event_writes, order_is, value_made}
-
--- an access of a thread whose reads read given values, and the one that was planned
-record Filled (planned : List Access) (k : ℕ) (b : Access) : Type 0 where
-  plan : Access
-  got : slice_get planned k ≡ Some plan
-  dir : b.dir ≡ plan.dir
-  place : b.place ≡ plan.place
-  value : plan.dir ≡ dirs.W → b.value ≡ plan.value
-
-own_value : (d : Dir) (values : List ℕ) (own : ℕ) → d ≡ dirs.W → value_taken d values own ≡ own
-own_value d values own h = grind arith
-
-filled_from : (planned : List Access) (values : List ℕ) (k : ℕ) (b : Access) → slice_get (accesses_filled planned values) k ≡ Some b → Filled planned k b
-filled_from [] values k b h = cc h
-filled_from (a ∷ planned) values zero b h =
-    let f : Access = record { dir = a.dir; place = a.place; value = value_taken a.dir values a.value } in
-    let e : Some f ≡ Some b = h in
-    let s : f ≡ b = cc e in
-    record {
-      plan = a;
-      got = refl;
-      dir = sym (ap (λ c. c.dir) s);
-      place = sym (ap (λ c. c.place) s);
-      value = λ d. sym (ap (λ c. c.value) s) ∙ own_value a.dir values a.value d;
-    }
-filled_from (a ∷ planned) values (suc k) b h = grind (arith, filled_from planned (values_left a.dir values) k b h)
 
 filled-count : (planned : List Access) (values : List ℕ) → length (accesses_filled planned values) ≡ length planned
 filled-count [] values = refl
@@ -94,8 +48,7 @@ event_made es mode number p x i g h =
     let a = got_below (accesses_filled planned (values_read m.reads)) (slot_of es i)
     (omega (arith, filled-count planned (values_read m.reads), slice_get_within planned (slot_of es i) (event_access es number i) q)) in
     let f = filled_from planned (values_read m.reads) (slot_of es i) a.element a.got in
-    let e : Some f.plan ≡ Some (event_access es number i) = sym f.got ∙ q in
-    let s : f.plan ≡ event_access es number i = cc e in
+    let s : f.plan ≡ event_access es number i = cc (f.got, q) in
     record {
       access = a.element;
       at = ap (λ o. got_from o (slot_of es i)) m.got ∙ a.got;
@@ -119,8 +72,7 @@ write_made es mode number p x w a g h =
     let l = no_observer es mode number w.thread c.element g.unobserved c.got in
     let m = thread_made es mode number p x w.thread g l in
     let planned = map (event_access es number) (events_in es w.thread) in
-    let s : Some t.list ≡ Some (accesses_filled planned (values_read m.reads)) = sym t.list_is ∙ m.got in
-    let e : t.list ≡ accesses_filled planned (values_read m.reads) = cc s in
+    let e : t.list ≡ accesses_filled planned (values_read m.reads) = cc (t.list_is, m.got) in
     let f = filled_from planned (values_read m.reads) w.access a (ap (λ l. slice_get l w.access) (sym e) ∙ t.got) in
     let i = image_of (event_access es number) (events_in es w.thread) w.access f.plan f.got in
     let n = g.r.event w.thread w.access i.element i.got in
@@ -188,8 +140,7 @@ as_planned es mode number p x k g h = m.got ∙ ap Some (same_by_gets (accesses_
 reads_asked : (es : List Edge) (mode : ObsMode) (number : ℕ → ℕ) (p : Program) (x : Execution) → Given es mode number p x → ReadsAsAsked es mode number x
 reads_asked es mode number p x g k planned reads h q =
     let l = no_observer es mode number k planned g.unobserved h in
-    let s : Some (map (event_access es number) (events_in es k)) ≡ Some planned = sym (thread_accesses es mode number k l) ∙ h in
-    let e : map (event_access es number) (events_in es k) ≡ planned = cc s in
+    let e : map (event_access es number) (events_in es k) ≡ planned = cc (thread_accesses es mode number k l, h) in
     values_are (accesses_in p x) (filter is_read planned) reads
     (g.candidate.execution.reads k planned reads (as_planned es mode number p x k g l ∙ ap Some e) q)
 

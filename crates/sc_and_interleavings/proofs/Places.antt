@@ -1,15 +1,5 @@
 -- Where the accesses of an execution are in the coherence orders.
-use Rattle.std.proofs.Common.{◌≡◌, ℕ, zero, suc, ◌+◌, List, [], ◌∷◌, Option, Some, None, slice_get, take, refl, sym, ◌∙◌, ap, subst, arith}
-use Rattle.std.specs.{Prelude.unwrap_or, List.count_by, List.filter}
-use Rattle.std.proofs.lemmas.Option.{slice_get_within}
-use Rattle.list_laws.proofs.Cases.{by_option}
-use Rattle.program_meaning.specs.declared.WriteAt.{WriteAt}
-use Rattle.program_meaning.specs.Accesses.{Access, read, write, is_read, at_name, reads_among, reads_before}
-use Rattle.program_meaning.specs.Executions.{Execution, CanRead, AreReadsOf, IsExecutionOf}
-use Rattle.program_meaning.specs.Coherence.{order_place, order_at, named_by, source_at, coherence_place}
-use Rattle.program_meaning.proofs.Names.{got_from_list}
-use Rattle.accesses_force_cycles.proofs.{Lists.got_below, Lists.rank_filter, Orders.order_place_at}
-use Rattle.sc_and_interleavings.specs.{Relations.IsWriteTo, Relations.IsReadOf, CoherenceLaws.WritesWithin}
+use Rattle.sc_and_interleavings.proofs.Vocabulary.{◌≡◌, ℕ, zero, suc, ◌+◌, List, [], ◌∷◌, Option, Some, None, slice_get, take, refl, sym, ◌∙◌, ap, subst, arith, unwrap_or, count_by, filter, slice_get_within, WriteAt, Access, read, write, is_read, at_name, Execution, CanRead, AreReadsOf, IsExecutionOf, order_place, order_at, source_at, coherence_place, got_from_list, got_below, rank_filter, order_place_at, IsWriteTo, IsReadOf, WritesWithin}
 
 -- each order holds the writes to its place, each once, and each read reads what it can
 pub record Held (threads : List (List Access)) (x : Execution) : Type 0 where
@@ -20,10 +10,7 @@ pub record Held (threads : List (List Access)) (x : Execution) : Type 0 where
 
 -- what an order holds, it holds in the list of its place
 listed : {G : Type 0} (x : Execution) (place k : ℕ) (w : WriteAt) → slice_get (order_at x place) k ≡ Some w → ((order : List WriteAt) → slice_get x.orders place ≡ Some order → slice_get order k ≡ Some w → G) → G
-listed {G} x place k w h g =
-    by_option (slice_get x.orders place)
-    (λ n. let e : None ≡ Some w = ap (λ o. slice_get (unwrap_or o []) k) (sym n) ∙ h in cc)
-    (λ order s. g order s (ap (λ o. slice_get (unwrap_or o []) k) (sym s) ∙ h))
+listed {G} x place k w h g = grind arith
 
 -- the read that an access of a thread makes
 record MakesRead (threads : List (List Access)) (a : Access) (reads : List (ℕ × Option WriteAt)) (k : ℕ) : Type 0 where
@@ -36,8 +23,7 @@ made_read threads [] reads k a h e = cc e
 made_read threads (b ∷ accesses) [] k a h e = absurd h
 made_read threads (b ∷ accesses) (r ∷ reads) zero a h e =
     let s : b ≡ a = cc in record { made = r; got = refl; can = subst (λ c. CanRead threads c r.1) s h.1 }
-made_read threads (b ∷ accesses) (r ∷ reads) (suc k) a h e =
-    let m = made_read threads accesses reads k a h.2 e in record { made = m.made; got = m.got; can = m.can }
+made_read threads (b ∷ accesses) (r ∷ reads) (suc k) a h e = grind (arith, made_read threads accesses reads k a h.2 e)
 
 -- what a read access reads, it can read
 can_read : (threads : List (List Access)) (places : ℕ) (x : Execution) → IsExecutionOf threads places x → (place value : ℕ) (r : WriteAt) → at_name threads r ≡ Some (read place value) → CanRead threads (read place value) (source_at threads x r)
@@ -47,11 +33,7 @@ can_read threads places x h place value r e =
     let m = made_read threads (filter is_read g.list) l.element (count_by is_read (take r.access g.list)) (read place value)
     (h.reads r.thread g.list l.element g.list_is l.got)
     (rank_filter is_read g.list r.access (read place value) g.got refl) in
-    let s : source_at threads x r ≡ m.made.1 =
-    ap named_by
-    (ap (λ o. slice_get (unwrap_or o []) (reads_before threads r)) l.got
-    ∙ ap (λ o. slice_get l.element (reads_among o r.access)) g.list_is
-    ∙ m.got) in
+    let s : source_at threads x r ≡ m.made.1 = grind arith in
     subst (λ o. CanRead threads (read place value) o) (sym s) m.can
 
 -- an execution whose writes are to its places has orders and reads of this form

@@ -1,13 +1,5 @@
 -- Along each step an interleaving goes on, so that the execution that it makes has no cycle.
-use Rattle.std.proofs.Common.{◌≡◌, ℕ, ◌≤◌, true, List, [], ◌∷◌, Option, Some, None, slice_get, take, refl, sym, ◌∙◌, ap, arith}
-use Rattle.std.specs.List.{count_by}
-use Rattle.list_laws.proofs.Cases.{by_same}
-use Rattle.program_meaning.specs.declared.WriteAt.{WriteAt}
-use Rattle.program_meaning.specs.{Accesses.Access, Accesses.read, Accesses.at_name, Coherence.source_at, Interleavings.IsInterleaving}
-use Rattle.program_meaning.specs.{Interleavings.latest}
-use Rattle.sc_and_interleavings.specs.Relations.{IsWriteTo, ReadsFrom, CoherenceOrder, IsBefore, FromRead}
-use Rattle.sc_and_interleavings.specs.Sequential.{Precedes, StepBy, ByPo, ByRf, ByCo, ByFr, IsPathBy, IsSequential}
-use Rattle.sc_and_interleavings.specs.Made.{before, made_by}
+use Rattle.sc_and_interleavings.proofs.Vocabulary.{◌≡◌, ℕ, ◌≤◌, List, [], ◌∷◌, Option, Some, None, slice_get, take, refl, sym, ◌∙◌, ap, arith, count_by, by_same, WriteAt, Access, read, at_name, source_at, IsInterleaving, latest, IsWriteTo, ReadsFrom, CoherenceOrder, IsBefore, FromRead, Precedes, StepBy, ByPo, ByRf, ByCo, ByFr, IsPathBy, IsSequential, before, made_by}
 use Rattle.sc_and_interleavings.proofs.{Filtered.found, Filtered.count_rises, MadeReads.source_made}
 use Rattle.sc_and_interleavings.proofs.Lines.{to_place, passes, passed, before_is, latest_at, none_before, stands_after, Comes, order_got, not_one}
 
@@ -55,8 +47,7 @@ fr_comes threads places line r w h p =
           got_second = g;
           earlier =
               by_same k.0 j
-              (λ e. let t : Some r ≡ Some w = sym k.1 ∙ ap (slice_get line) e ∙ g in
-              let u : r ≡ w = cc t in
+              (λ e. let u : r ≡ w = cc (k.1, ap (slice_get line) e, g) in
               absurd (not_one threads p.place p.place r w p.reads q u))
               (λ d. omega (arith, d, s));
         }
@@ -71,10 +62,7 @@ fr_comes threads places line r w h p =
         let b = found (to_place threads p.place) line q.later w (order_got threads places line p.place q.later w q.second) in
         let s : a.index ≡ l.index = h.once a.index l.index v a.got l.got in
         let c : count_by (to_place threads p.place) (take l.index line) ≡ q.earlier = ap (λ n. count_by (to_place threads p.place) (take n line)) (sym s) ∙ a.rank in
-        after b.index b.got (writes b.passes) (omega (arith, c, l.rank, b.rank, q.before))
-      where
-        writes : to_place threads p.place w ≡ true → IsWriteTo threads p.place w
-        writes t = passed threads p.place w t
+        after b.index b.got (passed threads p.place w b.passes) (omega (arith, c, l.rank, b.rank, q.before))
 
 step_comes : (threads : List (List Access)) (places : ℕ) (line : List WriteAt) (e f : WriteAt) → IsInterleaving threads line → StepBy (Precedes threads) threads (made_by threads places line) e f → Comes line e f
 step_comes threads places line e f h (ByPo p) = po_comes threads line e f h p

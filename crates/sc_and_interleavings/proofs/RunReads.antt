@@ -1,14 +1,7 @@
 -- The reads that a run makes which has come to its end have the values that it was given.
-use Rattle.std.proofs.Common.{◌≡◌, ℕ, true, false, List, [], ◌∷◌, ◌++◌, map, Option, Some, None, refl, sym, ◌∙◌, ap, append_assoc, arith}
-use Rattle.std.specs.List.{filter}
+use Rattle.sc_and_interleavings.proofs.Vocabulary.{append-nil, ◌≡◌, ℕ, true, false, List, [], ◌∷◌, ◌++◌, map, Option, Some, None, refl, sym, ◌∙◌, ap, append_assoc, arith, filter, Value, Micro, Item, ThreadState, Effect, step, Run, Point, At, Past, Wants, Stuck, go, exec, led, is_load, beginning, add_item, outcome, run_ended, runs, OnRun, Barred, is_read, visits_from, visits_of, accesses_of, made_in, HasEnded}
 use Rattle.relax_edges.specs.declared.kinds.Dir.TheVariants as dirs
-use Rattle.relax_edges.specs.declared.kinds.Value.{Value}
-use Rattle.micro_ops.specs.declared.operation.{Micro.Micro, Item.Item}
 use Rattle.micro_ops.specs.declared.operation.Item.TheVariants as items
-use Rattle.micro_ops.specs.Machine.{ThreadState, Effect, step}
-use Rattle.micro_ops.specs.Running.{Run, Point, At, Past, Wants, Stuck, go, exec, led, is_load, beginning, add_item, outcome, run_ended, runs, OnRun}
-use Rattle.program_meaning.specs.Accesses.{Barred, is_read, visits_from, visits_of, accesses_of}
-use Rattle.program_meaning.specs.Programs.{made_in, HasEnded}
 
 -- the values that an item reads
 abbrev item_reads : Item → List ℕ
@@ -33,11 +26,7 @@ read_more (first ∷ made) item = ap (λ l. item_reads first ++ l) (read_more ma
 
 read_added : (made : List Item) (o : Option Item) → items_read (add_item made o) ≡ items_read made ++ may_read o
 read_added made (Some item) = read_more made item
-read_added made None = no_more (items_read made)
-  where
-    no_more : (l : List ℕ) → l ≡ l ++ []
-    no_more [] = refl
-    no_more (x ∷ l) = ap (λ k. x ∷ k) (no_more l)
+read_added made None = sym (append-nil (items_read made))
 
 -- a rule makes an item that reads these values, where there is a rule
 abbrev ReadsThese : List ℕ → Option Effect → Type 0
@@ -79,12 +68,8 @@ items_accesses passed (items.Access dirs.W mark place value a d c ∷ made) = it
 end_reads : (values : List ℕ) (p : Point) → OnRun (HasRead values) p → HasEnded (outcome p) → items_read (made_in (outcome p)) ≡ values
 end_reads values (At r) h e = all_used r.reads refl e
   where
-    nothing_left : (l : List ℕ) → l ≡ l ++ []
-    nothing_left [] = refl
-    nothing_left (x ∷ l) = ap (λ k. x ∷ k) (nothing_left l)
-
     all_used : (l : List ℕ) → r.reads ≡ l → HasEnded (run_ended r l) → items_read (made_in (run_ended r l)) ≡ values
-    all_used [] q k = nothing_left (items_read r.made) ∙ ap (λ l. items_read r.made ++ l) (sym q) ∙ h
+    all_used [] q k = sym (append-nil (items_read r.made)) ∙ ap (λ l. items_read r.made ++ l) (sym q) ∙ h
     all_used (n ∷ l) q k = absurd k
 end_reads values (Past l r) h e = absurd e
 end_reads values (Wants r) h e = absurd e

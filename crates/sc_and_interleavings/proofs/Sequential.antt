@@ -1,9 +1,5 @@
 -- A sequentially consistent execution is SC per location: each of its paths there is one here.
-use Rattle.std.proofs.Common.{List, [], ◌∷◌}
-use Rattle.program_meaning.specs.declared.WriteAt.{WriteAt}
-use Rattle.program_meaning.specs.{Accesses.Access, Executions.Execution}
-use Rattle.sc_and_interleavings.specs.Relations.{Step, Po, Rf, Co, Fr, IsPathOfSteps, IsScPerLocation}
-use Rattle.sc_and_interleavings.specs.Sequential.{Precedes, StepBy, ByPo, ByRf, ByCo, ByFr, IsPathBy, IsSequential}
+use Rattle.sc_and_interleavings.proofs.Vocabulary.{List, [], ◌∷◌, WriteAt, Access, Execution, Step, Po, Rf, Co, Fr, IsPathOfSteps, IsScPerLocation, Precedes, StepBy, ByPo, ByRf, ByCo, ByFr, IsPathBy, IsSequential}
 
 step_there : (threads : List (List Access)) (x : Execution) (e f : WriteAt) → Step threads x e f → StepBy (Precedes threads) threads x e f
 step_there threads x e f (Po h) = ByPo (record { first = (h.first.0, h.first.1); second = (h.second.0, h.second.1); thread = h.thread; earlier = h.earlier })

@@ -1,11 +1,6 @@
 -- An interleaving of a small program: a thread writes x, and then another reads it.
-use Rattle.std.proofs.Common.{◌≡◌, ℕ, zero, suc, List, [], ◌∷◌, Some, slice_get, take, sym, ap, arith}
-use Rattle.micro_ops.specs.Running.{Outcome}
+use Rattle.sc_and_interleavings.proofs.Vocabulary.{◌≡◌, ℕ, zero, suc, List, [], ◌∷◌, Some, slice_get, take, sym, ap, arith, Outcome, WriteAt, Access, read, write, at_name, Program, HasEnded, name, IsInterleaving, IsInterleavingOf, runs_on, value_after}
 use Rattle.micro_ops.specs.declared.operation.Micro.TheVariants as ops
-use Rattle.program_meaning.specs.declared.WriteAt.{WriteAt}
-use Rattle.program_meaning.specs.Accesses.{Access, read, write, at_name}
-use Rattle.program_meaning.specs.{Programs.Program, Programs.HasEnded, Deciding.name}
-use Rattle.program_meaning.specs.Interleavings.{IsInterleaving, IsInterleavingOf, runs_on, value_after}
 
 -- the program, the values that its reads take, and the accesses that it makes
 abbrev passes : Program

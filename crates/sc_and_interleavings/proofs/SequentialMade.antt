@@ -1,31 +1,32 @@
 -- Programs that make the accesses of a cycle's test write to their places alone.
-use Rattle.std.proofs.Common.{◌≡◌, ℕ, zero, suc, ◌<◌, List, [], ◌∷◌, length, Some, slice_get, refl, sym, ◌∙◌, ap, arith}
-use Rattle.std.proofs.lemmas.Option.{slice_get_within}
+use Rattle.sc_and_interleavings.proofs.Vocabulary.{value_taken, Dir, ◌≡◌, ℕ, zero, suc, ◌<◌, List, [], ◌∷◌, length, Some, slice_get, refl, sym, ◌∙◌, ap, arith, slice_get_within, ObsMode, Edge, location_of, Access, write, got_from, at_name, Execution, Program, IsCandidate, accesses_in, IsNumbering, cycle_accesses, GotFrom, got_from_list, accesses-count, MakesAccesses, accesses_filled, values_left, values_read, Got, got_below, EventAt, LoadAt, by_origin, Resolves, WritesWithin}
 use Rattle.relax_edges.specs.declared.kinds.Dir.TheVariants as dirs
-use Rattle.relax_edges.specs.declared.{kinds.ObsMode.ObsMode, edge.Edge.Edge}
-use Rattle.cycle_events.specs.Resolution.{location_of}
-use Rattle.program_meaning.specs.Accesses.{Access, write, got_from, at_name}
-use Rattle.program_meaning.specs.{Executions.Execution, Programs.Program, Programs.IsCandidate, Programs.accesses_in, Intended.IsNumbering}
-use Rattle.program_meaning.specs.{Intended.cycle_accesses}
-use Rattle.program_meaning.proofs.{Names.GotFrom, Names.got_from_list, Runs.accesses-count}
-use Rattle.accesses_force_cycles.specs.Joining.{MakesAccesses, accesses_filled, values_left, values_read}
-use Rattle.accesses_force_cycles.proofs.{Lists.Got, Lists.got_below, Accesses.EventAt, Accesses.LoadAt, Accesses.by_origin, Resolves.Resolves}
-use Rattle.sc_and_interleavings.specs.CoherenceLaws.{WritesWithin}
 
--- an access whose value was filled in has the direction and the place of the one that was planned
-record Planned (accesses : List Access) (k : ℕ) (a : Access) : Type 0 where
-  plan : Access
-  got : slice_get accesses k ≡ Some plan
-  dir : plan.dir ≡ a.dir
-  place : plan.place ≡ a.place
+-- an access of a thread whose reads read given values, and the one that was planned
+pub record Filled (planned : List Access) (k : ℕ) (b : Access) : Type 0 where
+  pub plan : Access
+  pub got : slice_get planned k ≡ Some plan
+  pub dir : b.dir ≡ plan.dir
+  pub place : b.place ≡ plan.place
+  pub value : plan.dir ≡ dirs.W → b.value ≡ plan.value
 
-planned : (accesses : List Access) (values : List ℕ) (k : ℕ) (a : Access) → slice_get (accesses_filled accesses values) k ≡ Some a → Planned accesses k a
-planned [] values k a h = cc h
-planned (b ∷ accesses) values zero a h =
-    record { plan = b; got = refl; dir = cc; place = cc }
-planned (b ∷ accesses) values (suc k) a h =
-    let r = planned accesses (values_left b.dir values) k a h in
-    record { plan = r.plan; got = r.got; dir = r.dir; place = r.place }
+own_value : (d : Dir) (values : List ℕ) (own : ℕ) → d ≡ dirs.W → value_taken d values own ≡ own
+own_value d values own h = grind arith
+
+-- each access whose value was filled in was planned
+pub filled_from : (planned : List Access) (values : List ℕ) (k : ℕ) (b : Access) → slice_get (accesses_filled planned values) k ≡ Some b → Filled planned k b
+filled_from [] values k b h = cc h
+filled_from (a ∷ planned) values zero b h =
+    let f : Access = record { dir = a.dir; place = a.place; value = value_taken a.dir values a.value } in
+    let s : f ≡ b = cc (h) in
+    record {
+      plan = a;
+      got = refl;
+      dir = sym (ap (λ c. c.dir) s);
+      place = sym (ap (λ c. c.place) s);
+      value = λ d. sym (ap (λ c. c.value) s) ∙ own_value a.dir values a.value d;
+    }
+filled_from (a ∷ planned) values (suc k) b h = grind (arith, filled_from planned (values_left a.dir values) k b h)
 
 directions_differ : dirs.R ≡ dirs.W → ⊥
 directions_differ d = cc d
@@ -50,18 +51,18 @@ writes_to_own es mode number p x resolved numbering makes candidate place w h =
     made : g.list ≡ accesses_filled t.element (values_read r.element)
     made = let s : Some g.list ≡ Some (accesses_filled t.element (values_read r.element)) = sym g.list_is ∙ makes.accesses w.thread t.element r.element t.got r.got in cc
 
-    plan : Planned t.element w.access (write place h.0)
-    plan = planned t.element (values_read r.element) w.access (write place h.0) (ap (λ l. slice_get l w.access) (sym made) ∙ g.got)
+    plan : Filled t.element w.access (write place h.0)
+    plan = filled_from t.element (values_read r.element) w.access (write place h.0) (ap (λ l. slice_get l w.access) (sym made) ∙ g.got)
 
     named : at_name (cycle_accesses es mode number) w ≡ Some plan.plan
     named = ap (λ o. got_from o w.access) t.got ∙ plan.got
 
     as_event : EventAt es number w plan.plan → place < p.places
     as_event e =
-        let q : number (location_of es e.event) ≡ place = ap (λ a. a.place) e.access_is ∙ plan.place in
+        let q : number (location_of es e.event) ≡ place = ap (λ a. a.place) e.access_is ∙ sym plan.place in
         omega (arith, numbering.below (location_of es e.event) (resolved.location e.event), q, makes.places)
 
     as_load : LoadAt es mode number w plan.plan → place < p.places
     as_load l =
-        let d : dirs.R ≡ dirs.W = ap (λ a. a.dir) l.access_is ∙ plan.dir in
+        let d : dirs.R ≡ dirs.W = ap (λ a. a.dir) l.access_is ∙ sym plan.dir in
         absurd (directions_differ d)

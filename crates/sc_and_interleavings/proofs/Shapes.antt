@@ -1,12 +1,6 @@
 -- Two accesses of a thread that don't follow each other in the coherence order make one of the five shapes, each a cycle.
-use Rattle.std.proofs.Common.{◌≡◌, ℕ, ◌<◌, ◌≤◌, List, [], ◌∷◌, Option, Some, None, slice_get, refl, sym, ◌∙◌, ap, subst, arith}
-use Rattle.relax_edges.specs.declared.kinds.Dir.{Dir}
+use Rattle.sc_and_interleavings.proofs.Vocabulary.{◌≡◌, ℕ, ◌<◌, ◌≤◌, List, [], ◌∷◌, Option, Some, None, refl, sym, ◌∙◌, ap, subst, arith, Dir, by_less, by_same, WriteAt, Access, read, at_name, Execution, CanRead, MayFollow, IsCoherent, order_place, order_at, source_at, coherence_place, IsWriteTo, IsReadOf, ProgramOrder, ReadsFrom, CoherenceOrder, IsBefore, Po, Rf, Co, Fr, IsScPerLocation}
 use Rattle.relax_edges.specs.declared.kinds.Dir.TheVariants as dirs
-use Rattle.list_laws.proofs.Cases.{by_less, by_same}
-use Rattle.program_meaning.specs.declared.WriteAt.{WriteAt}
-use Rattle.program_meaning.specs.{Accesses.Access, Accesses.read, Accesses.at_name, Executions.Execution, Executions.CanRead}
-use Rattle.program_meaning.specs.Coherence.{MayFollow, IsCoherent, order_place, order_at, source_at, coherence_place}
-use Rattle.sc_and_interleavings.specs.Relations.{IsWriteTo, IsReadOf, ProgramOrder, ReadsFrom, CoherenceOrder, IsBefore, Po, Rf, Co, Fr, IsScPerLocation}
 use Rattle.sc_and_interleavings.proofs.Places.{Held, place_in}
 
 -- the coherence place of what can be read at a place
@@ -15,25 +9,11 @@ spot x place o = order_place (order_at x place) o
 
 -- of two writes to a place, the one of lesser coherence place comes before the other
 pub writes_ordered : (threads : List (List Access)) (x : Execution) (place : ℕ) (w v : WriteAt) → Held threads x → IsWriteTo threads place w → IsWriteTo threads place v → spot x place (Some w) < spot x place (Some v) → CoherenceOrder x place w v
-writes_ordered threads x place w v held p q l =
-    let j = held.each place w p in
-    let k = held.each place v q in
-    record {
-      earlier = j.0;
-      later = k.0;
-      first = j.1;
-      second = k.1;
-      before = omega (arith, l, place_in threads x place j.0 w held j.1, place_in threads x place k.0 v held k.1);
-    }
+writes_ordered threads x place w v held p q l = grind (arith, held.each place w p, held.each place v q, place_in)
 
 -- no two writes to a place have the same coherence place
 pub writes_same : (threads : List (List Access)) (x : Execution) (place : ℕ) (w v : WriteAt) → Held threads x → IsWriteTo threads place w → IsWriteTo threads place v → spot x place (Some w) ≡ spot x place (Some v) → w ≡ v
-writes_same threads x place w v held p q e =
-    let j = held.each place w p in
-    let k = held.each place v q in
-    let s : j.0 ≡ k.0 = omega (arith, e, place_in threads x place j.0 w held j.1, place_in threads x place k.0 v held k.1) in
-    let t : Some w ≡ Some v = sym j.1 ∙ ap (slice_get (order_at x place)) s ∙ k.1 in
-    cc t
+writes_same threads x place w v held p q e = grind (arith, held.each place w p, held.each place v q, place_in)
 
 -- what a read reads of lesser coherence place comes before a write
 pub read_before : (threads : List (List Access)) (x : Execution) (place value : ℕ) (o : Option WriteAt) (w : WriteAt) → Held threads x → CanRead threads (read place value) o → IsWriteTo threads place w → spot x place o < spot x place (Some w) → IsBefore threads x place o w
@@ -48,18 +28,7 @@ record Read (threads : List (List Access)) (x : Execution) (place : ℕ) (r : Wr
   same : spot x place (source_at threads x r) ≡ spot x place (Some source)
 
 reads_write : (threads : List (List Access)) (x : Execution) (place : ℕ) (r : WriteAt) → Held threads x → IsReadOf threads place r → 0 < spot x place (source_at threads x r) → Read threads x place r
-reads_write threads x place r held h l = by_source (source_at threads x r) refl (held.reads place h.0 r h.1)
-  where
-    by_source : (o : Option WriteAt) → source_at threads x r ≡ o → CanRead threads (read place h.0) o → Read threads x place r
-    by_source None e can =
-        let z : spot x place (source_at threads x r) ≡ 0 = ap (spot x place) e in
-        absurd (omega (arith, l, z))
-    by_source (Some w) e can = record {
-      source = w;
-      writes = (h.0, can);
-      reads = record { place = place; reads = h; source = e };
-      same = ap (spot x place) e;
-    }
+reads_write threads x place r held h l = grind (arith, held.reads place h.0 r h.1)
 
 -- CoWW: a write before another in its thread and after it in the coherence order
 CoWW : (threads : List (List Access)) (x : Execution) (place : ℕ) (e f : WriteAt) → Held threads x → IsScPerLocation threads x → ProgramOrder threads e f → IsWriteTo threads place e → IsWriteTo threads place f → spot x place (Some e) < spot x place (Some f)

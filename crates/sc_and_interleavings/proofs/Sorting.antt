@@ -1,11 +1,5 @@
 -- Names in an order that a test without cycles allows: the first is one before which no other has to come, and so on.
-use Rattle.std.proofs.Common.{◌≡◌, ℕ, zero, suc, ◌<◌, ◌≤◌, Bool, true, false, not, List, [], ◌∷◌, length, Option, Some, None, slice_get, refl, sym, ◌∙◌, ap, subst, arith, inl, inr}
-use Rattle.std.specs.{Prelude.◌⊎◌, List.filter, List.find, List.list_all}
-use Rattle.std.proofs.lemmas.Bool.{cond-true, cond-false, and_parts, and_from}
-use Rattle.list_laws.proofs.Cases.{by_option}
-use Rattle.program_meaning.specs.declared.WriteAt.{WriteAt}
-use Rattle.program_meaning.specs.Executions.{same_write}
-use Rattle.program_meaning.proofs.Names.{same_write-refl, same_write-true}
+use Rattle.sc_and_interleavings.proofs.Vocabulary.{◌≡◌, ℕ, zero, suc, ◌<◌, ◌≤◌, Bool, true, false, not, List, [], ◌∷◌, length, Option, Some, None, slice_get, refl, sym, ◌∙◌, ap, subst, arith, inl, inr, ◌⊎◌, filter, find, list_all, cond-true, cond-false, and_parts, and_from, by_option, WriteAt, same_write, same_write-refl, same_write-true}
 
 -- a name is in a list
 abbrev pub In : WriteAt → List WriteAt → Type 0

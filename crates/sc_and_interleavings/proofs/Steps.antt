@@ -1,14 +1,6 @@
 -- Along each step the coherence place doesn't fall, and it rises into each write.
-use Rattle.std.proofs.Common.{◌≡◌, ℕ, ◌<◌, ◌≤◌, List, [], ◌∷◌, Option, Some, None, refl, sym, ◌∙◌, ap, subst, arith, inl, inr}
-use Rattle.std.specs.Prelude.{◌⊎◌}
-use Rattle.relax_edges.specs.declared.kinds.Dir.{Dir}
+use Rattle.sc_and_interleavings.proofs.Vocabulary.{◌≡◌, ℕ, ◌<◌, ◌≤◌, List, [], ◌∷◌, Option, Some, None, refl, sym, ◌∙◌, ap, subst, arith, inl, inr, ◌⊎◌, Dir, by_less, WriteAt, Access, read, at_name, Execution, MayFollow, IsCoherent, order_place, order_at, source_at, coherence_place, IsWriteTo, IsReadOf, IsAccessOf, ProgramOrder, ReadsFrom, CoherenceOrder, IsBefore, FromRead, Step, Po, Rf, Co, Fr, IsPathOfSteps, IsScPerLocation}
 use Rattle.relax_edges.specs.declared.kinds.Dir.TheVariants as dirs
-use Rattle.list_laws.proofs.Cases.{by_less}
-use Rattle.program_meaning.specs.declared.WriteAt.{WriteAt}
-use Rattle.program_meaning.specs.Accesses.{Access, read, write, at_name}
-use Rattle.program_meaning.specs.Executions.{Execution, CanRead}
-use Rattle.program_meaning.specs.Coherence.{MayFollow, IsCoherent, order_place, order_at, source_at, coherence_place}
-use Rattle.sc_and_interleavings.specs.Relations.{IsWriteTo, IsReadOf, IsAccessOf, ProgramOrder, ReadsFrom, CoherenceOrder, IsBefore, FromRead, Step, Po, Rf, Co, Fr, IsPathOfSteps, IsScPerLocation}
 use Rattle.sc_and_interleavings.proofs.Places.{Held, place_in, level, level_is, level_write, level_read}
 
 -- e comes before f in a thread
@@ -28,11 +20,7 @@ abbrev pub Rises : List (List Access) → Execution → WriteAt → WriteAt → 
 Rises threads x e f = (level threads x e < level threads x f) ⊎ Settles threads x e f
 
 not_both : (threads : List (List Access)) (p q : ℕ) (e : WriteAt) → IsReadOf threads p e → IsWriteTo threads q e → ⊥
-not_both threads p q e r w =
-    let s : Some (read p r.0) ≡ Some (write q w.0) = sym r.1 ∙ w.1 in
-    let t : read p r.0 ≡ write q w.0 = cc in
-    let d : dirs.R ≡ dirs.W = ap (λ a. a.dir) t in
-    cc d
+not_both threads p q e r w = grind arith
 
 rises_on : (threads : List (List Access)) (x : Execution) (e f g : WriteAt) → Rises threads x e f → Rises threads x f g → Rises threads x e g
 rises_on threads x e f g (inl h) (inl k) = inl (omega (arith, h, k))
@@ -47,11 +35,7 @@ rises_on threads x e f g (inr h) (inr k) = inr (record { same = h.same ∙ k.sam
 
 never_rises : (threads : List (List Access)) (x : Execution) (e : WriteAt) → Rises threads x e e → ⊥
 never_rises threads x e (inl h) = omega (arith, h)
-never_rises threads x e (inr h) = never h.source
-  where
-    never : ((p : ℕ) × IsWriteTo threads p e) ⊎ Earlier e e → ⊥
-    never (inl w) = not_both threads h.place w.0 e h.reads w.1
-    never (inr b) = omega (arith, b.access)
+never_rises threads x e (inr h) = grind (arith, not_both)
 
 -- along program order
 po_rises : (threads : List (List Access)) (x : Execution) (e f : WriteAt) → IsCoherent threads x → ProgramOrder threads e f → Rises threads x e f
@@ -88,20 +72,11 @@ po_rises threads x e f coherent h = by_second b.0.dir refl
 
 -- along reads-from
 rf_rises : (threads : List (List Access)) (x : Execution) (w r : WriteAt) → Held threads x → ReadsFrom threads x w r → Rises threads x w r
-rf_rises threads x w r held h = inr (record {
-  same = level_write threads x h.place w writes ∙ ap (order_place (order_at x h.place)) (sym h.source) ∙ sym (level_read threads x h.place r h.reads);
-  place = h.place;
-  reads = h.reads;
-  source = inl (h.place, writes);
-})
-  where
-    writes : IsWriteTo threads h.place w
-    writes = (h.reads.0, subst (λ o. CanRead threads (read h.place h.reads.0) o) h.source (held.reads h.place h.reads.0 r h.reads.1))
+rf_rises threads x w r held h = grind (arith, level_write, level_read threads x h.place r h.reads, held.reads h.place h.reads.0 r h.reads.1)
 
 -- along the coherence order
 co_places : (threads : List (List Access)) (x : Execution) (place : ℕ) (w v : WriteAt) → Held threads x → CoherenceOrder x place w v → order_place (order_at x place) (Some w) < order_place (order_at x place) (Some v)
-co_places threads x place w v held h =
-    omega (arith, place_in threads x place h.earlier w held h.first, place_in threads x place h.later v held h.second, h.before)
+co_places threads x place w v held h = grind (arith, place_in threads x place h.earlier w held h.first, place_in threads x place h.later v held h.second)
 
 co_rises : (threads : List (List Access)) (x : Execution) (place : ℕ) (w v : WriteAt) → Held threads x → CoherenceOrder x place w v → Rises threads x w v
 co_rises threads x place w v held h =
