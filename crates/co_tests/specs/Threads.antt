@@ -8,11 +8,11 @@ use Rattle.arch_trait.specs.declared.{code.Code.Code, step.Step.Step}
 use Rattle.arch_trait.specs.{Codes.thread_code_of, Threads.Puts, Threads.compiled}
 use Rattle.tests_force_cycles.specs.TestOf.{load_terms, thread_terms}
 use Rattle.test_maker.specs.Refusals.{is_crowded}
-use Rattle.co_tests_laws.specs.declared.refusal.{CoRefusal.CoRefusal, CoRefusal.TheVariants.TooManyRegisters}
+use Rattle.test_maker.specs.declared.refusal.{Refusal.Refusal, Refusal.TheVariants.TooManyRegisters}
 use Rattle.co_tests_laws.specs.{CoherenceTests.coherence_steps, CoRefusals.crowded_thread}
 
 -- a call makes the code of a thread after those before it and appends the terms of its loads, or refuses the thread for its registers
-abbrev pub PutsThread : Puts → (ℕ → List ℕ) → ℕ → List Step → ArrayVec Code → ArrayVec Code → Cond → Cond → Result (Unit {0}) CoRefusal → Type 0
+abbrev pub PutsThread : Puts → (ℕ → List ℕ) → ℕ → List Step → ArrayVec Code → ArrayVec Code → Cond → Cond → Result (Unit {0}) Refusal → Type 0
 PutsThread a register_name thread steps threads threads' cond cond' (Ok _) =
     (is_crowded a steps ≡ false) ×
     (map thread_code_of threads'.items ≡ map thread_code_of threads.items ++ compiled a steps ∷ []) ×
@@ -21,7 +21,7 @@ PutsThread a register_name thread steps threads threads' cond cond' (Err refusal
     (is_crowded a steps ≡ true) × (refusal ≡ TooManyRegisters thread)
 
 -- a call makes the code of all threads and appends the terms of their loads, or refuses the first for its registers
-abbrev pub PutsThreads : Puts → (ℕ → List ℕ) → List Edge → ArrayVec Code → Cond → Cond → Result (Unit {0}) CoRefusal → Type 0
+abbrev pub PutsThreads : Puts → (ℕ → List ℕ) → List Edge → ArrayVec Code → Cond → Cond → Result (Unit {0}) Refusal → Type 0
 PutsThreads a register_name es threads cond cond' (Ok _) =
     (crowded_thread a es ≡ None) × (map thread_code_of threads.items ≡ map (compiled a) (coherence_steps es)) ×
     (cond'.quantifier ≡ cond.quantifier) ×

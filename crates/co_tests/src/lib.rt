@@ -7,7 +7,6 @@ mod shape;
 mod steps;
 mod threads;
 
-pub use co_tests_laws::CoRefusal;
 pub use maker::{co_test, co_test_into};
 pub use shape::{cut_of, external_count, write_count};
 pub use steps::value_of;

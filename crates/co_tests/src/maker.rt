@@ -1,8 +1,8 @@
-ghost use Rattle.std.specs.Prelude.{◌≡◌, ◌≤◌, length, IfOk, OnOk};
+ghost use Rattle.std.specs.Prelude.{◌≡◌, ◌≤◌, length, IfErr, IfOk, OnOk};
 ghost use Rattle.cycle_events.specs.Resolution.{turned};
 ghost use Rattle.arch_trait.specs.Writing.{name_in};
 ghost use Rattle.litmus_text.specs.Tests.{test_seen};
-ghost use Rattle.test_maker.specs.Made.{AreOfArch, CanPrint};
+ghost use Rattle.test_maker.specs.Made.{AreOfArch, CanPrint, NamesLocation};
 ghost use Rattle.co_tests_laws.specs.CoherenceTests.{HasCoherenceTest};
 ghost use Rattle.co_tests.specs.Made.{MakesCoherenceTest, MakesSeen, MakesOfArch, MakesTurned};
 ghost use Rattle.co_tests.specs.Shape.{HasShape};
@@ -12,64 +12,62 @@ use crate::shape::{cut_of, external_count, has_cut, leads_elsewhere, turn, write
 use crate::threads::put_threads;
 use arch_trait::Arch;
 use arrayvec::ArrayVec;
-use co_tests_laws::CoRefusal;
 use edge_algebra::Cycle;
 use litmus_text::Test;
 use relax_edges::{Edge, MAX_EDGES};
-use test_maker::first_unsupported;
+use test_maker::{Refusal, all_of_arch};
 
 /// The coherence test of the cycle, or the first reason why it has none. Its printed text is read as
 /// a test that no coherent execution meets.
-pub fn co_test<A: Arch>(cycle: &Cycle) -> Result<Test, CoRefusal>
+pub fn co_test<A: Arch>(cycle: &Cycle) -> Result<Test, Refusal>
     ensures made { MakesCoherenceTest A.puts (name_in A.writing.registers) cycle.now result }
     ensures printable { IfOk result (CanPrint A.puts A.REGISTERS) }
     ensures has_test { IfOk result (λ _. HasCoherenceTest A.puts (turned cycle.now)) }
 {
     let mut test = Test::new();
-    match co_test_into::<A>(cycle, &mut test) {
-        Ok(()) => Ok(test),
-        Err(refusal) => Err(refusal),
-    }
+    co_test_into::<A>(cycle, &mut test)?;
+    Ok(test)
 }
 
 /// Makes `test` the coherence test of the cycle, as `co_test` does. After a refusal nothing is known of it.
-pub fn co_test_into<A: Arch>(cycle: &Cycle, test: &mut Test) -> Result<(), CoRefusal>
+pub fn co_test_into<A: Arch>(cycle: &Cycle, test: &mut Test) -> Result<(), Refusal>
     ensures made { MakesSeen A.puts (name_in A.writing.registers) cycle.now (test_seen test.new) result }
     ensures printable { OnOk result (CanPrint A.puts A.REGISTERS test.new) }
+    ensures located { IfErr result NamesLocation }
     ensures has_test { OnOk result (HasCoherenceTest A.puts (turned cycle.now)) }
 {
-    match first_unsupported::<A>(cycle.edges()) {
-        Some(at) => Err(CoRefusal::NotOfArch { at }),
-        None => make_of_arch::<A>(cycle, test),
-    }
+    all_of_arch::<A>(cycle.edges())?;
+    make_of_arch::<A>(cycle, test)
 }
 
 /// Makes `test` the coherence test of a cycle whose edges are of the architecture.
-fn make_of_arch<A: Arch>(cycle: &Cycle, test: &mut Test) -> Result<(), CoRefusal>
+fn make_of_arch<A: Arch>(cycle: &Cycle, test: &mut Test) -> Result<(), Refusal>
     requires { AreOfArch A.puts cycle.now }
     ensures made { MakesOfArch A.puts (name_in A.writing.registers) cycle.now (test_seen test.new) result }
     ensures printable { OnOk result (CanPrint A.puts A.REGISTERS test.new) }
+    ensures located { IfErr result NamesLocation }
 {
     let edges = cycle.edges();
     if external_count(edges) < 2 {
-        return Err(CoRefusal::TooFewThreads);
+        return Err(Refusal::TooFewThreads);
     }
     if leads_elsewhere(edges) || !has_cut(edges) {
-        return Err(CoRefusal::NotCoherence);
+        return Err(Refusal::NotCoherence);
     }
     if write_count(edges) > 2 {
-        return Err(CoRefusal::ManyWrites);
+        return Err(Refusal::ManyWrites);
     }
     make_turned::<A>(cycle.rotate(turn(edges)).edges(), test)
 }
 
 /// Makes `test` the coherence test of a cycle that is turned, or names the first thread that needs too
 /// many registers.
-fn make_turned<A: Arch>(edges: &[Edge], test: &mut Test) -> Result<(), CoRefusal>
+fn make_turned<A: Arch>(edges: &[Edge], test: &mut Test) -> Result<(), Refusal>
     requires shape { HasShape edges.now }
     requires of_arch { AreOfArch A.puts edges.now }
     ensures made { MakesTurned A.puts (name_in A.writing.registers) edges.now (test_seen test.new) result }
     ensures printable { OnOk result (CanPrint A.puts A.REGISTERS test.new) }
+    ensures located { IfErr result NamesLocation }
 {
     match cut_of(edges) {
         Some(cut) => {

@@ -12,9 +12,9 @@ use crate::condition::put_load_terms;
 use crate::steps::step_of;
 use arch_trait::{Arch, MAX_STEPS, Step, ThreadCodes};
 use arrayvec::ArrayVec;
-use co_tests_laws::CoRefusal;
 use final_cond::{Cond, MAX_TERMS};
 use relax_edges::{Edge, MAX_EDGES};
+use test_maker::Refusal;
 
 /// Makes `threads` the code of the threads of a cycle at one location that is cut at an edge, and
 /// appends what their loads read to the condition. The threads that were there don't count.
@@ -23,7 +23,7 @@ pub fn put_threads<A: Arch>(
     cut: usize,
     threads: &mut ThreadCodes,
     cond: &mut Cond,
-) -> Result<(), CoRefusal>
+) -> Result<(), Refusal>
     requires shape { HasShape edges.now }
     requires of_arch { AreOfArch A.puts edges.now }
     requires cut { cut_of edges.now ≡ Some cut }
@@ -53,7 +53,7 @@ fn put_thread<A: Arch>(
     steps: &[Step],
     threads: &mut ThreadCodes,
     cond: &mut Cond,
-) -> Result<(), CoRefusal>
+) -> Result<(), Refusal>
     requires fit { FitSteps A.puts.name false steps.now }
     requires few { length steps.now ≤ MAX_STEPS }
     requires room { array_vec_len threads.old < MAX_EDGES }
@@ -65,6 +65,6 @@ fn put_thread<A: Arch>(
             put_load_terms::<A>(thread, steps, threads.last_loads(), &mut cond.terms);
             Ok(())
         }
-        Err(_) => Err(CoRefusal::TooManyRegisters { thread }),
+        Err(_) => Err(Refusal::TooManyRegisters { thread }),
     }
 }

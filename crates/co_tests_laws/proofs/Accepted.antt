@@ -1,15 +1,9 @@
 -- A cycle that isn't refused has a coherence test, once it is turned so that its last edge leads to another thread.
-use Rattle.co_tests_laws.proofs.Vocabulary.{◌≡◌, ℕ, ◌≤◌, Bool, true, false, not, List, drop, take, Option, None, sym, ◌∙◌, ap, subst, arith, ◌||◌, list_all, list_any, position_from, option_map, option_or, ltb-false, take-append-drop, list_all-append, list_any-append, sum_by-append, none_foreign, Edge, is_diff, is_of_arch, IsCycle, rotated, rotated_cycle, external_count, turned, turn_of, external_count-rotated, Puts, room_left, CoRefusal, NotOfArch, TooFewThreads, NotCoherence, ManyWrites, is_ordering, writes_in, AcceptedHaveTests, reason_if}
+use Rattle.co_tests_laws.proofs.Vocabulary.{◌≡◌, ℕ, ◌≤◌, Bool, true, false, not, List, drop, take, None, sym, ◌∙◌, ap, subst, arith, ◌||◌, list_all, list_any, ltb-false, take-append-drop, list_all-append, list_any-append, sum_by-append, Edge, is_diff, is_of_arch, IsCycle, rotated, rotated_cycle, external_count, turned, turn_of, external_count-rotated, Puts, room_left, Refusal, TooFewThreads, NotCoherence, ManyWrites, is_ordering, writes_in, AcceptedHaveTests, reason_if}
+use Rattle.test_maker.proofs.HavingTests.{neither, not_foreign}
 
--- where neither of two reasons holds
-neither : (a b : Option CoRefusal) → option_or a b ≡ None → (a ≡ None) × (b ≡ None)
-neither a b h = grind arith
-
-no_reason : (b : Bool) (reason : CoRefusal) → reason_if b reason ≡ None → b ≡ false
+no_reason : (b : Bool) (reason : Refusal) → reason_if b reason ≡ None → b ≡ false
 no_reason b reason h = grind arith
-
-none_found : (f : ℕ → CoRefusal) (found : Option ℕ) → option_map f found ≡ None → found ≡ None
-none_found f found e = grind arith
 
 pub neither_true : (a b : Bool) → (a || b) ≡ false → (a ≡ false) × (b ≡ false)
 neither_true a b h = grind arith
@@ -39,8 +33,7 @@ accepted_has_test a cycle whole h =
     let few : writes_in cycle ≤ 2 = ltb-false 2 (writes_in cycle) (no_reason _ ManyWrites fourth.0) in
     let t = turn_of cycle (omega (arith, threads)) in
     let turn : turned cycle ≡ rotated t.0 cycle = t.2.turn in
-    let of_arch : list_all (λ e. is_of_arch e a.name) cycle ≡ true = none_foreign (λ e. is_of_arch e a.name) cycle 0
-    (none_found (λ at. NotOfArch at) (position_from (λ e. not (is_of_arch e a.name)) 0 cycle) first.0) in
+    let of_arch : list_all (λ e. is_of_arch e a.name) cycle ≡ true = not_foreign a cycle first.0 in
     record {
       composes = subst IsCycle (sym turn) (rotated_cycle t.0 cycle whole);
       outside = t.2.outside;

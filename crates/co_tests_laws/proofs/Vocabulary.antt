@@ -40,8 +40,8 @@ pub use Rattle.co_tests_laws.specs.CoRefusals.{is_no_coherence, reason_if}
 pub use Rattle.co_tests_laws.specs.CoherenceTests.{HasCoherenceTest, coherence_steps, coherence_test_of, incoherent_execution, writes_in}
 pub use Rattle.co_tests_laws.specs.CutResolution.{cut_of, cut_open, elsewhere, is_ordering, orders_by}
 pub use Rattle.co_tests_laws.specs.Incoherence.{AcceptedHaveTests, BytesShowIncoherence, HasCycle, MeetsReading, PrintedShowIncoherence}
-pub use Rattle.co_tests_laws.specs.declared.refusal.CoRefusal.{CoRefusal}
-pub use Rattle.co_tests_laws.specs.declared.refusal.CoRefusal.TheVariants.{ManyWrites, NotCoherence, NotOfArch, TooFewThreads}
+pub use Rattle.test_maker.specs.declared.refusal.Refusal.{Refusal}
+pub use Rattle.test_maker.specs.declared.refusal.Refusal.TheVariants.{ManyWrites, NotCoherence, TooFewThreads}
 pub use Rattle.cycle_events.proofs.{Arcs.same_moves, Around.after_below, Around.by_after, Around.mark_after, Around.source_after}
 pub use Rattle.cycle_events.proofs.EdgeCounts.{counted_kept, counted_on, counted_up, passing}
 pub use Rattle.cycle_events.proofs.Locations.{ends_with, moves-zero, moves_end, moves_on}

@@ -2,22 +2,18 @@
 -- Source: own, after the refusals of diy.
 use Rattle.std.specs.Prelude.{ℕ, Bool, not, ◌||◌, nat_lt, List, Option, Some, None, if◌then◌else◌}
 use Rattle.std.specs.{List.list_any, List.position_from, Option.option_map, Option.option_or}
-use Rattle.relax_edges.specs.declared.{kinds.ArchName.ArchName, edge.Edge.Edge}
-use Rattle.relax_edges.specs.EdgeTable.{is_diff, is_of_arch}
+use Rattle.relax_edges.specs.declared.edge.Edge.{Edge}
+use Rattle.relax_edges.specs.EdgeTable.{is_diff}
 use Rattle.cycle_events.specs.Resolution.{external_count, turned}
 use Rattle.arch_trait.specs.{Threads.Puts, Writing.Writing, Writing.name_in, SeenTests.TestSeen}
 use Rattle.litmus_text.specs.TestText.{test_text}
-use Rattle.test_maker.specs.Refusals.{is_crowded}
-use Rattle.co_tests_laws.specs.declared.refusal.CoRefusal.{CoRefusal}
-use Rattle.co_tests_laws.specs.declared.refusal.CoRefusal.TheVariants.{NotOfArch, TooFewThreads, NotCoherence, ManyWrites, TooManyRegisters}
+use Rattle.test_maker.specs.declared.refusal.Refusal.{Refusal}
+use Rattle.test_maker.specs.declared.refusal.Refusal.TheVariants.{TooFewThreads, NotCoherence, ManyWrites, TooManyRegisters}
+use Rattle.test_maker.specs.Refusals.{foreign_edge, is_crowded}
 use Rattle.co_tests_laws.specs.{CutResolution.is_ordering, CoherenceTests.writes_in, CoherenceTests.coherence_steps, CoherenceTests.coherence_test_of}
 
--- an edge isn't of the architecture: the first such, in the list as given
-abbrev pub foreign_edge : ArchName → List Edge → Option CoRefusal
-foreign_edge arch cycle = option_map (λ at. NotOfArch at) (position_from (λ edge. not (is_of_arch edge arch)) 0 cycle)
-
 -- a reason that is there where a test passes
-abbrev pub reason_if : Bool → CoRefusal → Option CoRefusal
+abbrev pub reason_if : Bool → Refusal → Option Refusal
 reason_if b reason = if b then Some reason else None
 
 -- an edge leads to another location, or all edges in a thread are communications
@@ -25,11 +21,11 @@ abbrev pub is_no_coherence : List Edge → Bool
 is_no_coherence cycle = list_any is_diff cycle || not (list_any is_ordering cycle)
 
 -- the first thread that needs more registers than the architecture has
-abbrev pub crowded_thread : Puts → List Edge → Option CoRefusal
+abbrev pub crowded_thread : Puts → List Edge → Option Refusal
 crowded_thread a es = option_map (λ thread. TooManyRegisters thread) (position_from (is_crowded a) 0 (coherence_steps es))
 
 -- the first reason why a cycle has no coherence test on the architecture
-abbrev pub coherence_refusal_of : Puts → List Edge → Option CoRefusal
+abbrev pub coherence_refusal_of : Puts → List Edge → Option Refusal
 coherence_refusal_of a cycle =
     option_or (foreign_edge a.name cycle)
     (option_or (reason_if (nat_lt (external_count cycle) 2) TooFewThreads)

@@ -2,13 +2,10 @@
 //! edges of a cycle over one location stand, and that execution isn't coherent.
 #![tactic(auto)]
 
-mod refusal;
-
 ghost use Rattle.co_tests_laws.specs.Arc.{ValuesCountAlongArc};
 ghost use Rattle.co_tests_laws.specs.Incoherence.{AcceptedHaveTests, PrintedShowIncoherence};
 
 use arch_trait::Arch;
-pub use refusal::CoRefusal;
 
 /// The value of an event in the test of a cycle over one location is the number of writes on the
 /// arc up to it and with it. The arc begins with the event that the cut enters and goes once round.

@@ -131,6 +131,7 @@ fn walk_arcs(
     ensures arcs { arcs.new.items ≡ all_seen resolved.now }
     ensures resolved { IsResolved resolved.now }
 {
+    // Brings the invariant of `Resolved` into the proof.
     let _edges = resolved.cycle();
     let mut arc = arc_after(resolved);
     for (i, event) in resolved.events().iter().enumerate() {
@@ -148,6 +149,7 @@ fn ends_arc(resolved: &Resolved, i: usize) -> bool
     requires { i < length resolved.now }
     ensures { result ≡ is_diff (edge_at resolved.now i) }
 {
+    // Brings the invariant of `Resolved` into the proof.
     let _edges = resolved.cycle();
     let events = resolved.events();
     i + 1 < events.len() && events[i].location != events[i + 1].location
@@ -157,6 +159,7 @@ fn ends_arc(resolved: &Resolved, i: usize) -> bool
 fn arc_after(resolved: &Resolved) -> Arc
     ensures { result ≡ seen_of resolved.now 0 (writes_before resolved.now 0) }
 {
+    // Brings the invariant of `Resolved` into the proof.
     let _edges = resolved.cycle();
     let events = resolved.events();
     let mut arc = Arc::default();
@@ -174,6 +177,7 @@ fn after_moves(resolved: &Resolved) -> usize
     ensures all { moves_before resolved.now result ≡ move_count resolved.now }
     ensures last { is_diff (edge_at resolved.now (result - 1)) ≡ true }
 {
+    // Brings the invariant of `Resolved` into the proof.
     let _edges = resolved.cycle();
     let events = resolved.events();
     let mut end = events.len();
@@ -186,7 +190,8 @@ fn after_moves(resolved: &Resolved) -> usize
 impl<'a> Valued<'a> {
     /// The resolved cycle.
     pub fn resolved(&self) -> &Resolved
-        ensures { result.now ≡ self.now.edges }
+        ensures value { result.now ≡ self.now.edges }
+        ensures resolved { IsResolved self.now.edges }
     {
         self.resolved
     }

@@ -12,7 +12,7 @@ use Rattle.arch_trait.specs.Links.{is_addr}
 use Rattle.arch_trait.specs.Threads.{Puts, is_load_dir, is_store_dir, places_in, shape_of, visits}
 use Rattle.tests_force_cycles.specs.CycleSteps.{cycle_steps, event_step, observing, observer_steps, thread_steps}
 use Rattle.tests_force_cycles.specs.TestOf.{plain}
-use Rattle.test_maker.specs.declared.refusal.MakeRefusal.TheVariants.{TooManyRegisters}
+use Rattle.test_maker.specs.declared.refusal.Refusal.TheVariants.{TooManyRegisters}
 use Rattle.test_maker.specs.Refusals.{crowded_thread, is_crowded}
 
 -- a thread of at most two loads and two stores, of which at most two have an address dependency, at at most two places has

@@ -1,6 +1,6 @@
 -- Each cycle that is made of a family's has a test.
 use Rattle.std.proofs.Common.{◌≡◌, Bool, true, false, not, ◌&&◌, List, None, Ok, Err, nat_le, nat_lt, refl, sym, ◌∙◌, ap}
-use Rattle.std.specs.{Prelude.if◌then◌else◌, List.IsAmong, List.list_all, Option.option_map}
+use Rattle.std.specs.{Prelude.if◌then◌else◌, List.IsAmong, List.list_all, Option.option_map, Option.option_or}
 use Rattle.std.proofs.lemmas.Bool.{and_parts, leb-true, le-ltb, not-true}
 use Rattle.std.proofs.lemmas.List.Folds.{list_all_at}
 use Rattle.relax_edges.specs.declared.{kinds.ObsMode.TheVariants.Accept, edge.Edge.Edge}
@@ -11,8 +11,8 @@ use Rattle.cycle_events.specs.declared.errors.ResolveError.TheVariants as resolv
 use Rattle.cycle_events.specs.Resolution.{external_count, move_count, turned, thread_of, moves_before, location_of, events_in, moves_in, is_coherence_only, resolution_of}
 use Rattle.cycle_events.specs.Values.{write_count}
 use Rattle.arch_trait.specs.Threads.{Puts}
-use Rattle.test_maker.specs.declared.refusal.MakeRefusal.TheVariants.{NotOfArch}
-use Rattle.test_maker.specs.Refusals.{or_else, refusal_of, resolved_refusal}
+use Rattle.test_maker.specs.declared.refusal.Refusal.TheVariants.{NotOfArch}
+use Rattle.test_maker.specs.Refusals.{refusal_of, resolved_refusal}
 use Rattle.demo_tests.specs.Filled.{MakesAll}
 use Rattle.demo_tests.proofs.BareCycles.{bare_edges, coherence_bare, events_bare, externals_bare, moves_bare, turned_bare, writes_bare}
 use Rattle.demo_tests.proofs.FamilyRooms.{HasRoom, few_events, few_writes, is_small, none_crowded}
@@ -51,7 +51,7 @@ accepted_tested a room es own h =
     let resolves : resolution_of es ≡ Ok (turned es) =
     ap (λ b. if b then Err resolving.TooFewThreads else (if is_coherence_only (turned es) then Err resolving.CoherenceOnly else Ok (turned es))) enough
     ∙ ap (λ b. if b then Err resolving.CoherenceOnly else Ok (turned es)) spread in
-    ap (λ o. or_else (option_map (λ at. NotOfArch at) o) (resolved_refusal a (resolution_of es) Accept)) (none_fails (λ e. is_of_arch e a.name) 0 es own)
+    ap (λ o. option_or (option_map (λ at. NotOfArch at) o) (resolved_refusal a (resolution_of es) Accept)) (none_fails (λ e. is_of_arch e a.name) 0 es own)
     ∙ ap (λ r. resolved_refusal a r Accept) resolves
     ∙ none_crowded a room (turned es) q.1
 

@@ -27,7 +27,8 @@ use Rattle.litmus_text.specs.TestReading.{TestRead}
 use Rattle.two_runs.specs.{IntendedRuns.intended_by, CoherenceRuns.incoherent_by}
 use Rattle.diy_tools.specs.Devices.{OutAlone}
 use Rattle.diy_tools.specs.{ExecutionAnswers.PrintsRun, ExecutionAnswers.AnswersRun, ListAnswers.AnswersListed, ArchMachines.Machine, Memory.MayWantMemory}
-use Rattle.diy_tools.specs.declared.status.{Status.Status, Refusal.Refusal, Device.TheVariants.Input, Device.TheVariants.Out}
+use Rattle.test_maker.specs.declared.refusal.Refusal.{Refusal}
+use Rattle.diy_tools.specs.declared.status.{Status.Status, Device.TheVariants.Input, Device.TheVariants.Out}
 use Rattle.diy_tools.specs.declared.status.{Device.TheVariants.Shelf}
 use Rattle.diy_tools.specs.declared.status.Status.TheVariants as statuses
 use Rattle.diy_tools.specs.declared.status.TextKind.TheVariants as texts

@@ -12,7 +12,7 @@ use Rattle.diy_words.specs.Requests.{Task, CoherenceTask, AsksCoherence, asked_o
 use Rattle.co_tests_laws.specs.CoRefusals.{coherence_refusal_of, coherence_text}
 use Rattle.diy_tools.specs.declared.status.Status.{Status}
 use Rattle.diy_tools.specs.{Answers.Answers, Answers.AnswersAsked, ArchMachines.machine_of, CoherenceAnswers.AnswersCoherence, Devices.devices}
-use Rattle.diy_tools.specs.{PrintAnswers.AnswersEdges, Refused.refused_coherence, TestAnswers.test_name}
+use Rattle.diy_tools.specs.{PrintAnswers.AnswersEdges, TestAnswers.test_name}
 use Rattle.diy_tools.specs.KeptRequests.{AnswersIncoherence, edges_kept, name_kept, refused_incoherent}
 use Rattle.diy_tools.proofs.Running.{edges_answered, kept_so}
 
@@ -37,7 +37,7 @@ coherence_answered words request status input shelf old new given h = of_asked (
     of_coherence : (asked : CoherenceTask) → request.arch ≡ asked.arch → name_kept request.name ≡ asked.name → request.edges ≡ kept_edges asked.edges
         → AnswersCoherence asked status old new
     of_coherence asked p q k =
-        edges_answered (kept_edges asked.edges) asked.edges (λ us. refused_coherence (coherence_refusal_of (machine_of asked.arch).puts us))
+        edges_answered (kept_edges asked.edges) asked.edges (λ us. coherence_refusal_of (machine_of asked.arch).puts us)
         (λ us. coherence_text (machine_of asked.arch).puts (machine_of asked.arch).writing (test_name asked.name us) us)
         (machine_of asked.arch).puts.name status old new (kept_so asked.edges)
         (subst (λ l. kept_answer asked.arch asked.name l status old new) k

@@ -37,7 +37,8 @@ use Rattle.program_meaning.specs.Executions.{Execution}
 use Rattle.litmus_text.specs.TestReading.{TestRead}
 use Rattle.two_runs.specs.{IntendedRuns.intended_by, CoherenceRuns.incoherent_by}
 use Rattle.diy_tools.specs.{ExecutionAnswers.AnswersRun, ListAnswers.AnswersListed, ArchMachines.Machine, Memory.MayWantMemory}
-use Rattle.diy_tools.specs.declared.status.{Status.Status, Refusal.Refusal, Device.TheVariants.Out, Device.TheVariants.Shelf}
+use Rattle.test_maker.specs.declared.refusal.Refusal.{Refusal}
+use Rattle.diy_tools.specs.declared.status.{Status.Status, Device.TheVariants.Out, Device.TheVariants.Shelf}
 use Rattle.diy_tools.proofs.Opened.{long_taken}
 use Rattle.diy_tools.specs.{Devices.Devices, Devices.DevicesSeen, Devices.devices, Refused.refused_list, Statuses.norm_status}
 use Rattle.diy_tools.specs.{Statuses.classify_status, Statuses.listing_status, PrintAnswers.AnswersEdges, PrintAnswers.Prints, TestAnswers.asked_text}

@@ -15,10 +15,11 @@ use Rattle.exec_text.specs.Written.{text_of_execution}
 use Rattle.test_maker.specs.{CycleText.cycle_text, Refusals.refusal_of}
 use Rattle.co_tests_laws.specs.CoRefusals.{coherence_refusal_of, coherence_text}
 use Rattle.two_runs.specs.{IntendedRuns.IsRunOf, IntendedRuns.intended_by, CoherenceRuns.incoherent_by}
-use Rattle.diy_tools.specs.declared.status.{Status.Status, Refusal.Refusal}
+use Rattle.test_maker.specs.declared.refusal.Refusal.{Refusal}
+use Rattle.diy_tools.specs.declared.status.Status.{Status}
 use Rattle.diy_tools.specs.{Answers.Answers, Answers.AnswersAsked, ArchMachines.Machine, ArchMachines.machine_of, Devices.devices}
 use Rattle.diy_tools.specs.{ExecutionAnswers.AnswersRun, ExecutionAnswers.AnswersExecution, ExecutionAnswers.AnswersCoherenceExecution}
-use Rattle.diy_tools.specs.{Refused.refused_list, Refused.refused_making, Refused.refused_coherence, TestAnswers.test_name}
+use Rattle.diy_tools.specs.{Refused.refused_list, TestAnswers.test_name}
 use Rattle.diy_tools.specs.KeptRequests.{AnswersIntended, AnswersIncoherent, PrintsInMemory, edges_kept, name_kept, refused_edges, refused_kept, refused_incoherent}
 use Rattle.diy_tools.proofs.Running.{IsKeptSo, kept_so}
 
@@ -73,7 +74,7 @@ execution_answered words request status input shelf old new given h = of_asked (
   where
     of_test : (asked : TestTask) → HoldsTest request asked → AnswersExecution asked status old new
     of_test asked g =
-        run_answered (machine_of asked.arch) (kept_edges asked.edges) asked.edges (λ us. refused_making (refusal_of (machine_of asked.arch).puts us asked.mode))
+        run_answered (machine_of asked.arch) (kept_edges asked.edges) asked.edges (λ us. refusal_of (machine_of asked.arch).puts us asked.mode)
         (λ us. cycle_text (machine_of asked.arch).puts (machine_of asked.arch).writing asked.mode (test_name asked.name us) us) (λ us. intended_by us asked.mode)
         (machine_of asked.arch).puts.name status old new (kept_so asked.edges)
         (subst (λ l. kept_run asked.arch asked.mode asked.name l status old new) g.3
@@ -93,7 +94,7 @@ loop_answered words request status input shelf old new given h = of_asked (asked
   where
     of_loop : (asked : CoherenceTask) → HoldsCoherence request asked → AnswersCoherenceExecution asked status old new
     of_loop asked g =
-        run_answered (machine_of asked.arch) (kept_edges asked.edges) asked.edges (λ us. refused_coherence (coherence_refusal_of (machine_of asked.arch).puts us))
+        run_answered (machine_of asked.arch) (kept_edges asked.edges) asked.edges (λ us. coherence_refusal_of (machine_of asked.arch).puts us)
         (λ us. coherence_text (machine_of asked.arch).puts (machine_of asked.arch).writing (test_name asked.name us) us) incoherent_by
         (machine_of asked.arch).puts.name status old new (kept_so asked.edges)
         (subst (λ l. kept_loop asked.arch asked.name l status old new) g.2

@@ -33,14 +33,14 @@ use Rattle.diy_words.specs.TestNames.{is_name}
 use Rattle.diy_words.specs.Requests.{Task, TestTask, ListTask, AsksTest, AsksWhy, WhyTask, AsksCoherence, CoherenceTask, AsksName, AsksList, AsksFamilies, AsksSum, AsksCross, AsksDemo, AsksCheck, AsksExecution, AsksCoherenceExecution, AsksLines, CrossTask, asked_of}
 use Rattle.cycle_names.specs.CycleNames.{name_of}
 use Rattle.diy_words.proofs.RequestForm.{asked_form}
-use Rattle.test_maker.specs.declared.refusal.MakeRefusal.{MakeRefusal}
-use Rattle.test_maker.specs.{Refusals.refusal_of, CycleText.cycle_text}
+use Rattle.test_maker.specs.declared.refusal.Refusal.{Refusal}
+use Rattle.test_maker.specs.{Refusals.foreign_edge, Refusals.refusal_of, CycleText.cycle_text}
 use Rattle.bytes_force_cycles.specs.PrintedHeadline.{BytesForce}
-use Rattle.test_maker.proofs.HavingTests.{accepted_has_test}
+use Rattle.test_maker.proofs.HavingTests.{accepted_has_test, neither}
 use Rattle.demo_tests.proofs.Cycles.{cycle_named}
 use Rattle.bytes_force_cycles.proofs.Printed.{printed_force}
-use Rattle.diy_tools.specs.declared.status.{Refusal.Refusal, Status.Status, Status.TheVariants.NoMemory}
-use Rattle.diy_tools.specs.declared.status.Refusal.TheVariants as refusals
+use Rattle.diy_tools.specs.declared.status.{Status.Status, Status.TheVariants.NoMemory}
+use Rattle.test_maker.specs.declared.refusal.Refusal.TheVariants as refusals
 use Rattle.diy_tools.specs.{WhyAnswers.AnswersRuns, WhyAnswers.AnswersWhy, WhyAnswers.WritesRuns, ArchMachines.Machine, ArchMachines.machine_of}
 use Rattle.diy_tools.specs.{PrintAnswers.AnswersEdges, CoherenceAnswers.AnswersCoherence, CoherenceAnswers.incoherence_refused}
 use Rattle.diy_tools.specs.{CoherenceAnswers.incoherent_text, TestAnswers.asked_text, TestAnswers.test_name, CrossAnswers.AnswersCross}
@@ -49,8 +49,7 @@ use Rattle.two_runs.specs.{IntendedRuns.intended_by, CoherenceRuns.incoherent_by
 use Rattle.tests_to_files.specs.Plans.{IsPlanned, planned_text}
 use Rattle.diy_tools.specs.{ExecutionAnswers.AnswersRun, ExecutionAnswers.AnswersExecution, ExecutionAnswers.AnswersCoherenceExecution, ListAnswers.plan_asked}
 use Rattle.diy_tools.specs.{Headline.Headline, Headline.HeadlineAsked, Headline.PrintsIntended, Headline.PrintsIncoherent}
-use Rattle.diy_tools.specs.Refused.{refused_list, refused_of, refused_of_arch, refused_composing, refused_making, refused_coherence}
-use Rattle.co_tests_laws.specs.declared.refusal.CoRefusal.{CoRefusal}
+use Rattle.diy_tools.specs.Refused.{refused_list, refused_of, refused_composing}
 use Rattle.co_tests_laws.specs.{CoRefusals.coherence_refusal_of, CoRefusals.coherence_text, Incoherence.BytesShowIncoherence}
 use Rattle.co_tests_laws.proofs.{Accepted.accepted_has_test as accepted_has_loop, Printed.printed_show}
 use Rattle.diycross7_cycles.specs.Laws.{IsCrossed}
@@ -103,33 +102,25 @@ record IsAccepted (a : Puts) (mode : ObsMode) (es : List Edge) : Type 0 where
   is_cycle : IsCycle es
   unrefused : refusal_of a es mode ≡ None
 
-either_none : (a b : Option Refusal) → option_or a b ≡ None → (a ≡ None) × (b ≡ None)
-either_none None b h = (refl, h)
-either_none (Some x) b h = cc h
-
 makes_cycle : (arch : ArchName) (es : List Edge) → refused_list arch es ≡ None → IsCycle es
 makes_cycle arch [] h = cc h
-makes_cycle arch (e ∷ es) h = of_size (nat_lt MAX_EDGES (length (e ∷ es))) refl (position_from (λ u. not (is_of_arch u arch)) 0 (e ∷ es)) h
+makes_cycle arch (e ∷ es) h = of_size (nat_lt MAX_EDGES (length (e ∷ es))) refl (foreign_edge arch (e ∷ es)) h
   where
     of_break : (b : Option ℕ) → first_break ((e ∷ es) ++ e ∷ []) ≡ b → nat_lt MAX_EDGES (length (e ∷ es)) ≡ false → refused_composing (unbroken (e ∷ es) b) ≡ None → IsCycle (e ∷ es)
     of_break (Some at) s f h = cc h
     of_break None s f h = unbroken_cycle (e ∷ es) e refl (ltb-false MAX_EDGES (length (e ∷ es)) f) s
 
-    of_size : (b : Bool) → nat_lt MAX_EDGES (length (e ∷ es)) ≡ b → (foreign : Option ℕ) → (if b then Some refusals.TooLong else refused_of_arch (e ∷ es) foreign) ≡ None → IsCycle (e ∷ es)
+    of_size : (b : Bool) → nat_lt MAX_EDGES (length (e ∷ es)) ≡ b → (foreign : Option Refusal) → (if b then Some refusals.TooLong else option_or foreign (refused_composing (composed (e ∷ es)))) ≡ None → IsCycle (e ∷ es)
     of_size true f foreign h = cc h
-    of_size false f (Some at) h = cc h
+    of_size false f (Some reason) h = cc h
     of_size false f None h =
         of_break (first_break ((e ∷ es) ++ e ∷ [])) refl f
         (sym (ap (λ b. refused_composing (cond b (Err composing.TooLong) (unbroken (e ∷ es) (first_break ((e ∷ es) ++ e ∷ []))))) f) ∙ h)
 
 accepted : (a : Puts) (mode : ObsMode) (es : List Edge) → refused_of a mode es ≡ None → IsAccepted a mode es
 accepted a mode es h =
-    let both = either_none (refused_list a.name es) (refused_making (refusal_of a es mode)) h in
-    record { is_cycle = makes_cycle a.name es both.0; unrefused = none_made (refusal_of a es mode) both.1 }
-  where
-    none_made : (reason : Option MakeRefusal) → refused_making reason ≡ None → reason ≡ None
-    none_made None h = refl
-    none_made (Some reason) h = cc h
+    let both = neither (refused_list a.name es) (refusal_of a es mode) h in
+    record { is_cycle = makes_cycle a.name es both.0; unrefused = both.1 }
 
 test_named_so : (name : Option (List ℕ)) (es : List Edge) → IsCycle es → IfSome name (λ name. is_name name ≡ true) → IsTestName (test_name name es)
 test_named_so (Some name) es whole h = (words_name name).0 h
@@ -152,12 +143,8 @@ record IsLoop (a : Puts) (es : List Edge) : Type 0 where
 
 is_loop : (a : Puts) (es : List Edge) → incoherence_refused a es ≡ None → IsLoop a es
 is_loop a es h =
-    let both = either_none (refused_list a.name es) (refused_coherence (coherence_refusal_of a es)) h in
-    record { is_cycle = makes_cycle a.name es both.0; unrefused = none_made (coherence_refusal_of a es) both.1 }
-  where
-    none_made : (reason : Option CoRefusal) → refused_coherence reason ≡ None → reason ≡ None
-    none_made None h = refl
-    none_made (Some reason) h = cc h
+    let both = neither (refused_list a.name es) (coherence_refusal_of a es) h in
+    record { is_cycle = makes_cycle a.name es both.0; unrefused = both.1 }
 
 -- the text of the coherence test of edges that aren't refused, under a name of its form, shows incoherence
 text_shows : (arch : ArchName) (name : List ℕ) (es : List Edge) → IsTestName name → IsCycle es → coherence_refusal_of (machine_of arch).puts es ≡ None

@@ -25,7 +25,8 @@ use Rattle.tests_to_files.specs.{ListingEnds.StopsAtTest, ListingEnds.StopsAtAll
 use Rattle.msum7_files.specs.declared.sum_end.SumEnd.{SumEnd}
 use Rattle.msum7_files.specs.declared.sum_end.SumEnd.TheVariants as sums
 use Rattle.msum7_files.specs.SumEnds.{InputSummed}
-use Rattle.diy_tools.specs.declared.status.{Status.Status, TextKind.TextKind, Refusal.Refusal, Device.TheVariants.Out, Device.TheVariants.Shelf}
+use Rattle.test_maker.specs.declared.refusal.Refusal.{Refusal}
+use Rattle.diy_tools.specs.declared.status.{Status.Status, TextKind.TextKind, Device.TheVariants.Out, Device.TheVariants.Shelf}
 use Rattle.diy_tools.specs.declared.status.Status.TheVariants as statuses
 use Rattle.diy_tools.specs.declared.status.TextKind.TheVariants as texts
 use Rattle.diy_tools.specs.{Devices.Devices, Devices.DevicesSeen, Devices.devices, Statuses.norm_status, Statuses.classify_status}

@@ -14,7 +14,8 @@ use Rattle.diy_words.specs.declared.{request.Diy.Diy, request.Sought.Sought, usa
 use Rattle.diy_words.specs.declared.{request.Why.Why}
 use Rattle.diycross7_cycles.specs.ComposedLaws.{composed_same}
 use Rattle.diy_tools.specs.{Devices.devices, KeptRequests.ChecksFiles, CheckAnswers.AnswersCheck, ArchMachines.machine_of, Refused.refused_list}
-use Rattle.diy_tools.specs.{Refused.refused_of_arch, Refused.refused_composing, PrintAnswers.AnswersEdges, TestAnswers.test_name}
+use Rattle.test_maker.specs.Refusals.{foreign_edge}
+use Rattle.diy_tools.specs.{Refused.refused_composing, PrintAnswers.AnswersEdges, TestAnswers.test_name}
 use Rattle.diy_tools.specs.{NameAnswers.AnswersName, NameAnswers.AnswersSought, ListAnswers.AnswersList, Answers.Answers, Answers.AnswersAsked}
 use Rattle.diy_tools.specs.{WhyAnswers.AnswersRuns}
 use Rattle.test_maker.specs.CycleText.{cycle_text}
@@ -23,8 +24,9 @@ use Rattle.diy_words.specs.Requests.{Task, ListTask, AsksName, AsksList, AsksChe
 use Rattle.diy_words.specs.Requests as words
 use Rattle.diy_words.specs.Given.{IsSought, GivesTask, list_kept}
 use Rattle.diy_words.specs.declared.request.Request.TheVariants as requests
-use Rattle.diy_tools.specs.declared.status.{Status.Status, Refusal.Refusal}
-use Rattle.diy_tools.specs.declared.status.Refusal.TheVariants as refusals
+use Rattle.test_maker.specs.declared.refusal.Refusal.{Refusal}
+use Rattle.diy_tools.specs.declared.status.Status.{Status}
+use Rattle.test_maker.specs.declared.refusal.Refusal.TheVariants as refusals
 use Rattle.diy_tools.specs.KeptRequests.{AnswersKept, refused_kept, refused_edges, refused_why, edges_kept, folder_kept, named_kept, MakesCycle}
 
 -- edges as they are kept are refused as those that were given, and a list of them that is kept whole is theirs
@@ -51,7 +53,7 @@ kept_so (e ∷ es) =
 
     refused_long : (arch : ArchName) → nat_le (length (e ∷ es)) MAX_EDGES ≡ false → refused_list arch (e ∷ es) ≡ Some refusals.TooLong
     refused_long arch f =
-        ap (λ b. if b then Some refusals.TooLong else refused_of_arch (e ∷ es) (position_from (λ e. not (is_of_arch e arch)) 0 (e ∷ es)))
+        ap (λ b. if b then Some refusals.TooLong else option_or (foreign_edge arch (e ∷ es)) (refused_composing (composed (e ∷ es))))
         (long (length (e ∷ es)) f)
 
 -- what is answered of edges that are kept is answered of those that were given

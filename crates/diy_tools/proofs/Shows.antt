@@ -9,11 +9,11 @@ use Rattle.tests_to_files.specs.Putting.{PutFiles}
 use Rattle.litmus_text.specs.TestReading.{TestRead}
 use Rattle.program_meaning.specs.Executions.{Execution}
 use Rattle.test_maker.specs.CycleText.{cycle_text}
-use Rattle.two_runs.specs.declared.errors.WhyRefusal.{WhyRefusal}
+use Rattle.test_maker.specs.declared.refusal.Refusal.{Refusal}
 use Rattle.two_runs.specs.Shown.{AreRunsFor, why_refused}
-use Rattle.diy_tools.specs.declared.status.{Status.Status, Refusal.Refusal, Device.TheVariants.Out, Device.TheVariants.Shelf}
+use Rattle.diy_tools.specs.declared.status.{Status.Status, Device.TheVariants.Out, Device.TheVariants.Shelf}
 use Rattle.diy_tools.specs.declared.status.Status.TheVariants as statuses
-use Rattle.diy_tools.specs.{KeptRequests.WritesInMemory, ArchMachines.Machine, PrintAnswers.Prints, Refused.refused_showing}
+use Rattle.diy_tools.specs.{KeptRequests.WritesInMemory, ArchMachines.Machine, PrintAnswers.Prints}
 use Rattle.diy_tools.specs.WhyAnswers.{AnswersRuns, WritesFiles, WritesRuns, why_files, why_line, why_path}
 
 -- the text that was made is that of the cycle's test without observers
@@ -27,9 +27,9 @@ pub runs_written : (m : Machine) (folder : Option (List ℕ)) (name : List ℕ) 
     (status : Status) (old new : ShelfSeen) (before after : SinkSeen) → why_refused m.puts cycle ≡ None
     → AreRunsFor m.puts m.writing name (turned cycle) (observer_need (turned cycle)) text test one two
     → WritesInMemory (why_files folder name text (text_of_execution test.places one) (text_of_execution test.places two)) (why_line name) status old new before after
-    → AnswersRuns m folder name (refused_showing (why_refused m.puts cycle)) cycle status old new before after
+    → AnswersRuns m folder name (why_refused m.puts cycle) cycle status old new before after
 runs_written m folder name cycle text test one two status old new before after none runs written =
-    subst (λ (refused : Option WhyRefusal). AnswersRuns m folder name (refused_showing refused) cycle status old new before after) (sym none) (answered written)
+    subst (λ (refused : Option Refusal). AnswersRuns m folder name refused cycle status old new before after) (sym none) (answered written)
   where
     answered : WritesInMemory (why_files folder name text (text_of_execution test.places one) (text_of_execution test.places two)) (why_line name) status old new before after
         → AnswersRuns m folder name None cycle status old new before after

@@ -21,7 +21,8 @@ use Rattle.msum7_files.specs.declared.sum_end.SumEnd.{SumEnd}
 use Rattle.msum7_files.specs.declared.sum_end.SumEnd.TheVariants as sums
 use Rattle.msum7_files.specs.SumEnds.{LogFileMissing}
 use Rattle.two_runs.specs.{IntendedRuns.intended_by, CoherenceRuns.incoherent_by}
-use Rattle.diy_tools.specs.declared.status.{Status.Status, Refusal.Refusal, Device.TheVariants.Input, Device.TheVariants.Out}
+use Rattle.test_maker.specs.declared.refusal.Refusal.{Refusal}
+use Rattle.diy_tools.specs.declared.status.{Status.Status, Device.TheVariants.Input, Device.TheVariants.Out}
 use Rattle.diy_tools.specs.declared.status.{Device.TheVariants.Shelf}
 use Rattle.diy_tools.specs.declared.status.Status.TheVariants as statuses
 use Rattle.diy_tools.specs.declared.status.TextKind.TheVariants as texts

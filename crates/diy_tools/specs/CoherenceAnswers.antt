@@ -6,13 +6,14 @@ use Rattle.diy_io.specs.Wrote.{SinkSeen}
 use Rattle.diy_words.specs.Requests.{CoherenceTask}
 use Rattle.arch_trait.specs.Threads.{Puts}
 use Rattle.co_tests_laws.specs.CoRefusals.{coherence_refusal_of, coherence_text}
-use Rattle.diy_tools.specs.declared.status.{Status.Status, Refusal.Refusal}
-use Rattle.diy_tools.specs.{ArchMachines.machine_of, PrintAnswers.AnswersEdges, Refused.refused_list, Refused.refused_coherence}
+use Rattle.test_maker.specs.declared.refusal.Refusal.{Refusal}
+use Rattle.diy_tools.specs.declared.status.Status.{Status}
+use Rattle.diy_tools.specs.{ArchMachines.machine_of, PrintAnswers.AnswersEdges, Refused.refused_list}
 use Rattle.diy_tools.specs.{TestAnswers.test_name}
 
 -- the first reason why a list of edges has no coherence test on an architecture
 abbrev pub incoherence_refused : Puts → List Edge → Option Refusal
-incoherence_refused a edges = option_or (refused_list a.name edges) (refused_coherence (coherence_refusal_of a edges))
+incoherence_refused a edges = option_or (refused_list a.name edges) (coherence_refusal_of a edges)
 
 -- the text of the coherence test that words ask for
 abbrev pub incoherent_text : CoherenceTask → List ℕ

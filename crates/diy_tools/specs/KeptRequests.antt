@@ -19,8 +19,9 @@ use Rattle.litmus_text.specs.Tests.{test_seen}
 use Rattle.msum7_files.specs.declared.sum_end.SumEnd.{SumEnd}
 use Rattle.msum7_files.specs.SumEnds.{InputSummed, FilesSummed}
 use Rattle.test_maker.specs.{CycleText.cycle_test, CycleText.cycle_text, Refusals.refusal_of}
-use Rattle.diy_tools.specs.declared.status.{Status.Status, Refusal.Refusal}
-use Rattle.diy_tools.specs.declared.status.Refusal.TheVariants as refusals
+use Rattle.test_maker.specs.declared.refusal.Refusal.{Refusal}
+use Rattle.diy_tools.specs.declared.status.Status.{Status}
+use Rattle.test_maker.specs.declared.refusal.Refusal.TheVariants as refusals
 use Rattle.diy_words.specs.Requests.{Task, ListTask, AsksCross}
 use Rattle.tests_from_files.specs.declared.classified_errors.FilesEnd.{FilesEnd}
 use Rattle.exec_check.specs.declared.checked_errors.CheckEnd.{CheckEnd}
@@ -28,7 +29,7 @@ use Rattle.diy_tools.specs.{CheckAnswers.EndsChecked, CheckAnswers.check_status,
 use Rattle.diy_tools.specs.{FamilyAnswers.EndsNamed, FamilyAnswers.files_status, ArchMachines.Machine, ArchMachines.machine, ArchMachines.machine_of}
 use Rattle.diy_tools.specs.{NameAnswers.AnswersLines, NameAnswers.AnswersName, PrintAnswers.AnswersEdges, TestAnswers.test_name, Devices.DevicesSeen}
 use Rattle.diy_tools.specs.{Devices.devices, SumAnswers.sum_status, SumAnswers.AnswersSum}
-use Rattle.diy_tools.specs.Refused.{refused_list, refused_making, refused_showing, refused_coherence}
+use Rattle.diy_tools.specs.Refused.{refused_list}
 use Rattle.diy_tools.specs.WhyAnswers.{WritesFiles, AnswersRuns, why_files, why_line}
 use Rattle.arch_trait.specs.{Threads.Puts, Writing.Writing}
 use Rattle.exec_check.specs.FilesChecked.{FilesChecked}
@@ -50,11 +51,11 @@ refused_edges arch TooLong = Some refusals.TooLong
 
 -- the same, where they are to make a test
 abbrev pub refused_kept : Machine → ObsMode → EdgeList → Option Refusal
-refused_kept m mode list = option_or (refused_edges m.puts.name list) (refused_making (refusal_of m.puts (edges_kept list) mode))
+refused_kept m mode list = option_or (refused_edges m.puts.name list) (refusal_of m.puts (edges_kept list) mode)
 
 -- the same, where two executions of the test are to be written
 abbrev pub refused_why : Machine → EdgeList → Option Refusal
-refused_why m list = option_or (refused_edges m.puts.name list) (refused_showing (why_refused m.puts (edges_kept list)))
+refused_why m list = option_or (refused_edges m.puts.name list) (why_refused m.puts (edges_kept list))
 
 -- a call gives the cycle that edges make, where nothing is refused, or the reason that is given
 abbrev pub MakesCycle : Option Refusal → List Edge → Result (List Edge) Refusal → Type 0
@@ -72,7 +73,7 @@ chosen_name name cycle = test_name (name_kept name) cycle
 -- a cycle has no test in a mode, and that is the refusal; or its test is printed
 abbrev pub AnswersCycle : Machine → ObsMode → Option ArrayString → List Edge → Status → SinkSeen → SinkSeen → Type 0
 AnswersCycle m mode name cycle =
-    AnswersEdges (refused_making (refusal_of m.puts cycle mode)) (cycle_text m.puts m.writing mode (chosen_name name cycle) cycle)
+    AnswersEdges (refusal_of m.puts cycle mode) (cycle_text m.puts m.writing mode (chosen_name name cycle) cycle)
 
 -- the edges of a request are refused; or the test of their cycle is printed
 abbrev pub AnswersOne : Machine → DiyOne → Status → SinkSeen → SinkSeen → Type 0
@@ -90,7 +91,7 @@ AnswersIntended m request =
 -- the same of a cycle under a name, on an architecture with this code that is written so
 abbrev pub RunsOn : Puts → Writing → ObsMode → List ℕ → List Edge → Status → SinkSeen → SinkSeen → Type 0
 RunsOn puts writing mode name cycle =
-    AnswersRun (machine puts writing) (refused_making (refusal_of puts cycle mode)) (cycle_text puts writing mode name cycle) (intended_by cycle mode)
+    AnswersRun (machine puts writing) (refusal_of puts cycle mode) (cycle_text puts writing mode name cycle) (intended_by cycle mode)
 
 -- a text is printed, or there is no memory, and nothing is
 abbrev pub PrintsInMemory : List ℕ → Status → SinkSeen → SinkSeen → Type 0
@@ -121,7 +122,7 @@ AnswersShowing m request =
 -- the same of a cycle under a name, on an architecture with this code that is written so
 abbrev pub ShowsOn : Puts → Writing → Option (Bor (List ℕ)) → List ℕ → List Edge → Status → ShelfSeen → ShelfSeen → SinkSeen → SinkSeen → Type 0
 ShowsOn puts writing folder name cycle =
-    AnswersRuns (machine puts writing) (folder_lent folder) name (refused_showing (why_refused puts cycle)) cycle
+    AnswersRuns (machine puts writing) (folder_lent folder) name (why_refused puts cycle) cycle
 
 -- the files of a test with this text and of two executions with these are put on the shelf, and the line on them is written
 abbrev pub PutsRuns : Option (Bor (List ℕ)) → List ℕ → List ℕ → List ℕ → List ℕ → Status → ShelfSeen → ShelfSeen → SinkSeen → SinkSeen → Type 0
@@ -150,15 +151,9 @@ AnswersKept arch (sought.Named source) status old new before after =
     (new ≡ old) × AnswersName arch source.word source.name.now status before after
 AnswersKept arch sought.Lines status old new before after = AnswersLines arch status old new before after
 
--- a call gives the test of a cycle, or the first reason why it has none
-abbrev pub MakesTestOf : Machine → ObsMode → List Edge → Test → Result (Unit {0}) Refusal → Type 0
-MakesTestOf m mode cycle test (Ok _) =
-    (refused_making (refusal_of m.puts cycle mode) ≡ None) × (test_seen test ≡ cycle_test m.puts m.writing mode cycle)
-MakesTestOf m mode cycle test (Err refusal) = refused_making (refusal_of m.puts cycle mode) ≡ Some refusal
-
 -- what is refused of edges as they are kept, where they are to make a coherence test
 abbrev pub refused_incoherent : Machine → EdgeList → Option Refusal
-refused_incoherent m list = option_or (refused_edges m.puts.name list) (refused_coherence (coherence_refusal_of m.puts (edges_kept list)))
+refused_incoherent m list = option_or (refused_edges m.puts.name list) (coherence_refusal_of m.puts (edges_kept list))
 
 -- the edges of a request for a coherence test, as they are kept, are refused; or the test is printed
 abbrev pub AnswersIncoherence : Machine → Coherence → Status → SinkSeen → SinkSeen → Type 0
@@ -169,7 +164,7 @@ AnswersIncoherence m request =
 -- a cycle has no coherence test, and that is the refusal; or the test is printed
 abbrev pub AnswersLoop : Machine → Option ArrayString → List Edge → Status → SinkSeen → SinkSeen → Type 0
 AnswersLoop m name cycle =
-    AnswersEdges (refused_coherence (coherence_refusal_of m.puts cycle)) (coherence_text m.puts m.writing (chosen_name name cycle) cycle)
+    AnswersEdges (coherence_refusal_of m.puts cycle) (coherence_text m.puts m.writing (chosen_name name cycle) cycle)
 
 -- the edges of a request for the execution of a coherence test are refused, there is no memory, or that execution is printed
 abbrev pub AnswersIncoherent : Machine → Coherence → Status → SinkSeen → SinkSeen → Type 0
@@ -181,13 +176,7 @@ AnswersIncoherent m request =
 -- the same of a cycle under a name, on an architecture with this code that is written so
 abbrev pub LoopRunsOn : Puts → Writing → List ℕ → List Edge → Status → SinkSeen → SinkSeen → Type 0
 LoopRunsOn puts writing name cycle =
-    AnswersRun (machine puts writing) (refused_coherence (coherence_refusal_of puts cycle)) (coherence_text puts writing name cycle) (incoherent_by cycle)
-
--- a call gives the coherence test of a cycle, or the first reason why it has none
-abbrev pub MakesLoopTest : Machine → List Edge → Test → Result (Unit {0}) Refusal → Type 0
-MakesLoopTest m cycle test (Ok _) =
-    (refused_coherence (coherence_refusal_of m.puts cycle) ≡ None) × (test_seen test ≡ coherence_test m.puts m.writing cycle)
-MakesLoopTest m cycle test (Err refusal) = refused_coherence (coherence_refusal_of m.puts cycle) ≡ Some refusal
+    AnswersRun (machine puts writing) (coherence_refusal_of puts cycle) (coherence_text puts writing name cycle) (incoherent_by cycle)
 
 -- what is answered of words that ask for the tests of choices
 abbrev pub AnswersCrossing : Result Task Usage → Status → ShelfSeen → ShelfSeen → SinkSeen → SinkSeen → Type 0

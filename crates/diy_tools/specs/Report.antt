@@ -1,8 +1,7 @@
 -- The line on standard error for a status.
 -- Source: own.
-use Rattle.std.specs.Prelude.{ℕ, ⊤, ◌<◌, ◌⊎◌, List, [], ◌++◌, codes, slice_get, unwrap_or, Option, Some, None}
+use Rattle.std.specs.Prelude.{ℕ, ⊤, ◌⊎◌, List, [], ◌++◌, codes, slice_get, unwrap_or, Option, Some, None}
 use Rattle.std.specs.Fmt.{decimal}
-use Rattle.relax_edges.specs.declared.TheConstants.{MAX_EDGES}
 use Rattle.arch_trait.specs.PlaceNames.{location_name}
 use Rattle.diy_io.specs.Wrote.{SinkSeen, WroteAll, WrotePart}
 use Rattle.cycles_from_lines.specs.declared.errors.LineKind.{LineKind}
@@ -15,9 +14,11 @@ use Rattle.log_sum.specs.declared.errors.LogKind.{LogKind}
 use Rattle.log_sum.specs.declared.errors.LogKind.TheVariants as logs
 use Rattle.diy_words.specs.declared.usage.UsageKind.{UsageKind}
 use Rattle.diy_words.specs.declared.usage.UsageKind.TheVariants as usages
-use Rattle.diy_tools.specs.declared.status.{Status.Status, Refusal.Refusal, TextKind.TextKind, Device.Device}
+use Rattle.test_maker.specs.declared.refusal.Refusal.{Refusal}
+use Rattle.diy_tools.specs.declared.status.{Status.Status, TextKind.TextKind, Device.Device}
 use Rattle.diy_tools.specs.declared.status.Status.TheVariants as statuses
-use Rattle.diy_tools.specs.declared.status.Refusal.TheVariants as refusals
+use Rattle.test_maker.specs.declared.refusal.Refusal.TheVariants as refusals
+use Rattle.test_maker.specs.Made.{NamesLocation}
 use Rattle.diy_tools.specs.declared.status.TextKind.TheVariants as texts
 use Rattle.diy_tools.specs.declared.status.Device.TheVariants as devices
 
@@ -176,12 +177,7 @@ status_line words statuses.NoMemory = codes "diy: no memory\n"
 abbrev pub TakesLine : List ℕ → SinkSeen → SinkSeen → Type 0
 TakesLine line old new = (WroteAll old new line) ⊎ (WrotePart old new line)
 
--- a refusal names no location, or one that a test can have
-abbrev pub RefusesLocation : Refusal → Type 0
-RefusesLocation (refusals.NeedsObserver location _) = location < MAX_EDGES
-RefusesLocation _ = ⊤
-
 -- a status names no location, or one that a test can have
 abbrev pub StatusNamesLocation : Status → Type 0
-StatusNamesLocation (statuses.Refused refusal) = RefusesLocation refusal
+StatusNamesLocation (statuses.Refused refusal) = NamesLocation refusal
 StatusNamesLocation _ = ⊤

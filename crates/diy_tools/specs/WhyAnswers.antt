@@ -12,9 +12,10 @@ use Rattle.litmus_text.specs.TestReading.{TestRead}
 use Rattle.program_meaning.specs.Executions.{Execution}
 use Rattle.test_maker.specs.CycleText.{cycle_text}
 use Rattle.two_runs.specs.Shown.{AreRunsFor, why_refused}
-use Rattle.diy_tools.specs.declared.status.{Status.Status, Refusal.Refusal, Device.TheVariants.Out, Device.TheVariants.Shelf}
+use Rattle.test_maker.specs.declared.refusal.Refusal.{Refusal}
+use Rattle.diy_tools.specs.declared.status.{Status.Status, Device.TheVariants.Out, Device.TheVariants.Shelf}
 use Rattle.diy_tools.specs.declared.status.Status.TheVariants as statuses
-use Rattle.diy_tools.specs.{ArchMachines.Machine, ArchMachines.machine_of, Refused.refused_list, Refused.refused_showing, TestAnswers.test_name}
+use Rattle.diy_tools.specs.{ArchMachines.Machine, ArchMachines.machine_of, Refused.refused_list, TestAnswers.test_name}
 
 -- the path of a file of a test, by its ending
 abbrev pub why_path : Option (List ℕ) → List ℕ → List ℕ → List ℕ
@@ -58,7 +59,7 @@ AnswersRuns m folder name None edges status old new before after =
 abbrev pub why_unshown : WhyTask → Option Refusal
 why_unshown asked =
     let a = (machine_of asked.arch).puts in
-    option_or (refused_list a.name asked.edges) (refused_showing (why_refused a asked.edges))
+    option_or (refused_list a.name asked.edges) (why_refused a asked.edges)
 
 -- the answer for what words ask for
 abbrev pub AnswersWhy : WhyTask → Status → ShelfSeen → ShelfSeen → SinkSeen → SinkSeen → Type 0

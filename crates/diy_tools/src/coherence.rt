@@ -1,11 +1,9 @@
-ghost use Rattle.std.specs.Prelude.{OnOk, IfErr};
-ghost use Rattle.test_maker.specs.Made.{CanPrint};
-ghost use Rattle.diy_tools.specs.KeptRequests.{AnswersIncoherence, AnswersLoop, MakesLoopTest};
+ghost use Rattle.diy_tools.specs.KeptRequests.{AnswersIncoherence, AnswersLoop};
 ghost use Rattle.diy_tools.specs.ArchMachines.{machine, machine_of};
-ghost use Rattle.diy_tools.specs.Report.{StatusNamesLocation, RefusesLocation};
+ghost use Rattle.diy_tools.specs.Report.{StatusNamesLocation};
 
 use crate::machines::on_machine;
-use crate::status::{Refusal, Status};
+use crate::status::Status;
 use crate::testing::{cycle_on, print_named};
 use arch_trait::{Arch, Places, ThreadCodes};
 use arrayvec::ArrayVec;
@@ -51,20 +49,8 @@ fn answer_loop<A: Arch, O: Sink>(cycle: &Cycle, name: &Option<TestName>, out: &m
         threads: ThreadCodes::new(),
         cond: Cond::default(),
     };
-    match make_loop_test::<A>(cycle, &mut test) {
+    match co_test_into::<A>(cycle, &mut test) {
         Err(refusal) => Status::Refused(refusal),
         Ok(()) => print_named::<A, O>(&test, cycle, name, out),
-    }
-}
-
-/// Makes `test` the coherence test of a cycle, or says why it has none.
-fn make_loop_test<A: Arch>(cycle: &Cycle, test: &mut Test) -> Result<(), Refusal>
-    ensures made { MakesLoopTest (machine A.puts A.writing) cycle.now test.new result }
-    ensures printable { OnOk result (CanPrint A.puts A.REGISTERS test.new) }
-    ensures location { IfErr result RefusesLocation }
-{
-    match co_test_into::<A>(cycle, test) {
-        Ok(()) => Ok(()),
-        Err(refusal) => Err(Refusal::from(refusal)),
     }
 }

@@ -10,7 +10,7 @@ ghost use Rattle.diy_tools.specs.PrintAnswers.{Prints};
 ghost use Rattle.diy_tools.specs.Report.{StatusNamesLocation};
 
 use crate::machines::on_machine;
-use crate::status::{Device, Refusal, Status};
+use crate::status::{Device, Status};
 use crate::testing::{cycle_on, name_for};
 use arch_trait::Arch;
 use diy_io::{Failed, NoMemory, Sink};
@@ -19,7 +19,7 @@ use edge_algebra::Cycle;
 use exec_text::write_execution;
 use relax_edges::{ArchName, ObsMode};
 use std::alloc::Global;
-use two_runs::{CoRunError, IntendedRun, RunError, coherence_run, intended_run};
+use two_runs::{IntendedRun, RunError, coherence_run, intended_run};
 
 /// Prints the execution that the test of a cycle asks for.
 #[tactic(auto, using(crate::proofs::Executed::intended_on))]
@@ -61,7 +61,7 @@ fn print_intended<A: Arch, O: Sink>(
 {
     match intended_run::<A>(alloc, cycle, mode, name) {
         Ok(given) => print_run::<A, O>(alloc, &given, out),
-        Err(RunError::Refused(refusal)) => Status::Refused(Refusal::from(refusal)),
+        Err(RunError::Refused(refusal)) => Status::Refused(refusal),
         Err(RunError::NoMemory) => Status::NoMemory,
     }
 }
@@ -113,8 +113,8 @@ fn print_incoherent<A: Arch, O: Sink>(
 {
     match coherence_run::<A>(alloc, cycle, name) {
         Ok(given) => print_run::<A, O>(alloc, &given, out),
-        Err(CoRunError::Refused(refusal)) => Status::Refused(Refusal::from(refusal)),
-        Err(CoRunError::NoMemory) => Status::NoMemory,
+        Err(RunError::Refused(refusal)) => Status::Refused(refusal),
+        Err(RunError::NoMemory) => Status::NoMemory,
     }
 }
 

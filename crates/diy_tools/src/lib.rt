@@ -18,5 +18,6 @@ mod testing;
 mod tools;
 mod why;
 
-pub use status::{Device, Refusal, Status, TextKind};
+pub use status::{Device, Status, TextKind};
+pub use test_maker::Refusal;
 pub use tools::run;

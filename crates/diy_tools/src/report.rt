@@ -3,10 +3,11 @@ ghost use Rattle.std.specs.Fmt.{decimal};
 ghost use Rattle.relax_edges.specs.declared.TheConstants.{MAX_EDGES};
 ghost use Rattle.diy_io.specs.Page.{Sends};
 ghost use Rattle.diy_io.specs.Wrote.{Wrote};
-ghost use Rattle.diy_tools.specs.declared.status.Refusal.TheVariants as refusals;
-ghost use Rattle.diy_tools.specs.Report.{status_line, refusal_line, refusal_text, usage_line, usage_text, line_text, log_text, test_kind_text, exec_text, kind_text, word_at, file_text, shown_word, device_text, StatusNamesLocation, RefusesLocation, text_line};
+ghost use Rattle.test_maker.specs.declared.refusal.Refusal.TheVariants as refusals;
+ghost use Rattle.test_maker.specs.Made.{NamesLocation};
+ghost use Rattle.diy_tools.specs.Report.{status_line, refusal_line, refusal_text, usage_line, usage_text, line_text, log_text, test_kind_text, exec_text, kind_text, word_at, file_text, shown_word, device_text, StatusNamesLocation, text_line};
 
-use crate::status::{Device, Refusal, Status, TextKind};
+use crate::status::{Device, Status, TextKind};
 use arch_trait::Places;
 use cycles_from_lines::LineKind;
 use diy_io::{Failed, Page, Sink, Words};
@@ -15,6 +16,7 @@ use exec_text::ExecKind;
 use itoa::Buffer;
 use litmus_text::TestKind;
 use log_sum::LogKind;
+use test_maker::Refusal;
 
 /// Writes the line of a status, where it has one.
 #[inline(never)]
@@ -236,7 +238,7 @@ fn send_text<E: Sink>(
 }
 
 fn send_refusal<E: Sink>(refusal: Refusal, page: &mut Page, err: &mut E) -> Result<(), Failed>
-    requires { RefusesLocation refusal }
+    requires { NamesLocation refusal }
     ensures { Sends (E.seen err.old) page.old (E.seen err.new) page.new (refusal_line (refusal_text refusal)) result }
 {
     match refusal {

@@ -1,16 +1,12 @@
 ghost use Rattle.std.specs.Prelude.{◌≡◌};
 ghost use Rattle.diy_tools.specs.Report.{exit_of};
-ghost use Rattle.diy_tools.specs.Refused.{composing_refusal, making_refusal, showing_refusal, coherence_refusal};
 
-use co_tests::CoRefusal;
 use cycles_from_lines::LineKind;
 use diy_words::UsageKind;
-use edge_algebra::CycleError;
 use exec_text::ExecKind;
 use litmus_text::TestKind;
 use log_sum::LogKind;
-use test_maker::MakeRefusal;
-use two_runs::WhyRefusal;
+use test_maker::Refusal;
 
 /// How a call of `run` ended.
 #[derive(Clone, Copy, Debug, PartialEq, Eq)]
@@ -78,34 +74,6 @@ pub enum TextKind {
     TooMuch,
 }
 
-/// Why a list of edges is refused.
-#[derive(Clone, Copy, Debug, PartialEq, Eq)]
-pub enum Refusal {
-    /// There is no edge.
-    Empty,
-    /// There are more than `MAX_EDGES` edges.
-    TooLong,
-    /// Edge `at`, the first such, isn't of the architecture.
-    NotOfArch { at: u8 },
-    /// Edge `at`, the first such, doesn't join the next, or the last the first.
-    DoesNotCompose { at: u8 },
-    /// Fewer than two edges are external.
-    TooFewThreads,
-    /// All edges to another location lie in one thread, or there is none.
-    CoherenceOnly,
-    /// The mode avoids observers, and this write needs one.
-    NeedsObserver { location: u8, event: u8 },
-    /// Thread `thread`, the first such, needs more registers than the architecture has.
-    TooManyRegisters { thread: u8 },
-    /// No write needs an observer, so that there is nothing to show.
-    NothingToShow,
-    /// A coherence test is asked for, and an edge leads to another location, or every internal edge is
-    /// a communication.
-    NotCoherence,
-    /// A coherence test is asked for, and there are more than two writes.
-    ManyWrites,
-}
-
 impl Status {
     /// The exit status of the program: 0 where all is done, 1 for a refusal, a text that is wrong and a
     /// file that isn't there, 2 for words that make no request, 3 for a device that failed, 4 where
@@ -122,62 +90,6 @@ impl Status {
             Status::ReadFault { .. } => 3,
             Status::WriteFault { .. } => 3,
             Status::NoMemory => 4,
-        }
-    }
-}
-
-impl From<CycleError> for Refusal {
-    fn from(error: CycleError) -> Refusal
-        ensures { result ≡ composing_refusal error }
-    {
-        match error {
-            CycleError::Empty => Refusal::Empty,
-            CycleError::TooLong => Refusal::TooLong,
-            CycleError::DoesNotCompose { at } => Refusal::DoesNotCompose { at },
-        }
-    }
-}
-
-impl From<MakeRefusal> for Refusal {
-    fn from(refusal: MakeRefusal) -> Refusal
-        ensures { result ≡ making_refusal refusal }
-    {
-        match refusal {
-            MakeRefusal::NotOfArch { at } => Refusal::NotOfArch { at },
-            MakeRefusal::TooFewThreads => Refusal::TooFewThreads,
-            MakeRefusal::CoherenceOnly => Refusal::CoherenceOnly,
-            MakeRefusal::NeedsObserver { location, event } => {
-                Refusal::NeedsObserver { location, event }
-            }
-            MakeRefusal::TooManyRegisters { thread } => Refusal::TooManyRegisters { thread },
-        }
-    }
-}
-
-impl From<WhyRefusal> for Refusal {
-    fn from(refusal: WhyRefusal) -> Refusal
-        ensures { result ≡ showing_refusal refusal }
-    {
-        match refusal {
-            WhyRefusal::NotOfArch { at } => Refusal::NotOfArch { at },
-            WhyRefusal::TooFewThreads => Refusal::TooFewThreads,
-            WhyRefusal::CoherenceOnly => Refusal::CoherenceOnly,
-            WhyRefusal::NothingToShow => Refusal::NothingToShow,
-            WhyRefusal::TooManyRegisters { thread } => Refusal::TooManyRegisters { thread },
-        }
-    }
-}
-
-impl From<CoRefusal> for Refusal {
-    fn from(refusal: CoRefusal) -> Refusal
-        ensures { result ≡ coherence_refusal refusal }
-    {
-        match refusal {
-            CoRefusal::NotOfArch { at } => Refusal::NotOfArch { at },
-            CoRefusal::TooFewThreads => Refusal::TooFewThreads,
-            CoRefusal::NotCoherence => Refusal::NotCoherence,
-            CoRefusal::ManyWrites => Refusal::ManyWrites,
-            CoRefusal::TooManyRegisters { thread } => Refusal::TooManyRegisters { thread },
         }
     }
 }

@@ -1,17 +1,17 @@
-ghost use Rattle.std.specs.Prelude.{◌≡◌, true, OnOk, IfErr, IfSome};
+ghost use Rattle.std.specs.Prelude.{◌≡◌, true, IfErr, IfSome};
 ghost use Rattle.diy_words.specs.TestNames.{is_name};
 ghost use Rattle.litmus_text.specs.Printable.{IsTestName};
 ghost use Rattle.litmus_text.specs.Tests.{test_seen};
 ghost use Rattle.litmus_text.specs.TestText.{test_text};
-ghost use Rattle.test_maker.specs.Made.{CanPrint};
+ghost use Rattle.test_maker.specs.Made.{CanPrint, NamesLocation};
 ghost use Rattle.diy_tools.specs.PrintAnswers.{Prints};
-ghost use Rattle.diy_tools.specs.KeptRequests.{AnswersCycle, AnswersOne, MakesCycle, MakesTestOf, chosen_name, edges_kept, refused_edges};
+ghost use Rattle.diy_tools.specs.KeptRequests.{AnswersCycle, AnswersOne, MakesCycle, chosen_name, edges_kept, refused_edges};
 ghost use Rattle.diy_tools.specs.ArchMachines.{machine, machine_of};
-ghost use Rattle.diy_tools.specs.Report.{StatusNamesLocation, RefusesLocation};
+ghost use Rattle.diy_tools.specs.Report.{StatusNamesLocation};
 
 use crate::edges::cycle_of_edges;
 use crate::machines::on_machine;
-use crate::status::{Device, Refusal, Status};
+use crate::status::{Device, Status};
 use arch_trait::{Arch, Places, ThreadCodes};
 use arrayvec::ArrayVec;
 use cycle_names::name_of;
@@ -22,7 +22,7 @@ use edges_from_text::EdgeList;
 use final_cond::Cond;
 use litmus_text::{Test, print_test};
 use relax_edges::{ArchName, ObsMode};
-use test_maker::make_into;
+use test_maker::{Refusal, make_into};
 
 /// Prints the test that is asked for.
 #[tactic(auto, using(crate::proofs::Running::answered_on))]
@@ -49,7 +49,7 @@ fn diyone_on<A: Arch, O: Sink>(request: &DiyOne, out: &mut O) -> Status
 #[tactic(auto, using(crate::proofs::Running::named_refused))]
 pub(crate) fn cycle_on<A: Arch>(list: &EdgeList) -> Result<Cycle, Refusal>
     ensures made { MakesCycle (refused_edges A.puts.name list.now) (edges_kept list.now) result }
-    ensures location { IfErr result RefusesLocation }
+    ensures location { IfErr result NamesLocation }
 {
     cycle_of_edges(list, A::NAME)
 }
@@ -88,21 +88,9 @@ fn answer_cycle<A: Arch, O: Sink>(
         threads: ThreadCodes::new(),
         cond: Cond::default(),
     };
-    match make_test::<A>(cycle, mode, &mut test) {
+    match make_into::<A>(cycle, mode, &mut test) {
         Err(refusal) => Status::Refused(refusal),
         Ok(()) => print_named::<A, O>(&test, cycle, name, out),
-    }
-}
-
-/// Makes `test` the test of a cycle, or says why it has none.
-fn make_test<A: Arch>(cycle: &Cycle, mode: ObsMode, test: &mut Test) -> Result<(), Refusal>
-    ensures made { MakesTestOf (machine A.puts A.writing) mode cycle.now test.new result }
-    ensures printable { OnOk result (CanPrint A.puts A.REGISTERS test.new) }
-    ensures location { IfErr result RefusesLocation }
-{
-    match make_into::<A>(cycle, mode, test) {
-        Ok(()) => Ok(()),
-        Err(refusal) => Err(Refusal::from(refusal)),
     }
 }
 

@@ -14,7 +14,7 @@ ghost use Rattle.diy_tools.specs.WhyAnswers.{why_line};
 
 use crate::edges::cycle_of_edges;
 use crate::machines::on_machine;
-use crate::status::{Device, Refusal, Status};
+use crate::status::{Device, Status};
 use crate::testing::name_for;
 use arch_trait::Arch;
 use diy_io::{Failed, MAX_FOLDER, NoMemory, Page, Shelf, Sink};
@@ -24,7 +24,7 @@ use exec_text::write_execution;
 use relax_edges::ArchName;
 use std::alloc::Global;
 use tests_to_files::{File, put_files, test_path};
-use two_runs::{TwoRuns, WhyError, two_runs};
+use two_runs::{RunError, TwoRuns, two_runs};
 
 /// Writes the test of a cycle without observers, and two executions of it that no condition on the final
 /// state tells apart.
@@ -81,8 +81,8 @@ fn why_named<A: Arch, H: Shelf, O: Sink>(
 {
     match two_runs::<A>(alloc, cycle, name) {
         Ok(runs) => write_runs::<A, H, O>(alloc, &runs, name, folder, shelf, out),
-        Err(WhyError::Refused(refusal)) => Status::Refused(Refusal::from(refusal)),
-        Err(WhyError::NoMemory) => Status::NoMemory,
+        Err(RunError::Refused(refusal)) => Status::Refused(refusal),
+        Err(RunError::NoMemory) => Status::NoMemory,
     }
 }
 

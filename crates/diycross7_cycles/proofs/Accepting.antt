@@ -6,15 +6,15 @@ use Rattle.edge_algebra_laws.specs.Composable.{IsCycle}
 use Rattle.edge_algebra.specs.declared.errors.CycleError.{CycleError}
 use Rattle.edge_algebra.specs.{Compose.composed, ComposingLaws.composes_exactly}
 use Rattle.arch_trait.specs.Threads.{Puts}
-use Rattle.test_maker.specs.declared.refusal.MakeRefusal.{MakeRefusal}
-use Rattle.test_maker.specs.{Made.Accepts, Refusals.refusal_of}
+use Rattle.test_maker.specs.declared.refusal.Refusal.{Refusal}
+use Rattle.test_maker.specs.{Made.Judges, Refusals.refusal_of}
 use Rattle.diycross7_cycles.specs.{Choices.is_accepted, ComposedLaws.composed_same}
 
 -- an accepted list is a cycle and has a test
 pub accepted_parts : (puts : Puts) (mode : ObsMode) (u : List Edge) → is_accepted puts mode u ≡ true → IsCycle u × (refusal_of puts u mode ≡ None)
 accepted_parts puts mode u h = by (composed u) (refusal_of puts u mode) refl refl h
   where
-    by : (made : Result (List Edge) CycleError) (refusal : Option MakeRefusal) → composed u ≡ made → refusal_of puts u mode ≡ refusal →
+    by : (made : Result (List Edge) CycleError) (refusal : Option Refusal) → composed u ≡ made → refusal_of puts u mode ≡ refusal →
         (is_ok made && is_none refusal) ≡ true → IsCycle u × (refusal_of puts u mode ≡ None)
     by (Ok w) None m r k = ((composes_exactly.cycle u).0 (m ∙ ap Ok (composed_same u w m)), r)
     by (Ok w) (Some refusal) m r k = cc
@@ -25,8 +25,8 @@ pub accepted_few : (puts : Puts) (mode : ObsMode) (u : List Edge) → is_accepte
 accepted_few puts mode u h = (accepted_parts puts mode u h).0.few
 
 -- a cycle that the call accepts is the answer
-pub said_accepted : (puts : Puts) (mode : ObsMode) (u w : List Edge) (said : Result (Unit {0}) MakeRefusal) →
-    composed u ≡ Ok w → Accepts puts w mode said → is_ok said ≡ true → Some w ≡ cond (is_accepted puts mode u) (Some u) None
+pub said_accepted : (puts : Puts) (mode : ObsMode) (u w : List Edge) (said : Result (Unit {0}) Refusal) →
+    composed u ≡ Ok w → Judges (refusal_of puts w mode) said → is_ok said ≡ true → Some w ≡ cond (is_accepted puts mode u) (Some u) None
 said_accepted puts mode u w (Ok _) m a h =
     let e = composed_same u w m in
     let n : refusal_of puts u mode ≡ None = ap (λ v. refusal_of puts v mode) (sym e) ∙ a in
@@ -34,8 +34,8 @@ said_accepted puts mode u w (Ok _) m a h =
 said_accepted puts mode u w (Err refusal) m a h = cc
 
 -- a cycle that the call refuses is not
-pub said_refused : (puts : Puts) (mode : ObsMode) (u w : List Edge) (said : Result (Unit {0}) MakeRefusal) →
-    composed u ≡ Ok w → Accepts puts w mode said → is_ok said ≡ false → None ≡ cond (is_accepted puts mode u) (Some u) None
+pub said_refused : (puts : Puts) (mode : ObsMode) (u w : List Edge) (said : Result (Unit {0}) Refusal) →
+    composed u ≡ Ok w → Judges (refusal_of puts w mode) said → is_ok said ≡ false → None ≡ cond (is_accepted puts mode u) (Some u) None
 said_refused puts mode u w (Ok _) m a h = cc
 said_refused puts mode u w (Err refusal) m a h =
     let e = composed_same u w m in

@@ -1,6 +1,6 @@
 -- Rotations of a cycle are refused for the same kind of reason, or accepted.
 use Rattle.std.proofs.Common.{◌≡◌, ℕ, suc, ◌+◌, Bool, true, false, not, cond, ◌&&◌, List, [], ◌∷◌, ◌++◌, Option, Some, None, Result, Ok, Err, slice_get, refl, sym, ◌∙◌, ap, subst, nat_lt}
-use Rattle.std.specs.{List.list_all, List.position_from, Option.option_map}
+use Rattle.std.specs.{List.list_all, List.position_from, Option.option_map, Option.option_or}
 use Rattle.std.proofs.lemmas.{Bool.and_parts, List.Folds.list_all-append}
 use Rattle.relax_edges.specs.declared.{kinds.ObsMode.ObsMode, edge.Edge.Edge}
 use Rattle.relax_edges.specs.declared.kinds.ObsMode.TheVariants as modes
@@ -14,19 +14,19 @@ use Rattle.arch_trait.specs.declared.step.Step.{Step}
 use Rattle.arch_trait.specs.Threads.{Puts}
 use Rattle.tests_force_cycles.specs.{CycleSteps.cycle_steps, TestOf.plain}
 use Rattle.tests_force_cycles.proofs.Everywhere.{position_none}
-use Rattle.test_maker.specs.declared.refusal.MakeRefusal.{MakeRefusal}
-use Rattle.test_maker.specs.declared.refusal.MakeRefusal.TheVariants as refusals
-use Rattle.test_maker.specs.Refusals.{or_else, foreign_edge, unobserved_need, is_crowded, crowded_thread, resolved_refusal, refusal_of}
+use Rattle.test_maker.specs.declared.refusal.Refusal.{Refusal}
+use Rattle.test_maker.specs.declared.refusal.Refusal.TheVariants as refusals
+use Rattle.test_maker.specs.Refusals.{foreign_edge, need_refusal, unobserved_need, is_crowded, crowded_thread, resolved_refusal, refusal_of}
 use Rattle.list_laws.proofs.Places.{none_foreign, none_fails}
 use Rattle.rotations_are_alike.specs.Alike.{AcceptedAlike, RefusedAlike, refusal_kind}
 use Rattle.rotations_are_alike.proofs.{Steps.has_shape, Turns.moved, Turns.exchanged, Turns.thread_exchanged, Values.need_alike}
 
 -- two answers are of one kind: two reasons of one kind, or none
-OfOneKind : Option MakeRefusal → Option MakeRefusal → Type 0
+OfOneKind : Option Refusal → Option Refusal → Type 0
 OfOneKind x y = option_map refusal_kind x ≡ option_map refusal_kind y
 
 -- the first of two reasons
-or_alike : (x y v w : Option MakeRefusal) → OfOneKind x y → OfOneKind v w → OfOneKind (or_else x v) (or_else y w)
+or_alike : (x y v w : Option Refusal) → OfOneKind x y → OfOneKind v w → OfOneKind (option_or x v) (option_or y w)
 unfolding OfOneKind
 or_alike None None v w h k = k
 or_alike None (Some y) v w h k = cc
@@ -34,7 +34,7 @@ or_alike (Some x) None v w h k = cc
 or_alike (Some x) (Some y) v w h k = h
 
 -- reasons of one kind, where there is one for both or for none
-of_one_kind : {X : Type 0} (reason : X → MakeRefusal) (kind : MakeRefusal) (x y : Option X) → ((at : X) → refusal_kind (reason at) ≡ kind) → (x ≡ None → y ≡ None) → (y ≡ None → x ≡ None) → OfOneKind (option_map reason x) (option_map reason y)
+of_one_kind : {X : Type 0} (reason : X → Refusal) (kind : Refusal) (x y : Option X) → ((at : X) → refusal_kind (reason at) ≡ kind) → (x ≡ None → y ≡ None) → (y ≡ None → x ≡ None) → OfOneKind (option_map reason x) (option_map reason y)
 unfolding OfOneKind
 of_one_kind reason kind None None k on back = refl
 of_one_kind reason kind None (Some y) k on back = let e : Some y ≡ None = on refl in cc
@@ -87,7 +87,7 @@ unfolding OfOneKind
 unobserved_alike modes.Accept u v t = refl
 unobserved_alike modes.Force u v t = refl
 unobserved_alike modes.Avoid u v t =
-    of_one_kind (λ need. refusals.NeedsObserver need.location need.event) (refusals.NeedsObserver 0 0) (observer_need u) (observer_need v) (λ need. refl)
+    of_one_kind need_refusal (refusals.NeedsObserver 0 0) (observer_need u) (observer_need v) (λ need. refl)
     (need_on u v t)
     (need_on v u (turned_back u v t))
 
@@ -117,7 +117,7 @@ resolved_alike : (a : Puts) (mode : ObsMode) (es fs : List Edge) → IsCycle es 
 unfolding OfOneKind
 resolved_alike a mode es fs c r = of_resolution (resolution_of es) refl
   where
-    kind : Result (List Edge) ResolveError → Option MakeRefusal
+    kind : Result (List Edge) ResolveError → Option Refusal
     kind resolution = option_map refusal_kind (resolved_refusal a resolution mode)
 
     of_resolution : (u : Result (List Edge) ResolveError) → resolution_of es ≡ u → kind (resolution_of es) ≡ kind (resolution_of fs)
@@ -139,7 +139,7 @@ unfolding OfOneKind
 refused_alike a es fs mode c r =
     or_alike (foreign_edge a.name es) (foreign_edge a.name fs) (resolved_refusal a (resolution_of es) mode) (resolved_refusal a (resolution_of fs) mode) (foreign_alike a es fs r) (resolved_alike a mode es fs c r)
 
-none_alike : (x y : Option MakeRefusal) → OfOneKind x y → x ≡ None → y ≡ None
+none_alike : (x y : Option Refusal) → OfOneKind x y → x ≡ None → y ≡ None
 unfolding OfOneKind
 none_alike None None h e = refl
 none_alike None (Some y) h e = cc

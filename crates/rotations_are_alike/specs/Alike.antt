@@ -11,8 +11,8 @@ use Rattle.arch_trait.specs.Threads.{Puts}
 use Rattle.arch_trait.specs.Writing.{Writing, name_in}
 use Rattle.litmus_text.specs.TestText.{test_text}
 use Rattle.tests_force_cycles.specs.TestOf.{test_of}
-use Rattle.test_maker.specs.declared.refusal.MakeRefusal.{MakeRefusal}
-use Rattle.test_maker.specs.declared.refusal.MakeRefusal.TheVariants as refusals
+use Rattle.test_maker.specs.declared.refusal.Refusal.{Refusal}
+use Rattle.test_maker.specs.declared.refusal.Refusal.TheVariants as refusals
 use Rattle.test_maker.specs.Refusals.{refusal_of}
 
 -- a cycle is accepted exactly where each rotation of it is
@@ -21,12 +21,12 @@ AcceptedAlike a =
     (es fs : List Edge) (mode : ObsMode) → IsCycle es → IsRotation es fs → (refusal_of a es mode ≡ None) ↔ (refusal_of a fs mode ≡ None)
 
 -- the kind of a reason: the reason without the numbers of the edge, location, event or thread that it names
-abbrev pub refusal_kind : MakeRefusal → MakeRefusal
+abbrev pub refusal_kind : Refusal → Refusal
 refusal_kind (refusals.NotOfArch at) = refusals.NotOfArch 0
-refusal_kind refusals.TooFewThreads = refusals.TooFewThreads
-refusal_kind refusals.CoherenceOnly = refusals.CoherenceOnly
+refusal_kind (refusals.DoesNotCompose at) = refusals.DoesNotCompose 0
 refusal_kind (refusals.NeedsObserver location event) = refusals.NeedsObserver 0 0
 refusal_kind (refusals.TooManyRegisters thread) = refusals.TooManyRegisters 0
+refusal_kind reason = reason
 
 -- a cycle is refused for a reason of the same kind as each rotation of it, where it is refused
 abbrev pub RefusedAlike : Puts → Type 0

@@ -14,7 +14,7 @@ use Rattle.tests_force_cycles.specs.CycleSteps.{cycle_steps, numbers_read}
 use Rattle.tests_force_cycles.specs.TestOf.{plain, last_terms, load_terms, thread_terms}
 use Rattle.tests_force_cycles.proofs.StepsAt.{steps_few}
 use Rattle.tests_force_cycles.proofs.Terms.{load_terms_more, reads-count, terms_room, thread_terms-count}
-use Rattle.test_maker.specs.declared.refusal.{MakeRefusal.MakeRefusal, MakeRefusal.TheVariants.TooManyRegisters}
+use Rattle.test_maker.specs.declared.refusal.{Refusal.Refusal, Refusal.TheVariants.TooManyRegisters}
 use Rattle.test_maker.specs.{Refusals.crowded_thread, Refusals.is_crowded, ConditionTerms.PutsThread}
 
 -- the number of the first thread that needs too many registers
@@ -61,7 +61,7 @@ grown_more a name es mode k steps threads threads' cond0 cond1 cond2 g got put =
         ap (λ s. load_terms a name 0 (take k threads) ++ thread_terms a name k s) (get_or_from_slice_get threads k steps steps got)
 
 -- a thread that needs too many registers is the first such
-pub grown_refused : (a : Puts) (name : ℕ → List ℕ) (es : List Edge) (mode : ObsMode) (k : ℕ) (steps : List Step) (threads threads' : ArrayVec Code) (cond0 cond1 cond2 : Cond) (refusal : MakeRefusal) →
+pub grown_refused : (a : Puts) (name : ℕ → List ℕ) (es : List Edge) (mode : ObsMode) (k : ℕ) (steps : List Step) (threads threads' : ArrayVec Code) (cond0 cond1 cond2 : Cond) (refusal : Refusal) →
     Grown a name es mode k threads cond0 cond1 → slice_get (cycle_steps es mode plain) k ≡ Some steps →
     PutsThread a name k steps threads threads' cond1 cond2 (Err refusal) → crowded_thread a es mode ≡ Some refusal
 grown_refused a name es mode k steps threads threads' cond0 cond1 cond2 refusal g got put =

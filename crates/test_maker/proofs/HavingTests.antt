@@ -1,44 +1,45 @@
 -- A cycle that isn't refused has a test.
-use Rattle.std.proofs.Common.{◌≡◌, ℕ, not, List, Option, Some, None, Result, Ok, Err, refl, sym, ap, ◌∙◌, subst}
-use Rattle.std.specs.{Prelude.OnOk, List.position_from, Option.option_map}
+use Rattle.std.proofs.Common.{◌≡◌, ℕ, not, List, Option, Some, None, Result, Ok, Err, refl, sym, subst, arith}
+use Rattle.std.specs.{Prelude.OnOk, List.position_from, Option.option_map, Option.option_or}
 use Rattle.edge_algebra_laws.specs.Composable.{IsCycle}
 use Rattle.relax_edges.specs.declared.{kinds.ObsMode.ObsMode, edge.Edge.Edge}
 use Rattle.relax_edges.specs.declared.kinds.ObsMode.TheVariants as modes
 use Rattle.relax_edges.specs.EdgeTable.{is_of_arch}
-use Rattle.cycle_events.specs.declared.{errors.ResolveError.ResolveError, needs.NeedsObserver.NeedsObserver}
-use Rattle.cycle_events.specs.declared.errors.ResolveError.TheVariants as resolving
+use Rattle.cycle_events.specs.declared.errors.ResolveError.{ResolveError}
 use Rattle.cycle_events.specs.{Resolution.IsResolved, Resolution.resolution_of, Resolution.turned, Values.observer_need, Values.valuation_of}
 use Rattle.cycle_events.proofs.{Turning.resolution_resolved, Entries.avoid_allowed}
+use Rattle.arrayvec.specs.ArrayVec.{ArrayVec}
+use Rattle.final_cond.specs.declared.cond.Cond.{Cond}
+use Rattle.arch_trait.specs.declared.code.Code.{Code}
 use Rattle.arch_trait.specs.{Threads.Puts, SeenTests.TestSeen}
 use Rattle.tests_force_cycles.specs.{TestHeadline.HasCode, TestHeadline.HasTest, CycleSteps.cycle_steps, TestOf.plain}
 use Rattle.tests_force_cycles.proofs.Headline.{room_left}
-use Rattle.test_maker.specs.declared.refusal.MakeRefusal.{MakeRefusal}
-use Rattle.test_maker.specs.declared.refusal.MakeRefusal.TheVariants as refusals
-use Rattle.test_maker.specs.Made.{AreOfArch, MakesOfArch, MakesValued}
-use Rattle.test_maker.specs.Refusals.{or_else, foreign_edge, unobserved_need, crowded_thread, resolved_refusal, refusal_of}
+use Rattle.test_maker.specs.declared.refusal.Refusal.{Refusal}
+use Rattle.test_maker.specs.declared.refusal.Refusal.TheVariants as refusals
+use Rattle.test_maker.specs.Made.{AreOfArch, MakesSeenTest}
+use Rattle.test_maker.specs.ConditionTerms.{PutsThreads}
+use Rattle.test_maker.specs.Refusals.{foreign_edge, need_refusal, unobserved_need, crowded_thread, resolved_refusal, refusal_of}
 use Rattle.test_maker.proofs.{OfArch.resolved_turned, OfArch.turned_of_arch, Printing.uncrowded}
 use Rattle.list_laws.proofs.Places.{none_foreign}
 
 -- where neither of two reasons holds
-neither : (a b : Option MakeRefusal) → or_else a b ≡ None → (a ≡ None) × (b ≡ None)
-neither None b h = (refl, h)
-neither (Some reason) b h = cc
+pub neither : (a b : Option Refusal) → option_or a b ≡ None → (a ≡ None) × (b ≡ None)
+neither a b h = grind arith
 
-not_foreign : (a : Puts) (cycle : List Edge) → foreign_edge a.name cycle ≡ None → AreOfArch a cycle
-not_foreign a cycle h = none_foreign (λ e. is_of_arch e a.name) cycle 0 (none_found (position_from (λ e. not (is_of_arch e a.name)) 0 cycle) h)
-  where
-    none_found : (found : Option ℕ) → option_map (λ at. refusals.NotOfArch at) found ≡ None → found ≡ None
-    none_found None e = refl
-    none_found (Some at) e = cc
+-- where a reason isn't found there is nothing to find
+pub none_found : {X : Type 0} (reason : X → Refusal) (found : Option X) → option_map reason found ≡ None → found ≡ None
+none_found reason None e = refl
+none_found reason (Some x) e = cc
+
+-- a cycle in which no edge is foreign is of the architecture
+pub not_foreign : (a : Puts) (cycle : List Edge) → foreign_edge a.name cycle ≡ None → AreOfArch a cycle
+not_foreign a cycle h =
+    none_foreign (λ e. is_of_arch e a.name) cycle 0 (none_found (λ at. refusals.NotOfArch at) (position_from (λ e. not (is_of_arch e a.name)) 0 cycle) h)
 
 served : (es : List Edge) (mode : ObsMode) → unobserved_need mode es ≡ None → valuation_of es mode ≡ Ok (record { edges = es; mode = mode })
 served es modes.Accept h = refl
 served es modes.Force h = refl
-served es modes.Avoid h = avoid_allowed es (none_needed (observer_need es) h)
-  where
-    none_needed : (need : Option NeedsObserver) → option_map (λ need. refusals.NeedsObserver need.location need.event) need ≡ None → need ≡ None
-    none_needed None e = refl
-    none_needed (Some need) e = cc
+served es modes.Avoid h = avoid_allowed es (none_found need_refusal (observer_need es) h)
 
 -- where no thread needs too many registers
 pub uncrowded_has_code : (a : Puts) (es : List Edge) (mode : ObsMode) → IsResolved es → AreOfArch a es → crowded_thread a es mode ≡ None → HasCode a es mode
@@ -49,10 +50,10 @@ uncrowded_has_code a es mode resolved of_arch none = record {
 }
 
 -- a cycle whose threads a call made
-pub made_has_code : (a : Puts) (register_name : ℕ → List ℕ) (es : List Edge) (mode : ObsMode) (test : TestSeen) (result : Result (Unit {0}) MakeRefusal) →
-    IsResolved es → AreOfArch a es → MakesValued a register_name es mode test result → OnOk result (HasCode a es mode)
-made_has_code a register_name es mode test (Ok _) resolved of_arch made = uncrowded_has_code a es mode resolved of_arch made.0
-made_has_code a register_name es mode test (Err refusal) resolved of_arch made = tt
+pub made_has_code : (a : Puts) (register_name : ℕ → List ℕ) (es : List Edge) (mode : ObsMode) (threads : ArrayVec Code) (cond cond' : Cond) (result : Result (Unit {0}) Refusal) →
+    IsResolved es → AreOfArch a es → PutsThreads a register_name es mode threads cond cond' result → OnOk result (HasCode a es mode)
+made_has_code a register_name es mode threads cond cond' (Ok _) resolved of_arch put = uncrowded_has_code a es mode resolved of_arch put.0
+made_has_code a register_name es mode threads cond cond' (Err refusal) resolved of_arch put = tt
 
 -- a cycle that isn't refused has a test, once it is turned
 pub accepted_has_test : (a : Puts) (cycle : List Edge) (mode : ObsMode) → IsCycle cycle → refusal_of a cycle mode ≡ None → HasTest a (turned cycle) mode
@@ -61,8 +62,7 @@ accepted_has_test a cycle mode is_cycle h =
     of_resolution (resolution_of cycle) refl parts.1 (not_foreign a cycle parts.0)
   where
     of_resolution : (r : Result (List Edge) ResolveError) → resolution_of cycle ≡ r → resolved_refusal a r mode ≡ None → AreOfArch a cycle → HasTest a (turned cycle) mode
-    of_resolution (Err resolving.TooFewThreads) e h of_arch = cc
-    of_resolution (Err resolving.CoherenceOnly) e h of_arch = cc
+    of_resolution (Err error) e h of_arch = cc
     of_resolution (Ok es) e h of_arch =
         let parts = neither (unobserved_need mode es) (crowded_thread a es mode) h in
         subst (λ us. HasTest a us mode) (sym (resolved_turned cycle es e).1) (record {
@@ -70,11 +70,8 @@ accepted_has_test a cycle mode is_cycle h =
           valued = served es mode parts.0;
         })
 
--- where all edges are of the architecture, a cycle that a call made the test of has a test
-pub made_has_test : (a : Puts) (register_name : ℕ → List ℕ) (cycle : List Edge) (mode : ObsMode) (test : TestSeen) (result : Result (Unit {0}) MakeRefusal) →
-    IsCycle cycle → position_from (λ e. not (is_of_arch e a.name)) 0 cycle ≡ None → MakesOfArch a register_name cycle mode test result →
-    OnOk result (HasTest a (turned cycle) mode)
-made_has_test a register_name cycle mode test (Ok _) is_cycle none made =
-    accepted_has_test a cycle mode is_cycle
-    (ap (λ found. or_else (option_map (λ at. refusals.NotOfArch at) found) (resolved_refusal a (resolution_of cycle) mode)) none ∙ made.0)
-made_has_test a register_name cycle mode test (Err refusal) is_cycle none made = tt
+-- a cycle that a call made the test of has a test
+pub made_has_test : (a : Puts) (register_name : ℕ → List ℕ) (cycle : List Edge) (mode : ObsMode) (test : TestSeen) (result : Result (Unit {0}) Refusal) →
+    IsCycle cycle → MakesSeenTest a register_name cycle mode test result → OnOk result (HasTest a (turned cycle) mode)
+made_has_test a register_name cycle mode test (Ok _) is_cycle made = accepted_has_test a cycle mode is_cycle made.0
+made_has_test a register_name cycle mode test (Err refusal) is_cycle made = tt

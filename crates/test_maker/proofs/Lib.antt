@@ -7,3 +7,4 @@ pub mod Naming
 pub mod OfArch
 pub mod Printing
 pub mod Located
+pub mod Reasons

@@ -1,7 +1,7 @@
 -- The code of the threads of a test can be printed.
 use Rattle.std.proofs.Common.{◌≡◌, ℕ, zero, suc, ◌+◌, ◌<◌, ◌≤◌, ◌==◌, Bool, true, false, cond, ◌||◌, List, [], ◌∷◌, length, get_or, map, Option, Some, None, Result, Ok, Err, refl, sym, ap, ◌∙◌, arith, nat_lt, slice_get, subst}
 use Rattle.std.specs.List.{All, list_all, position_from, range_with_len}
-use Rattle.std.specs.Option.{option_map}
+use Rattle.std.specs.{Prelude.OnOk, Option.option_map}
 use Rattle.std.proofs.lemmas.Bool.{and_parts, and_from, lt-ltb, eqb-true}
 use Rattle.std.proofs.lemmas.{Bool.Decides.nat_tests, List.length-map, List.get_or-map, List.Sums.count_by-le-length, Option.slice_get-get_or}
 use Rattle.list_laws.proofs.Cases.{by_test}
@@ -18,8 +18,8 @@ use Rattle.arch_trait_laws.proofs.{CodeLaws.is_formed, TakingLaws.in_order_le, N
 use Rattle.litmus_text.specs.Tests.{IsPrintable}
 use Rattle.tests_force_cycles.specs.{CycleSteps.cycle_steps, TestOf.plain}
 use Rattle.tests_force_cycles.proofs.StepsFit.{steps_fit, steps_placed}
-use Rattle.test_maker.specs.declared.refusal.{MakeRefusal.TheVariants.TooManyRegisters, MakeRefusal.MakeRefusal}
-use Rattle.test_maker.specs.{Refusals.crowded_thread, Refusals.is_crowded, Made.AreOfArch, Made.MadeCanPrint, ConditionTerms.PutsThreads}
+use Rattle.test_maker.specs.declared.refusal.{Refusal.TheVariants.TooManyRegisters, Refusal.Refusal}
+use Rattle.test_maker.specs.{Refusals.crowded_thread, Refusals.is_crowded, Made.AreOfArch, Made.CanPrint, ConditionTerms.PutsThreads}
 use Rattle.litmus_text.specs.declared.test.Test.{Test}
 use Rattle.final_cond.specs.declared.cond.Cond.{Cond}
 
@@ -148,9 +148,9 @@ all_printable a laws es mode codes resolved of_arch free same i d k =
     (sym left ∙ (ap (λ xs. get_or xs i (thread_code_of d)) same ∙ right))
 
 -- what a call made of a cycle whose places are letters can be printed
-pub made_printable : (a : Puts) (registers : ℕ) → a.registers ≡ registers → IsArch a → (es : List Edge) (mode : ObsMode) (test : Test) (result : Result (Unit {0}) MakeRefusal) →
+pub made_printable : (a : Puts) (registers : ℕ) → a.registers ≡ registers → IsArch a → (es : List Edge) (mode : ObsMode) (test : Test) (result : Result (Unit {0}) Refusal) →
     IsResolved es → AreOfArch a es → test.places ≡ letters (move_count es) → (name : ℕ → List ℕ) (cond0 cond1 : Cond) →
-    PutsThreads a name es mode test.threads cond0 cond1 result → MadeCanPrint a registers test result
+    PutsThreads a name es mode test.threads cond0 cond1 result → OnOk result (CanPrint a registers test)
 made_printable a registers count laws es mode test (Ok _) resolved of_arch places name cond0 cond1 put =
     let few : length test.places ≡ move_count es = ap length places ∙ length-letters (move_count es) in
     subst (λ n. All (λ code. IsPrintable a.has n (length test.places) code) test.threads.items) count

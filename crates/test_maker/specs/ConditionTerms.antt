@@ -9,7 +9,7 @@ use Rattle.arch_trait.specs.declared.{code.Code.Code, step.Step.Step}
 use Rattle.arch_trait.specs.{Codes.thread_code_of, Threads.Puts, Threads.compiled}
 use Rattle.tests_force_cycles.specs.CycleSteps.{cycle_steps, numbers_read}
 use Rattle.tests_force_cycles.specs.TestOf.{plain, load_term, load_terms, thread_terms}
-use Rattle.test_maker.specs.declared.refusal.{MakeRefusal.MakeRefusal, MakeRefusal.TheVariants.TooManyRegisters}
+use Rattle.test_maker.specs.declared.refusal.{Refusal.Refusal, Refusal.TheVariants.TooManyRegisters}
 use Rattle.test_maker.specs.Refusals.{crowded_thread, is_crowded}
 
 -- a location ends with a value, where places have these names
@@ -21,7 +21,7 @@ abbrev pub terms_of_loads : (ℕ → List ℕ) → ℕ → List ℕ → List Ste
 terms_of_loads register_name thread loads steps = map (load_term register_name thread) (zip loads (numbers_read steps))
 
 -- a call makes the code of a thread after those before it and appends the terms of its loads, or refuses the thread for its registers
-abbrev pub PutsThread : Puts → (ℕ → List ℕ) → ℕ → List Step → ArrayVec Code → ArrayVec Code → Cond → Cond → Result (Unit {0}) MakeRefusal → Type 0
+abbrev pub PutsThread : Puts → (ℕ → List ℕ) → ℕ → List Step → ArrayVec Code → ArrayVec Code → Cond → Cond → Result (Unit {0}) Refusal → Type 0
 PutsThread a register_name thread steps threads threads' cond cond' (Ok _) =
     (is_crowded a steps ≡ false) ×
     (map thread_code_of threads'.items ≡ map thread_code_of threads.items ++ compiled a steps ∷ []) ×
@@ -30,7 +30,7 @@ PutsThread a register_name thread steps threads threads' cond cond' (Err refusal
     (is_crowded a steps ≡ true) × (refusal ≡ TooManyRegisters thread)
 
 -- a call makes the code of all threads and appends the terms of their loads, or refuses the first for its registers
-abbrev pub PutsThreads : Puts → (ℕ → List ℕ) → List Edge → ObsMode → ArrayVec Code → Cond → Cond → Result (Unit {0}) MakeRefusal → Type 0
+abbrev pub PutsThreads : Puts → (ℕ → List ℕ) → List Edge → ObsMode → ArrayVec Code → Cond → Cond → Result (Unit {0}) Refusal → Type 0
 PutsThreads a register_name es mode threads cond cond' (Ok _) =
     (crowded_thread a es mode ≡ None) × (map thread_code_of threads.items ≡ map (compiled a) (cycle_steps es mode plain)) ×
     (cond'.quantifier ≡ cond.quantifier) ×

@@ -1,51 +1,52 @@
-ghost use Rattle.std.specs.Prelude.{◌≡◌, ◌≤◌, length, Ok};
-ghost use Rattle.cycle_events.specs.Resolution.{resolution_of};
-ghost use Rattle.test_maker.specs.Refusals.{is_crowded};
-ghost use Rattle.test_maker.specs.Made.{Accepts, AcceptsResolution, AcceptsValued};
+ghost use Rattle.std.specs.Prelude.{◌≡◌, ◌≤◌, length, IfErr};
+ghost use Rattle.test_maker.specs.Refusals.{crowded_thread, foreign_edge, is_crowded, refusal_of};
+ghost use Rattle.test_maker.specs.Made.{Judges, NamesLocation};
 
-use crate::maker::first_unsupported;
-use crate::refusal::MakeRefusal;
+use crate::refusal::Refusal;
 use crate::steps::{Steps, fill_events, fill_observer, steps_of, thread_count};
 use arch_trait::{Arch, MAX_STEPS, Step, shape_of};
-use coherence_values::{NeedsObserver, Valued, value};
-use cycle_resolve::{ResolveError, Resolved, resolve};
+use coherence_values::{Valued, value};
+use cycle_resolve::resolve;
 use edge_algebra::Cycle;
-use relax_edges::ObsMode;
+use relax_edges::{ArchName, Edge, MAX_EDGES, ObsMode};
 
 /// Whether the cycle has a test, or the first reason why it has none: `Ok` exactly where `make` makes
 /// one. It makes no code.
-pub fn accepted<A: Arch>(cycle: &Cycle, mode: ObsMode) -> Result<(), MakeRefusal>
-    ensures { Accepts A.puts cycle.now mode result }
+pub fn accepted<A: Arch>(cycle: &Cycle, mode: ObsMode) -> Result<(), Refusal>
+    ensures { Judges (refusal_of A.puts cycle.now mode) result }
 {
-    match first_unsupported::<A>(cycle.edges()) {
-        Some(at) => Err(MakeRefusal::NotOfArch { at }),
-        None => acceptance_on_arch::<A>(cycle, mode),
-    }
+    all_of_arch::<A>(cycle.edges())?;
+    let resolution = resolve(cycle);
+    let valuation = value(resolution.as_ref()?, mode);
+    enough_registers::<A>(valuation.as_ref()?)
 }
 
-fn acceptance_on_arch<A: Arch>(cycle: &Cycle, mode: ObsMode) -> Result<(), MakeRefusal>
-    ensures { AcceptsResolution A.puts (resolution_of cycle.now) mode result }
+/// Whether all edges are of the architecture, or the first that isn't.
+pub fn all_of_arch<A: Arch>(edges: &[Edge]) -> Result<(), Refusal>
+    requires { length edges.now ≤ MAX_EDGES }
+    ensures judged { Judges (foreign_edge A.puts.name edges.now) result }
+    ensures located { IfErr result NamesLocation }
 {
-    match &resolve(cycle) {
-        Err(ResolveError::TooFewThreads) => Err(MakeRefusal::TooFewThreads),
-        Err(ResolveError::CoherenceOnly) => Err(MakeRefusal::CoherenceOnly),
-        Ok(resolved) => acceptance_of_resolved::<A>(resolved, mode),
-    }
+    all_of_name(edges, A::NAME)
 }
 
-fn acceptance_of_resolved<A: Arch>(resolved: &Resolved, mode: ObsMode) -> Result<(), MakeRefusal>
-    ensures { AcceptsResolution A.puts (Ok resolved.now) mode result }
+/// Whether all edges are of the architecture with this name, or the first that isn't.
+pub fn all_of_name(edges: &[Edge], arch: ArchName) -> Result<(), Refusal>
+    requires { length edges.now ≤ MAX_EDGES }
+    ensures judged { Judges (foreign_edge arch edges.now) result }
+    ensures located { IfErr result NamesLocation }
 {
-    match value(resolved, mode) {
-        Err(NeedsObserver { location, event }) => {
-            Err(MakeRefusal::NeedsObserver { location, event })
+    for (at, edge) in edges.iter().enumerate() {
+        if !edge.of_arch(arch) {
+            return Err(Refusal::NotOfArch { at: at as u8 });
         }
-        Ok(valued) => acceptance_of_valued::<A>(&valued),
     }
+    Ok(())
 }
 
-fn acceptance_of_valued<A: Arch>(valued: &Valued) -> Result<(), MakeRefusal>
-    ensures { AcceptsValued A.puts valued.now.edges valued.now.mode result }
+/// Whether the architecture has registers enough for each thread, or the first that needs more.
+fn enough_registers<A: Arch>(valued: &Valued) -> Result<(), Refusal>
+    ensures { Judges (crowded_thread A.puts valued.now.edges valued.now.mode) result }
 {
     let mut events = Steps::new();
     let mut reads = Steps::new();
@@ -53,7 +54,7 @@ fn acceptance_of_valued<A: Arch>(valued: &Valued) -> Result<(), MakeRefusal>
     for thread in 0..thread_count(valued) {
         fill_observer(valued, thread, &mut reads);
         if is_crowded::<A>(steps_of(valued, thread, &events, &reads)) {
-            return Err(MakeRefusal::TooManyRegisters { thread });
+            return Err(Refusal::TooManyRegisters { thread });
         }
     }
     Ok(())

@@ -33,7 +33,6 @@ fn fill_last_terms(valued: &Valued, places: &Places, terms: &mut Terms)
     requires { places.now ≡ letters (move_count valued.now.edges) }
     ensures { map term_view terms.new.items ≡ last_terms valued.now.edges valued.now.mode }
 {
-    let _edges = valued.resolved().cycle();
     terms.clear();
     for location in 0..valued.resolved().locations() {
         if is_named(valued, location) {

@@ -1,12 +1,13 @@
-ghost use Rattle.std.specs.Prelude.{◌≡◌, List, Ok};
+ghost use Rattle.std.specs.Prelude.{◌≡◌, List, None, Ok};
 ghost use Rattle.relax_edges.specs.declared.edge.Edge.{Edge};
 ghost use Rattle.cycle_events.specs.Resolution.{resolution_of, turned};
 ghost use Rattle.arch_trait.specs.Threads.{Puts};
-ghost use Rattle.test_maker.specs.Made.{AreOfArch, NoneForeign};
+ghost use Rattle.test_maker.specs.Made.{AreOfArch};
+ghost use Rattle.test_maker.specs.Refusals.{foreign_edge};
 
 /// Laws of the resolution of a cycle: it is the turned cycle; and where no edge of the cycle is foreign to
 /// an architecture, none of the resolution is.
 pub fn resolved_edges()
     ensures turned { (cycle : List Edge) → (es : List Edge) → resolution_of cycle ≡ Ok es → turned cycle ≡ es }
-    ensures of_arch { (a : Puts) → (cycle : List Edge) → (es : List Edge) → NoneForeign a cycle → resolution_of cycle ≡ Ok es → AreOfArch a es }
+    ensures of_arch { (a : Puts) → (cycle : List Edge) → (es : List Edge) → foreign_edge a.name cycle ≡ None → resolution_of cycle ≡ Ok es → AreOfArch a es }
 {}

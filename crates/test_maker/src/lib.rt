@@ -9,7 +9,7 @@ mod refusal;
 mod steps;
 mod threads;
 
-pub use acceptance::accepted;
+pub use acceptance::{accepted, all_of_arch, all_of_name};
 pub use law::resolved_edges;
-pub use maker::{first_foreign, first_unsupported, make, make_into, make_unobserved};
-pub use refusal::MakeRefusal;
+pub use maker::{make, make_into, make_unobserved};
+pub use refusal::Refusal;

@@ -19,7 +19,6 @@ pub type Steps = ArrayVec<Step, MAX_EDGES>;
 pub fn thread_count(valued: &Valued) -> u8
     ensures { result ≡ length (cycle_steps valued.now.edges valued.now.mode plain) }
 {
-    let _edges = valued.resolved().cycle();
     valued.resolved().threads() + observer_count(valued)
 }
 
@@ -78,6 +77,7 @@ fn steps_in<'a>(valued: &Valued, thread: u8, events: &'a [Step]) -> &'a [Step]
     ensures steps { result.now ≡ thread_steps valued.now.edges plain thread }
     ensures few { length result.now ≤ MAX_EDGES }
 {
+    // Brings the invariant of `Valued` into the proof.
     let _edges = valued.resolved().cycle();
     let start = thread_start(valued, thread, 0);
     let end = thread_start(valued, thread + 1, start);
@@ -147,6 +147,7 @@ fn fill_reads(valued: &Valued, location: u8, steps: &mut Steps)
     requires { location < move_count valued.now.edges }
     ensures { steps.new.items ≡ observer_steps valued.now.edges plain location }
 {
+    // Brings the invariant of `Valued` into the proof.
     let _edges = valued.resolved().cycle();
     steps.clear();
     for k in 0..valued.writes(location) {

@@ -9,7 +9,7 @@ ghost use Rattle.test_maker.specs.Made.{AreOfArch};
 ghost use Rattle.test_maker.specs.ConditionTerms.{PutsThread, PutsThreads};
 
 use crate::condition::put_load_terms;
-use crate::refusal::MakeRefusal;
+use crate::refusal::Refusal;
 use crate::steps::{Steps, fill_events, fill_observer, steps_of, thread_count};
 use arch_trait::{Arch, MAX_STEPS, Step, ThreadCodes};
 use coherence_values::Valued;
@@ -22,11 +22,12 @@ pub fn put_threads<A: Arch>(
     valued: &Valued,
     threads: &mut ThreadCodes,
     cond: &mut Cond,
-) -> Result<(), MakeRefusal>
+) -> Result<(), Refusal>
     requires of_arch { AreOfArch A.puts valued.now.edges }
     requires last { map term_view cond.old.terms.items ≡ last_terms valued.now.edges valued.now.mode }
     ensures { PutsThreads A.puts (name_in A.writing.registers) valued.now.edges valued.now.mode threads.new cond.old cond.new result }
 {
+    // Brings the invariant of `Valued` into the proof.
     let _edges = valued.resolved().cycle();
     let mut events = Steps::new();
     let mut reads = Steps::new();
@@ -35,10 +36,7 @@ pub fn put_threads<A: Arch>(
     for thread in 0..thread_count(valued) {
         fill_observer(valued, thread, &mut reads);
         let steps = steps_of(valued, thread, &events, &reads);
-        match put_thread::<A>(thread, steps, threads, cond) {
-            Ok(()) => {}
-            Err(refusal) => return Err(refusal),
-        }
+        put_thread::<A>(thread, steps, threads, cond)?;
     }
     Ok(())
 }
@@ -49,7 +47,7 @@ fn put_thread<A: Arch>(
     steps: &[Step],
     threads: &mut ThreadCodes,
     cond: &mut Cond,
-) -> Result<(), MakeRefusal>
+) -> Result<(), Refusal>
     requires fit { FitSteps A.puts.name false steps.now }
     requires few { length steps.now ≤ MAX_STEPS }
     requires room { array_vec_len threads.old < MAX_EDGES }
@@ -61,6 +59,6 @@ fn put_thread<A: Arch>(
             put_load_terms::<A>(thread, steps, threads.last_loads(), &mut cond.terms);
             Ok(())
         }
-        Err(_) => Err(MakeRefusal::TooManyRegisters { thread }),
+        Err(_) => Err(Refusal::TooManyRegisters { thread }),
     }
 }

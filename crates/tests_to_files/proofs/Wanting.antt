@@ -10,8 +10,9 @@ use Rattle.list_laws.proofs.{Cases.by_less, Places.none_foreign}
 use Rattle.cycle_enum_laws.specs.Listing.{IsAnswer, IsListed}
 use Rattle.cycle_events.specs.Resolution.{external_count, resolution_of}
 use Rattle.arch_trait.specs.Threads.{Puts}
-use Rattle.test_maker.specs.declared.refusal.{MakeRefusal.MakeRefusal, MakeRefusal.TheVariants.NotOfArch, MakeRefusal.TheVariants.TooFewThreads}
-use Rattle.test_maker.specs.Refusals.{or_else, foreign_edge, resolved_refusal, refusal_of}
+use Rattle.test_maker.specs.declared.refusal.Refusal.TheVariants.{TooFewThreads}
+use Rattle.test_maker.proofs.HavingTests.{neither, not_foreign}
+use Rattle.test_maker.specs.Refusals.{foreign_edge, resolved_refusal, refusal_of}
 use Rattle.diy_io.specs.Shelf.{ShelfSeen}
 use Rattle.tests_to_files.specs.Plans.{HaveTests, ends_in, ends_inside, ends_of_arch, has_few_threads, has_few_accesses, is_sought, is_wanted, may_lead}
 use Rattle.tests_to_files.specs.{InternalRuns.HasLongRun, WantedLaws.wanted_has_test, ListingEnds.WritesAll, ListingEnds.StopsAtTest}
@@ -30,10 +31,6 @@ wanted_few puts mode threads accesses cycle h =
 pub two_are_some : (n : ℕ) → nat_le 2 n ≡ true → 0 < n
 two_are_some n h = let two : 2 ≤ n = leb-true 2 n h in omega (arith, two)
 
-or_none : (a b : Option MakeRefusal) → or_else a b ≡ None → b ≡ None
-or_none None b e = e
-or_none (Some reason) b e = cc
-
 -- a cycle that has a test has two threads
 tested_two : (puts : Puts) (mode : ObsMode) (cycle : List Edge) → refusal_of puts cycle mode ≡ None → nat_le 2 (external_count cycle) ≡ true
 tested_two puts mode cycle h =
@@ -42,24 +39,14 @@ tested_two puts mode cycle h =
     refused : nat_lt (external_count cycle) 2 ≡ true → ⊥
     refused few =
         let by : resolved_refusal puts (resolution_of cycle) mode ≡ Some TooFewThreads = rw few refl in
-        let none : resolved_refusal puts (resolution_of cycle) mode ≡ None = or_none (foreign_edge puts.name cycle) (resolved_refusal puts (resolution_of cycle) mode) h in
+        let none : resolved_refusal puts (resolution_of cycle) mode ≡ None = (neither (foreign_edge puts.name cycle) (resolved_refusal puts (resolution_of cycle) mode) h).1 in
         let apart : Some TooFewThreads ≡ None = sym by ∙ none in
         cc
 
 -- all its edges are of the architecture
 tested_of_arch : (puts : Puts) (mode : ObsMode) (cycle : List Edge) → refusal_of puts cycle mode ≡ None → list_all (λ e. is_of_arch e puts.name) cycle ≡ true
 tested_of_arch puts mode cycle none =
-    none_foreign (λ e. is_of_arch e puts.name) cycle 0
-    (unfound (position_from (λ e. not (is_of_arch e puts.name)) 0 cycle)
-    (unforeign (foreign_edge puts.name cycle) (resolved_refusal puts (resolution_of cycle) mode) none))
-  where
-    unforeign : (a b : Option MakeRefusal) → or_else a b ≡ None → a ≡ None
-    unforeign None b h = refl
-    unforeign (Some reason) b h = cc
-
-    unfound : (found : Option ℕ) → option_map (λ at. NotOfArch at) found ≡ None → found ≡ None
-    unfound None e = refl
-    unfound (Some at) e = cc
+    not_foreign puts cycle (neither (foreign_edge puts.name cycle) (resolved_refusal puts (resolution_of cycle) mode) none).0
 
 -- the last edge is one of all
 pub ends_at : (is_such : Edge → Bool) (u : List Edge) (d : Edge) → 0 < length u → ends_in is_such u ≡ is_such (get_or u (length u - 1) d)

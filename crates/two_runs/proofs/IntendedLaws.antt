@@ -1,33 +1,26 @@
 -- The execution that is made of a cycle's test is the one that is asked for, and its text is read back.
 use Rattle.std.proofs.Common.{◌≡◌, ℕ, List, None, Ok, Err, refl, sym, ap, ◌∙◌, subst, arith}
-use Rattle.std.specs.Prelude.{Option, Result}
+use Rattle.std.specs.Prelude.{Result}
 use Rattle.relax_edges.specs.declared.{kinds.ArchName.ArchName, kinds.ObsMode.ObsMode, edge.Edge.Edge}
 use Rattle.cycle_events.specs.declared.errors.ResolveError.{ResolveError}
-use Rattle.cycle_events.specs.declared.errors.ResolveError.TheVariants as resolving
 use Rattle.cycle_events.specs.Resolution.{resolution_of, turned}
 use Rattle.arch_trait.specs.{Cells.WritesCells, Cells.MakesOneAccess, Laws.IsArch, Threads.Puts, Writing.Writing, Writing.WritesBack, Writing.name_in}
 use Rattle.litmus_text.specs.{Printable.IsTestName, TestReading.TestRead, TestReading.test_read, TestText.test_text}
 use Rattle.program_meaning.specs.{Executions.Execution, Intended.intended, Programs.IsCandidate}
 use Rattle.tests_force_cycles.specs.{TestHeadline.HasTest, TestOf.test_of}
 use Rattle.bytes_force_cycles.specs.{PrintedHeadline.BytesForce, PrintedHeadline.PrintedForce, Readings.program_read, Readings.place_in_test}
-use Rattle.test_maker.specs.declared.refusal.MakeRefusal.{MakeRefusal}
-use Rattle.test_maker.specs.{CycleText.cycle_text, Refusals.foreign_edge, Refusals.or_else, Refusals.refusal_of, Refusals.resolved_refusal}
-use Rattle.test_maker.proofs.OfArch.{resolved_turned}
+use Rattle.test_maker.specs.{CycleText.cycle_text, Refusals.foreign_edge, Refusals.refusal_of, Refusals.resolved_refusal}
+use Rattle.test_maker.proofs.{HavingTests.neither, OfArch.resolved_turned}
 use Rattle.two_runs.specs.{IntendedRuns.IsRead, IntendedRuns.IsRunOf, IntendedRuns.intended_by, Runs.numbers_by, Runs.run_by}
 use Rattle.two_runs.proofs.{ReadAgain.one_reading, ReadAgain.read_again, ShownLaws.run_intended}
-
--- the second of two reasons doesn't hold where neither does
-second_not : (first second : Option MakeRefusal) → or_else first second ≡ None → second ≡ None
-second_not first second h = grind arith
 
 -- a cycle that isn't refused resolves, to the turned cycle
 pub accepted_resolves : (a : Puts) (cycle : List Edge) (mode : ObsMode) → refusal_of a cycle mode ≡ None → resolution_of cycle ≡ Ok (turned cycle)
 accepted_resolves a cycle mode h =
-    by_resolution (resolution_of cycle) refl (second_not (foreign_edge a.name cycle) (resolved_refusal a (resolution_of cycle) mode) h)
+    by_resolution (resolution_of cycle) refl (neither (foreign_edge a.name cycle) (resolved_refusal a (resolution_of cycle) mode) h).1
   where
     by_resolution : (r : Result (List Edge) ResolveError) → resolution_of cycle ≡ r → resolved_refusal a r mode ≡ None → r ≡ Ok (turned cycle)
-    by_resolution (Err resolving.TooFewThreads) e h = cc h
-    by_resolution (Err resolving.CoherenceOnly) e h = cc h
+    by_resolution (Err error) e h = cc h
     by_resolution (Ok es) e h = ap Ok (sym (resolved_turned cycle es e).1)
 
 -- the law of printed tests, under the architecture's own name

@@ -8,8 +8,8 @@ use Rattle.cycle_events.specs.Resolution.{turned}
 use Rattle.arch_trait.specs.{Threads.Puts, Writing.Writing}
 use Rattle.co_tests_laws.specs.{CoherenceTests.incoherent_execution, CoRefusals.coherence_refusal_of, CoRefusals.coherence_text}
 use Rattle.two_runs.specs.IntendedRuns.{IsRunOf}
-use Rattle.two_runs.specs.declared.{intended.IntendedRun.IntendedRun, co_run_errors.CoRunError.CoRunError}
-use Rattle.two_runs.specs.declared.co_run_errors.CoRunError.TheVariants as errors
+use Rattle.two_runs.specs.declared.{intended.IntendedRun.IntendedRun, errors.RunError.RunError}
+use Rattle.two_runs.specs.declared.errors.RunError.TheVariants as errors
 
 -- the execution that the coherence test of a cycle asks for, by a reading of its text
 abbrev pub incoherent_by : List Edge → TestRead → Execution
@@ -17,7 +17,7 @@ incoherent_by cycle test = incoherent_execution (turned cycle)
 
 -- what a call gives for a cycle: what the text of its coherence test is read as, and the execution that this test asks for; or the first
 -- reason why the cycle has no coherence test; or, where there is no such reason, that there is no memory
-abbrev pub GivesCoherenceRun : {A : Type 0} → Puts → Writing → List ℕ → List Edge → Result (IntendedRun A) CoRunError → Type 0
+abbrev pub GivesCoherenceRun : {A : Type 0} → Puts → Writing → List ℕ → List Edge → Result (IntendedRun A) RunError → Type 0
 GivesCoherenceRun a w name cycle (Ok given) =
     (coherence_refusal_of a cycle ≡ None) ×
     IsRunOf a.name w (coherence_text a w name cycle) (incoherent_by cycle) given.test given.run

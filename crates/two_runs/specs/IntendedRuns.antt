@@ -9,8 +9,8 @@ use Rattle.program_meaning.specs.{Executions.Execution, Intended.intended}
 use Rattle.exec_text.specs.{ExecutionText.execution_read, Written.text_of_execution}
 use Rattle.bytes_force_cycles.specs.Readings.{place_in_test}
 use Rattle.test_maker.specs.{CycleText.cycle_text, Made.NamesLocation, Refusals.refusal_of}
-use Rattle.two_runs.specs.declared.{intended.IntendedRun.IntendedRun, run_errors.RunError.RunError}
-use Rattle.two_runs.specs.declared.run_errors.RunError.TheVariants as errors
+use Rattle.two_runs.specs.declared.{intended.IntendedRun.IntendedRun, errors.RunError.RunError}
+use Rattle.two_runs.specs.declared.errors.RunError.TheVariants as errors
 
 -- a text is read as some test
 abbrev pub IsRead : ArchName → Writing → List ℕ → Type 0

@@ -1,49 +1,39 @@
 -- What is shown of a cycle that the mode avoid refuses because a write needs an observer: the text of its test without
 -- observers, and two executions of what that is read as.
 -- Source: own.
-use Rattle.std.specs.Prelude.{◌≡◌, ℕ, not, List, length, Option, Some, None, Result, Ok, Err, Vec}
-use Rattle.std.specs.{List.position_from, Option.option_map, Option.option_or}
+use Rattle.std.specs.Prelude.{◌≡◌, ℕ, List, length, Option, Some, None, Result, Ok, Err, Vec}
+use Rattle.std.specs.Option.{option_or}
 use Rattle.std.specs.declared.alloc.Global.{Global}
-use Rattle.relax_edges.specs.declared.{kinds.ArchName.ArchName, kinds.ObsMode.TheVariants.Avoid, edge.Edge.Edge}
-use Rattle.relax_edges.specs.EdgeTable.{is_of_arch}
+use Rattle.relax_edges.specs.declared.{kinds.ObsMode.TheVariants.Avoid, edge.Edge.Edge}
 use Rattle.cycle_events.specs.declared.{errors.ResolveError.ResolveError, needs.NeedsObserver.NeedsObserver}
-use Rattle.cycle_events.specs.declared.errors.ResolveError.TheVariants as resolving
 use Rattle.cycle_events.specs.{Resolution.event_before, Resolution.resolution_of, Resolution.turned, Values.observer_need}
 use Rattle.arch_trait.specs.{PlaceNames.number_in, Threads.Puts, Writing.Writing, Writing.name_in}
 use Rattle.litmus_text.specs.{TestReading.TestRead, TestReading.test_read, TestText.test_text}
 use Rattle.program_meaning.specs.{Executions.Execution, Intended.intended}
 use Rattle.accesses_force_cycles.specs.Exchange.{exchanged}
-use Rattle.tests_force_cycles.specs.{TestHeadline.HasCode, CycleSteps.cycle_steps, TestOf.plain, TestOf.test_of}
-use Rattle.test_maker.specs.Refusals.{is_crowded}
+use Rattle.tests_force_cycles.specs.{TestHeadline.HasCode, TestOf.test_of}
+use Rattle.test_maker.specs.declared.refusal.Refusal.{Refusal}
+use Rattle.test_maker.specs.declared.refusal.Refusal.TheVariants as refusals
+use Rattle.test_maker.specs.Refusals.{crowded_thread, foreign_edge, resolve_refusal}
 use Rattle.exec_text.specs.{ExecutionText.execution_read, Written.text_of_execution}
 use Rattle.bytes_force_cycles.specs.Readings.{program_read, place_in_test}
 use Rattle.two_runs.specs.Undecided.{NoneTells}
-use Rattle.two_runs.specs.declared.{errors.WhyError.WhyError, errors.WhyRefusal.WhyRefusal, shown.TwoRuns.TwoRuns}
-use Rattle.two_runs.specs.declared.errors.WhyError.TheVariants as errors
-use Rattle.two_runs.specs.declared.errors.WhyRefusal.TheVariants as refusals
-
--- the first thread of a cycle that needs more registers than the architecture has, its observers not counted
-abbrev pub crowded : Puts → List Edge → Option WhyRefusal
-crowded a es = option_map (λ thread. refusals.TooManyRegisters thread) (position_from (is_crowded a) 0 (cycle_steps es Avoid plain))
+use Rattle.two_runs.specs.declared.{errors.RunError.RunError, shown.TwoRuns.TwoRuns}
+use Rattle.two_runs.specs.declared.errors.RunError.TheVariants as errors
 
 -- why nothing is shown of a cycle in which no write needs an observer, or one does
-abbrev pub needless : Puts → List Edge → Option NeedsObserver → Option WhyRefusal
+abbrev pub needless : Puts → List Edge → Option NeedsObserver → Option Refusal
 needless a es None = Some refusals.NothingToShow
-needless a es (Some need) = crowded a es
+needless a es (Some need) = crowded_thread a es Avoid
 
 -- why nothing is shown of a cycle that has this resolution, or none that is right
-abbrev pub unshown : Puts → Result (List Edge) ResolveError → Option WhyRefusal
-unshown a (Err resolving.TooFewThreads) = Some refusals.TooFewThreads
-unshown a (Err resolving.CoherenceOnly) = Some refusals.CoherenceOnly
+abbrev pub unshown : Puts → Result (List Edge) ResolveError → Option Refusal
+unshown a (Err error) = Some (resolve_refusal error)
 unshown a (Ok es) = needless a es (observer_need es)
 
--- why nothing is shown of a cycle with an edge that isn't of the architecture: the first such
-abbrev pub foreign : ArchName → List Edge → Option WhyRefusal
-foreign arch cycle = option_map (λ at. refusals.NotOfArch at) (position_from (λ edge. not (is_of_arch edge arch)) 0 cycle)
-
 -- the first reason why nothing is shown of a cycle
-abbrev pub why_refused : Puts → List Edge → Option WhyRefusal
-why_refused a cycle = option_or (foreign a.name cycle) (unshown a (resolution_of cycle))
+abbrev pub why_refused : Puts → List Edge → Option Refusal
+why_refused a cycle = option_or (foreign_edge a.name cycle) (unshown a (resolution_of cycle))
 
 -- The text is that of the test without observers of the cycle, whose resolution is `es`, and is read as the test. The first
 -- execution is the intended one; in the second the write that needs an observer and the one before it are exchanged; and no
@@ -60,17 +50,17 @@ pub record AreTwoRuns (a : Puts) (w : Writing) (name : List ℕ) (es : List Edge
 
 -- given is the text of the test without observers, which has code on the architecture; or the first thread that needs too many
 -- registers; or, where no thread does, that there is no memory
-abbrev pub GivesText : Puts → Writing → List ℕ → List Edge → Result (Vec ℕ Global) WhyError → Type 0
-GivesText a w name es (Ok text) = (crowded a es ≡ None) × HasCode a es Avoid × (text.items ≡ test_text a.name w name (test_of a (name_in w.registers) es Avoid))
-GivesText a w name es (Err errors.NoMemory) = crowded a es ≡ None
-GivesText a w name es (Err (errors.Refused refusal)) = crowded a es ≡ Some refusal
+abbrev pub GivesText : Puts → Writing → List ℕ → List Edge → Result (Vec ℕ Global) RunError → Type 0
+GivesText a w name es (Ok text) = (crowded_thread a es Avoid ≡ None) × HasCode a es Avoid × (text.items ≡ test_text a.name w name (test_of a (name_in w.registers) es Avoid))
+GivesText a w name es (Err errors.NoMemory) = crowded_thread a es Avoid ≡ None
+GivesText a w name es (Err (errors.Refused refusal)) = crowded_thread a es Avoid ≡ Some refusal
 
 -- what is given for a resolved cycle in which this write needs an observer: the text and the two executions; or the first reason
 -- why nothing is shown; or, where there is no such reason, that there is no memory
-abbrev pub ShowsNeed : {A : Type 0} → Puts → Writing → List ℕ → List Edge → NeedsObserver → Result (TwoRuns A) WhyError → Type 0
-ShowsNeed a w name es need (Ok runs) = (crowded a es ≡ None) × AreTwoRuns a w name es need runs.text.items runs.test runs.one runs.two
-ShowsNeed a w name es need (Err errors.NoMemory) = crowded a es ≡ None
-ShowsNeed a w name es need (Err (errors.Refused refusal)) = crowded a es ≡ Some refusal
+abbrev pub ShowsNeed : {A : Type 0} → Puts → Writing → List ℕ → List Edge → NeedsObserver → Result (TwoRuns A) RunError → Type 0
+ShowsNeed a w name es need (Ok runs) = (crowded_thread a es Avoid ≡ None) × AreTwoRuns a w name es need runs.text.items runs.test runs.one runs.two
+ShowsNeed a w name es need (Err errors.NoMemory) = crowded_thread a es Avoid ≡ None
+ShowsNeed a w name es need (Err (errors.Refused refusal)) = crowded_thread a es Avoid ≡ Some refusal
 
 -- a write of the resolved cycle needs an observer, and the text and the executions are those of this need
 pub record AreRunsFor (a : Puts) (w : Writing) (name : List ℕ) (es : List Edge) (needed : Option NeedsObserver) (text : List ℕ) (test : TestRead) (one two : Execution) : Type 0 where
@@ -79,7 +69,7 @@ pub record AreRunsFor (a : Puts) (w : Writing) (name : List ℕ) (es : List Edge
   pub runs : AreTwoRuns a w name es need text test one two
 
 -- what is given for a resolved cycle in which this write needs an observer, or none does
-abbrev pub ShowsResolved : {A : Type 0} → Puts → Writing → List ℕ → List Edge → Option NeedsObserver → Result (TwoRuns A) WhyError → Type 0
+abbrev pub ShowsResolved : {A : Type 0} → Puts → Writing → List ℕ → List Edge → Option NeedsObserver → Result (TwoRuns A) RunError → Type 0
 ShowsResolved a w name es needed (Ok runs) = (needless a es needed ≡ None) × AreRunsFor a w name es needed runs.text.items runs.test runs.one runs.two
 ShowsResolved a w name es needed (Err errors.NoMemory) = needless a es needed ≡ None
 ShowsResolved a w name es needed (Err (errors.Refused refusal)) = needless a es needed ≡ Some refusal
@@ -91,14 +81,14 @@ pub record AreRunsIn (a : Puts) (w : Writing) (name : List ℕ) (resolution : Re
   pub runs : AreRunsFor a w name es (observer_need es) text test one two
 
 -- what is given for a cycle by its resolution, if it has one
-abbrev pub ShowsResolution : {A : Type 0} → Puts → Writing → List ℕ → Result (List Edge) ResolveError → Result (TwoRuns A) WhyError → Type 0
+abbrev pub ShowsResolution : {A : Type 0} → Puts → Writing → List ℕ → Result (List Edge) ResolveError → Result (TwoRuns A) RunError → Type 0
 ShowsResolution a w name resolution (Ok runs) = (unshown a resolution ≡ None) × AreRunsIn a w name resolution runs.text.items runs.test runs.one runs.two
 ShowsResolution a w name resolution (Err errors.NoMemory) = unshown a resolution ≡ None
 ShowsResolution a w name resolution (Err (errors.Refused refusal)) = unshown a resolution ≡ Some refusal
 
 -- what a call gives for a cycle: the text of its test without observers and the two executions; or the first reason why
 -- nothing is shown; or, where there is no such reason, that there is no memory
-abbrev pub Shows : {A : Type 0} → Puts → Writing → List ℕ → List Edge → Result (TwoRuns A) WhyError → Type 0
+abbrev pub Shows : {A : Type 0} → Puts → Writing → List ℕ → List Edge → Result (TwoRuns A) RunError → Type 0
 Shows a w name cycle (Ok runs) =
     (why_refused a cycle ≡ None) × AreRunsFor a w name (turned cycle) (observer_need (turned cycle)) runs.text.items runs.test runs.one runs.two
 Shows a w name cycle (Err errors.NoMemory) = why_refused a cycle ≡ None

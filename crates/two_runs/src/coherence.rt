@@ -1,14 +1,14 @@
-ghost use Rattle.std.specs.Prelude.{◌≡◌, IfOk};
+ghost use Rattle.std.specs.Prelude.{◌≡◌, IfErr, IfOk};
 ghost use Rattle.arch_trait.specs.Writing.{name_in};
 ghost use Rattle.litmus_text.specs.Printable.{IsTestName};
 ghost use Rattle.litmus_text.specs.Tests.{test_seen};
 ghost use Rattle.litmus_text.specs.TestText.{test_text};
 ghost use Rattle.test_maker.specs.Made.{CanPrint};
 ghost use Rattle.co_tests_laws.specs.CoherenceTests.{HasCoherenceTest, coherence_test_of, incoherent_execution};
-ghost use Rattle.two_runs.specs.IntendedRuns.{IsRunOf};
+ghost use Rattle.two_runs.specs.IntendedRuns.{IsRunOf, RunNamesLocation};
 ghost use Rattle.two_runs.specs.CoherenceRuns.{GivesCoherenceRun};
 
-use crate::co_run_errors::CoRunError;
+use crate::errors::RunError;
 use crate::incoherent::incoherent_run;
 use crate::intended::IntendedRun;
 use crate::printed::read_printed;
@@ -30,18 +30,14 @@ pub fn coherence_run<A: Arch>(
     alloc: Global,
     cycle: &Cycle,
     name: &str,
-) -> Result<IntendedRun<A>, CoRunError>
+) -> Result<IntendedRun<A>, RunError>
     requires named { IsTestName name.now }
-    ensures { GivesCoherenceRun A.puts A.writing name.now cycle.now result }
+    ensures given { GivesCoherenceRun A.puts A.writing name.now cycle.now result }
+    ensures located { IfErr result RunNamesLocation }
 {
     let mut test = Test::new();
-    match co_test_into::<A>(cycle, &mut test) {
-        Ok(()) => match run_of_test::<A>(alloc, &test, name) {
-            Ok(given) => Ok(given),
-            Err(NoMemory) => Err(CoRunError::NoMemory),
-        },
-        Err(refusal) => Err(CoRunError::Refused(refusal)),
-    }
+    co_test_into::<A>(cycle, &mut test)?;
+    Ok(run_of_test::<A>(alloc, &test, name)?)
 }
 
 /// The same of a coherence test that is made.

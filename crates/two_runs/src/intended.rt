@@ -11,9 +11,9 @@ ghost use Rattle.test_maker.specs.Refusals.{refusal_of};
 ghost use Rattle.two_runs.specs.IntendedRuns.{GivesRun, RunNamesLocation};
 ghost use Rattle.two_runs.specs.Runs.{numbers_by, run_by};
 
+use crate::errors::RunError;
 use crate::printed::read_printed;
 use crate::run::run_of;
-use crate::run_errors::RunError;
 use arch_trait::{Arch, Places};
 use bytes_force_cycles::printed_tests_force;
 use coherence_values::value;
@@ -52,10 +52,8 @@ pub fn intended_run<A: Arch>(
     ensures located { IfErr result RunNamesLocation }
 {
     let mut test = Test::new();
-    match make_into::<A>(cycle, mode, &mut test) {
-        Ok(()) => run_of_made::<A>(alloc, cycle, mode, &test, name),
-        Err(refusal) => Err(RunError::Refused(refusal)),
-    }
+    make_into::<A>(cycle, mode, &mut test)?;
+    run_of_made::<A>(alloc, cycle, mode, &test, name)
 }
 
 /// The same of a cycle whose test is made.

@@ -1,7 +1,6 @@
 //! Two executions of a cycle's test without observers that no condition on the final state tells apart, and the law that there are such.
 #![tactic(auto)]
 
-mod co_run_errors;
 mod coherence;
 mod errors;
 mod incoherent;
@@ -12,16 +11,13 @@ mod places;
 mod printed;
 mod reads;
 mod run;
-mod run_errors;
 mod shown;
 mod sink;
 mod text;
 mod undecided;
 
-pub use co_run_errors::CoRunError;
 pub use coherence::coherence_run;
-pub use errors::{WhyError, WhyRefusal};
+pub use errors::RunError;
 pub use intended::{IntendedRun, intended_run};
-pub use run_errors::RunError;
 pub use shown::{TwoRuns, two_runs};
 pub use undecided::{printed_undecided, tests_undecided};

@@ -15,7 +15,6 @@ use relax_edges::MAX_EDGES;
 pub(crate) fn observed_locations(valued: &Valued) -> ArrayVec<u8, MAX_EDGES>
     ensures { result.items ≡ observed_locations valued.now.edges valued.now.mode }
 {
-    let _edges = valued.resolved().cycle();
     let mut observed = ArrayVec::new();
     for location in 0..valued.resolved().locations() {
         if valued.observed(location) {
@@ -35,7 +34,6 @@ pub(crate) fn add_observers(
     requires reads { exec.old.reads ≡ cycle_reads valued.now.edges ++ empty_lists (length observed.now) }
     ensures { OnOk result (exec.new ≡ record exec.old { reads = run_reads valued.now.edges valued.now.mode }) }
 {
-    let _edges = valued.resolved().cycle();
     let threads = valued.resolved().threads();
     for (k, location) in observed.iter().enumerate() {
         add_observer(valued, *location, threads + k as u8, exec)?;

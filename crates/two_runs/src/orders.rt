@@ -62,6 +62,7 @@ fn value_there(valued: &Valued, moved: Option<u8>, location: u8, value: u8) -> u
     ensures there { result ≡ value_there valued.now.edges moved location value }
     ensures most { result ≤ write_count valued.now.edges location }
 {
+    // Brings the invariant of `Valued` into the proof.
     let _edges = valued.resolved().cycle();
     match moved {
         Some(event) if valued.resolved().event(event).location == location => {

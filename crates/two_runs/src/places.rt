@@ -15,7 +15,6 @@ pub(crate) fn location_at(valued: &Valued, places: &Places, place: u8) -> u8
     ensures location { result ≡ location_numbered valued.now.edges (numbers_by places.now) place }
     ensures within { result < move_count valued.now.edges }
 {
-    let _edges = valued.resolved().cycle();
     let locations = valued.resolved().locations();
     let names = Places::letters(locations);
     for location in 0..locations {

@@ -24,7 +24,6 @@ pub(crate) fn run_of(
     ensures { IfOk result (λ run. run ≡ run_by valued.now.edges valued.now.mode moved (numbers_by places.now)) }
 {
     let resolved = valued.resolved();
-    let _edges = resolved.cycle();
     let observed = observed_locations(valued);
     let threads = resolved.threads() + observed.len() as u8;
     let mut run = Execution::new(alloc, threads, resolved.locations())?;

@@ -1,26 +1,27 @@
-ghost use Rattle.std.specs.Prelude.{◌≡◌, List, Ok, Some};
+ghost use Rattle.std.specs.Prelude.{◌≡◌, List, IfErr, Ok, Some};
 ghost use Rattle.relax_edges.specs.declared.edge.Edge.{Edge};
 ghost use Rattle.cycle_events.specs.Resolution.{resolution_of};
 ghost use Rattle.cycle_events.specs.Values.{observer_need};
 ghost use Rattle.litmus_text.specs.Printable.{IsTestName};
 ghost use Rattle.test_maker.specs.Made.{AreOfArch};
+ghost use Rattle.two_runs.specs.IntendedRuns.{RunNamesLocation};
 ghost use Rattle.two_runs.specs.Shown.{Shows, ShowsNeed, ShowsResolution, ShowsResolved};
 
-use crate::errors::{WhyError, WhyRefusal};
+use crate::errors::RunError;
 use crate::printed::read_text;
 use crate::printed_undecided;
 use crate::run::run_of;
 use crate::text::text_unobserved;
 use arch_trait::Arch;
 use coherence_values::{NeedsObserver, value, value_unobserved};
-use cycle_resolve::{ResolveError, Resolved, resolve};
+use cycle_resolve::{Resolved, resolve};
 use diy_io::NoMemory;
 use edge_algebra::Cycle;
 use exec_meaning::Execution;
 use litmus_text::ReadTest;
 use relax_edges::ObsMode;
 use std::alloc::Global;
-use test_maker::{first_unsupported, resolved_edges};
+use test_maker::{Refusal, all_of_arch, resolved_edges};
 
 /// A test without observers, and two executions of it that no condition on the final state tells apart.
 #[derive(Drop)]
@@ -43,28 +44,28 @@ pub struct TwoRuns<A> {
 /// doesn't in the second. The write is the one that the mode refuses: of the lowest location that needs
 /// an observer, the first one in coherence order that needs it.
 ///
-/// Refusals come in the order of `WhyRefusal`, each exactly where it holds and none before it does; there
-/// may be no memory at any time.
-pub fn two_runs<A: Arch>(alloc: Global, cycle: &Cycle, name: &str) -> Result<TwoRuns<A>, WhyError>
+/// Refusals come in this order: `NotOfArch`, `TooFewThreads`, `CoherenceOnly`, `NothingToShow` and
+/// `TooManyRegisters` (of which observers aren't among the threads), each exactly where it holds and none
+/// before it does; there may be no memory at any time.
+pub fn two_runs<A: Arch>(alloc: Global, cycle: &Cycle, name: &str) -> Result<TwoRuns<A>, RunError>
     requires named { IsTestName name.now }
-    ensures { Shows A.puts A.writing name.now cycle.now result }
+    ensures shown { Shows A.puts A.writing name.now cycle.now result }
+    ensures located { IfErr result RunNamesLocation }
 {
     resolved_edges();
-    match first_unsupported::<A>(cycle.edges()) {
-        Some(at) => Err(WhyError::Refused(WhyRefusal::NotOfArch { at })),
-        None => runs_of_arch(alloc, cycle, name),
-    }
+    all_of_arch::<A>(cycle.edges())?;
+    runs_of_arch(alloc, cycle, name)
 }
 
-fn runs_of_arch<A: Arch>(alloc: Global, cycle: &Cycle, name: &str) -> Result<TwoRuns<A>, WhyError>
+fn runs_of_arch<A: Arch>(alloc: Global, cycle: &Cycle, name: &str) -> Result<TwoRuns<A>, RunError>
     requires of_arch { (es : List Edge) → resolution_of cycle.now ≡ Ok es → AreOfArch A.puts es }
     requires named { IsTestName name.now }
-    ensures { ShowsResolution A.puts A.writing name.now (resolution_of cycle.now) result }
+    ensures shown { ShowsResolution A.puts A.writing name.now (resolution_of cycle.now) result }
+    ensures located { IfErr result RunNamesLocation }
 {
-    match resolve(cycle) {
-        Err(ResolveError::TooFewThreads) => Err(WhyError::Refused(WhyRefusal::TooFewThreads)),
-        Err(ResolveError::CoherenceOnly) => Err(WhyError::Refused(WhyRefusal::CoherenceOnly)),
-        Ok(resolved) => runs_of_resolved(alloc, &resolved, name),
+    match &resolve(cycle) {
+        Err(error) => Err(RunError::Refused(Refusal::from(error))),
+        Ok(resolved) => runs_of_resolved(alloc, resolved, name),
     }
 }
 
@@ -72,13 +73,14 @@ fn runs_of_resolved<A: Arch>(
     alloc: Global,
     resolved: &Resolved,
     name: &str,
-) -> Result<TwoRuns<A>, WhyError>
+) -> Result<TwoRuns<A>, RunError>
     requires of_arch { AreOfArch A.puts resolved.now }
     requires named { IsTestName name.now }
-    ensures { ShowsResolved A.puts A.writing name.now resolved.now (observer_need resolved.now) result }
+    ensures shown { ShowsResolved A.puts A.writing name.now resolved.now (observer_need resolved.now) result }
+    ensures located { IfErr result RunNamesLocation }
 {
     match value(resolved, ObsMode::Avoid) {
-        Ok(_) => Err(WhyError::Refused(WhyRefusal::NothingToShow)),
+        Ok(_) => Err(RunError::Refused(Refusal::NothingToShow)),
         Err(need) => runs_of_need(alloc, resolved, need, name),
     }
 }
@@ -88,11 +90,12 @@ fn runs_of_need<A: Arch>(
     resolved: &Resolved,
     need: NeedsObserver,
     name: &str,
-) -> Result<TwoRuns<A>, WhyError>
+) -> Result<TwoRuns<A>, RunError>
     requires of_arch { AreOfArch A.puts resolved.now }
     requires needs { observer_need resolved.now ≡ Some need }
     requires named { IsTestName name.now }
-    ensures { ShowsNeed A.puts A.writing name.now resolved.now need result }
+    ensures shown { ShowsNeed A.puts A.writing name.now resolved.now need result }
+    ensures located { IfErr result RunNamesLocation }
 {
     printed_undecided::<A>();
     let text = text_unobserved::<A>(alloc, resolved, name)?;

@@ -1,39 +1,33 @@
-ghost use Rattle.std.specs.Prelude.{◌≡◌, length, IfOk};
+ghost use Rattle.std.specs.Prelude.{◌≡◌, length, IfErr, IfOk};
 ghost use Rattle.std.specs.List.{All};
 ghost use Rattle.litmus_text.specs.Tests.{IsPrintable, test_seen};
 ghost use Rattle.litmus_text.specs.TestText.{test_text};
 ghost use Rattle.test_maker.specs.Made.{AreOfArch};
+ghost use Rattle.two_runs.specs.IntendedRuns.{RunNamesLocation};
 ghost use Rattle.two_runs.specs.Shown.{GivesText};
 
-use crate::errors::{WhyError, WhyRefusal};
+use crate::errors::RunError;
 use crate::sink::TextSink;
 use arch_trait::Arch;
 use cycle_resolve::Resolved;
 use diy_io::{Failed, NoMemory};
 use litmus_text::{Test, print_test};
 use std::alloc::Global;
-use test_maker::{MakeRefusal, make_unobserved};
+use test_maker::make_unobserved;
 
 /// The text of the test of a cycle without observers, under a name.
 pub(crate) fn text_unobserved<A: Arch>(
     alloc: Global,
     resolved: &Resolved,
     name: &str,
-) -> Result<Vec<u8>, WhyError>
+) -> Result<Vec<u8>, RunError>
     requires { AreOfArch A.puts resolved.now }
-    ensures { GivesText A.puts A.writing name.now resolved.now result }
+    ensures given { GivesText A.puts A.writing name.now resolved.now result }
+    ensures located { IfErr result RunNamesLocation }
 {
     let mut test = Test::new();
-    match make_unobserved::<A>(resolved, &mut test) {
-        Ok(()) => match text_of::<A>(alloc, &test, name) {
-            Ok(text) => Ok(text),
-            Err(NoMemory) => Err(WhyError::NoMemory),
-        },
-        Err(MakeRefusal::TooManyRegisters { thread }) => {
-            Err(WhyError::Refused(WhyRefusal::TooManyRegisters { thread }))
-        }
-        Err(_) => unreachable!(),
-    }
+    make_unobserved::<A>(resolved, &mut test)?;
+    Ok(text_of::<A>(alloc, &test, name)?)
 }
 
 /// The text of a test under a name.

@@ -10,7 +10,7 @@ use Rattle.arch_trait.specs.declared.step.Step.{Step}
 use Rattle.arch_trait.specs.{Codes.thread_code_of, Threads.is_load_dir, Threads.compiled, Writing.name_in}
 use Rattle.tests_force_cycles.specs.TestOf.{plain, thread_terms}
 use Rattle.tests_force_cycles.proofs.Terms.{reads-count, thread_terms-count}
-use Rattle.co_tests_laws.specs.declared.refusal.CoRefusal.TheVariants.{TooManyRegisters}
+use Rattle.test_maker.specs.declared.refusal.Refusal.TheVariants.{TooManyRegisters}
 use Rattle.co_tests_laws.specs.CoherenceTests.{coherence_steps}
 use Rattle.co_tests_laws.proofs.Fits.{loop_thread}
 use Rattle.co_tests.proofs.{Cuts.loop_at, threads.put_threads.Goals.then-is_external+in-Ok, threads.put_threads.Goals.else-is_external}

@@ -12,18 +12,18 @@ use Rattle.arch_trait_laws.proofs.NameLaws.{length-letters}
 
 pub push_last_term-requires-clause-place : goal.push_last_term-requires-clause-place
 push_last_term-requires-clause-place c =
-    omega (arith, ap move_count c.resolved-2.ensures, ap length c.requires, length-letters (move_count c.args.valued.now.edges))
+    omega (arith, ap move_count c.resolved.ensures.value, ap length c.requires, length-letters (move_count c.args.valued.now.edges))
 
 pub push_last_term-requires-clause-room : goal.push_last_term-requires-clause-room
 push_last_term-requires-clause-room c =
-    let resolved = rw c.resolved.ensures at c.cycle-edges.ensures.resolved in
-    let below : c.loop-location.location < move_count c.args.valued.now.edges = omega (arith, ap move_count c.resolved-2.ensures) in
+    let resolved = c.resolved.ensures.resolved in
+    let below : c.loop-location.location < move_count c.args.valued.now.edges = omega (arith, ap move_count c.resolved.ensures.value) in
     last_room c.args.valued.now.edges c.args.valued.now.mode c.loop-location.location c.loop-location.terms.items resolved c.loop-location.invariant below
 
 pub loop-location-preserved : goal.loop-location-preserved
 loop-location-preserved c =
     let es = c.args.valued.now.edges in
-    let below : c.loop-location.location < move_count es = omega (arith, ap move_count c.resolved-2.ensures) in
+    let below : c.loop-location.location < move_count es = omega (arith, ap move_count c.resolved.ensures.value) in
     elim c.if-is_named.branch [
       | then-is_named w ↦
           ap (λ (v : ArrayVec Term). map term_view v.items) w.terms-is ∙

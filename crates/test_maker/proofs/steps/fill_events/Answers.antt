@@ -8,8 +8,8 @@ use Rattle.test_maker.proofs.steps.fill_events.Goals as goal
 pub push-requires : goal.push-requires
 push-requires c =
     let es = c.args.valued.now.edges in
-    let resolved = rw c.resolved.ensures at c.cycle.ensures.resolved in
-    let below : c.loop-i.i < length es = omega (arith, ap length (c.cycle.ensures.value ∙ c.resolved.ensures)) in
+    let resolved = c.resolved.ensures.resolved in
+    let below : c.loop-i.i < length es = omega (arith, ap length (c.cycle.ensures.value ∙ c.resolved.ensures.value)) in
     let few = ap length c.loop-i.invariant ∙ length-map-upto (event_step es plain) c.loop-i.i in
     (omega arith, omega (arith, few, below, resolved.composes.few))
 
@@ -22,5 +22,5 @@ loop-i-preserved c =
 pub returns : goal.returns
 returns c =
     let es = c.args.valued.now.edges in
-    let end : c.loop-i.i ≡ length es = omega (arith, ap length (c.cycle.ensures.value ∙ c.resolved.ensures)) in
+    let end : c.loop-i.i ≡ length es = omega (arith, ap length (c.cycle.ensures.value ∙ c.resolved.ensures.value)) in
     c.loop-i.invariant ∙ ap (λ n. map (event_step es plain) (upto n)) end

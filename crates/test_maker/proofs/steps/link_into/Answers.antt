@@ -10,4 +10,4 @@ pub returns : goal.returns
 returns c =
     c.link_of.ensures ∙
     link_after c.args.valued.now.edges c.args.i c.edge.result (λ z. c.if-slot-eq0.false (c.requires.slot ∙ z))
-    (ap (λ es. slice_get es (c.args.i - 1)) (sym (c.cycle.ensures.value ∙ c.resolved.ensures)) ∙ c.edge.ensures)
+    (ap (λ es. slice_get es (c.args.i - 1)) (sym (c.cycle.ensures.value ∙ c.resolved.ensures.value)) ∙ c.edge.ensures)

@@ -11,6 +11,6 @@ overflow_add-count c = omega (arith, count_upto-le (is_observed c.args.valued.no
 
 pub returns : goal.returns
 returns c =
-    let end : c.loop-location.location ≡ move_count c.args.valued.now.edges = omega (arith, ap move_count c.resolved.ensures) in
+    let end : c.loop-location.location ≡ move_count c.args.valued.now.edges = omega (arith, ap move_count c.resolved.ensures.value) in
     c.loop-location.invariant ∙ ap (λ n. count_by (is_observed c.args.valued.now.edges c.args.valued.now.mode) (upto n)) end ∙
     sym (length-filter-upto (is_observed c.args.valued.now.edges c.args.valued.now.mode) (move_count c.args.valued.now.edges))

@@ -8,12 +8,12 @@ use Rattle.test_maker.proofs.steps.thread_count.Goals as goal
 
 pub overflow_add-result : goal.overflow_add-result
 overflow_add-result c =
-    let threads = c.threads.ensures ∙ ap external_count c.resolved-2.ensures in
-    let few = few_threads c.args.valued.now.edges c.args.valued.now.mode c.observer_count.result (rw c.resolved.ensures at c.cycle-edges.ensures.resolved) c.observer_count.ensures in
+    let threads = c.threads.ensures ∙ ap external_count c.resolved.ensures.value in
+    let few = few_threads c.args.valued.now.edges c.args.valued.now.mode c.observer_count.result c.resolved.ensures.resolved c.observer_count.ensures in
     omega (arith, threads, few)
 
 pub returns : goal.returns
 returns c =
-    let threads = c.threads.ensures ∙ ap external_count c.resolved-2.ensures in
+    let threads = c.threads.ensures ∙ ap external_count c.resolved.ensures.value in
     let all = steps-count c.args.valued.now.edges c.args.valued.now.mode plain in
     omega (arith, threads, all, c.observer_count.ensures)

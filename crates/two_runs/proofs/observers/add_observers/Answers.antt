@@ -28,7 +28,7 @@ add_observer-requires-clause-thread c =
     let k = c.loop-k.k in
     let location = get_or c.args.observed.now k 0 in
     let at : slice_get c.args.observed.now k ≡ Some location = slice_get-get_or c.args.observed.now k 0 c.loop-k-test.true in
-    omega (arith, observer_inside es c.args.observed.now c.args.exec.now c.loop-k.exec k location at c.loop-k.invariant, c.threads-threads.ensures, ap external_count c.resolved-2.ensures)
+    omega (arith, observer_inside es c.args.observed.now c.args.exec.now c.loop-k.exec k location at c.loop-k.invariant, c.threads-threads.ensures, ap external_count c.resolved.ensures.value)
 
 pub loop-k-preserved : goal.loop-k-preserved
 loop-k-preserved c =
@@ -37,7 +37,7 @@ loop-k-preserved c =
     let location = get_or c.args.observed.now k 0 in
     let at : slice_get c.args.observed.now k ≡ Some location = slice_get-get_or c.args.observed.now k 0 c.loop-k-test.true in
     observers_more es c.args.observed.now c.args.exec.now c.loop-k.exec c.add_observer.new.exec k location _ at
-    (omega (arith, c.threads-threads.ensures, ap external_count c.resolved-2.ensures)) c.loop-k.invariant c.in_ok-add_observer.ensures
+    (omega (arith, c.threads-threads.ensures, ap external_count c.resolved.ensures.value)) c.loop-k.invariant c.in_ok-add_observer.ensures
 
 pub returns : goal.returns
 returns c =
@@ -49,17 +49,17 @@ returns c =
 pub overflow_cast-k : goal.overflow_cast-k
 overflow_cast-k c =
     let es = c.args.valued.now.edges in
-    let r : IsResolved es = rw c.resolved.ensures at c.cycle-edges.ensures.resolved in
+    let r : IsResolved es = c.resolved.ensures.resolved in
     omega (arith, c.loop-k-test.true, few_threads es c.args.valued.now.mode (length c.args.observed.now) r (ap length c.requires.observed))
 
 pub overflow_add-threads : goal.overflow_add-threads
 overflow_add-threads c =
     let es = c.args.valued.now.edges in
-    let r : IsResolved es = rw c.resolved.ensures at c.cycle-edges.ensures.resolved in
+    let r : IsResolved es = c.resolved.ensures.resolved in
     omega (
       arith,
       c.loop-k-test.true,
       few_threads es c.args.valued.now.mode (length c.args.observed.now) r (ap length c.requires.observed),
       c.threads-threads.ensures,
-      ap external_count c.resolved-2.ensures,
+      ap external_count c.resolved.ensures.value,
     )

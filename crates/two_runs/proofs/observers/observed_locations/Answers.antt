@@ -10,7 +10,7 @@ pub push-requires : goal.push-requires
 push-requires c =
     let es = c.args.valued.now.edges in
     let p = is_observed es c.args.valued.now.mode in
-    let r : IsResolved es = rw c.resolved.ensures at c.cycle-edges.ensures.resolved in (
+    let r : IsResolved es = c.resolved.ensures.resolved in (
       omega arith,
       omega (
         arith,
@@ -18,7 +18,7 @@ push-requires c =
         length-filter-upto p c.loop-location.location,
         count_upto-le p c.loop-location.location,
         external_and_moves es,
-        ap move_count c.resolved-2.ensures,
+        ap move_count c.resolved.ensures.value,
         r.composes.few,
       ),
     )

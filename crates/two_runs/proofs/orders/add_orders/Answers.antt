@@ -19,7 +19,7 @@ add_order-requires-clause-place c =
     let es = c.args.valued.now.edges in
     let f : ℕ → List WriteAt = λ place. order_of es c.args.moved (location_numbered es (numbers_by c.args.places.now) place) in
     let k = c.loop-place.place in
-    let below : k < move_count es = omega (arith, c.loop-place-test.true, c.locations-place-end.ensures, ap move_count c.resolved.ensures) in
+    let below : k < move_count es = omega (arith, c.loop-place-test.true, c.locations-place-end.ensures, ap move_count c.resolved.ensures.value) in
     subst (λ (x : Execution). k < length x.orders) (sym c.loop-place.invariant) (filled_length f (move_count es) k below)
 
 pub loop-place-preserved : goal.loop-place-preserved
@@ -27,7 +27,7 @@ loop-place-preserved c =
     let es = c.args.valued.now.edges in
     let f : ℕ → List WriteAt = λ place. order_of es c.args.moved (location_numbered es (numbers_by c.args.places.now) place) in
     let k = c.loop-place.place in
-    let below : k < move_count es = omega (arith, c.loop-place-test.true, c.locations-place-end.ensures, ap move_count c.resolved.ensures) in
+    let below : k < move_count es = omega (arith, c.loop-place-test.true, c.locations-place-end.ensures, ap move_count c.resolved.ensures.value) in
     places_more f c.args.exec.now c.loop-place.exec c.add_order.new.exec (move_count es) k below c.loop-place.invariant
     (c.in_ok-add_order.ensures ∙ ap (λ location. record c.loop-place.exec { orders = with_appended c.loop-place.exec.orders k (order_of es c.args.moved location) }) c.location_at-location.ensures.location)
 
@@ -35,6 +35,6 @@ pub returns : goal.returns
 returns c =
     let es = c.args.valued.now.edges in
     let f : ℕ → List WriteAt = λ place. order_of es c.args.moved (location_numbered es (numbers_by c.args.places.now) place) in
-    let all : c.loop-place.place ≡ move_count es = omega (arith, c.loop-place-test.false, c.loop-place.auto.place-end, c.locations-place-end.ensures, ap move_count c.resolved.ensures) in
+    let all : c.loop-place.place ≡ move_count es = omega (arith, c.loop-place-test.false, c.loop-place.auto.place-end, c.locations-place-end.ensures, ap move_count c.resolved.ensures.value) in
     c.loop-place.invariant ∙ ap (λ k. record c.args.exec.now { orders = filled_to f (move_count es) k }) all
     ∙ ap (λ orders. record c.args.exec.now { orders = orders }) (filled_whole f (move_count es))

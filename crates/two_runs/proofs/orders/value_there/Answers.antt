@@ -9,7 +9,7 @@ use Rattle.two_runs.proofs.orders.value_there.Goals as goal
 pub swap_value-requires-clause-below : goal.swap_value-requires-clause-below
 swap_value-requires-clause-below c =
     let es = c.args.valued.now.edges in
-    let r : IsResolved es = subst IsResolved c.resolved.ensures c.cycle-edges.ensures.resolved in
+    let r : IsResolved es = c.resolved.ensures.resolved in
     omega (arith, c.requires.most, write_count_most es c.args.location, r.composes.few)
 
 pub returns-in-Some-clause-most : goal.returns-in-Some-clause-most

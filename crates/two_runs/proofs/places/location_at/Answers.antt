@@ -20,7 +20,7 @@ returns-then-number_of-place-clause-location c =
     let named : c.get.result.now.bytes ≡ location_name l = c.get.ensures ∙ ap (λ names. slice_index_or names l []) c.letters-names.ensures ∙ letter_at n l c.loop-location-test.true in
     let here : numbers_by c.args.places.now l ≡ c.args.place = ap (place_in c.args.places.now) (sym named) ∙ sym c.number_of.ensures ∙ c.if-number_of-place.true in
     numbered_here c.args.valued.now.edges (numbers_by c.args.places.now) c.args.place l
-    (omega (arith, c.loop-location-test.true, c.locations-locations.ensures, ap move_count c.resolved-2.ensures)) here c.loop-location.invariant
+    (omega (arith, c.loop-location-test.true, c.locations-locations.ensures, ap move_count c.resolved.ensures.value)) here c.loop-location.invariant
 
 pub loop-location-preserved : goal.loop-location-preserved
 loop-location-preserved c =
@@ -33,4 +33,4 @@ loop-location-preserved c =
 pub returns-clause-location : goal.returns-clause-location
 returns-clause-location c =
     numbered_nowhere c.args.valued.now.edges (numbers_by c.args.places.now) c.args.place c.loop-location.location
-    (omega (arith, c.loop-location-test.false, c.locations-locations.ensures, ap move_count c.resolved-2.ensures)) c.loop-location.invariant
+    (omega (arith, c.loop-location-test.false, c.locations-locations.ensures, ap move_count c.resolved.ensures.value)) c.loop-location.invariant

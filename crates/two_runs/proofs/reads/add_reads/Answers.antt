@@ -20,7 +20,7 @@ add_thread-requires c =
     let es = c.args.valued.now.edges in
     let k = c.loop-thread.thread in
     let all = external_count es + observer_count es c.args.valued.now.mode in
-    let below : k < all = omega (arith, c.loop-thread-test.true, c.threads-thread-end.ensures, ap external_count c.resolved.ensures) in
+    let below : k < all = omega (arith, c.loop-thread-test.true, c.threads-thread-end.ensures, ap external_count c.resolved.ensures.value) in
     subst (λ (x : Execution). k < length x.reads) (sym c.loop-thread.invariant) (filled_length (thread_reads es) all k below)
 
 pub loop-thread-preserved : goal.loop-thread-preserved
@@ -28,14 +28,14 @@ loop-thread-preserved c =
     let es = c.args.valued.now.edges in
     let k = c.loop-thread.thread in
     let all = external_count es + observer_count es c.args.valued.now.mode in
-    let below : k < all = omega (arith, c.loop-thread-test.true, c.threads-thread-end.ensures, ap external_count c.resolved.ensures) in
+    let below : k < all = omega (arith, c.loop-thread-test.true, c.threads-thread-end.ensures, ap external_count c.resolved.ensures.value) in
     threads_more (thread_reads es) c.args.exec.now c.loop-thread.exec c.add_thread.new.exec all k below c.loop-thread.invariant c.in_ok-add_thread.ensures
 
 pub returns : goal.returns
 returns c =
     let es = c.args.valued.now.edges in
     let observers = observer_count es c.args.valued.now.mode in
-    let own : c.loop-thread.thread ≡ external_count es = omega (arith, c.loop-thread-test.false, c.loop-thread.auto.thread-end, c.threads-thread-end.ensures, ap external_count c.resolved.ensures) in
+    let own : c.loop-thread.thread ≡ external_count es = omega (arith, c.loop-thread-test.false, c.loop-thread.auto.thread-end, c.threads-thread-end.ensures, ap external_count c.resolved.ensures.value) in
     let left : external_count es + observers - external_count es ≡ observers = omega arith in
     c.loop-thread.invariant ∙ ap (λ k. record c.args.exec.now { reads = filled_to (thread_reads es) (external_count es + observers) k }) own
     ∙ ap (λ n. record c.args.exec.now { reads = map (thread_reads es) (upto (external_count es)) ++ empty_lists n }) left

@@ -1,7 +1,7 @@
--- That `acceptance_of_valued` finds the first thread that needs too many registers, if there is one.
+-- That `enough_registers` finds the first thread that needs too many registers, if there is one.
 use Rattle.std.proofs.Common.{◌∙◌, sym}
 use Rattle.test_maker.proofs.Growing.{crowded_here, calm_here}
-use Rattle.test_maker.proofs.acceptance.acceptance_of_valued.Goals as goal
+use Rattle.test_maker.proofs.acceptance.enough_registers.Goals as goal
 
 pub returns-then-is_crowded : goal.returns-then-is_crowded
 returns-then-is_crowded g c =
