@@ -16,6 +16,6 @@ pub returns-in-Some-clause-most : goal.returns-in-Some-clause-most
 returns-in-Some-clause-most c =
     let es = c.args.valued.now.edges in
     let event = c.in-Some.event in
-    let at : c.args.location ≡ location_of es event = sym c.if-event-location.true ∙ ap (λ (e : Event). e.location) c.event.ensures ∙ ap (λ us. location_of us event) c.resolved-in-Some-1.ensures in
+    let at : c.args.location ≡ location_of es event = sym c.if-event-location.true ∙ ap (λ (e : Event). e.location) c.event.ensures ∙ ap (λ us. location_of us event) c.resolved-in-Some-1.ensures.value in
     let most : c.value_of.result ≤ write_count es c.args.location = rw (at, c.value_of.ensures) (value_most es event) in
     rw c.swap_value.ensures (swapped_most c.value_of.result c.args.value (write_count es c.args.location) most c.requires.most)
