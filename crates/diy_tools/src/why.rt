@@ -111,44 +111,47 @@ fn write_runs<A: Arch, H: Shelf, O: Sink>(
         Ok(text) => text,
         Err(NoMemory) => return Status::NoMemory,
     };
-    put_runs(
-        folder,
-        name,
-        runs.text.as_slice(),
-        one.as_slice(),
-        two.as_slice(),
-        shelf,
-        out,
-    )
+    let texts = RunTexts {
+        test: runs.text.as_slice(),
+        one: one.as_slice(),
+        two: two.as_slice(),
+    };
+    put_runs(folder, name, texts, shelf, out)
+}
+
+/// The texts of the three files: a test, and two executions of it.
+#[derive(Clone, Copy)]
+struct RunTexts<'a> {
+    test: &'a [u8],
+    one: &'a [u8],
+    two: &'a [u8],
 }
 
 /// Writes the three files on the shelf, and then the line on them.
-fn put_runs<'a, H: Shelf, O: Sink>(
+fn put_runs<H: Shelf, O: Sink>(
     folder: Option<&str>,
     name: &str,
-    text: &'a [u8],
-    one: &'a [u8],
-    two: &'a [u8],
+    texts: RunTexts<'_>,
     shelf: &mut H,
     out: &mut O,
 ) -> Status
     requires idle { (H.seen shelf.old).mode ≡ Idle }
     requires folder { ForSome folder (λ folder. length folder.now ≤ MAX_FOLDER) }
-    ensures written { PutsRuns folder.entry name.now text.now one.now two.now result (H.seen shelf.old) (H.seen shelf.new) (O.seen out.old) (O.seen out.new) }
+    ensures written { PutsRuns folder.entry name.now texts.entry.test.now texts.entry.one.now texts.entry.two.now result (H.seen shelf.old) (H.seen shelf.new) (O.seen out.old) (O.seen out.new) }
     ensures location { StatusNamesLocation result }
 {
     let files = [
         File {
             path: test_path(folder, 0, name, ".litmus"),
-            bytes: text,
+            bytes: texts.test,
         },
         File {
             path: test_path(folder, 0, name, ".one"),
-            bytes: one,
+            bytes: texts.one,
         },
         File {
             path: test_path(folder, 0, name, ".two"),
-            bytes: two,
+            bytes: texts.two,
         },
     ];
     match put_files(&files, shelf) {
