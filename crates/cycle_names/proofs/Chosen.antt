@@ -1,5 +1,5 @@
 -- The rotation that a cycle is named from: there is one, and it is the same for all rotations of the cycle.
-use Rattle.cycle_names.proofs.Vocabulary.{◌≡◌, ◌<◌, ℕ, Bool, true, Some, None, List, [], ◌∷◌, length, map, filter, unwrap_or, refl, sym, ◌∙◌, ap, subst, arith, length-map, same_Some, by_option, Edge, rank_of, rank_injective, IsCycle, IsRotation, rotated, ranks_below, IsLeast, cycle_of_rotation, rotation_same, rotation_back, rotation_on, rotation_length, place_of_rotation, rotation_of_place, above_of_ranks, Family, family_edges, edge_of_slot, outline, word_place, marked_around, rotations, fits_family, is_of_family, found_family, words_below, edges_below, rotation_in, named_rotation}
+use Rattle.cycle_names.proofs.Vocabulary.{◌≡◌, ◌<◌, ℕ, Bool, true, Some, None, List, [], ◌∷◌, length, map, filter, unwrap_or, refl, sym, ◌∙◌, ap, subst, arith, length-map, same_Some, by_option, Edge, rank_of, rank_injective, IsCycle, IsRotation, rotated, ranks_below, IsLeast, cycle_of_rotation, rotation_same, rotation_back, rotation_on, rotation_length, place_of_rotation, rotation_of_place, above_of_ranks, Family, family_edges, edge_of_slot, outline, word_rank, marked_around, rotations, fits_family, is_of_family, found_family, words_below, edges_below, rotation_in, named_rotation}
 use Rattle.cycle_names.proofs.Members.{Member, any_of_member, member_of_any, member_upto, upto_member, find_same, filter_among, filter_passes, filter_member, same_head, same_tail}
 use Rattle.cycle_names.proofs.Below.{below_irreflexive, below_transitive, neither_below, IsFirst, HasFirst, has_first, first_is_least}
 use Rattle.cycle_names.proofs.{Marks.said_of, Marks.around_back, Families.fitting, Families.found_is_of, Families.fits_either}
@@ -26,9 +26,9 @@ rotations_same u v x some r m =
 abbrev pub candidates : Family → List Edge → List (List Edge)
 candidates f u = filter (fits_family f) (rotations u)
 
--- the order of the places of words
+-- the order of the ranks of words
 abbrev pub links_below : List Edge → List Edge → Bool
-links_below v w = ranks_below (map word_place v) (map word_place w)
+links_below v w = ranks_below (map word_rank v) (map word_rank w)
 
 pub candidate_joins : (f : Family) (u v : List Edge) → Member v (candidates f u) → outline v ≡ family_edges f
 candidate_joins f u v m = outline_of_fits f v (filter_passes (fits_family f) (rotations u) v m)
@@ -56,9 +56,9 @@ only_by_words f u v w c h k =
     let a = first_by_ranks f u v h in
     let b = first_by_ranks f u w k in
     let joins : outline w ≡ outline v = candidate_joins f u w k.member ∙ sym (candidate_joins f u v h.member) in
-    let long : length (map word_place w) ≡ length (map word_place v) =
-    omega (arith, length-map w word_place, length-map v word_place, ap length joins, length-map w edge_of_slot, length-map v edge_of_slot) in
-    let told : map said_of w ≡ map said_of v = same_lists w v joins (neither_below (map word_place w) (map word_place v) long (a.none w b.member) (b.none v a.member)) in
+    let long : length (map word_rank w) ≡ length (map word_rank v) =
+    omega (arith, length-map w word_rank, length-map v word_rank, ap length joins, length-map w edge_of_slot, length-map v edge_of_slot) in
+    let told : map said_of w ≡ map said_of v = same_lists w v joins (neither_below (map word_rank w) (map word_rank v) long (a.none w b.member) (b.none v a.member)) in
     same_Some w v (sym (candidate_back f u w c k.member) ∙ ap marked_around told ∙ candidate_back f u v c h.member)
 
 -- the rotation that a cycle of a family is named from
@@ -78,7 +78,7 @@ has_named_in_family f u h =
     let w = fitting u f (found_is_of u f h) in
     let v : List Edge = rotated w.place u in
     let m : Member v (candidates f u) = filter_member (fits_family f) (rotations u) v (member_upto (λ k. rotated k u) (length u) w.place w.within) w.fit in
-    let r = some_first word_place (candidates f u) v m in
+    let r = some_first word_rank (candidates f u) v m in
     record { one = r.one; is = first_by_words f u r.one r.is }
 
 -- two lists of edges whose ranks are equal are equal

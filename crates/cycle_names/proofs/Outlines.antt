@@ -1,7 +1,7 @@
 -- Rotations that fit: their slots, and that a name says what their edges join and the words of their links.
-use Rattle.cycle_names.proofs.Vocabulary.{◌≡◌, ◌==◌, ◌&&◌, ℕ, Bool, true, false, cond, List, [], ◌∷◌, length, map, nat_eq, nat_lt, ◌||◌, Ordering, Less, Equal, Greater, list_all, nat_cmp, is_lt, ordering_then, slice_cmp, bytes_decides, refl, sym, ◌∙◌, ap, arith, eqb-true, eq-eqb, and_parts, ltb-true, length-map, same_Some, by_test, Edge, is_diff, rank_of, is_same, rank_injective, ranks_below, Family, family_edges, edge_of_slot, outline, link_word, link_words, joins_as, is_plain_outside, fits_family, words_below, word_place, link_with}
+use Rattle.cycle_names.proofs.Vocabulary.{◌≡◌, ◌==◌, ◌&&◌, ℕ, Bool, true, false, cond, List, [], ◌∷◌, length, map, nat_eq, nat_lt, ◌||◌, Ordering, Less, Equal, Greater, list_all, nat_cmp, is_lt, ordering_then, slice_cmp, bytes_decides, refl, sym, ◌∙◌, ap, arith, eqb-true, eq-eqb, and_parts, ltb-true, length-map, same_Some, by_test, Edge, is_diff, rank_of, is_same, rank_injective, ranks_below, Family, family_edges, edge_of_slot, outline, link_word, link_words, joins_as, is_plain_outside, fits_family, words_below, word_rank, link_with}
 use Rattle.cycle_names.proofs.{Members.same_head, Members.same_tail, Marks.said_of, Marks.said_link, Marks.said_slot}
-use Rattle.cycle_names.proofs.Tables.{link_words_order, link_words_equal, link_back, slot_is_diff, no_place}
+use Rattle.cycle_names.proofs.Tables.{link_words_order, link_words_equal, link_back, slot_is_diff, no_rank}
 
 -- two lists of edges pass the test for being the same exactly where they are
 pub same_edges : (u v : List Edge) → is_same u v ≡ true → u ≡ v
@@ -34,8 +34,8 @@ plain_of_fits f v h = (and_parts (joins_as f v) (is_plain_outside v) h).1
 pub diff_alike : (a b : Edge) → edge_of_slot a ≡ edge_of_slot b → is_diff a ≡ is_diff b
 diff_alike a b e = sym (slot_is_diff a) ∙ ap is_diff e ∙ slot_is_diff b
 
--- links whose words have one place have one word
-pub words_same : (a b : Edge) → word_place a ≡ word_place b → link_word a ≡ link_word b
+-- links whose words have one rank have one word
+pub words_same : (a b : Edge) → word_rank a ≡ word_rank b → link_word a ≡ link_word b
 words_same a b r = (bytes_decides (link_word a) (link_word b)).0 (link_words_equal a b ∙ eq-eqb _ _ r)
 
 -- the link of a slot and a word depends only on these
@@ -43,7 +43,7 @@ link_depends : (s t : Edge) (u v : List ℕ) → s ≡ t → u ≡ v → link_wi
 link_depends s t u v d e = rw (d, e) refl
 
 -- a name says the same of two edges that join the same and have the same word
-same_links : (a b : Edge) → edge_of_slot a ≡ edge_of_slot b → word_place a ≡ word_place b → said_of a ≡ said_of b
+same_links : (a b : Edge) → edge_of_slot a ≡ edge_of_slot b → word_rank a ≡ word_rank b → said_of a ≡ said_of b
 same_links a b e r =
     by_test (is_diff a)
     (λ t.
@@ -57,13 +57,13 @@ outline_long : (u v : List Edge) → outline u ≡ outline v → length u ≡ le
 outline_long u v e = sym (length-map u edge_of_slot) ∙ ap length e ∙ length-map v edge_of_slot
 
 -- a name says the same of two lists that join the same and have the same words
-pub same_lists : (u v : List Edge) → outline u ≡ outline v → map word_place u ≡ map word_place v → map said_of u ≡ map said_of v
+pub same_lists : (u v : List Edge) → outline u ≡ outline v → map word_rank u ≡ map word_rank v → map said_of u ≡ map said_of v
 same_lists [] [] e r = refl
 same_lists [] (y ∷ v) e r = absurd (omega (arith, outline_long [] (y ∷ v) e))
 same_lists (x ∷ u) [] e r = absurd (omega (arith, outline_long (x ∷ u) [] e))
 same_lists (x ∷ u) (y ∷ v) e r =
-    let one : said_of x ≡ said_of y = same_links x y (same_head _ _ (outline u) (outline v) e) (same_head _ _ (map word_place u) (map word_place v) r) in
-    let rest : map said_of u ≡ map said_of v = same_lists u v (same_tail _ _ (outline u) (outline v) e) (same_tail _ _ (map word_place u) (map word_place v) r) in
+    let one : said_of x ≡ said_of y = same_links x y (same_head _ _ (outline u) (outline v) e) (same_head _ _ (map word_rank u) (map word_rank v) r) in
+    let rest : map said_of u ≡ map said_of v = same_lists u v (same_tail _ _ (outline u) (outline v) e) (same_tail _ _ (map word_rank u) (map word_rank v) r) in
     rw (one, rest) refl
 
 -- the order by words, on one more link
@@ -91,23 +91,23 @@ each_word p h (e ∷ v) = grind (arith, words_of_link, words_of_plain, (each_wor
 abbrev words_before : List (List ℕ) → List (List ℕ) → Bool
 words_before a b = is_lt (slice_cmp (slice_cmp nat_cmp) a b)
 
--- of rotations that join the same, the words of one come before those of the other where the places of their words are below
-pub words_by_ranks : (u v : List Edge) → outline u ≡ outline v → words_below u v ≡ ranks_below (map word_place u) (map word_place v)
+-- of rotations that join the same, the words of one come before those of the other where the ranks of their words are below
+pub words_by_ranks : (u v : List Edge) → outline u ≡ outline v → words_below u v ≡ ranks_below (map word_rank u) (map word_rank v)
 words_by_ranks [] [] e = refl
 words_by_ranks [] (y ∷ v) e = absurd (omega (arith, outline_long [] (y ∷ v) e))
 words_by_ranks (x ∷ u) [] e = absurd (omega (arith, outline_long (x ∷ u) [] e))
 words_by_ranks (x ∷ u) (y ∷ v) e =
     let slots : edge_of_slot x ≡ edge_of_slot y = same_head _ _ (outline u) (outline v) e in
     let both : is_diff x ≡ is_diff y = diff_alike x y slots in
-    let remainder : words_before (link_words u) (link_words v) ≡ ranks_below (map word_place u) (map word_place v) = words_by_ranks u v (same_tail _ _ (outline u) (outline v) e) in
+    let remainder : words_before (link_words u) (link_words v) ≡ ranks_below (map word_rank u) (map word_rank v) = words_by_ranks u v (same_tail _ _ (outline u) (outline v) e) in
     by_test (is_diff x)
     (λ t.
     ap (λ a. words_before a (link_words (y ∷ v))) (words_of_link x u t)
     ∙ ap (words_before (link_word x ∷ link_words u)) (words_of_link y v (sym both ∙ t))
     ∙ ap (λ o. is_lt (ordering_then o (slice_cmp (slice_cmp nat_cmp) (link_words u) (link_words v)))) (link_words_order x y)
-    ∙ one_more (nat_lt (word_place x) (word_place y)) (nat_eq (word_place x) (word_place y)) _ _ remainder)
+    ∙ one_more (nat_lt (word_rank x) (word_rank y)) (nat_eq (word_rank x) (word_rank y)) _ _ remainder)
     (λ f.
     ap (λ a. words_before a (link_words (y ∷ v))) (words_of_plain x u f)
     ∙ ap (words_before (link_words u)) (words_of_plain y v (sym both ∙ f))
     ∙ remainder
-    ∙ sym (equal_first (word_place x) (word_place y) _ (no_place x f ∙ sym (no_place y (sym both ∙ f)))))
+    ∙ sym (equal_first (word_rank x) (word_rank y) _ (no_rank x f ∙ sym (no_rank y (sym both ∙ f)))))

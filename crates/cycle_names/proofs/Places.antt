@@ -1,5 +1,5 @@
 -- The places from which rotations fit, as the code finds them, and the rotation that it names a cycle from.
-use Rattle.cycle_names.proofs.Vocabulary.{◌≡◌, ◌<◌, ◌+◌, ◌&&◌, ℕ, true, false, Option, Some, None, MatchOption, List, [], ◌∷◌, ◌++◌, length, map, take, drop, list_all, refl, sym, ◌∙◌, ap, arith, inl, inr, get_or, and_parts, length-map, length-take, length-drop, map-append, take-append-drop, list_all-append, list_all_at, and_comm, and-true, Edge, is_same, IsCycle, rotated, Family, Slot, family_edges, all_families, outline, is_plain_outside, rotations, fits_family, is_of_family, found_family, slot_edge, edge_slot, places_below, comes_before, joins_at, JoinsNone, JoinNone, JoinsLeast, IsNamedAt}
+use Rattle.cycle_names.proofs.Vocabulary.{◌≡◌, ◌<◌, ◌+◌, ◌&&◌, ℕ, true, false, Option, Some, None, MatchOption, List, [], ◌∷◌, ◌++◌, length, map, take, drop, list_all, refl, sym, ◌∙◌, ap, arith, inl, inr, get_or, and_parts, length-map, length-take, length-drop, map-append, take-append-drop, list_all-append, list_all_at, and_comm, and-true, Edge, is_same, IsCycle, rotated, Family, Slot, family_edges, all_families, outline, is_plain_outside, rotations, fits_family, is_of_family, found_family, slot_edge, edge_slot, word_ranks_below, comes_before, joins_at, JoinsNone, JoinNone, JoinsLeast, IsNamedAt}
 use Rattle.cycle_names.proofs.Members.{Member, find_none, filter_among, filter_passes, filter_member, member_upto, upto_member, map_rotated}
 use Rattle.cycle_names.proofs.{Below.below_irreflexive, Below.below_transitive, Plain.plain_rotated, Tables.no_slot, Marks.is_either}
 use Rattle.cycle_names.proofs.{Outlines.plain_of_fits, Chosen.first_by_words, Chosen.named_in_family}
@@ -94,7 +94,7 @@ named_at u f place c h p =
         none = λ v m b.
             let n = upto_member (λ k. rotated k u) (length u) v (filter_among (fits_family f) (rotations u) v m) in
             let joins : joins_at u f n.number ≡ true = sym (fits_said f u n.number p) ∙ ap (fits_family f) (sym n.is) ∙ filter_passes (fits_family f) (rotations u) v m in
-            let z : true ≡ false = sym b ∙ ap (λ w. places_below w (rotated place u)) n.is ∙ h.least n.number n.below joins in
+            let z : true ≡ false = sym b ∙ ap (λ w. word_ranks_below w (rotated place u)) n.is ∙ h.least n.number n.below joins in
             cc;
       }));
     }

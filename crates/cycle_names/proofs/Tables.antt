@@ -1,5 +1,5 @@
 -- Facts about all edges, each computed once over the list of all.
-use Rattle.cycle_names.proofs.Vocabulary.{arith, ◌≡◌, ◌≤◌, ◌+◌, ◌==◌, ◌||◌, ℕ, Bool, true, false, not, Option, Some, None, List, [], length, nat_le, nat_cmp, ordering_index, booleans_Decides, slice_cmp, list_all, bytes_eq, refl, sym, ◌∙◌, ap, beq, eqb-true, leb-true, not-true, Edge, source_of, target_of, is_external, is_diff, rank_of, word_of, edges_in_order, kind_of, source_mark, target_mark, each_edge, rank_injective, Slot, edge_of_slot, link_word, mark_letters, kind_link_text, slot_edge, edge_slot, word_place, is_name_byte, is_plus, is_dash, link_between, link_with, same_index, implied}
+use Rattle.cycle_names.proofs.Vocabulary.{arith, ◌≡◌, ◌≤◌, ◌+◌, ◌==◌, ◌||◌, ℕ, Bool, true, false, not, Option, Some, None, List, [], length, nat_le, nat_cmp, ordering_index, booleans_Decides, slice_cmp, list_all, bytes_eq, refl, sym, ◌∙◌, ap, beq, eqb-true, leb-true, not-true, Edge, source_of, target_of, is_external, is_diff, rank_of, word_of, edges_in_order, kind_of, source_mark, target_mark, each_edge, rank_injective, Slot, edge_of_slot, link_word, mark_letters, kind_link_text, slot_edge, edge_slot, word_rank, is_name_byte, is_plus, is_dash, link_between, link_with, same_index, implied}
 
 -- a test of two edges that passes for all that are listed passes for each two
 each_pair : (test : Edge → Edge → Bool) → list_all (λ a. list_all (test a) edges_in_order) edges_in_order ≡ true → (a b : Edge) → test a b ≡ true
@@ -18,28 +18,28 @@ each_text : (text : Edge → List ℕ) (test : ℕ → Bool) → list_all (λ e.
 each_text text test all e = each_edge (λ e. list_all test (text e)) all e
 
 words_alike : Edge → Edge → Bool
-words_alike a b = ordering_index (slice_cmp nat_cmp (link_word a) (link_word b)) == ordering_index (nat_cmp (word_place a) (word_place b))
+words_alike a b = ordering_index (slice_cmp nat_cmp (link_word a) (link_word b)) == ordering_index (nat_cmp (word_rank a) (word_rank b))
 
 all_words_alike : list_all (λ a. list_all (words_alike a) edges_in_order) edges_in_order ≡ true
 unfolding edges_in_order words_alike
 all_words_alike = refl
 
--- the words of two links compare as their places do
-pub link_words_order : (a b : Edge) → slice_cmp nat_cmp (link_word a) (link_word b) ≡ nat_cmp (word_place a) (word_place b)
+-- the words of two links compare as their ranks do
+pub link_words_order : (a b : Edge) → slice_cmp nat_cmp (link_word a) (link_word b) ≡ nat_cmp (word_rank a) (word_rank b)
 unfolding words_alike
 link_words_order a b = same_index _ _ (eqb-true _ _ (each_pair words_alike all_words_alike a b))
 
-places_alike : Edge → Edge → Bool
-places_alike a b = beq (bytes_eq (link_word a) (link_word b)) (word_place a == word_place b)
+ranks_alike : Edge → Edge → Bool
+ranks_alike a b = beq (bytes_eq (link_word a) (link_word b)) (word_rank a == word_rank b)
 
-all_places_alike : list_all (λ a. list_all (places_alike a) edges_in_order) edges_in_order ≡ true
-unfolding edges_in_order places_alike
-all_places_alike = refl
+all_ranks_alike : list_all (λ a. list_all (ranks_alike a) edges_in_order) edges_in_order ≡ true
+unfolding edges_in_order ranks_alike
+all_ranks_alike = refl
 
--- the words of two links are equal exactly where their places are
-pub link_words_equal : (a b : Edge) → bytes_eq (link_word a) (link_word b) ≡ (word_place a == word_place b)
-unfolding places_alike
-link_words_equal a b = (booleans_Decides _ _).0 (each_pair places_alike all_places_alike a b)
+-- the words of two links are equal exactly where their ranks are
+pub link_words_equal : (a b : Edge) → bytes_eq (link_word a) (link_word b) ≡ (word_rank a == word_rank b)
+unfolding ranks_alike
+link_words_equal a b = (booleans_Decides _ _).0 (each_pair ranks_alike all_ranks_alike a b)
 
 -- a slot leads to another location where the edge does
 pub slot_is_diff : (e : Edge) → is_diff (edge_of_slot e) ≡ is_diff e
@@ -56,10 +56,10 @@ pub external_same : (e : Edge) → is_external e ≡ true → is_diff e ≡ fals
 unfolding edges_in_order
 external_same e t = not-true (is_diff e) (each_implies is_external (λ e. not (is_diff e)) refl e t)
 
--- the word of an edge that is no link has no place
-pub no_place : (e : Edge) → is_diff e ≡ false → word_place e ≡ 0
+-- the word of an edge that is no link has no rank
+pub no_rank : (e : Edge) → is_diff e ≡ false → word_rank e ≡ 0
 unfolding edges_in_order
-no_place e f = eqb-true _ _ (each_implies (λ e. not (is_diff e)) (λ e. word_place e == 0) refl e (rw f refl))
+no_rank e f = eqb-true _ _ (each_implies (λ e. not (is_diff e)) (λ e. word_rank e == 0) refl e (rw f refl))
 
 slot_told : Edge → Option Slot → Bool
 slot_told e None = not (is_diff e || is_external e)

@@ -1,5 +1,5 @@
 -- What comes after a family's word in a name, by the links of a cycle.
-use Rattle.cycle_names.proofs.Vocabulary.{arith, ◌≡◌, ◌==◌, ◌&&◌, ◌||◌, ℕ, Bool, true, not, cond, Some, None, List, [], ◌∷◌, ◌++◌, drop, take, codes, find, list_all, flat_map, join_by, bytes_eq, bytes_decides, by_test, refl, sym, ◌∙◌, ap, append_assoc, cond-true, cond-false, flat_map-append, R, Edge, is_diff, word_of, rotated, PO_PLACE, link_word, link_words, after_plus, all_equal, plural, links_text, pod, link_text, word_place, has_word_place}
+use Rattle.cycle_names.proofs.Vocabulary.{arith, ◌≡◌, ◌==◌, ◌&&◌, ◌||◌, ℕ, Bool, true, not, cond, Some, None, List, [], ◌∷◌, ◌++◌, drop, take, codes, find, list_all, flat_map, join_by, bytes_eq, bytes_decides, by_test, refl, sym, ◌∙◌, ap, append_assoc, cond-true, cond-false, flat_map-append, R, Edge, is_diff, word_of, rotated, PO_RANK, link_word, link_words, after_plus, all_equal, plural, links_text, pod, link_text, word_rank, has_word_rank}
 use Rattle.cycle_names.proofs.Members.{found_first, found_later, found_in, found_nowhere}
 use Rattle.cycle_names.proofs.{Tables.link_words_equal, Outlines.words_of_link, Outlines.words_of_plain}
 
@@ -42,8 +42,8 @@ each_text : (v : List Edge) → flat_map after_plus (link_words v) ≡ flat_map 
 each_text [] = refl
 each_text (e ∷ v) = grind (arith, words_of_link, cond-true, words_of_plain, cond-false, (each_text v))
 
--- the links have the word of this one where their words have its place
-all_at : (e : Edge) (v : List Edge) → list_all (has_word_place (word_place e)) v ≡ list_all (bytes_eq (link_word e)) (link_words v)
+-- the links have the word of this one where their words have its rank
+all_at : (e : Edge) (v : List Edge) → list_all (has_word_rank (word_rank e)) v ≡ list_all (bytes_eq (link_word e)) (link_words v)
 all_at e [] = refl
 all_at e (x ∷ v) = rw (← link_words_equal e x, all_at e v) (sym (all_links_cons (bytes_eq (link_word e)) x v))
 
@@ -57,19 +57,19 @@ equal_first text word words =
 cond_turned : {X : Type 0} (a b : Bool) (x y z : X) → cond (a && b) x (cond b y z) ≡ cond b (cond a x y) z
 cond_turned a b x y z = grind arith
 
--- what comes after it: each word where not all have one place, else nothing where that is the place of `po`, and else one word
+-- what comes after it: each word where not all have one rank, else nothing where that is the rank of `po`, and else one word
 pub text_of_some : (v : List Edge) (e : Edge) → find is_diff v ≡ Some e →
-    links_text (link_words v) ≡ cond (list_all (has_word_place (word_place e)) v) (cond (PO_PLACE == word_place e) [] (link_text e ++ codes "s")) (flat_map link_text v)
+    links_text (link_words v) ≡ cond (list_all (has_word_rank (word_rank e)) v) (cond (PO_RANK == word_rank e) [] (link_text e ++ codes "s")) (flat_map link_text v)
 unfolding links_text
 text_of_some v e h =
     let r = first_words v e h in
-    let equal : all_equal (link_words v) ≡ list_all (has_word_place (word_place e)) v = equal_words v e r ∙ sym (all_at e v) in
-    let plain : list_all (bytes_eq (codes "po")) (link_words v) ≡ ((PO_PLACE == word_place e) && list_all (has_word_place (word_place e)) v) =
+    let equal : all_equal (link_words v) ≡ list_all (has_word_rank (word_rank e)) v = equal_words v e r ∙ sym (all_at e v) in
+    let plain : list_all (bytes_eq (codes "po")) (link_words v) ≡ ((PO_RANK == word_rank e) && list_all (has_word_rank (word_rank e)) v) =
     ap (list_all (bytes_eq (codes "po"))) r.words ∙ equal_first (codes "po") (link_word e) r.remainder
     ∙ ap (λ b. b && all_equal (link_word e ∷ r.remainder)) (link_words_equal (pod R R) e)
-    ∙ ap (λ b. (PO_PLACE == word_place e) && b) (sym (ap all_equal r.words) ∙ equal) in
+    ∙ ap (λ b. (PO_RANK == word_rank e) && b) (sym (ap all_equal r.words) ∙ equal) in
     let one : plural (link_words v) ≡ link_text e ++ codes "s" = ap plural r.words ∙ sym (ap (λ s. s ++ codes "s") (cond-true (is_diff e) (after_plus (link_word e)) [] r.links)) in
-    rw (plain, equal, one, each_text v) (cond_turned (PO_PLACE == word_place e) (list_all (has_word_place (word_place e)) v) [] (link_text e ++ codes "s") (flat_map link_text v))
+    rw (plain, equal, one, each_text v) (cond_turned (PO_RANK == word_rank e) (list_all (has_word_rank (word_rank e)) v) [] (link_text e ++ codes "s") (flat_map link_text v))
 
 -- the words of a rotation, added for its first edge, for the edges after it and for those of the prefix, are those of the rotation
 pub joined_rotation : (separator : List ℕ) (u : List Edge) (place : ℕ) (first : Edge) (rest prefix : List Edge) (old word one between new : List ℕ) → drop place u ≡ first ∷ rest → take place u ≡ prefix →

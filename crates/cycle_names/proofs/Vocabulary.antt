@@ -31,7 +31,7 @@ pub use Rattle.edge_algebra_laws.specs.Rotation.{IsRotation, rotated}
 pub use Rattle.cycle_names.specs.CycleNames.{after_plus, all_equal, plural}
 unfoldable pub use Rattle.cycle_names.specs.CycleNames.{links_text, name_from, name_of}
 pub use Rattle.cycle_names.specs.Families.{all_families, family_edges, family_word}
-pub use Rattle.cycle_names.specs.Fitting.{IsNamedAt, JoinNone, JoinsLeast, JoinsNone, comes_before, edge_slot, has_word_place, joins_at, link_text, places_below, separator_text, slot_edge, word_place}
+pub use Rattle.cycle_names.specs.Fitting.{IsNamedAt, JoinNone, JoinsLeast, JoinsNone, comes_before, edge_slot, has_word_rank, joins_at, link_text, word_ranks_below, separator_text, slot_edge, word_rank}
 pub use Rattle.cycle_names.specs.Laws.{FamiliesApart, IsName, IsNamed, NamesAreNames, NamesDecide, NamesNone, NamesReadBack, are_of_arch}
 pub use Rattle.cycle_names.specs.LinkWords.{edge_of_slot, kind_link_text, link_word, link_words, mark_letters, outline}
 pub use Rattle.cycle_names.specs.NameReading.{AddsEdges, after_word, begins_with_word, edges_of_words, filled_alike, filled_each, first_mark, first_name_word, is_dash, is_link, is_plus, last_mark, link_with, marked_along, marked_around, marked_between, marked_if, named_family, slot_with, slots_filled, without_last_byte, words_read}
@@ -39,7 +39,7 @@ unfoldable pub use Rattle.cycle_names.specs.NameReading.{edges_read, link_betwee
 pub use Rattle.cycle_names.specs.Rotations.{all_unmarked, edges_below, fits_family, is_of_family, is_plain_before, is_plain_outside, joins_as, least_of, rotation_in, rotations, words_below}
 unfoldable pub use Rattle.cycle_names.specs.Rotations.{found_family, named_rotation}
 pub use Rattle.cycle_names.specs.declared.family.Family.{Family}
-pub use Rattle.cycle_names.specs.declared.link.TheConstants.{MAX_LINK, PO_PLACE}
+pub use Rattle.cycle_names.specs.declared.link.TheConstants.{MAX_LINK, PO_RANK}
 pub use Rattle.cycle_names.specs.declared.name.TheConstants.{MAX_CYCLE_NAME}
 pub use Rattle.cycle_names.specs.declared.read.NotAName.{NotAName}
 pub use Rattle.cycle_names.specs.declared.slot.Slot.{Slot}

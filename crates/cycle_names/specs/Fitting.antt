@@ -13,7 +13,7 @@ use Rattle.relax_edges.specs.EdgeTable.{kind_of, source_mark, target_mark, is_di
 use Rattle.relax_edges.specs.NamedEdges.{pod, rfe, fre, wse}
 use Rattle.relax_edges.specs.{Order.pick_rank, Relaxations.is_same}
 use Rattle.edge_algebra_laws.specs.{Rotation.rotated, CycleOrder.ranks_below}
-use Rattle.cycle_names.specs.declared.{link.TheConstants.DATA_PLACE, link.TheConstants.PO_PLACE, slot.Slot.Slot, family.TheConstants.LONGEST}
+use Rattle.cycle_names.specs.declared.{link.TheConstants.DATA_RANK, link.TheConstants.PO_RANK, slot.Slot.Slot, family.TheConstants.LONGEST}
 use Rattle.cycle_names.specs.declared.{fit.Fit.Fit, fit.Turned.Turned, words.Separator.Separator, words.Separator.TheVariants.Dash, words.Separator.TheVariants.Blank}
 use Rattle.cycle_names.specs.declared.{family.Family.Family}
 use Rattle.cycle_names.specs.declared.slot.Slot.TheVariants as slots
@@ -84,53 +84,53 @@ abbrev pub separator_text : Separator → List ℕ
 separator_text Dash = codes "-"
 separator_text Blank = codes " "
 
--- the place of the letters of two marks in byte order, 0 for none
-abbrev pub letters_place : Mark → Mark → ℕ
-letters_place Plain Plain = 0
-letters_place Acquire Acquire = 1
-letters_place Acquire Release = 2
-letters_place Acquire Plain = 3
-letters_place Release Acquire = 4
-letters_place Release Release = 5
-letters_place Release Plain = 6
-letters_place Plain Acquire = 7
-letters_place Plain Release = 8
+-- the rank of the letters of two marks in byte order, 0 for none
+abbrev pub letters_rank : Mark → Mark → ℕ
+letters_rank Plain Plain = 0
+letters_rank Acquire Acquire = 1
+letters_rank Acquire Release = 2
+letters_rank Acquire Plain = 3
+letters_rank Release Acquire = 4
+letters_rank Release Release = 5
+letters_rank Release Plain = 6
+letters_rank Plain Acquire = 7
+letters_rank Plain Release = 8
 
--- the place of a fence's word without letters among the words of links
-abbrev pub fence_place : FenceKind → ℕ
-fence_place fences.Dmb = 54
-fence_place fences.DmbLd = 55
-fence_place fences.DmbSt = 64
-fence_place fences.DmbSy = 73
-fence_place fences.Eieio = 82
-fence_place (fences.Fence pred succ) = 91 + 3 * pick_rank pred + pick_rank succ
-fence_place fences.ISync = 100
-fence_place fences.LwSync = 109
-fence_place fences.MFence = 118
-fence_place fences.Sync = 136
+-- the rank of a fence's word without letters among the words of links
+abbrev pub fence_word_rank : FenceKind → ℕ
+fence_word_rank fences.Dmb = 54
+fence_word_rank fences.DmbLd = 55
+fence_word_rank fences.DmbSt = 64
+fence_word_rank fences.DmbSy = 73
+fence_word_rank fences.Eieio = 82
+fence_word_rank (fences.Fence pred succ) = 91 + 3 * pick_rank pred + pick_rank succ
+fence_word_rank fences.ISync = 100
+fence_word_rank fences.LwSync = 109
+fence_word_rank fences.MFence = 118
+fence_word_rank fences.Sync = 136
 
--- the place of a dependency's word with the letters of this place; `ctrlpa` and `ctrlpl` come after `ctrlisync`
-abbrev pub dependency_place : DepKind → ℕ → ℕ
-dependency_place deps.Addr letters = 9 + letters
-dependency_place deps.Ctrl letters = cond (nat_lt letters 7) (18 + letters) (36 + letters)
-dependency_place deps.CtrlIsb letters = 27 + letters
-dependency_place deps.CtrlIsync letters = 36 + letters
+-- the rank of a dependency's word with the letters of this rank; `ctrlpa` and `ctrlpl` come after `ctrlisync`
+abbrev pub dependency_word_rank : DepKind → ℕ → ℕ
+dependency_word_rank deps.Addr letters = 9 + letters
+dependency_word_rank deps.Ctrl letters = cond (nat_lt letters 7) (18 + letters) (36 + letters)
+dependency_word_rank deps.CtrlIsb letters = 27 + letters
+dependency_word_rank deps.CtrlIsync letters = 36 + letters
 
--- the place of the word of a link of a kind with the letters of this place, and 0 for a kind that is no link
-abbrev pub kind_word_place : Kind → ℕ → ℕ
-kind_word_place (kinds.Po Diff _ _) letters = PO_PLACE + letters
-kind_word_place (kinds.Fenced fence Diff _ _) letters = fence_place fence + letters
-kind_word_place (kinds.Dep dep Diff _) letters = dependency_place dep letters
-kind_word_place (kinds.Data Diff) letters = DATA_PLACE + letters
-kind_word_place _ _ = 0
+-- the rank of the word of a link of a kind with the letters of this rank, and 0 for a kind that is no link
+abbrev pub kind_word_rank : Kind → ℕ → ℕ
+kind_word_rank (kinds.Po Diff _ _) letters = PO_RANK + letters
+kind_word_rank (kinds.Fenced fence Diff _ _) letters = fence_word_rank fence + letters
+kind_word_rank (kinds.Dep dep Diff _) letters = dependency_word_rank dep letters
+kind_word_rank (kinds.Data Diff) letters = DATA_RANK + letters
+kind_word_rank _ _ = 0
 
--- the place of a link's word among the words of links, in byte order, and 0 for an edge that is no link
-abbrev pub word_place : Edge → ℕ
-word_place edge = kind_word_place (kind_of edge) (letters_place (source_mark edge) (target_mark edge))
+-- the rank of a link's word among the words of links, in byte order, and 0 for an edge that is no link
+abbrev pub word_rank : Edge → ℕ
+word_rank edge = kind_word_rank (kind_of edge) (letters_rank (source_mark edge) (target_mark edge))
 
--- the words of one list of edges come before those of another, by their places
-abbrev pub places_below : List Edge → List Edge → Bool
-places_below v w = ranks_below (map word_place v) (map word_place w)
+-- the words of one list of edges come before those of another, by their ranks
+abbrev pub word_ranks_below : List Edge → List Edge → Bool
+word_ranks_below v w = ranks_below (map word_rank v) (map word_rank w)
 
 -- the edges of a rotation that lies in two parts of a list
 abbrev pub in_order : Turned → List Edge
@@ -139,18 +139,18 @@ in_order edges = edges.from.now ++ edges.before.now
 -- the words of the rotation from a place come before those of the rotation from another, if there is another
 abbrev pub comes_before : List Edge → ℕ → Option ℕ → Bool
 comes_before u place None = true
-comes_before u place (Some other) = places_below (rotated place u) (rotated other u)
+comes_before u place (Some other) = word_ranks_below (rotated place u) (rotated other u)
 
 -- of the rotations from places below n the one from this place joins what the family's cycle does, and no other that does has words that
 -- come before
 pub record JoinsLeast (u : List Edge) (family : Family) (n place : ℕ) : Type 0 where
   pub within : place < n
   pub joins : joins_at u family place ≡ true
-  pub least : (k : ℕ) → k < n → joins_at u family k ≡ true → places_below (rotated k u) (rotated place u) ≡ false
+  pub least : (k : ℕ) → k < n → joins_at u family k ≡ true → word_ranks_below (rotated k u) (rotated place u) ≡ false
 
--- an edge is no link, or its word has this place
-abbrev pub has_word_place : ℕ → Edge → Bool
-has_word_place place edge = not (is_diff edge) || (place == word_place edge)
+-- an edge is no link, or its word has this rank
+abbrev pub has_word_rank : ℕ → Edge → Bool
+has_word_rank rank edge = not (is_diff edge) || (rank == word_rank edge)
 
 -- a cycle is of a family and named from a rotation that fits it, and has few edges
 pub record IsFitOf (u : List Edge) (fit : Fit) : Type 0 where

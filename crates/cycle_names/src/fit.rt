@@ -7,10 +7,10 @@ ghost use Rattle.edge_algebra_laws.specs.Composable.{IsCycle};
 ghost use Rattle.edge_algebra_laws.specs.Rotation.{rotated};
 ghost use Rattle.cycle_names.specs.LinkWords.{outline};
 ghost use Rattle.cycle_names.specs.Rotations.{all_unmarked, is_plain_outside, found_family};
-ghost use Rattle.cycle_names.specs.Fitting.{slot_edge, joins_at, JoinsNone, JoinNone, JoinsLeast, IsFitOf, comes_before, places_below, in_order};
+ghost use Rattle.cycle_names.specs.Fitting.{slot_edge, joins_at, JoinsNone, JoinNone, JoinsLeast, IsFitOf, comes_before, word_ranks_below, in_order};
 
 use crate::family::{FAMILIES, Family, LONGEST};
-use crate::link::word_place;
+use crate::link::word_rank;
 use crate::slot::{Slot, slot_of};
 use arrayvec::ArrayVec;
 use relax_edges::{Edge, Mark};
@@ -194,7 +194,7 @@ fn next_of(edges: Turned<'_>) -> Option<(Edge, Turned<'_>)>
 
 /// Whether the words of the links of a rotation come before those of another.
 fn are_below(edges: Turned<'_>, others: Turned<'_>) -> bool
-    ensures { result ≡ places_below (in_order edges.entry) (in_order others.entry) }
+    ensures { result ≡ word_ranks_below (in_order edges.entry) (in_order others.entry) }
 {
     let Some((edge, rest)) = next_of(edges) else {
         return false;
@@ -202,8 +202,8 @@ fn are_below(edges: Turned<'_>, others: Turned<'_>) -> bool
     let Some((other, others_left)) = next_of(others) else {
         return false;
     };
-    let own = word_place(edge);
-    let its = word_place(other);
+    let own = word_rank(edge);
+    let its = word_rank(other);
     own < its || own == its && are_below(rest, others_left)
 }
 

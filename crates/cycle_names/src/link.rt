@@ -3,16 +3,16 @@ ghost use Rattle.std.specs.Str.{bytes_eq};
 ghost use Rattle.relax_edges.specs.EdgeTable.{is_diff, source_mark, target_mark};
 ghost use Rattle.relax_edges.specs.Order.{pick_rank};
 ghost use Rattle.cycle_names.specs.LinkWords.{link_word, fence_link, dependency_link, mark_letters, kind_link_text};
-ghost use Rattle.cycle_names.specs.Fitting.{letters_place, fence_place, dependency_place, kind_word_place, word_place, link_text};
+ghost use Rattle.cycle_names.specs.Fitting.{letters_rank, fence_word_rank, dependency_word_rank, kind_word_rank, word_rank, link_text};
 
 use arrayvec::ArrayString;
 use relax_edges::{DepKind, Edge, FenceKind, Kind, Mark, Pick, Sd};
 
-/// The place of `data` among the words of links, in byte order.
-const DATA_PLACE: u8 = 45;
+/// The rank of `data` among the words of links, in byte order.
+const DATA_RANK: u8 = 45;
 
-/// The place of `po`, the word of a link that is plain program order, among the words of links.
-pub(crate) const PO_PLACE: u8 = 127;
+/// The rank of `po`, the word of a link that is plain program order, among the words of links.
+pub(crate) const PO_RANK: u8 = 127;
 
 /// The most bytes that a link adds to a name: a `+` and its word.
 pub(crate) const MAX_LINK: usize = 12;
@@ -27,9 +27,9 @@ fn pick_rank(pick: Pick) -> u8
     }
 }
 
-/// The place of a fence's word without letters among the words of links, in byte order.
-fn fence_place(fence: FenceKind) -> u8
-    ensures { result ≡ fence_place fence }
+/// The rank of a fence's word without letters among the words of links, in byte order.
+fn fence_word_rank(fence: FenceKind) -> u8
+    ensures { result ≡ fence_word_rank fence }
 {
     match fence {
         FenceKind::Dmb => 54,
@@ -45,10 +45,10 @@ fn fence_place(fence: FenceKind) -> u8
     }
 }
 
-/// The place of a dependency's word with the letters of this place.
-fn dependency_place(dep: DepKind, letters: u8) -> u8
+/// The rank of a dependency's word with the letters of this rank.
+fn dependency_word_rank(dep: DepKind, letters: u8) -> u8
     requires { letters ≤ 8 }
-    ensures { result ≡ dependency_place dep letters }
+    ensures { result ≡ dependency_word_rank dep letters }
 {
     match dep {
         DepKind::Addr => 9 + letters,
@@ -64,9 +64,9 @@ fn dependency_place(dep: DepKind, letters: u8) -> u8
     }
 }
 
-/// The place of the letters of two marks in byte order, 0 for none.
-fn letters_place(from: Mark, to: Mark) -> u8
-    ensures value { result ≡ letters_place from to }
+/// The rank of the letters of two marks in byte order, 0 for none.
+fn letters_rank(from: Mark, to: Mark) -> u8
+    ensures value { result ≡ letters_rank from to }
     ensures small { result ≤ 8 }
 {
     match (from, to) {
@@ -82,37 +82,37 @@ fn letters_place(from: Mark, to: Mark) -> u8
     }
 }
 
-/// The place of the word of a link of a kind with the letters of this place, and 0 for a kind that is
+/// The rank of the word of a link of a kind with the letters of this rank, and 0 for a kind that is
 /// no link.
-fn kind_word_place(kind: Kind, letters: u8) -> u8
+fn kind_word_rank(kind: Kind, letters: u8) -> u8
     requires { letters ≤ 8 }
-    ensures { result ≡ kind_word_place kind letters }
+    ensures { result ≡ kind_word_rank kind letters }
 {
     match kind {
-        Kind::Po { sd: Sd::Diff, .. } => PO_PLACE + letters,
+        Kind::Po { sd: Sd::Diff, .. } => PO_RANK + letters,
         Kind::Fenced {
             fence,
             sd: Sd::Diff,
             ..
-        } => fence_place(fence) + letters,
+        } => fence_word_rank(fence) + letters,
         Kind::Dep {
             dep,
             sd: Sd::Diff,
             ..
-        } => dependency_place(dep, letters),
-        Kind::Data { sd: Sd::Diff } => DATA_PLACE + letters,
+        } => dependency_word_rank(dep, letters),
+        Kind::Data { sd: Sd::Diff } => DATA_RANK + letters,
         _ => 0,
     }
 }
 
-/// The place of a link's word among the words of links, in byte order, and 0 for an edge that is no
+/// The rank of a link's word among the words of links, in byte order, and 0 for an edge that is no
 /// link.
-pub(crate) fn word_place(edge: Edge) -> u8
-    ensures { result ≡ word_place edge }
+pub(crate) fn word_rank(edge: Edge) -> u8
+    ensures { result ≡ word_rank edge }
 {
-    kind_word_place(
+    kind_word_rank(
         edge.kind(),
-        letters_place(edge.source_mark(), edge.target_mark()),
+        letters_rank(edge.source_mark(), edge.target_mark()),
     )
 }
 

@@ -5,10 +5,10 @@ ghost use Rattle.relax_edges.specs.WordParts.{word_of};
 ghost use Rattle.edge_algebra_laws.specs.Rotation.{rotated};
 ghost use Rattle.cycle_names.specs.LinkWords.{link_words};
 ghost use Rattle.cycle_names.specs.CycleNames.{links_text};
-ghost use Rattle.cycle_names.specs.Fitting.{link_text, has_word_place, separator_text};
+ghost use Rattle.cycle_names.specs.Fitting.{link_text, has_word_rank, separator_text};
 
 use crate::family::LONGEST;
-use crate::link::{MAX_LINK, PO_PLACE, push_link, word_place};
+use crate::link::{MAX_LINK, PO_RANK, push_link, word_rank};
 use arrayvec::ArrayString;
 use relax_edges::Edge;
 
@@ -27,10 +27,10 @@ pub(crate) fn push_links<const N: usize>(edges: &[Edge], name: &mut ArrayString<
     let Some(link) = first_link(edges) else {
         return;
     };
-    let place = word_place(link);
-    if !have_place(edges, place) {
+    let rank = word_rank(link);
+    if !have_rank(edges, rank) {
         push_each(edges, name);
-    } else if place != PO_PLACE {
+    } else if rank != PO_RANK {
         push_link(link, name);
         name.push_str("s");
     }
@@ -52,14 +52,14 @@ fn first_link(edges: &[Edge]) -> Option<Edge>
     }
 }
 
-/// Whether the words of all links of a list have this place.
-fn have_place(edges: &[Edge], place: u8) -> bool
-    ensures { result ≡ list_all (has_word_place place) edges.now }
+/// Whether the words of all links of a list have this rank.
+fn have_rank(edges: &[Edge], rank: u8) -> bool
+    ensures { result ≡ list_all (has_word_rank rank) edges.now }
 {
     match edges {
         [] => true,
         [edge, rest @ ..] => {
-            (!edge.is_diff() || place == word_place(*edge)) && have_place(rest, place)
+            (!edge.is_diff() || rank == word_rank(*edge)) && have_rank(rest, rank)
         }
     }
 }
