@@ -1,6 +1,6 @@
 -- What is answered of a request for the execution that a test asks for.
-use Rattle.std.proofs.Common.{◌≡◌, ℕ, List, Option, Some, None, refl, sym, ap, subst, Ok, inl, inr}
-use Rattle.std.specs.{Prelude.Result, Prelude.◌⊎◌, Option.option_or}
+use Rattle.std.proofs.Common.{◌≡◌, ℕ, List, Option, None, refl, sym, subst, Ok, inl, inr}
+use Rattle.std.specs.{Prelude.Result, Option.option_or}
 use Rattle.relax_edges.specs.declared.{edge.Edge.Edge, kinds.ArchName.ArchName, kinds.ObsMode.ObsMode}
 use Rattle.edges_from_text.specs.declared.list.{EdgeList.EdgeList, EdgeList.TheVariants.Whole, EdgeList.TheVariants.TooLong}
 use Rattle.edges_from_text.specs.KeptEdges.{kept_edges}

@@ -1,10 +1,9 @@
 -- What `run` answers, from what its parts answer.
-use Rattle.std.proofs.Common.{◌≡◌, ℕ, true, false, not, nat_lt, nat_le, List, [], ◌∷◌, length, Option, Some, None, refl, sym, ap, subst, arith, Ok}
-use Rattle.std.specs.{Prelude.Result, Prelude.if◌then◌else◌, List.position_from, Option.option_or}
+use Rattle.std.proofs.Common.{◌≡◌, ℕ, true, false, nat_lt, nat_le, List, [], ◌∷◌, length, Option, Some, None, refl, sym, ap, subst, arith, Ok}
+use Rattle.std.specs.{Prelude.Result, Prelude.if◌then◌else◌, Option.option_or}
 use Rattle.std.proofs.lemmas.Bool.Decides.{nat_tests}
 use Rattle.list_laws.proofs.{Elements.option_or-none, Cases.by_test}
 use Rattle.relax_edges.specs.declared.{TheConstants.MAX_EDGES, edge.Edge.Edge, kinds.ObsMode.ObsMode, kinds.ArchName.ArchName}
-use Rattle.relax_edges.specs.EdgeTable.{is_of_arch}
 use Rattle.edge_algebra.specs.Compose.{composed}
 use Rattle.diy_io.specs.{Wrote.SinkSeen, Taken.SourceSeen, Shelf.ShelfSeen}
 use Rattle.edges_from_text.specs.declared.list.{EdgeList.EdgeList, EdgeList.TheVariants.Whole, EdgeList.TheVariants.TooLong}

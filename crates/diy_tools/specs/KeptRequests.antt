@@ -14,11 +14,9 @@ use Rattle.tests_to_files.specs.{ListedLines.EndsLines, ListingEnds.EndsListing,
 use Rattle.diy_io.specs.declared.errors.Failed.{Failed}
 use Rattle.two_runs.specs.{IntendedRuns.intended_by, CoherenceRuns.incoherent_by}
 use Rattle.diy_tools.specs.{ExecutionAnswers.AnswersRun, PrintAnswers.Prints}
-use Rattle.litmus_text.specs.declared.test.Test.{Test}
-use Rattle.litmus_text.specs.Tests.{test_seen}
 use Rattle.msum7_files.specs.declared.sum_end.SumEnd.{SumEnd}
 use Rattle.msum7_files.specs.SumEnds.{InputSummed, FilesSummed}
-use Rattle.test_maker.specs.{CycleText.cycle_test, CycleText.cycle_text, Refusals.refusal_of}
+use Rattle.test_maker.specs.{CycleText.cycle_text, Refusals.refusal_of}
 use Rattle.test_maker.specs.declared.refusal.Refusal.{Refusal}
 use Rattle.diy_tools.specs.declared.status.Status.{Status}
 use Rattle.test_maker.specs.declared.refusal.Refusal.TheVariants as refusals
@@ -36,7 +34,7 @@ use Rattle.exec_check.specs.FilesChecked.{FilesChecked}
 use Rattle.exec_text.specs.Written.{text_of_execution}
 use Rattle.two_runs.specs.declared.shown.TwoRuns.{TwoRuns}
 use Rattle.two_runs.specs.Shown.{why_refused}
-use Rattle.co_tests_laws.specs.CoRefusals.{coherence_refusal_of, coherence_test, coherence_text}
+use Rattle.co_tests_laws.specs.CoRefusals.{coherence_refusal_of, coherence_text}
 use Rattle.diy_tools.specs.declared.status.Status.TheVariants as statuses
 
 -- the edges that are kept

@@ -1,12 +1,12 @@
 -- Which cycles a listing wants, and what its walk knows of that.
-use Rattle.std.proofs.Common.{◌≡◌, ◌<◌, ◌≤◌, ◌+◌, ◌&&◌, ◌||◌, nat_lt, nat_le, ℕ, ◌-◌, suc, Bool, true, false, cond, not, List, [], ◌∷◌, ◌++◌, length, get_or, Option, Some, None, refl, sym, ◌∙◌, ap, arith}
-use Rattle.std.specs.{Prelude.◌↔◌, Prelude.is_none, List.list_all, List.position_from, Option.option_map}
+use Rattle.std.proofs.Common.{◌≡◌, ◌<◌, ◌≤◌, ◌+◌, ◌&&◌, ◌||◌, nat_lt, nat_le, ℕ, ◌-◌, suc, Bool, true, false, cond, List, [], ◌∷◌, ◌++◌, length, get_or, Option, Some, None, refl, sym, ◌∙◌, ap, arith}
+use Rattle.std.specs.{Prelude.◌↔◌, Prelude.is_none, List.list_all}
 use Rattle.std.proofs.lemmas.Bool.{and_parts, and_from, or_right, leb-true, le-leb, lt-ltb}
 use Rattle.std.proofs.lemmas.List.{Sums.sum_by-append, Folds.list_all-append}
 use Rattle.relax_edges.specs.declared.{edge.Edge.Edge, kinds.ArchName.ArchName, kinds.ObsMode.ObsMode}
 use Rattle.relax_edges.specs.EdgeTable.{is_of_arch, is_external}
 use Rattle.edge_algebra_laws.specs.Composable.{IsCycle}
-use Rattle.list_laws.proofs.{Cases.by_less, Places.none_foreign}
+use Rattle.list_laws.proofs.{Cases.by_less}
 use Rattle.cycle_enum_laws.specs.Listing.{IsAnswer, IsListed}
 use Rattle.cycle_events.specs.Resolution.{external_count, resolution_of}
 use Rattle.arch_trait.specs.Threads.{Puts}

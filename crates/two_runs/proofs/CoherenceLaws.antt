@@ -1,5 +1,5 @@
 -- The execution that is made of a cycle over one location is the one that its coherence test asks for, and its text is read back.
-use Rattle.std.proofs.Common.{◌≡◌, ℕ, List, None, Ok, refl, sym, ap, ◌∙◌, subst, arith}
+use Rattle.std.proofs.Common.{◌≡◌, ℕ, List, None, Ok, refl, sym, ◌∙◌, subst, arith}
 use Rattle.relax_edges.specs.declared.{kinds.ArchName.ArchName, kinds.ObsMode.TheVariants.Avoid, edge.Edge.Edge}
 use Rattle.cycle_events.specs.Resolution.{turned}
 use Rattle.arch_trait.specs.{SeenTests.TestSeen, Cells.WritesCells, Cells.MakesOneAccess, Laws.IsArch, Threads.Puts, Writing.Writing, Writing.WritesBack, Writing.name_in}

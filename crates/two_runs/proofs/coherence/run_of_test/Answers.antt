@@ -1,9 +1,9 @@
 -- What is made is the execution that the test asks for.
 use Rattle.std.proofs.Common.{◌∙◌, sym, ap, subst}
-use Rattle.arch_trait.specs.{SeenTests.TestSeen, Writing.name_in}
+use Rattle.arch_trait.specs.{SeenTests.TestSeen}
 use Rattle.litmus_text.specs.{TestReading.test_read, TestText.test_text}
 use Rattle.co_tests.specs.Shape.{HasShape}
-use Rattle.co_tests_laws.specs.CoherenceTests.{coherence_test_of, incoherent_execution}
+use Rattle.co_tests_laws.specs.CoherenceTests.{incoherent_execution}
 use Rattle.two_runs.specs.IntendedRuns.{IsRead, IsRunOf}
 use Rattle.two_runs.proofs.CoherenceLaws.{has_shape, is_coherence_run}
 use Rattle.two_runs.proofs.coherence.run_of_test.Goals as goal

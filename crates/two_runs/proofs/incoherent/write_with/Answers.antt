@@ -1,5 +1,5 @@
 -- The write that is found is the one with the value.
-use Rattle.std.proofs.Common.{◌≡◌, ◌<◌, Some, length, sym, ◌∙◌, ap, subst, arith, false}
+use Rattle.std.proofs.Common.{◌≡◌, Some, sym, ◌∙◌, ap, arith, false}
 use Rattle.list_laws.proofs.Cases.{by_less}
 use Rattle.co_tests.proofs.Cuts.{loop_at}
 use Rattle.two_runs.proofs.CutRuns.{write_here, write_nowhere, writes_value}

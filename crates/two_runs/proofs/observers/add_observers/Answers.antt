@@ -1,5 +1,5 @@
 -- All observers have their reads.
-use Rattle.std.proofs.Common.{◌≡◌, ◌<◌, ◌++◌, Some, sym, ◌∙◌, ap, arith, get_or, length, map, slice_get}
+use Rattle.std.proofs.Common.{◌≡◌, ◌++◌, Some, sym, ◌∙◌, ap, arith, get_or, length, map, slice_get}
 use Rattle.std.proofs.lemmas.Option.{slice_get-get_or}
 use Rattle.list_laws.proofs.Ranks.{unrank_upto}
 use Rattle.cycle_events.specs.{Resolution.IsResolved, Resolution.external_count, Resolution.move_count, Values.is_observed}

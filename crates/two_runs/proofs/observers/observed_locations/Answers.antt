@@ -1,7 +1,6 @@
 -- All observed locations are found.
-use Rattle.std.proofs.Common.{◌≡◌, ◌++◌, ◌∷◌, [], sym, ◌∙◌, ap, arith, filter, length}
-use Rattle.list_laws.specs.Numbers.{upto}
-use Rattle.list_laws.proofs.{Counts.count_upto-le, Ranks.filter_no, Ranks.filter_yes, Ranks.length-filter-upto}
+use Rattle.std.proofs.Common.{ap, arith, length}
+use Rattle.list_laws.proofs.{Counts.count_upto-le, Ranks.length-filter-upto}
 use Rattle.cycle_events.specs.{Resolution.IsResolved, Resolution.move_count, Values.is_observed}
 use Rattle.cycle_events.proofs.Sizes.{external_and_moves}
 use Rattle.two_runs.proofs.observers.observed_locations.Goals as goal

@@ -1,5 +1,5 @@
 -- The text that is printed is the one that is read.
-use Rattle.std.proofs.Common.{◌∙◌, sym, ap, subst}
+use Rattle.std.proofs.Common.{◌∙◌, sym, subst}
 use Rattle.two_runs.specs.IntendedRuns.{IsRead}
 use Rattle.two_runs.proofs.printed.read_printed.Goals as goal
 

@@ -1,9 +1,8 @@
 -- Each thread of the cycle has all its reads.
-use Rattle.std.proofs.Common.{◌≡◌, ◌<◌, ◌+◌, ◌-◌, ◌++◌, ℕ, List, Option, sym, ◌∙◌, ap, arith, length, subst, map}
+use Rattle.std.proofs.Common.{◌≡◌, ◌<◌, ◌+◌, ◌-◌, ◌++◌, sym, ◌∙◌, ap, arith, length, subst, map}
 use Rattle.list_laws.specs.Numbers.{upto}
 use Rattle.cycle_events.specs.Resolution.{external_count}
-use Rattle.program_meaning.specs.declared.WriteAt.{WriteAt}
-use Rattle.program_meaning.specs.{Executions.Execution, Intended.event_read, Intended.reads_in}
+use Rattle.program_meaning.specs.{Executions.Execution}
 use Rattle.exec_meaning.specs.KeptExecutions.{empty_lists}
 use Rattle.two_runs.specs.Runs.{observer_count, thread_reads}
 use Rattle.two_runs.proofs.GrowingLists.{filled_length, filled_none, filled_to}
