@@ -1,5 +1,7 @@
 -- Laws of what a graph shows: its nodes are the accesses of the execution and the initial writes that are read, a pair of nodes is in the
 -- list of a relation exactly where the relation holds between them, and a bold arrow is drawn exactly where an edge of the quoted cycle stands.
+-- The laws hold of every execution. In one that is no candidate a write may be missing in the order, and has the place 0 there, and a read may have
+-- no source, and counts as one of the initial value.
 -- Source: own.
 use Rattle.std.specs.Prelude.{ℕ, ◌≡◌, ◌↔◌, ◌+◌, ◌<◌, true, List, length, Option, Some, None, slice_get}
 use Rattle.std.specs.List.{Contains}

@@ -92,7 +92,8 @@ unfoldable pub terms_formed : Writing → Setting → ℕ → List ℕ → Terms
 terms_formed w here zero text = term_formed w here (λ term rest. faulty_with TooLarge) text
 terms_formed w here (suc room) text = term_formed w here (λ term rest. followed_by term (terms_formed w here room) (follow_read rest)) text
 
--- the lines of the places that are one too many, where the places named one after another are added to a table of names, each that is new as the last
+-- the lines of the places that are one too many, where the places named one after another are added to a table of names, which has room for 64, each
+-- that is new as the last
 abbrev pub lines_over : List (List ℕ) → List Naming → List ℕ
 lines_over names [] = []
 lines_over names (naming ∷ named) = over_before (number_added names naming.place) (lines_over (names_added names naming.place) named)

@@ -58,7 +58,7 @@ head_read begun (line n text rest) = do
   there ← threads_there n begun threads
   Ok (there, rest)
 
--- the column of a thread, as far as it is read: its operations with their lines, and the names of its labels, which are numbered in this order
+-- the column of a thread, or its beginning: its operations with their lines, and the labels that they are or name, which are numbered in this order
 pub record Column : Type 0 where
   pub ops : List Placed
   pub labels : List (List ℕ)
@@ -82,7 +82,8 @@ fits_in_column column op = not (is_access op) || nat_lt (count_by (λ placed. is
 
 -- The rows of the table. Each row, read by itself, gives entries: an instruction or a label in the column of a thread, or a fault. Each entry is then
 -- judged with all entries before it: it is too large if it names a place that is one too many of those named so far, the initial state included, or
--- a label that is one too many in its thread, or if it is an access too many of its thread. The first fault counts.
+-- a label that is one too many in its thread, or if it is an access too many of its thread; there is room for 64 places, and for 64 labels a thread.
+-- The first fault counts.
 
 -- what stands in a line of the table: an instruction or a label in the column of a thread, with the name that it mentions, or a fault of the line
 pub data TableEntry : Type 0 where
@@ -107,7 +108,7 @@ abbrev pub entries_if : Writing → ℕ → ℕ → List ℕ → Option (List �
 entries_if w n thread text None = entry_or_nothing w n thread text
 entries_if w n thread text (Some parts) = entry_in_line w n thread (parts.0 ++ codes ":") ∷ entry_or_nothing w n thread parts.1
 
--- the entries of a cell: of nothing, of an instruction, of `L:`, or of `L:` and an instruction
+-- the entries of a cell: of nothing, of an instruction or a label, or of a label and what comes after its colon, if that isn't blank
 unfoldable pub cell_entries : Writing → ℕ → ℕ → List ℕ → List TableEntry
 cell_entries w n thread text = entries_if w n thread text (cut_at 58 text)
 

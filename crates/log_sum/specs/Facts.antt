@@ -34,7 +34,7 @@ pub record Entry : Type 0 where
 abbrev pub facts_of : List ℕ → List Entry → List Fact
 facts_of test entries = map (λ e. e.fact) (filter (λ e. bytes_eq e.test test) entries)
 
--- names in the order in which each was first seen
+-- names, and one more at their end unless it is among them
 abbrev pub with_test_name : List (List ℕ) → List ℕ → List (List ℕ)
 with_test_name names name = cond (list_any (bytes_eq name) names) names (names ++ name ∷ [])
 

@@ -35,12 +35,12 @@ text_in ending line = cond (is_too_long line) None (Some (ending line))
 abbrev pub ended_texts : List (List ℕ) → List (Option (List ℕ))
 ended_texts lines = map (text_in without_return) lines
 
--- the texts of the lines of a log
+-- the texts of the lines of a log; a last line that no line feed ends keeps its carriage return
 unfoldable pub log_texts : List ℕ → List (Option (List ℕ))
 log_texts bytes = ended_texts (whole_lines bytes) ++ map (text_in (λ line. line)) (last_line (unended bytes))
 
--- what the lines of a log say: facts, each with the number of its line, up to the first line that isn't one that may stand there, and
--- that fault, if there is one; and the test and the place of the block inside which the lines end, if they end inside one
+-- What the lines of a log say: facts, each with the number of its line, up to the first line that may not stand where it stands; a fault, that of
+-- this line, or that the lines end inside a block; and, if they do, the test of that block and the place in it.
 pub record LogSays : Type 0 where
   pub facts : List (ℕ × Entry)
   pub fault : Option LogError
@@ -98,8 +98,9 @@ abbrev pub of_no_test : ℕ → Option (List ℕ × Kind) → LogSays → LogSay
 of_no_test n None other = other
 of_no_test n (Some test) other = stops_at n Truncated
 
--- A log: lines that are passed over, and blocks. A block is `Test NAME KIND`, the number of its states, these states, `Ok` or `No`,
--- and further lines, of which one at least is a condition, up to `Observation`. Each part says what it and all after it say.
+-- A log, as a grammar of lines. A log is lines that are passed over, and blocks (`log_says`). A block is `Test NAME KIND`, the number of its states
+-- (`block_says`), so many states and `Ok` or `No` (`states_say`), and further lines, of which one at least is a condition, up to `Observation`
+-- (`rest_says`). Each of the four says what the lines from a place of the grammar to the end of the log say.
 
 abbrev mutual
   -- the lines from one outside the blocks on
@@ -108,13 +109,13 @@ abbrev mutual
   log_says n (line ∷ lines) =
       of_text n line (λ text. of_test n (test_line (words text)) (λ test. block_says test (next_line n) lines) (log_says (next_line n) lines))
 
-  -- those after `Test NAME KIND`
+  -- the lines from the one after `Test NAME KIND` on, which has the number of states
   pub block_says : List ℕ × Kind → ℕ → List (Option (List ℕ)) → LogSays
   block_says test n [] = cut_off n test.0 (Histogram test.1)
   block_says test n (line ∷ lines) =
       of_text n line (λ text. of_count n (histogram_line (words text)) (λ count. states_say test count (next_line n) lines))
 
-  -- those where so many states come, and then `Ok` or `No`
+  -- the lines from so many states on, after which `Ok` or `No` comes
   pub states_say : List ℕ × Kind → ℕ → ℕ → List (Option (List ℕ)) → LogSays
   states_say test zero n [] = cut_off n test.0 (Judgement test.1)
   states_say test (suc left) n [] = cut_off n test.0 (States test.1 (suc left))
@@ -122,7 +123,7 @@ abbrev mutual
       of_text n line (λ text. cond (is_judgement (words text)) (rest_says test false (next_line n) lines) (stops_at n BadState))
   states_say test (suc left) n (line ∷ lines) = of_text n line (λ text. of_row n test.0 (log_row text) (states_say test left (next_line n) lines))
 
-  -- those after `Ok` or `No`; whether the condition has come
+  -- the lines from the one after `Ok` or `No` on, or from a later one before `Observation`, where it is known whether a condition came
   pub rest_says : List ℕ × Kind → Bool → ℕ → List (Option (List ℕ)) → LogSays
   rest_says test conditioned n [] = cut_off n test.0 (cond conditioned (Conditioned test.1) (Rest test.1))
   rest_says test conditioned n (line ∷ lines) = of_text n line (λ text.

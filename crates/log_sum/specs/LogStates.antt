@@ -24,7 +24,7 @@ abbrev pub sides_read : Option (List ℕ × List ℕ) → Option (List ℕ × Li
 sides_read None = None
 sides_read (Some sides) = cond (is_side sides.0 && is_side sides.1) (Some sides) None
 
--- a set of equalities, in byte order, has one with this left side
+-- a set of equalities, in byte order, has one that begins so, with a left side and its `=`
 abbrev pub has_left : List (List ℕ) → List ℕ → Bool
 has_left state left = list_any (λ equality. begins_with equality left) state
 

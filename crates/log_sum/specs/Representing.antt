@@ -83,14 +83,14 @@ pub record IsBetweenLogs (kept : Kept) : Type 0 where
   pub represents : Represents kept files []
 
 -- what an answer to a piece of a log says, where this is the input up to the end of the piece: it has no fault and is
--- represented by what is kept, or it shows exactly this first fault
+-- represented by what is kept, or it shows exactly this first fault, or there was no memory; and a refusal is kept
 abbrev pub FedTo : Kept → List (List ℕ) → List ℕ → Result (Unit {0}) SumError → Type 0
 FedTo new files bytes (Ok x) = Represents new files bytes
 FedTo new files bytes (Err (Log error)) = ShowsFault files bytes error × (new.refusal ≡ Some (Log error))
 FedTo new files bytes (Err NoMemory) = new.refusal ≡ Some NoMemory
 
 -- what an answer to the end of a log says, where these are the bytes of the log: the logs with it have no fault and are
--- represented by what is kept, or they have exactly this first fault
+-- represented by what is kept, or they have exactly this first fault, or there was no memory; and a refusal is kept
 abbrev pub EndedTo : Kept → List (List ℕ) → List ℕ → Result (Unit {0}) SumError → Type 0
 EndedTo new files bytes (Ok x) = Represents new (files ++ bytes ∷ []) []
 EndedTo new files bytes (Err (Log error)) = (logs_text (files ++ bytes ∷ []) ≡ Err error) × (new.refusal ≡ Some (Log error))
