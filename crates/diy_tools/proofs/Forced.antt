@@ -8,7 +8,7 @@ use Rattle.relax_edges.specs.declared.kinds.ArchName.TheVariants as archs
 use Rattle.edge_algebra_laws.specs.Composable.{IsCycle, first_break}
 use Rattle.edge_algebra_laws.proofs.Composing.{unbroken_cycle}
 use Rattle.edge_algebra.specs.declared.errors.CycleError.TheVariants as composing
-use Rattle.edge_algebra.specs.Compose.{unbroken}
+use Rattle.edge_algebra.specs.Compose.{composed, unbroken}
 use Rattle.cycle_events.specs.Resolution.{turned}
 use Rattle.arch_trait.specs.{Cells.WritesCells, Cells.MakesOneAccess, Laws.IsArch, Threads.Puts, Writing.WritesBack}
 use Rattle.arch_x86.specs.InCells as x86_cells
