@@ -7,6 +7,7 @@ pub mod Prefixes
 pub mod Totals
 pub mod Parts
 pub mod Elements
+pub mod Errors
 pub mod Distinct
 pub mod Digits
 pub mod Places
