@@ -1,4 +1,4 @@
-//! Cases of the architectures, of conditions, a slow reading of tests, and the devices of the system. Tests alone.
+//! Cases of the architectures, of conditions, and the devices of the system. Tests alone.
 #![tactic(auto)]
 
 #[cfg(test)]
@@ -7,7 +7,3 @@ mod architectures;
 mod conditions;
 #[cfg(test)]
 mod devices;
-#[cfg(test)]
-mod prefixes;
-#[cfg(test)]
-mod slow;
