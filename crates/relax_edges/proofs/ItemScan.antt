@@ -7,7 +7,7 @@ use Rattle.list_laws.proofs.Places.{before_first-no}
 use Rattle.relax_edges.specs.declared.{edge.Edge.Edge, relax_error.RelaxKind.RelaxKind}
 use Rattle.relax_edges.specs.RelaxText.{is_separator, is_bracket, ends_word, inside, has_closed_bracket, RelaxItem, words_from, last_byte, is_open}
 use Rattle.relax_edges.specs.RelaxText.{stands_apart, begins_item, items_after, items_of}
-use Rattle.relax_edges.specs.{RelaxPrefix.bytes_after, RelaxPrefix.ends_here, Relaxations.kept_item, Relaxations.kept_items}
+use Rattle.relax_edges.specs.{RelaxPrefix.bytes_after, RelaxPrefix.ends_here, Relaxations.item_errors, RelaxKept.kept_item, RelaxKept.kept_items}
 
 -- the item that begins with a byte, or none at a separator
 abbrev pub item_from : ℕ → ℕ → List ℕ → List RelaxItem
@@ -105,7 +105,7 @@ after_item kept start words items others same = by_answer (record { start = star
     by_answer item items others same (Err kind) is = refused_one kept kind item items is ∙ sym (refused_one kept kind item others is)
 
 bad_not_kept : (kept more : List (List Edge)) (words : Option (List (List ℕ))) → words ≡ None → kept_item kept words ≡ Ok more → ⊥
-unfolding kept_item
+unfolding kept_item item_errors
 bad_not_kept kept more words none ok = (cc)
 
 -- the two forms agree in what follows the first byte of an item that is kept

@@ -1,33 +1,39 @@
 -- Items are kept one after another.
-use Rattle.std.specs.Prelude.{ℕ, ◌≡◌, ◌<◌, ◌≤◌, ◌+◌, ◌-◌, Bool, true, false, Ok, Err, List, [], ◌∷◌, ◌++◌, length, map, take, drop}
+use Rattle.std.specs.Prelude.{ℕ, ◌≡◌, ◌<◌, ◌≤◌, ◌+◌, ◌-◌, Bool, true, false, Some, Result, Ok, Err, List, [], ◌∷◌, ◌++◌, length, map, take, drop}
 use Rattle.std.specs.List.{list_any}
 use Rattle.std.proofs.Common.{suc, refl, arith, ap, subst, sym, ◌∙◌}
 use Rattle.std.proofs.{Math.ListN.drop_of_length-le, lemmas.List.drop-drop, lemmas.Bool.lt-ltb, lemmas.Bool.le-ltb}
+use Rattle.list_laws.specs.Errors.{unless}
 use Rattle.list_laws.proofs.Elements.{rest_from}
 use Rattle.relax_edges.specs.declared.{edge.Edge.Edge, relax_error.RelaxKind.RelaxKind, relax_error.RelaxKind.TheVariants.UnknownEdge}
 use Rattle.relax_edges.specs.declared.{relax_error.RelaxKind.TheVariants.RelaxTooLong, relax_error.RelaxKind.TheVariants.DoesNotJoin}
-use Rattle.relax_edges.specs.RelaxText.{is_separator, is_empty, words_from, items_of}
-use Rattle.relax_edges.specs.Relaxations.{word_edges, paths_of, keep_all, at_most_64, kept_paths, kept_words, kept_item, kept_items, relaxes_of}
+use Rattle.relax_edges.specs.RelaxText.{is_separator, is_empty, words_from}
+use Rattle.relax_edges.specs.Relaxations.{word_edges, paths_of, error_if, item_errors, too_many}
+use Rattle.relax_edges.specs.RelaxKept.{keep_all, at_most_64, kept_item, kept_items}
 use Rattle.relax_edges.specs.{RelaxSearch.paths_after, RelaxSearch.KeepsPaths, RelaxPrefix.first_word_len, RelaxPrefix.kept_prefix}
-use Rattle.relax_edges.proofs.{ItemScan.items_from, ItemScan.kept_one, Paths.paths_after-nil}
+use Rattle.relax_edges.proofs.{ItemScan.items_from, ItemScan.kept_one, Paths.paths_after-nil, Paths.at_most_64-ok}
 
 -- words of which one names no edge are refused
 pub kept_words_unknown : (kept : List (List Edge)) (words : List (List ℕ)) → list_any (λ word. is_empty (word_edges word)) words ≡ true
-    → kept_words kept words ≡ Err UnknownEdge
-unfolding kept_words
-kept_words_unknown kept words unknown = rw (unknown, kept_words) refl
+    → kept_item kept (Some words) ≡ Err UnknownEdge
+unfolding kept_item item_errors
+kept_words_unknown kept words unknown = rw unknown refl
 
 -- more than eight words are refused
 pub kept_words_long : (kept : List (List Edge)) (words : List (List ℕ)) → list_any (λ word. is_empty (word_edges word)) words ≡ false → 8 < length words
-    → kept_words kept words ≡ Err RelaxTooLong
-unfolding kept_words
-kept_words_long kept words known long = rw (known, lt-ltb 8 (length words) long, kept_words) refl
+    → kept_item kept (Some words) ≡ Err RelaxTooLong
+unfolding kept_item item_errors
+kept_words_long kept words known long = rw (known, lt-ltb 8 (length words) long) refl
+
+-- the list kept after words with these paths, of which each names an edge, or why they are refused
+abbrev kept_paths : List (List Edge) → List (List Edge) → Result (List (List Edge)) RelaxKind
+kept_paths kept paths = unless (error_if (is_empty paths) DoesNotJoin ++ too_many (keep_all kept paths)) (keep_all kept paths)
 
 -- of at most eight words, each of which names an edge, the paths are kept
 kept_words_short : (kept : List (List Edge)) (words : List (List ℕ)) → list_any (λ word. is_empty (word_edges word)) words ≡ false → length words ≤ 8
-    → kept_words kept words ≡ kept_paths kept (paths_of words)
-unfolding kept_words
-kept_words_short kept words known short = rw (known, le-ltb 8 (length words) short, kept_words) refl
+    → kept_item kept (Some words) ≡ kept_paths kept (paths_of words)
+unfolding kept_item item_errors
+kept_words_short kept words known short = rw (known, le-ltb 8 (length words) short) refl
 
 paths_some : (kept paths : List (List Edge)) (new : List (List Edge)) (some : Bool) → some ≡ true → KeepsPaths kept paths new some → kept_paths kept paths ≡ Ok new
 paths_some kept paths new some found a = grind arith
@@ -37,7 +43,8 @@ paths_none : (kept paths : List (List Edge)) (new : List (List Edge)) (some : Bo
 paths_none kept paths new some found a = grind arith
 
 paths_refused : (kept paths : List (List Edge)) (kind : RelaxKind) → length kept ≤ 64 → at_most_64 (keep_all kept paths) ≡ Err kind → kept_paths kept paths ≡ Err kind
-paths_refused kept paths kind few err = grind arith
+paths_refused kept [] kind few err = grind (arith, at_most_64-ok)
+paths_refused kept (path ∷ paths) kind few err = err
 
 -- what holds of the paths that go on after no edge holds of the words' paths
 after_nothing : (P : List (List Edge) → Type 0) (words : List (List ℕ)) (prefix : List Edge) → prefix ≡ []
@@ -47,7 +54,7 @@ after_nothing P words prefix none h = subst P (paths_after-nil (map word_edges w
 -- where some choice of the words' edges joins, what their search kept is what the words keep
 pub kept_words_some : (kept : List (List Edge)) (words : List (List ℕ)) (prefix : List Edge) (new : List (List Edge)) (some : Bool)
     → list_any (λ word. is_empty (word_edges word)) words ≡ false → length words ≤ 8 → prefix ≡ [] → some ≡ true
-    → KeepsPaths kept (paths_after prefix (map word_edges words)) new some → kept_words kept words ≡ Ok new
+    → KeepsPaths kept (paths_after prefix (map word_edges words)) new some → kept_item kept (Some words) ≡ Ok new
 kept_words_some kept words prefix new some known short none found a =
     kept_words_short kept words known short
     ∙ paths_some kept (paths_of words) new some found (after_nothing (λ paths. KeepsPaths kept paths new some) words prefix none a)
@@ -55,7 +62,7 @@ kept_words_some kept words prefix new some known short none found a =
 -- where no choice of the words' edges joins, the words are refused
 pub kept_words_none : (kept : List (List Edge)) (words : List (List ℕ)) (prefix : List Edge) (new : List (List Edge)) (some : Bool)
     → list_any (λ word. is_empty (word_edges word)) words ≡ false → length words ≤ 8 → prefix ≡ [] → some ≡ false
-    → KeepsPaths kept (paths_after prefix (map word_edges words)) new some → kept_words kept words ≡ Err DoesNotJoin
+    → KeepsPaths kept (paths_after prefix (map word_edges words)) new some → kept_item kept (Some words) ≡ Err DoesNotJoin
 kept_words_none kept words prefix new some known short none found a =
     kept_words_short kept words known short
     ∙ paths_none kept (paths_of words) new some found (after_nothing (λ paths. KeepsPaths kept paths new some) words prefix none a)
@@ -63,7 +70,7 @@ kept_words_none kept words prefix new some known short none found a =
 -- where their search is refused for want of room, the words are refused
 pub kept_words_refused : (kept : List (List Edge)) (words : List (List ℕ)) (prefix : List Edge) (kind : RelaxKind)
     → list_any (λ word. is_empty (word_edges word)) words ≡ false → length words ≤ 8 → prefix ≡ [] → length kept ≤ 64
-    → at_most_64 (keep_all kept (paths_after prefix (map word_edges words))) ≡ Err kind → kept_words kept words ≡ Err kind
+    → at_most_64 (keep_all kept (paths_after prefix (map word_edges words))) ≡ Err kind → kept_item kept (Some words) ≡ Err kind
 kept_words_refused kept words prefix kind known short none few err =
     kept_words_short kept words known short
     ∙ paths_refused kept (paths_of words) kind few (after_nothing (λ paths. at_most_64 (keep_all kept paths) ≡ Err kind) words prefix none err)
@@ -113,8 +120,3 @@ items_refused kept kind text place err = grind (arith, kept_items_refused, rest_
 pub items_end : (kept : List (List Edge)) (text : List ℕ) (place : ℕ) → length text ≤ place → kept_items kept (items_from place 0 (drop place text)) ≡ Ok kept
 unfolding kept_items
 items_end kept text place past = rw (drop_of_length-le text {i = place} past) refl
-
--- the relaxations of a text are what its items add to an empty list
-pub relaxes_of_text : (text : List ℕ) (kept : List (List Edge)) → kept ≡ [] → relaxes_of text ≡ kept_items kept (items_of text)
-unfolding relaxes_of
-relaxes_of_text text kept none = ap (λ k. kept_items k (items_of text)) (sym none)

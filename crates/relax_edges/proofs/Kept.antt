@@ -6,7 +6,7 @@ use Rattle.std.proofs.lemmas.Bool.{lt-ltb, eq-eqb, eqb-true, false≢true}
 use Rattle.std.proofs.lemmas.List.{length-append}
 use Rattle.relax_edges.specs.declared.{edge.Edge.Edge, relax_error.RelaxKind.TheVariants.TooManyRelaxes}
 use Rattle.relax_edges.specs.Order.{rank_of}
-use Rattle.relax_edges.specs.Relaxations.{is_same, are_distinct_paths, IsRelaxes, keep_path, at_most_64}
+use Rattle.relax_edges.specs.{Relaxations.is_same, Relaxations.are_distinct_paths, Relaxations.IsRelaxes, RelaxKept.keep_path, RelaxKept.at_most_64}
 use Rattle.relax_edges.proofs.Paths.{at_most_64-ok}
 
 -- a relaxation that is in the list already leaves it as it is

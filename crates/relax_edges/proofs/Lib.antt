@@ -12,5 +12,6 @@ pub mod FenceWords
 pub mod Search
 pub mod ItemScan
 pub mod Items
+pub mod RelaxRule
 pub mod Prefixes
 pub mod WordTable

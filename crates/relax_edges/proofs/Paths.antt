@@ -7,7 +7,7 @@ use Rattle.std.proofs.{lemmas.List.length-append, lemmas.List.Elements.filter-ap
 use Rattle.list_laws.proofs.Cases.{by_test}
 use Rattle.relax_edges.specs.declared.{edge.Edge.Edge, relax_error.RelaxKind.RelaxKind}
 use Rattle.relax_edges.specs.{EdgeTable.joins_to, JoinedEdges.is_joined, RelaxSearch.paths_after}
-use Rattle.relax_edges.specs.Relaxations.{path_choices, keep_path, keep_all, at_most_64}
+use Rattle.relax_edges.specs.{Relaxations.path_choices, RelaxKept.keep_path, RelaxKept.keep_all, RelaxKept.at_most_64}
 
 -- to go on with an edge and then others is to go on after one edge more
 moved : (prefix : List Edge) (edge : Edge) (paths : List (List Edge))

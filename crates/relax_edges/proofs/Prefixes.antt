@@ -6,7 +6,7 @@ use Rattle.std.proofs.{lemmas.Bool.eqb-true, lemmas.Bool.false≢true, lemmas.Li
 use Rattle.std.proofs.{Math.ListN.get_or-eq_default}
 use Rattle.relax_edges.specs.RelaxText.{is_separator, is_bracket, ends_word, words_of, inside, has_closed_bracket, bracket_words, words_from}
 use Rattle.relax_edges.specs.declared.{edge.Edge.Edge, relax_error.RelaxKind.TheVariants.BadBracket}
-use Rattle.relax_edges.specs.Relaxations.{kept_words, kept_item}
+use Rattle.relax_edges.specs.{Relaxations.item_errors, RelaxKept.kept_item}
 use Rattle.relax_edges.specs.RelaxPrefix.{bytes_after, kept_prefix, first_words, first_word_len, ends_here, IsInside, IsFirstWord}
 use Rattle.relax_edges.proofs.RelaxWords.{words_of_run}
 use Rattle.list_laws.proofs.Places.{before_first-no}
@@ -61,14 +61,14 @@ unfolding ends_here first_words first_word_len
 first_word text n here at_n = grind (arith, false≢true, first_false, second_false, before_first-no, run_words, words_of_run, run_len, length-take)
 
 -- what a list of relaxations becomes after a good bracket, after a bad one, and after a word
-pub kept_bracket : (kept : List (List Edge)) (remainder words : List ℕ) → IsInside remainder words → kept_prefix kept (91 ∷ remainder) ≡ kept_words kept (words_of words)
+pub kept_bracket : (kept : List (List Edge)) (remainder words : List ℕ) → IsInside remainder words → kept_prefix kept (91 ∷ remainder) ≡ kept_item kept (Some (words_of words))
 unfolding kept_prefix kept_item
-kept_bracket kept remainder words inside = rw (inside.good, kept_item) refl
+kept_bracket kept remainder words inside = rw (inside.good) refl
 
 -- a bad bracket is refused
 pub bad_bracket : (kept : List (List Edge)) (remainder : List ℕ) → bracket_words remainder ≡ None → kept_prefix kept (91 ∷ remainder) ≡ Err BadBracket
-unfolding kept_prefix kept_item
-bad_bracket kept remainder bad = rw (bad, kept_item) refl
+unfolding kept_prefix kept_item item_errors
+bad_bracket kept remainder bad = rw bad refl
 
 -- the length of a good bracket is that of the text inside it and 2 for the brackets
 pub bracket_len : (remainder words : List ℕ) → IsInside remainder words → length words + 2 ≡ first_word_len (91 ∷ remainder)
@@ -76,13 +76,13 @@ unfolding first_word_len
 bracket_len remainder words inside = rw (← inside.len) (omega arith)
 
 -- the relaxations of a text's first word are kept
-pub kept_run : (kept : List (List Edge)) (text word : List ℕ) → ends_here text ≡ false → IsFirstWord text word → kept_prefix kept text ≡ kept_words kept (words_of word)
+pub kept_run : (kept : List (List Edge)) (text word : List ℕ) → ends_here text ≡ false → IsFirstWord text word → kept_prefix kept text ≡ kept_item kept (Some (words_of word))
 unfolding ends_here kept_prefix first_words kept_item
 kept_run kept text word here prefix = grind arith
 
 -- a text that begins with `]` is refused
 pub at_closing : (kept : List (List Edge)) (text : List ℕ) → get_or text 0 0 ≡ 93 → kept_prefix kept text ≡ Err BadBracket
-unfolding kept_prefix kept_item
+unfolding kept_prefix kept_item item_errors
 at_closing kept text first = grind arith
 
 -- at a separator nothing more is kept

@@ -7,7 +7,7 @@ use Rattle.std.proofs.{lemmas.List.take-append-drop}
 use Rattle.relax_edges.specs.declared.{edge.Edge.Edge, relax_error.RelaxKind.RelaxKind}
 use Rattle.relax_edges.specs.{EdgeTable.joins_to, RelaxText.is_empty, JoinedEdges.is_joined, RelaxSearch.paths_after, RelaxSearch.paths_by}
 use Rattle.relax_edges.specs.{RelaxSearch.KeepsPaths}
-use Rattle.relax_edges.specs.Relaxations.{word_edges, keep_path, keep_all, at_most_64}
+use Rattle.relax_edges.specs.{Relaxations.word_edges, RelaxKept.keep_path, RelaxKept.keep_all, RelaxKept.at_most_64}
 use Rattle.relax_edges.proofs.Paths.{is_joined-end, paths_after-cons, paths_after-end, paths_after-none, keep_all-append, at_most_64-ok, at_most_64-is, at_most_64-err}
 
 -- the paths that begin with some edges, by the edges of the first list
@@ -32,7 +32,8 @@ pub refused_more : (old one middle two more : List (List Edge)) (some : Bool) (k
     → KeepsPaths old one middle some → at_most_64 (keep_all middle two) ≡ Err kind → at_most_64 (keep_all old (one ++ (two ++ more))) ≡ Err kind
 refused_more old one middle two more some kind a err = grind (arith, at_most_64-is, keep_all-append, at_most_64-err)
 
-flat_map-end : {A B : Type 0} (f : A → List B) (xs : List A) (y : A) → flat_map f (xs ++ y ∷ []) ≡ flat_map f xs ++ f y
+-- a list with one element more
+pub flat_map-end : {A B : Type 0} (f : A → List B) (xs : List A) (y : A) → flat_map f (xs ++ y ∷ []) ≡ flat_map f xs ++ f y
 flat_map-end f xs y = flat_map-append f xs (y ∷ []) ∙ ap (λ ys. flat_map f xs ++ ys) (append-nil (f y))
 
 flat_map-parts : {A B : Type 0} (f : A → List B) (xs : List A) (i : ℕ) (d : A) → i < length xs

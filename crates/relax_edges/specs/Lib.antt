@@ -10,6 +10,7 @@ pub mod WordReading
 pub mod Architectures
 pub mod RelaxText
 pub mod Relaxations
+pub mod RelaxKept
 pub mod RelaxSearch
 pub mod NamedEdges
 pub mod RelaxRuns

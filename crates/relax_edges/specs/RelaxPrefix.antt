@@ -3,7 +3,7 @@ use Rattle.std.specs.Prelude.{ℕ, ◌≡◌, ◌<◌, ◌≤◌, ◌+◌, ◌==
 use Rattle.std.specs.List.{before_first}
 use Rattle.relax_edges.specs.declared.{edge.Edge.Edge, relax_error.RelaxKind.RelaxKind}
 use Rattle.relax_edges.specs.RelaxText.{is_separator, ends_word, words_of, inside, bracket_words, words_from}
-use Rattle.relax_edges.specs.Relaxations.{kept_item}
+use Rattle.relax_edges.specs.RelaxKept.{kept_item}
 
 -- the words of the item that a text begins with, or none where its bracket is bad
 unfoldable pub first_words : List ℕ → Option (List (List ℕ))

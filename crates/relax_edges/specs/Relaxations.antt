@@ -1,7 +1,8 @@
 -- The relaxations of a text: the edges that its words name, the choices that join, and the refusals.
 -- Source: the diy part of the herdtools manual, option `-relax`.
-use Rattle.std.specs.Prelude.{ℕ, ◌≡◌, ◌<◌, ◌≤◌, ◌==◌, ◌&&◌, Bool, true, false, not, cond, nat_lt, Option, Some, None, Result, Ok, Err, List, [], ◌∷◌, ◌++◌, length, filter, map, codes}
+use Rattle.std.specs.Prelude.{ℕ, ◌≡◌, ◌<◌, ◌≤◌, ◌==◌, ◌&&◌, Bool, true, false, not, cond, nat_lt, Option, Some, None, Result, List, [], ◌∷◌, ◌++◌, length, filter, map, codes}
 use Rattle.std.specs.{List.flat_map, List.filter_map, List.list_any, Cmp.Lexicographic.pointwise}
+use Rattle.list_laws.specs.Errors.{with_before, unless}
 use Rattle.relax_edges.specs.declared.{edge.Edge.Edge, relax_error.RelaxKind.RelaxKind, relax_error.RelaxError.RelaxError}
 use Rattle.relax_edges.specs.declared.relax_error.RelaxKind.TheVariants.{UnknownEdge, BadBracket, RelaxTooLong, DoesNotJoin, TooManyRelaxes}
 use Rattle.relax_edges.specs.{JoinedEdges.is_joined, Order.rank_of, Spelling.edge_of, RelaxText.RelaxItem, RelaxText.is_empty, RelaxText.items_of}
@@ -28,7 +29,7 @@ path_choices (edges ∷ remainder) = flat_map (λ edge. map (λ path. edge ∷ p
 abbrev pub paths_of : List (List ℕ) → List (List Edge)
 paths_of words = filter is_joined (path_choices (map word_edges words))
 
--- whether two lists of edges are the same
+-- whether two lists of edges are the same: no two edges have one rank
 abbrev pub is_same : List Edge → List Edge → Bool
 is_same = pointwise (λ a b. rank_of a == rank_of b)
 
@@ -48,50 +49,44 @@ pub record IsRelaxes (paths : List (List Edge)) : Type 0 where
   pub few : length paths ≤ 64
   pub distinct : are_distinct_paths paths ≡ true
 
--- the list with one relaxation more at its end, unless the list has it already
-abbrev pub keep_path : List (List Edge) → List Edge → List (List Edge)
-keep_path kept path = cond (list_any (is_same path) kept) kept (kept ++ path ∷ [])
+-- a path, unless it is among the paths before it
+abbrev pub if_new : List (List Edge) × List Edge → List (List Edge)
+if_new (before, path) = cond (list_any (is_same path) before) [] (path ∷ [])
 
--- the list once some relaxations are kept, one after another
-abbrev pub keep_all : List (List Edge) → List (List Edge) → List (List Edge)
-keep_all kept [] = kept
-keep_all kept (path ∷ paths) = keep_all (keep_path kept path) paths
+-- each path once, at its first place
+unfoldable pub distinct : List (List Edge) → List (List Edge)
+distinct paths = flat_map if_new (with_before [] paths)
 
--- the list itself where it has at most 64 relaxations, and else the refusal
-abbrev pub at_most_64 : List (List Edge) → Result (List (List Edge)) RelaxKind
-at_most_64 kept = cond (nat_lt 64 (length kept)) (Err TooManyRelaxes) (Ok kept)
+-- the paths of an item, by its words, which it has unless its bracket is bad
+abbrev pub item_paths : Option (List (List ℕ)) → List (List Edge)
+item_paths None = []
+item_paths (Some words) = paths_of words
 
--- the list kept after an item whose paths are these
-abbrev pub kept_paths : List (List Edge) → List (List Edge) → Result (List (List Edge)) RelaxKind
-kept_paths kept [] = Err DoesNotJoin
-kept_paths kept (path ∷ paths) = at_most_64 (keep_all kept (path ∷ paths))
+-- the relaxations of some items: the paths of each, in order, each path once
+abbrev pub relaxes_in : List RelaxItem → List (List Edge)
+relaxes_in items = distinct (flat_map (λ item. item_paths item.words) items)
 
--- the list kept after an item with these words, or why the item is refused
-unfoldable pub kept_words : List (List Edge) → List (List ℕ) → Result (List (List Edge)) RelaxKind
-kept_words kept words =
-    elim (list_any (λ word. is_empty (word_edges word)) words) as (λ _. Result (List (List Edge)) RelaxKind) [
-      | true ↦ Err UnknownEdge
-      | false ↦
-          elim (nat_lt 8 (length words)) as (λ _. Result (List (List Edge)) RelaxKind) [
-            | true ↦ Err RelaxTooLong
-            | false ↦ kept_paths kept (paths_of words)
-          ]
-    ]
+-- an error, where this is so
+abbrev pub error_if : Bool → RelaxKind → List RelaxKind
+error_if wrong kind = cond wrong (kind ∷ []) []
 
--- the list kept after an item (it has no words where its bracket is bad), or why the item is refused
-unfoldable pub kept_item : List (List Edge) → Option (List (List ℕ)) → Result (List (List Edge)) RelaxKind
-kept_item kept None = Err BadBracket
-kept_item kept (Some words) = kept_words kept words
+-- the errors of an item by itself: its bracket is bad, or else a word of it names no edge, it has more than 8 words, it has no path
+unfoldable pub item_errors : Option (List (List ℕ)) → List RelaxKind
+item_errors None = BadBracket ∷ []
+item_errors (Some words) =
+    error_if (list_any (λ word. is_empty (word_edges word)) words) UnknownEdge
+    ++ error_if (nat_lt 8 (length words)) RelaxTooLong
+    ++ error_if (is_empty (paths_of words)) DoesNotJoin
 
--- the list kept after some items, or the first refusal
-unfoldable pub kept_items : List (List Edge) → List RelaxItem → Result (List (List Edge)) RelaxError
-kept_items kept [] = Ok kept
-kept_items kept (item ∷ items) =
-    elim (kept_item kept item.words) as (λ _. Result (List (List Edge)) RelaxError) [
-      | Err kind ↦ Err (record { at = item.start; kind = kind })
-      | Ok more ↦ kept_items more items
-    ]
+-- the error of some relaxations, if they are more than 64
+abbrev pub too_many : List (List Edge) → List RelaxKind
+too_many relaxes = error_if (nat_lt 64 (length relaxes)) TooManyRelaxes
 
--- the relaxations of a text, or the first refusal
+-- the errors of an item after others: its own, and that up to it there are too many relaxations
+abbrev pub errors_of : List RelaxItem × RelaxItem → List RelaxError
+errors_of (before, item) =
+    map (λ kind. record { at = item.start; kind = kind }) (item_errors item.words ++ too_many (relaxes_in (before ++ item ∷ [])))
+
+-- the relaxations of a text, or the first error of its items
 unfoldable pub relaxes_of : List ℕ → Result (List (List Edge)) RelaxError
-relaxes_of text = kept_items [] (items_of text)
+relaxes_of text = unless (flat_map errors_of (with_before [] (items_of text))) (relaxes_in (items_of text))

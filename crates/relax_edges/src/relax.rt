@@ -1,7 +1,8 @@
 ghost use Rattle.std.specs.Prelude.{◌≡◌, ◌<◌, ◌≤◌, [], true, length, slice_get, Some, Ok, Err, MatchResult, ◌==◌};
 ghost use Rattle.std.specs.List.{list_any};
 ghost use Rattle.relax_edges.specs.JoinedEdges.{is_joined};
-ghost use Rattle.relax_edges.specs.Relaxations.{IsRelax, IsRelaxes, are_distinct_paths, is_same, keep_path, at_most_64};
+ghost use Rattle.relax_edges.specs.Relaxations.{IsRelax, IsRelaxes, are_distinct_paths, is_same};
+ghost use Rattle.relax_edges.specs.RelaxKept.{keep_path, at_most_64};
 
 use crate::edge::Edge;
 use crate::relax_error::RelaxKind;

@@ -1,8 +1,8 @@
-ghost use Rattle.std.specs.Prelude.{◌≡◌, ◌<◌, ◌≤◌, ◌+◌, ◌∷◌, false, length, None, OnOk, IfOk, MatchOption};
+ghost use Rattle.std.specs.Prelude.{◌≡◌, ◌<◌, ◌≤◌, ◌+◌, ◌∷◌, false, length, Some, None, OnOk, IfOk, MatchOption};
 ghost use Rattle.relax_edges.specs.RelaxText.{is_separator, words_of, bracket_words};
 ghost use Rattle.relax_edges.specs.RelaxPrefix.{first_word_len, kept_prefix, ends_here, IsInside, IsFirstWord};
 ghost use Rattle.relax_edges.specs.RelaxSearch.{KeepsRelaxations};
-ghost use Rattle.relax_edges.specs.Relaxations.{kept_words};
+ghost use Rattle.relax_edges.specs.RelaxKept.{kept_item};
 
 use crate::relax::Relaxes;
 use crate::relax_error::RelaxKind;
@@ -41,7 +41,7 @@ fn first_word(text: &[u8]) -> &[u8]
 fn keep_words(words: &[u8], kept: &mut Relaxes) -> Result<(), RelaxKind>
     requires some { 0 < length (words_of words.now) }
     requires few { length kept.old ≤ 64 }
-    ensures kept { KeepsRelaxations (kept_words kept.old (words_of words.now)) kept.new result }
+    ensures kept { KeepsRelaxations (kept_item kept.old (Some (words_of words.now))) kept.new result }
     ensures few { OnOk result (length kept.new ≤ 64) }
 {
     if has_unknown(words) {

@@ -1,7 +1,8 @@
 ghost use Rattle.std.specs.Prelude.{◌≡◌, ◌≤◌, [], length, Ok, Err, OnErr, MatchResult};
 ghost use Rattle.relax_edges.specs.RelaxText.{items_of};
 ghost use Rattle.relax_edges.specs.RelaxSearch.{KeepsRelaxations};
-ghost use Rattle.relax_edges.specs.Relaxations.{kept_items, relaxes_of};
+ghost use Rattle.relax_edges.specs.RelaxKept.{kept_items};
+ghost use Rattle.relax_edges.specs.Relaxations.{relaxes_of};
 
 use crate::relax::Relaxes;
 use crate::relax_error::RelaxError;
@@ -38,7 +39,7 @@ fn keep_items(text: &[u8], kept: &mut Relaxes) -> Result<(), RelaxError>
 /// begins, and `out` is then empty.
 ///
 /// The words are those of the diy part of the herdtools manual, option `-relax`.
-#[tactic(auto, using(crate::proofs::Items::relaxes_of_text))]
+#[tactic(auto, using(crate::proofs::RelaxRule::relaxes_of_text))]
 pub fn read_relaxes(text: &str, out: &mut Relaxes) -> Result<(), RelaxError>
     ensures read { MatchResult result (λ _. relaxes_of text.now ≡ Ok out.new) (λ error. relaxes_of text.now ≡ Err error) }
     ensures refused { OnErr result (out.new ≡ []) }

@@ -1,6 +1,6 @@
 -- What is left of the text adds to the list kept so far what the whole text adds to the list at the start.
 use Rattle.std.proofs.Common.{◌≡◌, ◌≤◌, ◌-◌, length, drop}
-use Rattle.relax_edges.specs.{RelaxText.items_of, Relaxations.kept_items}
+use Rattle.relax_edges.specs.{RelaxText.items_of, RelaxKept.kept_items}
 use Rattle.relax_edges.proofs.ItemScan.{items_from}
 use Rattle.relax_edges.proofs.relax_list.keep_items.Given as goal
 
