@@ -1,7 +1,7 @@
 -- Items are kept one after another.
 use Rattle.std.specs.Prelude.{ℕ, ◌≡◌, ◌<◌, ◌≤◌, ◌+◌, ◌-◌, Bool, true, false, Some, Result, Ok, Err, List, [], ◌∷◌, ◌++◌, length, map, take, drop}
 use Rattle.std.specs.List.{list_any}
-use Rattle.std.proofs.Common.{suc, refl, arith, ap, subst, sym, ◌∙◌}
+use Rattle.std.proofs.Common.{suc, refl, arith, subst, ◌∙◌}
 use Rattle.std.proofs.{Math.ListN.drop_of_length-le, lemmas.List.drop-drop, lemmas.Bool.lt-ltb, lemmas.Bool.le-ltb}
 use Rattle.list_laws.specs.Errors.{unless}
 use Rattle.list_laws.proofs.Elements.{rest_from}

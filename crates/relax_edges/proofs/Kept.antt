@@ -1,7 +1,7 @@
 -- A relaxation is kept at its first place, while there is room.
 use Rattle.std.specs.Prelude.{ℕ, ◌≡◌, ◌<◌, ◌≤◌, ◌==◌, ◌&&◌, Bool, true, false, Ok, Err, List, [], ◌∷◌, ◌++◌, length}
 use Rattle.std.specs.{List.list_any, Cmp.both_ways}
-use Rattle.std.proofs.Common.{refl, arith, ap, sym, ◌∙◌}
+use Rattle.std.proofs.Common.{refl, arith, ap, sym}
 use Rattle.std.proofs.lemmas.Bool.{lt-ltb, eq-eqb, eqb-true, false≢true}
 use Rattle.std.proofs.lemmas.List.{length-append}
 use Rattle.relax_edges.specs.declared.{edge.Edge.Edge, relax_error.RelaxKind.TheVariants.TooManyRelaxes}

@@ -1,7 +1,7 @@
 -- The item that a text begins with, by the places of brackets and of the ends of words.
 use Rattle.std.specs.Prelude.{ℕ, ◌≡◌, ◌<◌, ◌≤◌, ◌+◌, ◌==◌, ◌||◌, Bool, true, false, not, Some, None, Ok, Err, List, [], ◌∷◌, length, take}
 use Rattle.std.specs.List.{before_first, position_or_len}
-use Rattle.std.proofs.Common.{get_or, refl, arith, ap, sym, ◌∙◌}
+use Rattle.std.proofs.Common.{get_or, refl, arith, ap, sym}
 use Rattle.std.proofs.{lemmas.Bool.eqb-true, lemmas.Bool.false≢true, lemmas.List.length-take, lemmas.List.Folds.length-prefix_len}
 use Rattle.std.proofs.{Math.ListN.get_or-eq_default}
 use Rattle.relax_edges.specs.RelaxText.{is_separator, is_bracket, ends_word, words_of, inside, has_closed_bracket, bracket_words, words_from}

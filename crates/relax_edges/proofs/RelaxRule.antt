@@ -4,7 +4,7 @@ use Rattle.std.specs.List.{list_any, flat_map}
 use Rattle.std.proofs.Common.{refl, arith, ap, sym, ◌∙◌, append_assoc}
 use Rattle.std.proofs.lemmas.{Bool.eqb-true, List.append-nil, List.Folds.list_any-append, Grind.flat_map-append}
 use Rattle.list_laws.specs.Errors.{with_before, unless}
-use Rattle.list_laws.proofs.{Cases.by_test, Errors.before_append}
+use Rattle.list_laws.proofs.{Errors.before_append}
 use Rattle.relax_edges.specs.declared.{edge.Edge.Edge, relax_error.RelaxKind.RelaxKind, relax_error.RelaxError.RelaxError}
 use Rattle.relax_edges.specs.{RelaxText.RelaxItem, RelaxText.items_of, RelaxKept.keep_path, RelaxKept.keep_all, RelaxKept.kept_item, RelaxKept.kept_items}
 use Rattle.relax_edges.specs.Relaxations.{is_same, if_new, distinct, item_paths, relaxes_in, item_errors, too_many, errors_of, relaxes_of}
@@ -21,7 +21,7 @@ any_through a b (path ∷ paths) same = cc (same_through a b path same, any_thro
 -- a path is among some paths exactly where it is among them once those that are not new are left out
 any_new : (path : List Edge) (before paths : List (List Edge))
     → (list_any (is_same path) before || list_any (is_same path) (flat_map if_new (with_before before paths)))
-      ≡ (list_any (is_same path) before || list_any (is_same path) paths)
+    ≡ (list_any (is_same path) before || list_any (is_same path) paths)
 any_new path before [] = refl
 any_new path before (first ∷ paths) =
     grind (arith, (any_new path (before ++ first ∷ []) paths), (list_any-append (is_same path) before (first ∷ [])), (any_through path first before))

@@ -1,5 +1,5 @@
 -- A word names the edges that its last two bytes choose.
-use Rattle.std.specs.Prelude.{ℕ, ◌≡◌, ◌<◌, ◌≤◌, ◌-◌, ◌==◌, ◌&&◌, true, false, cond, take, Option, Some, None, List, [], ◌∷◌, ◌++◌, length, map, codes}
+use Rattle.std.specs.Prelude.{ℕ, ◌≡◌, ◌<◌, ◌≤◌, ◌-◌, ◌==◌, ◌&&◌, true, cond, take, Option, Some, None, List, [], ◌∷◌, ◌++◌, length, map, codes}
 use Rattle.std.specs.{List.flat_map, List.filter_map, List.cons_option, Option.option_to_list}
 use Rattle.std.proofs.Common.{suc, get_or, refl, arith, ap, sym, ◌∙◌}
 use Rattle.std.proofs.{lemmas.Bool.le-ltb, Math.Seq.drop-cons, Math.ListN.drop_of_length-le, lemmas.List.Elements.filter_map-append}

@@ -1,6 +1,7 @@
--- The relaxations of a text: the edges that its words name, the choices that join, and the refusals.
+-- The relaxations of a text: the edges that its words name, the choices that join, each once, and the errors.
 -- Source: the diy part of the herdtools manual, option `-relax`.
-use Rattle.std.specs.Prelude.{ℕ, ◌≡◌, ◌<◌, ◌≤◌, ◌==◌, ◌&&◌, Bool, true, false, not, cond, nat_lt, Option, Some, None, Result, List, [], ◌∷◌, ◌++◌, length, filter, map, codes}
+use Rattle.std.specs.Prelude.{ℕ, ◌≡◌, ◌<◌, ◌≤◌, ◌==◌, ◌&&◌, Bool, true, not, cond, nat_lt, Option, Some, None, Result, List, [], ◌∷◌, ◌++◌, length, filter}
+use Rattle.std.specs.Prelude.{map, codes}
 use Rattle.std.specs.{List.flat_map, List.filter_map, List.list_any, Cmp.Lexicographic.pointwise}
 use Rattle.list_laws.specs.Errors.{with_before, unless}
 use Rattle.relax_edges.specs.declared.{edge.Edge.Edge, relax_error.RelaxKind.RelaxKind, relax_error.RelaxError.RelaxError}
@@ -29,7 +30,7 @@ path_choices (edges ∷ remainder) = flat_map (λ edge. map (λ path. edge ∷ p
 abbrev pub paths_of : List (List ℕ) → List (List Edge)
 paths_of words = filter is_joined (path_choices (map word_edges words))
 
--- whether two lists of edges are the same: no two edges have one rank
+-- whether two lists of edges are the same, by the ranks of their edges: no two edges have one rank
 abbrev pub is_same : List Edge → List Edge → Bool
 is_same = pointwise (λ a b. rank_of a == rank_of b)
 
@@ -66,11 +67,11 @@ item_paths (Some words) = paths_of words
 abbrev pub relaxes_in : List RelaxItem → List (List Edge)
 relaxes_in items = distinct (flat_map (λ item. item_paths item.words) items)
 
--- an error, where this is so
+-- an error where this is so, and else none
 abbrev pub error_if : Bool → RelaxKind → List RelaxKind
-error_if wrong kind = cond wrong (kind ∷ []) []
+error_if this kind = cond this (kind ∷ []) []
 
--- the errors of an item by itself: its bracket is bad, or else a word of it names no edge, it has more than 8 words, it has no path
+-- the errors of an item by itself: its bracket is bad, or else a word of it names no edge, it has more than 8 words, or it has no path
 unfoldable pub item_errors : Option (List (List ℕ)) → List RelaxKind
 item_errors None = BadBracket ∷ []
 item_errors (Some words) =
@@ -78,15 +79,15 @@ item_errors (Some words) =
     ++ error_if (nat_lt 8 (length words)) RelaxTooLong
     ++ error_if (is_empty (paths_of words)) DoesNotJoin
 
--- the error of some relaxations, if they are more than 64
+-- the error of more than 64 relaxations
 abbrev pub too_many : List (List Edge) → List RelaxKind
 too_many relaxes = error_if (nat_lt 64 (length relaxes)) TooManyRelaxes
 
--- the errors of an item after others: its own, and that up to it there are too many relaxations
+-- the errors of an item after those before it: its own, and that there are too many relaxations up to it
 abbrev pub errors_of : List RelaxItem × RelaxItem → List RelaxError
 errors_of (before, item) =
     map (λ kind. record { at = item.start; kind = kind }) (item_errors item.words ++ too_many (relaxes_in (before ++ item ∷ [])))
 
--- the relaxations of a text, or the first error of its items
+-- the relaxations of a text, those of its items, or the first of their errors
 unfoldable pub relaxes_of : List ℕ → Result (List (List Edge)) RelaxError
 relaxes_of text = unless (flat_map errors_of (with_before [] (items_of text))) (relaxes_in (items_of text))
