@@ -1,10 +1,10 @@
 -- The fences that a text of a given length may name.
-use Rattle.std.specs.Prelude.{ℕ, ◌≡◌, ◌<◌, ◌∷◌, [], List, length, Some, None, cond, codes}
+use Rattle.std.specs.Prelude.{ℕ, ◌≡◌, ◌∷◌, [], Some, None, cond, codes}
 use Rattle.std.specs.Str.{bytes_eq}
-use Rattle.std.proofs.{Common.refl, Common.arith, Math.Bool.and-false}
+use Rattle.std.proofs.{Math.Bool.and-false}
 use Rattle.list_laws.proofs.Elements.{option_or-none}
 use Rattle.relax_edges.specs.declared.kinds.FenceKind.TheVariants as fences
-use Rattle.relax_edges.specs.WordReading.{fence_named, riscv_fence_named}
+use Rattle.relax_edges.specs.WordReading.{fence_named}
 
 -- three bytes name no fence but `DMB`
 pub fence_of_three : (a b d : ℕ) → fence_named (a ∷ b ∷ d ∷ []) ≡ cond (bytes_eq (a ∷ b ∷ d ∷ []) (codes "DMB")) (Some fences.Dmb) None
@@ -28,21 +28,3 @@ pub fence_of_six : (a b d e f g : ℕ) → fence_named (a ∷ b ∷ d ∷ e ∷ 
     (cond (bytes_eq (a ∷ b ∷ d ∷ e ∷ f ∷ g ∷ []) (codes "DMB.LD")) (Some fences.DmbLd)
     (cond (bytes_eq (a ∷ b ∷ d ∷ e ∷ f ∷ g ∷ []) (codes "DMB.ST")) (Some fences.DmbSt) None))))
 fence_of_six a b d e f g = simp (and-false, option_or-none)
-
--- fewer bytes name no fence but one of RISC-V
-pub short_fence : (text : List ℕ) → length text < 3 → fence_named text ≡ riscv_fence_named text
-short_fence [] short = refl
-short_fence (a ∷ []) short = simp and-false
-short_fence (a ∷ b ∷ []) short = simp and-false
-short_fence (a ∷ b ∷ d ∷ text) short = absurd (omega arith)
-
--- and more bytes name none but one of RISC-V
-pub long_fence : (text : List ℕ) → 6 < length text → fence_named text ≡ riscv_fence_named text
-long_fence [] long = absurd (omega arith)
-long_fence (a ∷ []) long = absurd (omega arith)
-long_fence (a ∷ b ∷ []) long = absurd (omega arith)
-long_fence (a ∷ b ∷ d ∷ []) long = absurd (omega arith)
-long_fence (a ∷ b ∷ d ∷ e ∷ []) long = absurd (omega arith)
-long_fence (a ∷ b ∷ d ∷ e ∷ f ∷ []) long = absurd (omega arith)
-long_fence (a ∷ b ∷ d ∷ e ∷ f ∷ g ∷ []) long = absurd (omega arith)
-long_fence (a ∷ b ∷ d ∷ e ∷ f ∷ g ∷ h ∷ text) long = simp and-false

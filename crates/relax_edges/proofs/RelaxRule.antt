@@ -10,6 +10,7 @@ use Rattle.relax_edges.specs.{RelaxText.RelaxItem, RelaxText.items_of, RelaxKept
 use Rattle.relax_edges.specs.Relaxations.{is_same, if_new, distinct, item_paths, relaxes_in, item_errors, too_many, errors_of, relaxes_of}
 use Rattle.relax_edges.proofs.{Search.flat_map-end, ItemScan.kept_one, ItemScan.refused_one}
 
+-- a list of edges that is the same as another is the same as what that other is
 same_through : (a b c : List Edge) → is_same a b ≡ true → is_same a c ≡ is_same b c
 same_through (x ∷ a) (y ∷ b) (z ∷ c) same = grind (arith, (same_through a b c), eqb-true)
 same_through a b c same = grind arith
@@ -18,7 +19,7 @@ any_through : (a b : List Edge) (paths : List (List Edge)) → is_same a b ≡ t
 any_through a b [] same = refl
 any_through a b (path ∷ paths) same = cc (same_through a b path same, any_through a b paths same)
 
--- a path is among some paths exactly where it is among them once those that are not new are left out
+-- a path is among some paths exactly where it is among those of them that are new
 any_new : (path : List Edge) (before paths : List (List Edge))
     → (list_any (is_same path) before || list_any (is_same path) (flat_map if_new (with_before before paths)))
     ≡ (list_any (is_same path) before || list_any (is_same path) paths)
@@ -26,19 +27,19 @@ any_new path before [] = refl
 any_new path before (first ∷ paths) =
     grind (arith, (any_new path (before ++ first ∷ []) paths), (list_any-append (is_same path) before (first ∷ [])), (any_through path first before))
 
--- one path more is kept
+-- with one path more, each once: that path is kept
 distinct_end : (paths : List (List Edge)) (path : List Edge) → distinct (paths ++ path ∷ []) ≡ keep_path (distinct paths) path
 unfolding distinct
 distinct_end paths path = grind (arith, (any_new path [] paths), (before_append [] paths (path ∷ [])), flat_map-append, append-nil)
 
--- more paths are kept
+-- with more paths, each once: those are kept one after another
 distinct_append : (before paths : List (List Edge)) → keep_all (distinct before) paths ≡ distinct (before ++ paths)
 distinct_append before [] = ap distinct (sym (append-nil before))
 distinct_append before (path ∷ paths) =
     ap (λ kept. keep_all kept paths) (sym (distinct_end before path)) ∙ distinct_append (before ++ path ∷ []) paths
     ∙ ap distinct (append_assoc before (path ∷ []) paths)
 
--- an item after others
+-- what is kept after an item, by the items before it
 kept_item_after : (before : List RelaxItem) (item : RelaxItem) → kept_item (relaxes_in before) item.words
     ≡ unless (item_errors item.words ++ too_many (relaxes_in (before ++ item ∷ []))) (relaxes_in (before ++ item ∷ []))
 unfolding kept_item
@@ -47,13 +48,14 @@ kept_item_after before item =
     (distinct_append (flat_map (λ i. item_paths i.words) before) (item_paths item.words)
     ∙ ap distinct (sym (flat_map-end (λ (i : RelaxItem). item_paths i.words) before item)))
 
--- an item before others, by its errors
+-- what is kept after an item and others, by the item's errors
 kept_before : (kept more all : List (List Edge)) (item : RelaxItem) (items : List RelaxItem) (kinds : List RelaxKind) (errors : List RelaxError)
     → kept_item kept item.words ≡ unless kinds more → kept_items more items ≡ unless errors all
     → kept_items kept (item ∷ items) ≡ unless (map (λ kind. record { at = item.start; kind = kind }) kinds ++ errors) all
 kept_before kept more all item items [] errors is others = kept_one kept more item items is ∙ others
 kept_before kept more all item items (kind ∷ kinds) errors is others = refused_one kept kind item items is
 
+-- what is kept after items, by the items before them
 kept_after : (before items : List RelaxItem)
     → kept_items (relaxes_in before) items ≡ unless (flat_map errors_of (with_before before items)) (relaxes_in (before ++ items))
 unfolding kept_items

@@ -83,7 +83,7 @@ item_errors (Some words) =
 abbrev pub too_many : List (List Edge) → List RelaxKind
 too_many relaxes = error_if (nat_lt 64 (length relaxes)) TooManyRelaxes
 
--- the errors of an item after those before it: its own, and that there are too many relaxations up to it
+-- the errors of an item, by the items before it: its own, then that the items up to it have too many relaxations
 abbrev pub errors_of : List RelaxItem × RelaxItem → List RelaxError
 errors_of (before, item) =
     map (λ kind. record { at = item.start; kind = kind }) (item_errors item.words ++ too_many (relaxes_in (before ++ item ∷ [])))
