@@ -1,13 +1,11 @@
 -- A relaxation is kept at its first place, while there is room.
-use Rattle.std.specs.Prelude.{ℕ, ◌≡◌, ◌<◌, ◌≤◌, ◌==◌, ◌&&◌, Bool, true, false, Ok, Err, List, [], ◌∷◌, ◌++◌, length}
+use Rattle.std.specs.Prelude.{◌≡◌, ◌<◌, ◌≤◌, Bool, true, false, Ok, Err, List, [], ◌∷◌, ◌++◌, length}
 use Rattle.std.specs.{List.list_any, Cmp.both_ways}
-use Rattle.std.proofs.Common.{refl, arith, ap, sym}
-use Rattle.std.proofs.lemmas.Bool.{lt-ltb, eq-eqb, eqb-true, false≢true}
-use Rattle.std.proofs.lemmas.List.{length-append}
+use Rattle.std.proofs.Common.{◌↔◌, IsTrue, refl, arith, sym}
+use Rattle.std.proofs.lemmas.{Bool.lt-ltb, Bool.false≢true, List.length-append, List.Folds.list_any-append, Slice.Eq.slice_eq-Decides}
 use Rattle.relax_edges.specs.declared.{edge.Edge.Edge, relax_error.RelaxKind.TheVariants.TooManyRelaxes}
-use Rattle.relax_edges.specs.Order.{rank_of}
 use Rattle.relax_edges.specs.{Relaxations.is_same, Relaxations.are_distinct_paths, Relaxations.IsRelaxes, RelaxKept.keep_path, RelaxKept.at_most_64}
-use Rattle.relax_edges.proofs.Paths.{at_most_64-ok}
+use Rattle.relax_edges.proofs.{Paths.at_most_64-ok, Ranks.rank_decides}
 
 -- a relaxation that is in the list already leaves it as it is
 pub keep_there : (kept : List (List Edge)) (path : List Edge) → IsRelaxes kept → list_any (is_same path) kept ≡ true → at_most_64 (keep_path kept path) ≡ Ok kept
@@ -21,21 +19,19 @@ keep_full kept path new full = grind (arith, lt-ltb, length-append)
 pub keep_room : (kept : List (List Edge)) (path : List Edge) → list_any (is_same path) kept ≡ false → length kept < 64 → at_most_64 (keep_path kept path) ≡ Ok (kept ++ path ∷ [])
 keep_room kept path new room = grind (arith, at_most_64-ok, length-append)
 
-rank_turned : (m n : ℕ) → (m == n) ≡ (n == m)
-rank_turned m n = both_ways (m == n) (n == m) (λ t. eq-eqb n m (sym (eqb-true m n t))) (λ t. eq-eqb m n (sym (eqb-true n m t)))
+-- the test of two lists of edges decides whether they are equal
+pub same_decides : (a b : List Edge) → IsTrue (is_same a b) ↔ (a ≡ b)
+same_decides a b = slice_eq-Decides rank_decides a b (is_same a b) refl
 
 -- whether two lists of edges are the same doesn't depend on their order
 same_turned : (a b : List Edge) → is_same a b ≡ is_same b a
-same_turned (x ∷ a) (y ∷ b) = rw (rank_turned (rank_of x) (rank_of y)) (ap (λ t. (rank_of y == rank_of x) && t) (same_turned a b))
-same_turned a b = grind arith
-
-any_end : (test : List Edge → Bool) (paths : List (List Edge)) (path : List Edge) → list_any test paths ≡ false → test path ≡ false → list_any test (paths ++ path ∷ []) ≡ false
-any_end test [] path none f = rw f refl
-any_end test (first ∷ paths) path none f = grind (arith, (any_end test paths path))
+same_turned a b =
+    both_ways (is_same a b) (is_same b a)
+    (λ t. (same_decides b a).1 (sym ((same_decides a b).0 t))) (λ t. (same_decides a b).1 (sym ((same_decides b a).0 t)))
 
 distinct_end : (kept : List (List Edge)) (path : List Edge) → are_distinct_paths kept ≡ true → list_any (is_same path) kept ≡ false → are_distinct_paths (kept ++ path ∷ []) ≡ true
 distinct_end [] path distinct new = refl
-distinct_end (first ∷ kept) path distinct new = grind (arith, (distinct_end kept path), false≢true, any_end, same_turned)
+distinct_end (first ∷ kept) path distinct new = grind (arith, (distinct_end kept path), false≢true, list_any-append, same_turned)
 
 -- a list of relaxations with a new one at its end is a list of relaxations
 pub relaxes_end : (kept : List (List Edge)) (path : List Edge) → IsRelaxes kept → list_any (is_same path) kept ≡ false → length kept < 64 → IsRelaxes (kept ++ path ∷ [])

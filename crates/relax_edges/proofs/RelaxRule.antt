@@ -1,23 +1,14 @@
 -- The relaxations of a text are those that are kept item by item.
-use Rattle.std.specs.Prelude.{ℕ, ◌≡◌, ◌||◌, true, Ok, List, [], ◌∷◌, ◌++◌, map}
+use Rattle.std.specs.Prelude.{ℕ, ◌≡◌, ◌||◌, Ok, List, [], ◌∷◌, ◌++◌, map}
 use Rattle.std.specs.List.{list_any, flat_map}
 use Rattle.std.proofs.Common.{refl, arith, ap, sym, ◌∙◌, append_assoc}
-use Rattle.std.proofs.lemmas.{Bool.eqb-true, List.append-nil, List.Folds.list_any-append, Grind.flat_map-append}
+use Rattle.std.proofs.lemmas.{List.append-nil, List.Folds.list_any-append, Grind.flat_map-append}
 use Rattle.list_laws.specs.Errors.{with_before, unless}
 use Rattle.list_laws.proofs.{Errors.before_append}
 use Rattle.relax_edges.specs.declared.{edge.Edge.Edge, relax_error.RelaxKind.RelaxKind, relax_error.RelaxError.RelaxError}
 use Rattle.relax_edges.specs.{RelaxText.RelaxItem, RelaxText.items_of, RelaxKept.keep_path, RelaxKept.keep_all, RelaxKept.kept_item, RelaxKept.kept_items}
 use Rattle.relax_edges.specs.Relaxations.{is_same, if_new, distinct, item_paths, relaxes_in, item_errors, too_many, errors_of, relaxes_of}
-use Rattle.relax_edges.proofs.{Search.flat_map-end, ItemScan.kept_one, ItemScan.refused_one}
-
--- a list of edges that is the same as another is the same as what that other is
-same_through : (a b c : List Edge) → is_same a b ≡ true → is_same a c ≡ is_same b c
-same_through (x ∷ a) (y ∷ b) (z ∷ c) same = grind (arith, (same_through a b c), eqb-true)
-same_through a b c same = grind arith
-
-any_through : (a b : List Edge) (paths : List (List Edge)) → is_same a b ≡ true → list_any (is_same a) paths ≡ list_any (is_same b) paths
-any_through a b [] same = refl
-any_through a b (path ∷ paths) same = cc (same_through a b path same, any_through a b paths same)
+use Rattle.relax_edges.proofs.{Search.flat_map-end, Kept.same_decides, ItemScan.kept_one, ItemScan.refused_one}
 
 -- a path is among some paths exactly where it is among those of them that are new
 any_new : (path : List Edge) (before paths : List (List Edge))
@@ -25,18 +16,18 @@ any_new : (path : List Edge) (before paths : List (List Edge))
     ≡ (list_any (is_same path) before || list_any (is_same path) paths)
 any_new path before [] = refl
 any_new path before (first ∷ paths) =
-    grind (arith, (any_new path (before ++ first ∷ []) paths), (list_any-append (is_same path) before (first ∷ [])), (any_through path first before))
+    grind (arith, (any_new path (before ++ first ∷ []) paths), (list_any-append (is_same path) before (first ∷ [])), ((same_decides path first).0))
 
 -- with one path more, each once: that path is kept
-distinct_end : (paths : List (List Edge)) (path : List Edge) → distinct (paths ++ path ∷ []) ≡ keep_path (distinct paths) path
+distinct_more : (paths : List (List Edge)) (path : List Edge) → distinct (paths ++ path ∷ []) ≡ keep_path (distinct paths) path
 unfolding distinct
-distinct_end paths path = grind (arith, (any_new path [] paths), (before_append [] paths (path ∷ [])), flat_map-append, append-nil)
+distinct_more paths path = grind (arith, (any_new path [] paths), (before_append [] paths (path ∷ [])), flat_map-append, append-nil)
 
 -- with more paths, each once: those are kept one after another
 distinct_append : (before paths : List (List Edge)) → keep_all (distinct before) paths ≡ distinct (before ++ paths)
 distinct_append before [] = ap distinct (sym (append-nil before))
 distinct_append before (path ∷ paths) =
-    ap (λ kept. keep_all kept paths) (sym (distinct_end before path)) ∙ distinct_append (before ++ path ∷ []) paths
+    ap (λ kept. keep_all kept paths) (sym (distinct_more before path)) ∙ distinct_append (before ++ path ∷ []) paths
     ∙ ap distinct (append_assoc before (path ∷ []) paths)
 
 -- what is kept after an item, by the items before it
