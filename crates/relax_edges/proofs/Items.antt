@@ -1,14 +1,14 @@
 -- Items are kept one after another.
 use Rattle.std.specs.Prelude.{ℕ, ◌≡◌, ◌<◌, ◌≤◌, ◌+◌, ◌-◌, Bool, true, false, Some, Result, Ok, Err, List, [], ◌∷◌, ◌++◌, length, map, take, drop}
 use Rattle.std.specs.List.{list_any}
-use Rattle.std.proofs.Common.{suc, refl, arith, subst, ◌∙◌}
+use Rattle.std.proofs.Common.{suc, refl, arith}
 use Rattle.std.proofs.{Math.ListN.drop_of_length-le, lemmas.List.drop-drop, lemmas.Bool.lt-ltb, lemmas.Bool.le-ltb}
 use Rattle.list_laws.specs.Errors.{unless}
 use Rattle.list_laws.proofs.Elements.{rest_from}
 use Rattle.relax_edges.specs.declared.{edge.Edge.Edge, relax_error.RelaxKind.RelaxKind, relax_error.RelaxKind.TheVariants.UnknownEdge}
 use Rattle.relax_edges.specs.declared.{relax_error.RelaxKind.TheVariants.RelaxTooLong, relax_error.RelaxKind.TheVariants.DoesNotJoin}
 use Rattle.relax_edges.specs.RelaxText.{is_separator, is_empty, words_from}
-use Rattle.relax_edges.specs.Relaxations.{word_edges, paths_of, error_if, item_errors, too_many}
+use Rattle.relax_edges.specs.Relaxations.{word_edges, error_if, item_errors, too_many}
 use Rattle.relax_edges.specs.RelaxKept.{keep_all, at_most_64, kept_item, kept_items}
 use Rattle.relax_edges.specs.{RelaxSearch.paths_after, RelaxSearch.KeepsPaths, RelaxPrefix.first_word_len, RelaxPrefix.kept_prefix}
 use Rattle.relax_edges.proofs.{ItemScan.items_from, ItemScan.kept_one, Paths.paths_after-nil, Paths.at_most_64-ok}
@@ -30,50 +30,31 @@ abbrev kept_paths : List (List Edge) → List (List Edge) → Result (List (List
 kept_paths kept paths = unless (error_if (is_empty paths) DoesNotJoin ++ too_many (keep_all kept paths)) (keep_all kept paths)
 
 -- of at most eight words, each of which names an edge, the paths are kept
-kept_words_short : (kept : List (List Edge)) (words : List (List ℕ)) → list_any (λ word. is_empty (word_edges word)) words ≡ false → length words ≤ 8
-    → kept_item kept (Some words) ≡ kept_paths kept (paths_of words)
+kept_words_short : (kept : List (List Edge)) (words : List (List ℕ)) (prefix : List Edge)
+    → list_any (λ word. is_empty (word_edges word)) words ≡ false → length words ≤ 8 → prefix ≡ []
+    → kept_item kept (Some words) ≡ kept_paths kept (paths_after prefix (map word_edges words))
 unfolding kept_item item_errors
-kept_words_short kept words known short = rw (known, le-ltb 8 (length words) short) refl
-
-paths_some : (kept paths : List (List Edge)) (new : List (List Edge)) (some : Bool) → some ≡ true → KeepsPaths kept paths new some → kept_paths kept paths ≡ Ok new
-paths_some kept paths new some found a = grind arith
-
-paths_none : (kept paths : List (List Edge)) (new : List (List Edge)) (some : Bool) → some ≡ false → KeepsPaths kept paths new some
-    → kept_paths kept paths ≡ Err DoesNotJoin
-paths_none kept paths new some found a = grind arith
-
-paths_refused : (kept paths : List (List Edge)) (kind : RelaxKind) → length kept ≤ 64 → at_most_64 (keep_all kept paths) ≡ Err kind → kept_paths kept paths ≡ Err kind
-paths_refused kept [] kind few err = grind (arith, at_most_64-ok)
-paths_refused kept (path ∷ paths) kind few err = err
-
--- what holds of the paths that go on after no edge holds of the words' paths
-after_nothing : (P : List (List Edge) → Type 0) (words : List (List ℕ)) (prefix : List Edge) → prefix ≡ []
-    → P (paths_after prefix (map word_edges words)) → P (paths_of words)
-after_nothing P words prefix none h = subst P (paths_after-nil (map word_edges words)) (subst (λ f. P (paths_after f (map word_edges words))) none h)
+kept_words_short kept words prefix known short none =
+    rw (known, le-ltb 8 (length words) short, none, paths_after-nil (map word_edges words)) refl
 
 -- where some choice of the words' edges joins, what their search kept is what the words keep
 pub kept_words_some : (kept : List (List Edge)) (words : List (List ℕ)) (prefix : List Edge) (new : List (List Edge)) (some : Bool)
     → list_any (λ word. is_empty (word_edges word)) words ≡ false → length words ≤ 8 → prefix ≡ [] → some ≡ true
     → KeepsPaths kept (paths_after prefix (map word_edges words)) new some → kept_item kept (Some words) ≡ Ok new
-kept_words_some kept words prefix new some known short none found a =
-    kept_words_short kept words known short
-    ∙ paths_some kept (paths_of words) new some found (after_nothing (λ paths. KeepsPaths kept paths new some) words prefix none a)
+kept_words_some kept words prefix new some known short none found a = grind (arith, (kept_words_short kept words prefix known short none))
 
 -- where no choice of the words' edges joins, the words are refused
 pub kept_words_none : (kept : List (List Edge)) (words : List (List ℕ)) (prefix : List Edge) (new : List (List Edge)) (some : Bool)
     → list_any (λ word. is_empty (word_edges word)) words ≡ false → length words ≤ 8 → prefix ≡ [] → some ≡ false
     → KeepsPaths kept (paths_after prefix (map word_edges words)) new some → kept_item kept (Some words) ≡ Err DoesNotJoin
-kept_words_none kept words prefix new some known short none found a =
-    kept_words_short kept words known short
-    ∙ paths_none kept (paths_of words) new some found (after_nothing (λ paths. KeepsPaths kept paths new some) words prefix none a)
+kept_words_none kept words prefix new some known short none found a = grind (arith, (kept_words_short kept words prefix known short none))
 
 -- where their search is refused for want of room, the words are refused
 pub kept_words_refused : (kept : List (List Edge)) (words : List (List ℕ)) (prefix : List Edge) (kind : RelaxKind)
     → list_any (λ word. is_empty (word_edges word)) words ≡ false → length words ≤ 8 → prefix ≡ [] → length kept ≤ 64
     → at_most_64 (keep_all kept (paths_after prefix (map word_edges words))) ≡ Err kind → kept_item kept (Some words) ≡ Err kind
 kept_words_refused kept words prefix kind known short none few err =
-    kept_words_short kept words known short
-    ∙ paths_refused kept (paths_of words) kind few (after_nothing (λ paths. at_most_64 (keep_all kept paths) ≡ Err kind) words prefix none err)
+    grind (arith, (kept_words_short kept words prefix known short none), (at_most_64-ok kept few))
 
 -- passing bytes is dropping them
 items_passed : (place passed : ℕ) (text : List ℕ) → items_from place passed text ≡ items_from (place + passed) 0 (drop passed text)

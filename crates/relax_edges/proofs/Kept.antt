@@ -1,5 +1,5 @@
 -- A relaxation is kept at its first place, while there is room.
-use Rattle.std.specs.Prelude.{◌≡◌, ◌<◌, ◌≤◌, Bool, true, false, Ok, Err, List, [], ◌∷◌, ◌++◌, length}
+use Rattle.std.specs.Prelude.{◌≡◌, ◌<◌, ◌≤◌, true, false, Ok, Err, List, [], ◌∷◌, ◌++◌, length}
 use Rattle.std.specs.{List.list_any, Cmp.both_ways}
 use Rattle.std.proofs.Common.{◌↔◌, IsTrue, refl, arith, sym}
 use Rattle.std.proofs.lemmas.{Bool.lt-ltb, Bool.false≢true, List.length-append, List.Folds.list_any-append, Slice.Eq.slice_eq-Decides}
