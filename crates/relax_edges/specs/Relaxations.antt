@@ -26,7 +26,7 @@ abbrev pub path_choices : List (List Edge) → List (List Edge)
 path_choices [] = [] ∷ []
 path_choices (edges ∷ remainder) = flat_map (λ edge. map (λ path. edge ∷ path) (path_choices remainder)) edges
 
--- the choices of some words in which neighbours join
+-- the paths of some words: the choices of one edge for each word in which neighbours join
 abbrev pub paths_of : List (List ℕ) → List (List Edge)
 paths_of words = filter is_joined (path_choices (map word_edges words))
 
