@@ -18,7 +18,7 @@ use crate::name::name_of;
 use crate::number::number_to;
 use crate::options::{OptionName, Tool, mode_named};
 use crate::request::{MAX_CHOICES, MAX_TESTS, Source, TestName};
-use crate::usage::{Usage, UsageKind};
+use crate::usage::{Usage, UsageKind, usage_at};
 use cycle_enum::Limits;
 use diy_io::MAX_FOLDER;
 use edge_algebra::{Cycle, cycle};
@@ -139,31 +139,17 @@ impl<'a> Notes<'a> {
     fn take_arch(&mut self, at: usize, value: &str) -> Result<(), Usage>
         ensures { notes_left result (code_notes self.new) ≡ notes_after (code_notes self.old) (arch_said at (arch_of value.now)) }
     {
-        match read_arch(value) {
-            Some(arch) => {
-                self.arch = Some(arch);
-                Ok(())
-            }
-            None => Err(Usage {
-                word: at,
-                kind: UsageKind::UnknownArch,
-            }),
-        }
+        let arch = read_arch(value).ok_or(usage_at(at, UsageKind::UnknownArch))?;
+        self.arch = Some(arch);
+        Ok(())
     }
 
     fn take_name(&mut self, at: usize, value: &str) -> Result<(), Usage>
         ensures { notes_left result (code_notes self.new) ≡ notes_after (code_notes self.old) (name_said at value.now) }
     {
-        match name_of(value) {
-            Some(name) => {
-                self.name = Some(name);
-                Ok(())
-            }
-            None => Err(Usage {
-                word: at,
-                kind: UsageKind::BadName,
-            }),
-        }
+        let name = name_of(value).ok_or(usage_at(at, UsageKind::BadName))?;
+        self.name = Some(name);
+        Ok(())
     }
 
     /// Takes in `-obs` at place `at` with its value, unless `-why` or `-co` comes before it.
@@ -180,16 +166,9 @@ impl<'a> Notes<'a> {
     fn take_mode(&mut self, at: usize, value: &str) -> Result<(), Usage>
         ensures { notes_left result (code_notes self.new) ≡ notes_after (code_notes self.old) (mode_said at (mode_named value.now)) }
     {
-        match mode_named(value) {
-            Some(mode) => {
-                self.mode = Some(mode);
-                Ok(())
-            }
-            None => Err(Usage {
-                word: at,
-                kind: UsageKind::BadMode,
-            }),
-        }
+        let mode = mode_named(value).ok_or(usage_at(at, UsageKind::BadMode))?;
+        self.mode = Some(mode);
+        Ok(())
     }
 
     fn take_relaxes(&mut self, at: usize, value: &str) -> Result<(), Usage>
@@ -201,56 +180,35 @@ impl<'a> Notes<'a> {
                 self.relaxes = Some(relaxes);
                 Ok(())
             }
-            Err(error) => Err(Usage {
-                word: at,
-                kind: relax_usage(error.kind),
-            }),
+            Err(error) => Err(usage_at(at, relax_usage(error.kind))),
         }
     }
 
     fn take_size(&mut self, at: usize, value: &str) -> Result<(), Usage>
         ensures { notes_left result (code_notes self.new) ≡ notes_after (code_notes self.old) (number_said SaysSize at (number_to MAX_EDGES value.now)) }
     {
-        match number_to(MAX_EDGES as u32, value) {
-            Some(size) => {
-                self.limits.size = size as u8;
-                Ok(())
-            }
-            None => Err(Usage {
-                word: at,
-                kind: UsageKind::BadNumber,
-            }),
-        }
+        let size = number_to(MAX_EDGES as u32, value).ok_or(usage_at(at, UsageKind::BadNumber))?;
+        self.limits.size = size as u8;
+        Ok(())
     }
 
     fn take_threads(&mut self, at: usize, value: &str) -> Result<(), Usage>
         ensures { notes_left result (code_notes self.new) ≡ notes_after (code_notes self.old) (number_said SaysThreads at (number_to MAX_EDGES value.now)) }
     {
-        match number_to(MAX_EDGES as u32, value) {
-            Some(threads) => {
-                self.threads = threads as u8;
-                Ok(())
-            }
-            None => Err(Usage {
-                word: at,
-                kind: UsageKind::BadNumber,
-            }),
-        }
+        let threads = number_to(MAX_EDGES as u32, value).ok_or(usage_at(at, UsageKind::BadNumber))?;
+        self.threads = threads as u8;
+        Ok(())
     }
 
     fn take_accesses(&mut self, at: usize, value: &str) -> Result<(), Usage>
         ensures { notes_left result (code_notes self.new) ≡ notes_after (code_notes self.old) (number_said SaysAccesses at (number_to MAX_EDGES value.now)) }
     {
-        match number_to(MAX_EDGES as u32, value) {
-            Some(accesses) => {
-                self.accesses = Some(accesses as u8);
-                Ok(())
-            }
-            None => Err(Usage {
-                word: at,
-                kind: UsageKind::BadNumber,
-            }),
-        }
+        let accesses = number_to(MAX_EDGES as u32, value).ok_or(usage_at(
+            at,
+            UsageKind::BadNumber,
+        ))?;
+        self.accesses = Some(accesses as u8);
+        Ok(())
     }
 
     fn take_after(&mut self, at: usize, value: &str) -> Result<(), Usage>
@@ -268,10 +226,7 @@ impl<'a> Notes<'a> {
                     kind: UsageKind::BadAfter,
                 }),
             },
-            Err(_) => Err(Usage {
-                word: at,
-                kind: UsageKind::UnknownEdge,
-            }),
+            Err(_) => Err(usage_at(at, UsageKind::UnknownEdge)),
         }
     }
 
@@ -290,10 +245,7 @@ impl<'a> Notes<'a> {
         ensures { notes_left result (code_notes self.new) ≡ notes_after (code_notes self.old) (folder_said at value.now) }
     {
         if value.is_empty() || value.len() > MAX_FOLDER {
-            return Err(Usage {
-                word: at,
-                kind: UsageKind::BadFolder,
-            });
+            return Err(usage_at(at, UsageKind::BadFolder));
         }
         self.folder = Some(value);
         Ok(())
@@ -327,10 +279,7 @@ impl<'a> Notes<'a> {
                 self.graph = true;
                 Ok(())
             }
-            _ => Err(Usage {
-                word: at,
-                kind: UsageKind::UnknownOption,
-            }),
+            _ => Err(usage_at(at, UsageKind::UnknownOption)),
         }
     }
 
@@ -383,10 +332,7 @@ impl<'a> Notes<'a> {
     {
         match tool {
             Tool::DiyOne | Tool::Norm => self.take_edges(at, text),
-            Tool::Diy => Err(Usage {
-                word: at,
-                kind: UsageKind::StrayWord,
-            }),
+            Tool::Diy => Err(usage_at(at, UsageKind::StrayWord)),
             Tool::Msum | Tool::Classify => Ok(()),
             Tool::Cross => self.take_place(at, text),
             Tool::Demo => self.take_count(at, text),
@@ -402,10 +348,7 @@ impl<'a> Notes<'a> {
                 self.operand = self.operand.or(Some(at));
                 Ok(())
             }
-            Err(_) => Err(Usage {
-                word: at,
-                kind: UsageKind::UnknownEdge,
-            }),
+            Err(_) => Err(usage_at(at, UsageKind::UnknownEdge)),
         }
     }
 
@@ -419,10 +362,7 @@ impl<'a> Notes<'a> {
                 self.choices = more_choices(self.choices, relaxes.len());
                 Ok(())
             }
-            Err(error) => Err(Usage {
-                word: at,
-                kind: relax_usage(error.kind),
-            }),
+            Err(error) => Err(usage_at(at, relax_usage(error.kind))),
         }
     }
 
@@ -434,10 +374,7 @@ impl<'a> Notes<'a> {
             0 => self.test = Some(at),
             1 => self.execution = Some(at),
             _ => {
-                return Err(Usage {
-                    word: at,
-                    kind: UsageKind::StrayWord,
-                });
+                return Err(usage_at(at, UsageKind::StrayWord));
             }
         }
         self.taken += 1;
@@ -449,10 +386,7 @@ impl<'a> Notes<'a> {
         ensures { notes_left result (code_notes self.new) ≡ notes_after (code_notes self.old) (operand_said tools.Demo self.old.taken at text.now) }
     {
         if self.taken != 0 {
-            return Err(Usage {
-                word: at,
-                kind: UsageKind::StrayWord,
-            });
+            return Err(usage_at(at, UsageKind::StrayWord));
         }
         match number_to(MAX_TESTS, text) {
             Some(count) => {
@@ -460,10 +394,7 @@ impl<'a> Notes<'a> {
                 self.taken += 1;
                 Ok(())
             }
-            None => Err(Usage {
-                word: at,
-                kind: UsageKind::BadNumber,
-            }),
+            None => Err(usage_at(at, UsageKind::BadNumber)),
         }
     }
 }
@@ -503,10 +434,7 @@ fn cycle_of(list: &EdgeList) -> Option<Cycle>
 fn excluded_option(at: usize) -> Usage
     ensures { result ≡ record { word = at; kind = ExcludedOption } }
 {
-    Usage {
-        word: at,
-        kind: UsageKind::ExcludedOption,
-    }
+    usage_at(at, UsageKind::ExcludedOption)
 }
 
 /// What is wrong with an option at place `at` that is the last word.
@@ -514,10 +442,7 @@ pub fn missing_value(tool: Tool, option: OptionName, at: usize) -> Usage
     ensures { (before : Before) → said_by tool before (Unvalued option at) ≡ Err result }
 {
     let _ = (tool, option);
-    Usage {
-        word: at,
-        kind: UsageKind::MissingValue,
-    }
+    usage_at(at, UsageKind::MissingValue)
 }
 
 fn begins_option(text: &[u8]) -> bool

@@ -9,7 +9,7 @@ use crate::options::{OptionName, Tool, option_named, tool_named};
 use crate::request::{
     Check, CheckForm, Coherence, Cross, Demo, Diy, DiyOne, MAX_CHOICES, Norm, Request, Sought, Why,
 };
-use crate::usage::{Usage, UsageKind};
+use crate::usage::{Usage, UsageKind, usage_at};
 use diy_io::{MAX_FOLDER, Words};
 use relax_edges::ObsMode;
 
@@ -27,17 +27,11 @@ pub fn read_request(words: &Words) -> Result<Request<'_>, Usage>
     ensures within { IfOk result (WithinWords (length words.now)) }
 {
     if words.len() == 0 {
-        return Err(Usage {
-            word: 0,
-            kind: UsageKind::UnknownTool,
-        });
+        return Err(usage_at(0, UsageKind::UnknownTool));
     }
     match tool_named(words.get(0)) {
         Some(tool) => read_words(tool, words),
-        None => Err(Usage {
-            word: 0,
-            kind: UsageKind::UnknownTool,
-        }),
+        None => Err(usage_at(0, UsageKind::UnknownTool)),
     }
 }
 
@@ -226,10 +220,7 @@ fn finish_list(count: usize, notes: Notes<'_>) -> Result<Request<'_>, Usage>
         return Err(missing_arch(count));
     };
     let Some(relaxes) = relaxes else {
-        return Err(Usage {
-            word: count,
-            kind: UsageKind::MissingEdges,
-        });
+        return Err(usage_at(count, UsageKind::MissingEdges));
     };
     let request = Diy {
         arch,
@@ -264,10 +255,7 @@ fn finish_cross(count: usize, notes: Notes<'_>) -> Result<Request<'_>, Usage>
         return Err(missing_arch(count));
     };
     if notes.choices > MAX_CHOICES {
-        return Err(Usage {
-            word: count,
-            kind: UsageKind::TooManyChoices,
-        });
+        return Err(usage_at(count, UsageKind::TooManyChoices));
     }
     Ok(Request::Cross(Cross {
         arch,
@@ -284,10 +272,7 @@ fn finish_demo(count: usize, notes: Notes<'_>) -> Result<Request<'_>, Usage>
     };
     match notes.count {
         Some(tests) => Ok(Request::Demo(Demo { arch, count: tests })),
-        None => Err(Usage {
-            word: count,
-            kind: UsageKind::MissingNumber,
-        }),
+        None => Err(usage_at(count, UsageKind::MissingNumber)),
     }
 }
 
@@ -298,10 +283,7 @@ fn finish_check(count: usize, notes: Notes<'_>) -> Result<Request<'_>, Usage>
         return Err(missing_arch(count));
     };
     let (Some(test), Some(execution)) = (notes.test, notes.execution) else {
-        return Err(Usage {
-            word: count,
-            kind: UsageKind::MissingFile,
-        });
+        return Err(usage_at(count, UsageKind::MissingFile));
     };
     let form = if notes.graph {
         CheckForm::Graph
@@ -327,10 +309,7 @@ fn finish_name(count: usize, notes: Notes<'_>) -> Result<Request<'_>, Usage>
         (Some(source), None) => Sought::Named(source),
         (None, Some(_)) => Sought::Edges(notes.edges),
         (Some(_), Some(word)) => {
-            return Err(Usage {
-                word,
-                kind: UsageKind::StrayWord,
-            });
+            return Err(usage_at(word, UsageKind::StrayWord));
         }
     };
     Ok(Request::Name(Norm { arch, cycle }))
@@ -339,18 +318,12 @@ fn finish_name(count: usize, notes: Notes<'_>) -> Result<Request<'_>, Usage>
 fn missing_arch(count: usize) -> Usage
     ensures { result ≡ record { word = count; kind = MissingArch } }
 {
-    Usage {
-        word: count,
-        kind: UsageKind::MissingArch,
-    }
+    usage_at(count, UsageKind::MissingArch)
 }
 
 /// What is wrong where a folder is given and no option that writes files.
 fn missing_why(count: usize) -> Usage
     ensures { result ≡ record { word = count; kind = MissingWhy } }
 {
-    Usage {
-        word: count,
-        kind: UsageKind::MissingWhy,
-    }
+    usage_at(count, UsageKind::MissingWhy)
 }

@@ -1,3 +1,5 @@
+ghost use Rattle.std.specs.Prelude.{◌≡◌};
+
 /// Why words make no request, and the word that shows it. Where no word shows it, `word` is the
 /// number of words.
 #[derive(Clone, Copy, PartialEq, Eq)]
@@ -56,4 +58,11 @@ pub enum UsageKind {
     MissingWhy,
     /// There are more than 65,536 ways to choose a relaxation for each place.
     TooManyChoices,
+}
+
+/// What is wrong with the word that comes after `word` others.
+pub fn usage_at(word: usize, kind: UsageKind) -> Usage
+    ensures { result ≡ record { word = word; kind = kind } }
+{
+    Usage { word, kind }
 }
