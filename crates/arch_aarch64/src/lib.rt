@@ -3,9 +3,7 @@
 
 ghost use Rattle.std.specs.Prelude.{refl};
 ghost use Rattle.relax_edges.specs.declared.kinds.ArchName.TheVariants as archs;
-ghost use Rattle.arch_aarch64.specs.Puts.{puts as a64};
-ghost use Rattle.arch_aarch64.specs.Table.{writing as a64_writing};
-ghost use Rattle.arch_aarch64.specs.Laws.{laws as a64_laws};
+ghost use Rattle.arch_aarch64.specs.{Puts.{puts as a64}, Table.{writing as a64_writing}, Laws.{laws as a64_laws}};
 ghost use Rattle.arch_aarch64.specs.ReadsBack.{reads_back as a64_reads_back, reads_own as a64_reads_own};
 ghost use Rattle.arch_aarch64.specs.InCells.{writes_cells as a64_writes_cells, makes_one_access as a64_makes_one_access};
 

@@ -3,11 +3,8 @@
 
 ghost use Rattle.std.specs.Prelude.{refl};
 ghost use Rattle.relax_edges.specs.declared.kinds.ArchName.TheVariants as archs;
-ghost use Rattle.arch_arm.specs.Puts.{puts as arm};
-ghost use Rattle.arch_arm.specs.Laws.{laws as arm_laws};
-ghost use Rattle.arch_arm.specs.ReadsBack.{reads_back as arm_reads_back, reads_own as arm_reads_own};
-ghost use Rattle.arch_arm.specs.InCells.{writes_cells as arm_writes_cells, makes_one_access as arm_makes_one_access};
-ghost use Rattle.arch_arm.specs.Table.{writing as arm_writing};
+ghost use Rattle.arch_arm.specs.{Puts.{puts as arm}, Laws.{laws as arm_laws}, ReadsBack.{reads_back as arm_reads_back, reads_own as arm_reads_own}};
+ghost use Rattle.arch_arm.specs.{InCells.{writes_cells as arm_writes_cells, makes_one_access as arm_makes_one_access}, Table.{writing as arm_writing}};
 
 mod own;
 mod table;

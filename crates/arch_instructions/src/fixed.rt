@@ -1,5 +1,4 @@
-ghost use Rattle.std.specs.Prelude.{◌≡◌, ◌<◌, ◌≤◌, ◌+◌, ◌++◌, ◌∷◌, Some, None, true, cond, length};
-ghost use Rattle.std.specs.List.{list_all};
+ghost use Rattle.std.specs.{Prelude.{◌≡◌, ◌<◌, ◌≤◌, ◌+◌, ◌++◌, ◌∷◌, Some, None, true, cond, length}, List.{list_all}};
 ghost use Rattle.arch_instructions.specs.FixedTexts.{text_around, barrier_text, fixed_text, has_room, is_short, have_room};
 
 use crate::operands::barrier_number;

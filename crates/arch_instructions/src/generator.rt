@@ -1,10 +1,8 @@
 ghost use Rattle.std.specs.Prelude.{◌≡◌, ◌≤◌, ◌+◌, ◌++◌, ◌∷◌, [], Some, None, cond, is_some, false};
 ghost use Rattle.arrayvec.specs.ArrayVec.{array_vec_len};
 ghost use Rattle.micro_ops.specs.declared.operation.Micro.TheVariants as ops;
-ghost use Rattle.arch_trait.specs.Addressed.{link_code, puts_of, store_on, load_op, store_op, load_through, store_through};
-ghost use Rattle.arch_trait.specs.Laws.{link_room, access_room};
-ghost use Rattle.arch_trait.specs.Links.{is_data};
-ghost use Rattle.arch_trait.specs.Taking.{took, with_address};
+ghost use Rattle.arch_trait.specs.{Addressed.{link_code, puts_of, store_on, load_op, store_op, load_through, store_through}, Laws.{link_room, access_room}};
+ghost use Rattle.arch_trait.specs.{Links.{is_data}, Taking.{took, with_address}};
 
 use crate::own::OwnInstructions;
 use arch_trait::{AskedAccess, Instrs, Link, MAX_INSTRS, Regs, Shape};

@@ -1,5 +1,4 @@
-ghost use Rattle.std.specs.Prelude.{◌≡◌, map};
-ghost use Rattle.std.specs.List.{list_any};
+ghost use Rattle.std.specs.{Prelude.{◌≡◌, map}, List.{list_any}};
 ghost use Rattle.arch_instructions_laws.specs.Tables.{form_seen, table_seen, does, table_has};
 ghost use Rattle.arch_instructions.specs.Printing.{op_sort};
 

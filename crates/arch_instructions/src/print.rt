@@ -1,5 +1,4 @@
-ghost use Rattle.std.specs.Prelude.{◌≡◌, ◌<◌, ◌≤◌, ◌++◌, [], true, false, map, length};
-ghost use Rattle.std.specs.List.{list_any};
+ghost use Rattle.std.specs.{Prelude.{◌≡◌, ◌<◌, ◌≤◌, ◌++◌, [], true, false, map, length}, List.{list_any}};
 ghost use Rattle.arch_trait.specs.Writing.{written_text, name_in, place_below, label_below};
 ghost use Rattle.arch_instructions_laws.specs.Tables.{piece_seen, form_seen, table_seen, piece_text, does, operands_fit, fits_first, table_has, hole_filled, first_written, table_written};
 ghost use Rattle.arch_instructions_laws.specs.ClearTables.{is_clear, is_form_good};

@@ -3,11 +3,8 @@
 
 ghost use Rattle.std.specs.Prelude.{refl};
 ghost use Rattle.relax_edges.specs.declared.kinds.ArchName.TheVariants as archs;
-ghost use Rattle.arch_power.specs.Puts.{puts as power};
-ghost use Rattle.arch_power.specs.Laws.{laws as power_laws};
-ghost use Rattle.arch_power.specs.ReadsBack.{reads_back as power_reads_back, reads_own as power_reads_own};
-ghost use Rattle.arch_power.specs.InCells.{writes_cells as power_writes_cells, makes_one_access as power_makes_one_access};
-ghost use Rattle.arch_power.specs.Table.{writing as power_writing};
+ghost use Rattle.arch_power.specs.{Puts.{puts as power}, Laws.{laws as power_laws}, ReadsBack.{reads_back as power_reads_back, reads_own as power_reads_own}};
+ghost use Rattle.arch_power.specs.{InCells.{writes_cells as power_writes_cells, makes_one_access as power_makes_one_access}, Table.{writing as power_writing}};
 
 mod own;
 mod table;

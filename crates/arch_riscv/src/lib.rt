@@ -3,9 +3,7 @@
 
 ghost use Rattle.std.specs.Prelude.{refl};
 ghost use Rattle.relax_edges.specs.declared.kinds.ArchName.TheVariants as archs;
-ghost use Rattle.arch_riscv.specs.Puts.{puts as riscv};
-ghost use Rattle.arch_riscv.specs.Table.{writing as riscv_writing};
-ghost use Rattle.arch_riscv.specs.Laws.{laws as riscv_laws};
+ghost use Rattle.arch_riscv.specs.{Puts.{puts as riscv}, Table.{writing as riscv_writing}, Laws.{laws as riscv_laws}};
 ghost use Rattle.arch_riscv.specs.ReadsBack.{reads_back as riscv_reads_back, reads_own as riscv_reads_own};
 ghost use Rattle.arch_riscv.specs.InCells.{writes_cells as riscv_writes_cells, makes_one_access as riscv_makes_one_access};
 

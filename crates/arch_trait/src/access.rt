@@ -1,6 +1,5 @@
 ghost use Rattle.std.specs.Prelude.{◌≡◌, ◌≤◌, ◌+◌};
-ghost use Rattle.arch_trait.specs.Links.{is_addr, is_data, source_if};
-ghost use Rattle.arch_trait.specs.Taking.{took, address_of, with_address};
+ghost use Rattle.arch_trait.specs.{Links.{is_addr, is_data, source_if}, Taking.{took, address_of, with_address}};
 
 use crate::link::Link;
 use crate::regs::Regs;

@@ -1,16 +1,10 @@
 ghost use Rattle.std.specs.Prelude.{◌≡◌, ◌<◌, ◌≤◌, ◌+◌, ◌++◌, ℕ, true, false, is_some, length};
 ghost use Rattle.arrayvec.specs.ArrayVec.{array_vec_len};
-ghost use Rattle.relax_edges.specs.declared.kinds.ArchName.{ArchName as TheName};
-ghost use Rattle.arch_trait.specs.Links.{link_is_of, depends_on_load, is_data};
-ghost use Rattle.arch_trait.specs.Threads.{Puts};
-ghost use Rattle.arch_trait.specs.Laws.{link_room, access_room, IsArch};
-ghost use Rattle.arch_trait.specs.PlaceNames.{number_in};
-ghost use Rattle.arch_trait.specs.Writing.{Writing, WritesBack, op_text, name_in, place_below, label_below};
-ghost use Rattle.arch_trait.specs.InstructionReading.{instr_read, ReadsOwn};
-ghost use Rattle.arch_trait.specs.InstructionPieces.{operand_texts, raw_seen, ReadsPieces};
-ghost use Rattle.arch_trait.specs.Cells.{WritesCells, MakesOneAccess};
+ghost use Rattle.relax_edges.specs.{declared.kinds.ArchName.{ArchName as TheName}, EdgeTable.{is_of_arch, mark_fits, mark_is_of}};
+ghost use Rattle.arch_trait.specs.{Links.{link_is_of, depends_on_load, is_data}, Threads.{Puts}, Laws.{link_room, access_room, IsArch}, PlaceNames.{number_in}};
+ghost use Rattle.arch_trait.specs.{Writing.{Writing, WritesBack, op_text, name_in, place_below, label_below}, InstructionReading.{instr_read, ReadsOwn}};
+ghost use Rattle.arch_trait.specs.{InstructionPieces.{operand_texts, raw_seen, ReadsPieces}, Cells.{WritesCells, MakesOneAccess}};
 ghost use Rattle.relax_edges.specs.declared.kinds.Dir.TheVariants as dirs;
-ghost use Rattle.relax_edges.specs.EdgeTable.{is_of_arch, mark_fits, mark_is_of};
 
 use crate::access::AskedAccess;
 use crate::cells::{read_cell, register_named};

@@ -1,8 +1,5 @@
-ghost use Rattle.std.specs.Prelude.{◌≡◌, ◌<◌, ◌≤◌, ℕ, List, true, length};
-ghost use Rattle.std.specs.Str.{bytes_eq};
-ghost use Rattle.arch_trait.specs.PlaceNames.{number_in};
-ghost use Rattle.arch_trait.specs.InstructionReading.{instr_read, read_numbered};
-ghost use Rattle.arch_trait.specs.InstructionPieces.{ReadsPieces, name_seen};
+ghost use Rattle.std.specs.{Prelude.{◌≡◌, ◌<◌, ◌≤◌, ℕ, List, true, length}, Str.{bytes_eq}};
+ghost use Rattle.arch_trait.specs.{PlaceNames.{number_in}, InstructionReading.{instr_read, read_numbered}, InstructionPieces.{ReadsPieces, name_seen}};
 ghost use Rattle.arch_trait.specs.Writing.{place, label, with_number};
 
 use crate::arch::Arch;

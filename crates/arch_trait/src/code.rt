@@ -1,8 +1,7 @@
 ghost use Rattle.std.specs.Prelude.{◌≡◌, ◌<◌, ◌≤◌, ◌+◌, ◌++◌, [], ◌↔◌, true, false, cond, length, is_some, IfOk, OnOk, OnErr, IsErr};
 ghost use Rattle.arrayvec.specs.ArrayVec.{array_vec_len};
 ghost use Rattle.relax_edges.specs.EdgeTable.{mark_fits, mark_is_of};
-ghost use Rattle.arch_trait.specs.Links.{depends_on_load, branches, is_data, link_is_of};
-ghost use Rattle.arch_trait.specs.Laws.{access_room};
+ghost use Rattle.arch_trait.specs.{Links.{depends_on_load, branches, is_data, link_is_of}, Laws.{access_room}};
 ghost use Rattle.arch_trait.specs.Threads.{FitStep, FitSteps, compiled, shape_of, setting_out, from_of, put_of, filled_by, way_seen, further, step_code, next_filled, put_before, thread_code, thread_regs, thread_loads};
 ghost use Rattle.arch_trait.specs.Codes.{thread_code_of, MakesSteps, IsFormedCode};
 

@@ -1,7 +1,5 @@
 ghost use Rattle.std.specs.Prelude.{◌≡◌};
-ghost use Rattle.arch_trait.specs.Writing.{immediate_number, label_raw};
-ghost use Rattle.arch_trait.specs.InstructionPieces.{raw_seen, operand_texts};
-ghost use Rattle.arch_trait.specs.Forms.{label_alone};
+ghost use Rattle.arch_trait.specs.{Writing.{immediate_number, label_raw}, InstructionPieces.{raw_seen, operand_texts}, Forms.{label_alone}};
 
 use crate::reading::{Named, Operands, Raw};
 use final_cond::number_of;

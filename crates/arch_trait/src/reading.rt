@@ -1,9 +1,5 @@
-ghost use Rattle.std.specs.Prelude.{◌≡◌, ◌==◌};
-ghost use Rattle.std.specs.List.{position, slice_split};
-ghost use Rattle.arch_trait.specs.InstructionReading.{operands_in};
-ghost use Rattle.arch_trait.specs.InstructionPieces.{operand_texts, name_seen};
-ghost use Rattle.arch_trait.specs.Writing.{nothing};
-ghost use Rattle.arch_trait.specs.OperandCuts.{Cut};
+ghost use Rattle.std.specs.{Prelude.{◌≡◌, ◌==◌}, List.{position, slice_split}};
+ghost use Rattle.arch_trait.specs.{InstructionReading.{operands_in}, InstructionPieces.{operand_texts, name_seen}, Writing.{nothing}, OperandCuts.{Cut}};
 
 use micro_ops::Micro;
 use text_parts::trim_blanks;

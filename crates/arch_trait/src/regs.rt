@@ -1,7 +1,6 @@
 ghost use Rattle.std.specs.Prelude.{◌≡◌, ◌<◌, ◌≤◌, ◌-◌};
 ghost use Rattle.arrayvec.specs.ArrayVec.{array_vec_len};
-ghost use Rattle.arch_trait.specs.Taking.{Taken, untaken, take_next, address_in, address_of, with_address};
-ghost use Rattle.arch_trait.specs.Registers.{AreWithin};
+ghost use Rattle.arch_trait.specs.{Taking.{Taken, untaken, take_next, address_in, address_of, with_address}, Registers.{AreWithin}};
 
 use crate::step::MAX_STEPS;
 use arrayvec::ArrayVec;

@@ -1,6 +1,5 @@
 ghost use Rattle.std.specs.Prelude.{◌≡◌, ◌≤◌, ◌<◌, ◌+◌, length, not};
-ghost use Rattle.arch_trait.specs.Threads.{shape_of, visits};
-ghost use Rattle.arch_trait.specs.Laws.{shape_grown};
+ghost use Rattle.arch_trait.specs.{Threads.{shape_of, visits}, Laws.{shape_grown}};
 
 use crate::link::Link;
 use crate::step::{MAX_STEPS, Shape, Step};

@@ -1,7 +1,6 @@
 ghost use Rattle.std.specs.Prelude.{◌≡◌, ◌<◌, ◌≤◌, ◌++◌, ◌∷◌, [], ◌↔◌, false, List, length, map, take, IsErr, OnOk, OnErr};
 ghost use Rattle.arrayvec.specs.ArrayVec.{array_vec_len};
-ghost use Rattle.arch_trait.specs.Codes.{thread_code_of, IsFormedCode};
-ghost use Rattle.arch_trait.specs.Threads.{FitSteps, ThreadCode, compiled, shape_of};
+ghost use Rattle.arch_trait.specs.{Codes.{thread_code_of, IsFormedCode}, Threads.{FitSteps, ThreadCode, compiled, shape_of}};
 
 use crate::arch::Arch;
 use crate::code::{Code, TooManyRegisters, compile_into};

@@ -3,9 +3,7 @@
 
 ghost use Rattle.std.specs.Prelude.{refl};
 ghost use Rattle.relax_edges.specs.declared.kinds.ArchName.TheVariants as archs;
-ghost use Rattle.arch_x86.specs.Puts.{puts as x86};
-ghost use Rattle.arch_x86.specs.Laws.{laws as x86_laws};
-ghost use Rattle.arch_x86.specs.Table.{writing as x86_writing};
+ghost use Rattle.arch_x86.specs.{Puts.{puts as x86}, Laws.{laws as x86_laws}, Table.{writing as x86_writing}};
 ghost use Rattle.arch_x86.specs.ReadsBack.{reads_back as x86_reads_back, reads_own as x86_reads_own};
 ghost use Rattle.arch_x86.specs.InCells.{writes_cells as x86_writes_cells, makes_one_access as x86_makes_one_access};
 

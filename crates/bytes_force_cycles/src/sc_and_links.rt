@@ -1,7 +1,6 @@
 //! What printed tests of cycles mean: coherence per location is SC per location, each link may alone be the culprit, and what it means that the outcome never comes.
 
-ghost use Rattle.bytes_force_cycles.specs.ScLaws.{PrintedAreScPerLocation, TestsAreScPerLocation};
-ghost use Rattle.bytes_force_cycles.specs.Links.{ConditionDecides, EachLinkMayBreak};
+ghost use Rattle.bytes_force_cycles.specs.{ScLaws.{PrintedAreScPerLocation, TestsAreScPerLocation}, Links.{ConditionDecides, EachLinkMayBreak}};
 
 use arch_trait::Arch;
 

@@ -1,7 +1,5 @@
-ghost use Rattle.std.specs.Prelude.{◌≡◌, ◌&&◌, ◌≤◌, false, length};
-ghost use Rattle.std.specs.List.{All};
-ghost use Rattle.arch_trait.specs.Threads.{FitSteps};
-ghost use Rattle.arch_trait.specs.Writing.{place_below, label_below};
+ghost use Rattle.std.specs.{Prelude.{◌≡◌, ◌&&◌, ◌≤◌, false, length}, List.{All}};
+ghost use Rattle.arch_trait.specs.{Threads.{FitSteps}, Writing.{place_below, label_below}};
 
 mod aarch64;
 mod arm;

@@ -4,8 +4,7 @@ ghost use Rattle.arch_trait.specs.Writing.{name_in};
 ghost use Rattle.litmus_text.specs.Tests.{test_seen};
 ghost use Rattle.test_maker.specs.Made.{AreOfArch, CanPrint, NamesLocation};
 ghost use Rattle.co_tests_laws.specs.CoherenceTests.{HasCoherenceTest};
-ghost use Rattle.co_tests.specs.Made.{MakesCoherenceTest, MakesSeen, MakesOfArch, MakesTurned};
-ghost use Rattle.co_tests.specs.Shape.{HasShape};
+ghost use Rattle.co_tests.specs.{Made.{MakesCoherenceTest, MakesSeen, MakesOfArch, MakesTurned}, Shape.{HasShape}};
 
 use crate::condition::put_last_term;
 use crate::shape::{cut_of, external_count, has_cut, leads_elsewhere, turn, write_count};

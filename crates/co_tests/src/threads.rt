@@ -1,12 +1,10 @@
 ghost use Rattle.std.specs.Prelude.{◌≡◌, ◌<◌, ◌≤◌, ◌+◌, false, length, map, Some};
 ghost use Rattle.arrayvec.specs.ArrayVec.{array_vec_len};
-ghost use Rattle.arch_trait.specs.Threads.{FitSteps};
-ghost use Rattle.arch_trait.specs.Writing.{name_in};
+ghost use Rattle.arch_trait.specs.{Threads.{FitSteps}, Writing.{name_in}};
 ghost use Rattle.tests_force_cycles.specs.CycleSteps.{numbers_read};
 ghost use Rattle.test_maker.specs.Made.{AreOfArch};
 ghost use Rattle.co_tests_laws.specs.CutResolution.{cut_of};
-ghost use Rattle.co_tests.specs.Shape.{HasShape};
-ghost use Rattle.co_tests.specs.Threads.{PutsThread, PutsThreads};
+ghost use Rattle.co_tests.specs.{Shape.{HasShape}, Threads.{PutsThread, PutsThreads}};
 
 use crate::condition::put_load_terms;
 use crate::steps::step_of;

@@ -2,8 +2,7 @@
 //! edges of a cycle over one location stand, and that execution isn't coherent.
 #![tactic(auto)]
 
-ghost use Rattle.co_tests_laws.specs.Arc.{ValuesCountAlongArc};
-ghost use Rattle.co_tests_laws.specs.Incoherence.{AcceptedHaveTests, PrintedShowIncoherence};
+ghost use Rattle.co_tests_laws.specs.{Arc.{ValuesCountAlongArc}, Incoherence.{AcceptedHaveTests, PrintedShowIncoherence}};
 
 use arch_trait::Arch;
 

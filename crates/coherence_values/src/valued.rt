@@ -1,6 +1,5 @@
 ghost use Rattle.std.specs.Prelude.{◌≡◌, ◌+◌, ◌-◌, ◌<◌, ◌≤◌, ◌==◌, ◌&&◌, true, [], length, Some};
-ghost use Rattle.relax_edges.specs.EdgeTable.{is_diff};
-ghost use Rattle.relax_edges.specs.declared.kinds.ObsMode.TheVariants.{Avoid};
+ghost use Rattle.relax_edges.specs.{EdgeTable.{is_diff}, declared.kinds.ObsMode.TheVariants.{Avoid}};
 ghost use Rattle.cycle_events.specs.Resolution.{edge_at, move_count, moves_before, IsResolved};
 ghost use Rattle.cycle_events.specs.Values.{value_of, write_count, write_at, is_write_at, is_observed, valuation_of};
 ghost use Rattle.coherence_values.specs.Arc.{LeadsOn, seen_of, writes_before, values_of, all_seen};

@@ -1,9 +1,7 @@
-ghost use Rattle.std.specs.Prelude.{◌≡◌, ◌<◌, ◌≤◌, ◌↔◌, ◌∷◌, [], IsTrue, IsFalse, IfSome, length, map, option_map, true};
-ghost use Rattle.std.specs.List.{AllByRecursion};
+ghost use Rattle.std.specs.{Prelude.{◌≡◌, ◌<◌, ◌≤◌, ◌↔◌, ◌∷◌, [], IsTrue, IsFalse, IfSome, length, map, option_map, true}, List.{AllByRecursion}};
 ghost use Rattle.relax_edges.specs.Order.{rank_of};
 ghost use Rattle.edge_algebra_laws.specs.Composable.{IsCycle, last_joins};
-ghost use Rattle.cycle_enum_laws.specs.Listing.{IsMadeOf};
-ghost use Rattle.cycle_enum_laws.specs.Search.{IsListCandidate, IsExtended, IsNextEdge, IsRaised, IsSingle, LeadsNowhere, OccursIn};
+ghost use Rattle.cycle_enum_laws.specs.{Listing.{IsMadeOf}, Search.{IsListCandidate, IsExtended, IsNextEdge, IsRaised, IsSingle, LeadsNowhere, OccursIn}};
 ghost use Rattle.cycle_enum.specs.Letters.{IsLetter, IsLetterFrom, OccursAndLeaves, least_rank};
 
 use crate::letter::Letter;

@@ -1,8 +1,6 @@
-ghost use Rattle.std.specs.Prelude.{◌≡◌, ◌<◌, ◌+◌};
-ghost use Rattle.std.specs.List.{list_all};
+ghost use Rattle.std.specs.{Prelude.{◌≡◌, ◌<◌, ◌+◌}, List.{list_all}};
 ghost use Rattle.cycle_enum_laws.specs.Search.{OccursIn};
-ghost use Rattle.cycle_enum.specs.Letters.{HasLettersFrom, IsLetterFrom};
-ghost use Rattle.cycle_enum.specs.LetterMarks.{is_marked_at, IsMarked, MarksAlphabet, MarksAlso, MarksExactly};
+ghost use Rattle.cycle_enum.specs.{Letters.{HasLettersFrom, IsLetterFrom}, LetterMarks.{is_marked_at, IsMarked, MarksAlphabet, MarksAlso, MarksExactly}};
 
 use crate::letter::Letter;
 use relax_edges::{EDGES, Edge, Relax};

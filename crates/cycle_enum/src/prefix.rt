@@ -1,13 +1,8 @@
 ghost use Rattle.std.specs.Prelude.{◌≡◌, ◌<◌, ◌≤◌, ◌+◌, ◌↔◌, ◌++◌, ◌∷◌, [], get_or, length, map, IsFalse, IfSome, IfNone, IsTrue, true};
-ghost use Rattle.relax_edges.specs.Order.{rank_of};
-ghost use Rattle.relax_edges.specs.JoinedEdges.{is_joined};
-ghost use Rattle.relax_edges.specs.declared.edge.Edge.{Edge as EdgeValue};
-ghost use Rattle.edge_algebra_laws.specs.Composable.{last_joins};
-ghost use Rattle.edge_algebra_laws.specs.CycleOrder.{IsNormal};
+ghost use Rattle.relax_edges.specs.{Order.{rank_of}, JoinedEdges.{is_joined}, declared.edge.Edge.{Edge as EdgeValue}};
+ghost use Rattle.edge_algebra_laws.specs.{Composable.{last_joins}, CycleOrder.{IsNormal}};
 ghost use Rattle.cycle_enum_laws.specs.Search.{LeadsNowhere};
-ghost use Rattle.cycle_enum.specs.Letters.{IsLetter};
-ghost use Rattle.cycle_enum.specs.Repeats.{NoneLess, IsRepeat};
-ghost use Rattle.cycle_enum.specs.declared.prefix.Repeat.TheVariants.{First, Less};
+ghost use Rattle.cycle_enum.specs.{Letters.{IsLetter}, Repeats.{NoneLess, IsRepeat}, declared.prefix.Repeat.TheVariants.{First, Less}};
 
 use crate::letter::Letter;
 use arrayvec::ArrayVec;
@@ -57,9 +52,7 @@ pub(crate) struct Prefix {
 
 impl Model for Prefix {
     ghost use Rattle.std.specs.Prelude.{◌≡◌, List, map, true};
-    ghost use Rattle.relax_edges.specs.declared.edge.Edge.{Edge as EdgeValue};
-    ghost use Rattle.relax_edges.specs.Order.{rank_of};
-    ghost use Rattle.relax_edges.specs.JoinedEdges.{is_joined};
+    ghost use Rattle.relax_edges.specs.{declared.edge.Edge.{Edge as EdgeValue}, Order.{rank_of}, JoinedEdges.{is_joined}};
     ghost use Rattle.cycle_enum.specs.Repeats.{HasRepeats};
 
     ghost Value = { List EdgeValue };

@@ -1,7 +1,5 @@
-ghost use Rattle.std.specs.Prelude.{◌≡◌, ◌<◌, ◌≤◌, ◌+◌, ◌↔◌, [], length, IsTrue, IsFalse};
-ghost use Rattle.std.specs.List.{list_any};
-ghost use Rattle.cycle_enum_laws.specs.Listing.{IsConcatenation, IsMadeOf};
-ghost use Rattle.cycle_enum_laws.specs.RelaxationReading.{begins_with_path, leads, suffixes_read, suffix_leads};
+ghost use Rattle.std.specs.{Prelude.{◌≡◌, ◌<◌, ◌≤◌, ◌+◌, ◌↔◌, [], length, IsTrue, IsFalse}, List.{list_any}};
+ghost use Rattle.cycle_enum_laws.specs.{Listing.{IsConcatenation, IsMadeOf}, RelaxationReading.{begins_with_path, leads, suffixes_read, suffix_leads}};
 ghost use Rattle.cycle_enum_laws.specs.Search.{LeadsNowhere};
 ghost use Rattle.cycle_enum.specs.WalkEnds.{is_inside};
 

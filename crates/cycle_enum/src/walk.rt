@@ -1,14 +1,9 @@
 ghost use Rattle.std.specs.Prelude.{◌≡◌, ◌<◌, ◌≤◌, ◌⊎◌, [], Some, None, IfSome, IfNone, MatchOption, IsTrue, IsFalse, length, map, true};
-ghost use Rattle.cycle_enum_laws.specs.Asked.{KeptBelow, KeptWhole};
-ghost use Rattle.cycle_enum_laws.specs.Counting.{later};
-ghost use Rattle.cycle_enum_laws.specs.Listing.{IsAnswer, KeepsLimits};
-ghost use Rattle.relax_edges.specs.Order.{rank_of};
-ghost use Rattle.relax_edges.specs.JoinedEdges.{is_joined};
-ghost use Rattle.edge_algebra_laws.specs.Composable.{IsCycle};
-ghost use Rattle.edge_algebra_laws.specs.CycleOrder.{IsLeast, IsNormal};
+ghost use Rattle.cycle_enum_laws.specs.{Asked.{KeptBelow, KeptWhole}, Counting.{later}, Listing.{IsAnswer, KeepsLimits}};
 ghost use Rattle.cycle_enum_laws.specs.Search.{IsCut, IsFirst, LeadsNowhere, LongerThan, OfLength};
-ghost use Rattle.cycle_enum.specs.Walking.{KeepsList, KnowsOf, Lists};
-ghost use Rattle.cycle_enum.specs.WalkEnds.{IsAtLast};
+ghost use Rattle.relax_edges.specs.{Order.{rank_of}, JoinedEdges.{is_joined}};
+ghost use Rattle.edge_algebra_laws.specs.{Composable.{IsCycle}, CycleOrder.{IsLeast, IsNormal}};
+ghost use Rattle.cycle_enum.specs.{Walking.{KeepsList, KnowsOf, Lists}, WalkEnds.{IsAtLast}};
 
 use crate::alphabet::{Alphabet, closes};
 use crate::letter::Letter;
@@ -57,8 +52,7 @@ pub struct Walk<K, J, P> {
 }
 
 impl<K, J, P> Model for Walk<K, J, P> {
-    ghost use Rattle.cycle_enum.specs.Walking.{Walking};
-    ghost use Rattle.cycle_enum.specs.WalkEnds.{IsAtLast};
+    ghost use Rattle.cycle_enum.specs.{Walking.{Walking}, WalkEnds.{IsAtLast}};
 
     ghost Value = { Walking K J P };
 

@@ -1,6 +1,5 @@
 //! The laws of arcs: each function does nothing, and its contract is the law.
-ghost use Rattle.std.specs.Prelude.{◌≡◌, ℕ, ◌<◌, ◌==◌, if◌then◌else◌, List, count_by, Some};
-ghost use Rattle.std.specs.List.{AllPairs, filter, flat_map, slice_get};
+ghost use Rattle.std.specs.{Prelude.{◌≡◌, ℕ, ◌<◌, ◌==◌, if◌then◌else◌, List, count_by, Some}, List.{AllPairs, filter, flat_map, slice_get}};
 ghost use Rattle.relax_edges.specs.declared.edge.Edge.{Edge};
 ghost use Rattle.list_laws.specs.Numbers.{upto};
 ghost use Rattle.cycle_events.specs.Resolution.{move_count, IsResolved};

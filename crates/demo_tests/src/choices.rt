@@ -1,7 +1,6 @@
 ghost use Rattle.std.specs.Prelude.{◌≡◌, ◌<◌, ◌++◌, true, if◌then◌else◌, length, [], ◌∷◌};
 ghost use Rattle.relax_edges.specs.declared.kinds.Dir.TheVariants.{R, W};
-ghost use Rattle.demo_tests.specs.Filled.{is_choice};
-ghost use Rattle.demo_tests.specs.FilledLinks.{choice_of, choices_of};
+ghost use Rattle.demo_tests.specs.{Filled.{is_choice}, FilledLinks.{choice_of, choices_of}};
 
 use arrayvec::ArrayVec;
 use relax_edges::{ArchName, Dir, EDGES, Edge, Mark};

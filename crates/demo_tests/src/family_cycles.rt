@@ -1,6 +1,5 @@
 ghost use Rattle.std.specs.Prelude.{◌≡◌, ◌<◌, map, slice_index_or};
-ghost use Rattle.cycle_names.specs.declared.family.Family.TheVariants.{Other};
-ghost use Rattle.cycle_names.specs.Families.{all_families, family_edges};
+ghost use Rattle.cycle_names.specs.{declared.family.Family.TheVariants.{Other}, Families.{all_families, family_edges}};
 
 use crate::filling::Edges;
 use crate::summary::FAMILY_COUNT;

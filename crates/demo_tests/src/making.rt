@@ -1,9 +1,7 @@
 ghost use Rattle.std.specs.Prelude.{◌≡◌};
 ghost use Rattle.diy_io.specs.Wrote.{Wrote};
-ghost use Rattle.demo_tests.specs.DemoText.{demo_text};
-ghost use Rattle.demo_tests.specs.Filled.{MakesAll};
+ghost use Rattle.demo_tests.specs.{DemoText.{demo_text}, Filled.{MakesAll}, Tallies.{family_tallies, numbered_text, tally_of_tests}};
 ghost use Rattle.list_laws.specs.Numbers.{upto};
-ghost use Rattle.demo_tests.specs.Tallies.{family_tallies, numbered_text, tally_of_tests};
 
 use crate::choices::Choices;
 use crate::draws::Draws;

@@ -1,8 +1,7 @@
 ghost use Rattle.std.specs.Prelude.{◌≡◌, ◌≤◌, None};
 ghost use Rattle.relax_edges.specs.declared.kinds.ObsMode.TheVariants.{Accept};
 ghost use Rattle.cycle_names.specs.CycleNames.{name_of};
-ghost use Rattle.test_maker.specs.CycleText.{cycle_text};
-ghost use Rattle.test_maker.specs.Refusals.{refusal_of};
+ghost use Rattle.test_maker.specs.{CycleText.{cycle_text}, Refusals.{refusal_of}};
 ghost use Rattle.demo_tests.specs.TestCounting.{text_tally};
 
 use arch_trait::Arch;

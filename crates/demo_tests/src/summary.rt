@@ -1,7 +1,5 @@
-ghost use Rattle.std.specs.Prelude.{◌≡◌, ◌<◌, length, replicate};
-ghost use Rattle.std.specs.List.{All};
-ghost use Rattle.diy_io.specs.Page.{Sends};
-ghost use Rattle.diy_io.specs.Wrote.{Wrote};
+ghost use Rattle.std.specs.{Prelude.{◌≡◌, ◌<◌, length, replicate}, List.{All}};
+ghost use Rattle.diy_io.specs.{Page.{Sends}, Wrote.{Wrote}};
 ghost use Rattle.demo_tests.specs.TestCounting.{Fits, test_counted, nothing_counted, CountsAt};
 ghost use Rattle.demo_tests.specs.DemoText.{family_line, family_lines, tally_line, summary_lines};
 

@@ -28,8 +28,7 @@ pub(crate) struct MemFiles {
 
 impl Model for MemFiles {
     ghost use Rattle.std.specs.Prelude.{map, vec_len};
-    ghost use Rattle.diy_io.specs.MemEntries.{file_view, AreMemFiles};
-    ghost use Rattle.diy_io.specs.MemFiles.{MemFilesState};
+    ghost use Rattle.diy_io.specs.{MemEntries.{file_view, AreMemFiles}, MemFiles.{MemFilesState}};
 
     ghost Value = { MemFilesState };
 

@@ -53,8 +53,7 @@ impl Model for MemShelf {
 
 impl MemShelf {
     ghost use Rattle.diy_io.specs.MemFiles.{PutIn, file_place, bytes_at, files_named, with_bytes};
-    ghost use Rattle.diy_io.specs.MemShelf.{mem_shelf_seen, new_shelf, Called, SameCall, mode_of, IsPlace};
-    ghost use Rattle.diy_io.specs.Shelf.{with_more};
+    ghost use Rattle.diy_io.specs.{MemShelf.{mem_shelf_seen, new_shelf, Called, SameCall, mode_of, IsPlace}, Shelf.{with_more}};
     ghost use Rattle.diy_io.specs.declared.mem_shelf.Work.TheVariants as works;
 
     /// A shelf with no files, and with memory for `files` new names of at most 1,300 bytes each and
@@ -195,8 +194,7 @@ impl MemShelf {
 }
 
 impl Shelf for MemShelf {
-    ghost use Rattle.diy_io.specs.MemFiles.{IsRefusedName, names_after};
-    ghost use Rattle.diy_io.specs.MemShelf.{mem_shelf_seen, held_with, half_that_fits, Called};
+    ghost use Rattle.diy_io.specs.{MemFiles.{IsRefusedName, names_after}, MemShelf.{mem_shelf_seen, held_with, half_that_fits, Called}};
 
     ghost seen = { mem_shelf_seen };
 

@@ -1,6 +1,5 @@
 ghost use Rattle.std.specs.Prelude.{◌≡◌, ◌+◌, ◌≤◌, ◌↔◌, ℕ, [], length, vec_len, vec_capacity, IsOk, IfOk};
-ghost use Rattle.diy_io.specs.MemSink.{MemSinkState, mem_sink_after, mem_sink_seen};
-ghost use Rattle.diy_io.specs.Wrote.{Wrote};
+ghost use Rattle.diy_io.specs.{MemSink.{MemSinkState, mem_sink_after, mem_sink_seen}, Wrote.{Wrote}};
 
 use crate::errors::{Failed, NoMemory};
 use crate::sink::Sink;

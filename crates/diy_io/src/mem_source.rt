@@ -1,7 +1,5 @@
 ghost use Rattle.std.specs.Prelude.{◌≡◌, ◌+◌, ◌≤◌, ◌++◌, ◌↔◌, ℕ, Some, drop, take, length, Contains, IfOk, IsErr, OnOk, OnErr};
-ghost use Rattle.diy_io.specs.MemSource.{MemSourceState, mem_source_after, mem_source_failed, mem_source_seen};
-ghost use Rattle.diy_io.specs.SureSource.{given_count};
-ghost use Rattle.diy_io.specs.Taken.{GivesBytes};
+ghost use Rattle.diy_io.specs.{MemSource.{MemSourceState, mem_source_after, mem_source_failed, mem_source_seen}, SureSource.{given_count}, Taken.{GivesBytes}};
 
 use crate::errors::Failed;
 use crate::source::Source;

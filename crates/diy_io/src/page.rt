@@ -1,7 +1,5 @@
 ghost use Rattle.std.specs.Prelude.{◌≡◌, ◌+◌, ◌<◌, ◌≤◌, ◌++◌, [], length, take, OnOk, OnErr};
-ghost use Rattle.diy_io.specs.Page.{Sends, page_after};
-ghost use Rattle.diy_io.specs.Pieces.{joined_text};
-ghost use Rattle.diy_io.specs.Wrote.{Wrote};
+ghost use Rattle.diy_io.specs.{Page.{Sends, page_after}, Pieces.{joined_text}, Wrote.{Wrote}};
 
 use crate::errors::Failed;
 use crate::sink::Sink;

@@ -1,7 +1,5 @@
-ghost use Rattle.std.specs.Prelude.{◌≡◌, ◌≤◌, ℕ, OnOk, OnErr};
-ghost use Rattle.std.specs.Io.KnownBytes.{Appends};
-ghost use Rattle.diy_io.specs.Count.{next_count};
-ghost use Rattle.diy_io.specs.Wrote.{Wrote};
+ghost use Rattle.std.specs.{Prelude.{◌≡◌, ◌≤◌, ℕ, OnOk, OnErr}, Io.KnownBytes.{Appends}};
+ghost use Rattle.diy_io.specs.{Count.{next_count}, Wrote.{Wrote}};
 
 use crate::errors::Failed;
 use crate::sink::Sink;

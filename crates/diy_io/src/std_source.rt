@@ -1,7 +1,5 @@
-ghost use Rattle.std.specs.Prelude.{◌≡◌, ℕ, OnErr};
-ghost use Rattle.std.specs.Io.KnownBytes.{ReadConsumes};
-ghost use Rattle.diy_io.specs.Count.{next_count};
-ghost use Rattle.diy_io.specs.Taken.{GivesBytes};
+ghost use Rattle.std.specs.{Prelude.{◌≡◌, ℕ, OnErr}, Io.KnownBytes.{ReadConsumes}};
+ghost use Rattle.diy_io.specs.{Count.{next_count}, Taken.{GivesBytes}};
 
 use crate::errors::Failed;
 use crate::source::Source;

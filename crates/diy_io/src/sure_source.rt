@@ -1,6 +1,5 @@
 ghost use Rattle.std.specs.Prelude.{◌≡◌, ◌≤◌, ◌++◌, Ok, drop, take, length, vec_len, IfOk};
-ghost use Rattle.diy_io.specs.SureSource.{SureSourceState, given_count, sure_source_after, sure_source_seen};
-ghost use Rattle.diy_io.specs.Taken.{GivesBytes};
+ghost use Rattle.diy_io.specs.{SureSource.{SureSourceState, given_count, sure_source_after, sure_source_seen}, Taken.{GivesBytes}};
 
 use crate::errors::Failed;
 use crate::source::Source;

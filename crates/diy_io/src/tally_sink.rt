@@ -1,6 +1,5 @@
 ghost use Rattle.std.specs.Prelude.{◌≡◌, IsOk};
-ghost use Rattle.diy_io.specs.Sink.{Tally, tally_after};
-ghost use Rattle.diy_io.specs.Wrote.{Wrote, tally_seen};
+ghost use Rattle.diy_io.specs.{Sink.{Tally, tally_after}, Wrote.{Wrote, tally_seen}};
 
 use crate::errors::Failed;
 use crate::line_feeds::count_line_feeds;

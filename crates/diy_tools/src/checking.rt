@@ -1,8 +1,6 @@
 ghost use Rattle.std.specs.Prelude.{◌≡◌, ◌<◌, length};
 ghost use Rattle.diy_io.specs.Shelf.{Idle};
-ghost use Rattle.diy_tools.specs.CheckAnswers.{check_status, checked_kind, shown_of};
-ghost use Rattle.diy_tools.specs.KeptRequests.{CheckEndsFor, ChecksFiles};
-ghost use Rattle.diy_tools.specs.Report.{StatusNamesLocation};
+ghost use Rattle.diy_tools.specs.{CheckAnswers.{check_status, checked_kind, shown_of}, KeptRequests.{CheckEndsFor, ChecksFiles}, Report.{StatusNamesLocation}};
 
 use crate::machines::on_machine;
 use crate::status::{Device, Status, TextKind};

@@ -1,6 +1,4 @@
-ghost use Rattle.diy_tools.specs.KeptRequests.{AnswersIncoherence, AnswersLoop};
-ghost use Rattle.diy_tools.specs.ArchMachines.{machine, machine_of};
-ghost use Rattle.diy_tools.specs.Report.{StatusNamesLocation};
+ghost use Rattle.diy_tools.specs.{KeptRequests.{AnswersIncoherence, AnswersLoop}, ArchMachines.{machine, machine_of}, Report.{StatusNamesLocation}};
 
 use crate::machines::on_machine;
 use crate::status::Status;

@@ -1,11 +1,8 @@
-ghost use Rattle.std.specs.Prelude.{◌≡◌, ◌≤◌, Ok, length};
-ghost use Rattle.std.specs.Option.{ForSome};
+ghost use Rattle.std.specs.{Prelude.{◌≡◌, ◌≤◌, Ok, length}, Option.{ForSome}};
 ghost use Rattle.diy_io.specs.Shelf.{Idle};
-ghost use Rattle.diy_words.specs.Given.{GivesTask, HasForm};
-ghost use Rattle.diy_words.specs.Requests.{asked_of};
+ghost use Rattle.diy_words.specs.{Given.{GivesTask, HasForm}, Requests.{asked_of}};
 ghost use Rattle.diy_words.specs.declared.request.Request.TheVariants as requests;
-ghost use Rattle.diy_tools.specs.KeptRequests.{AnswersCrossing, CrossesFor, CrossesOn};
-ghost use Rattle.diy_tools.specs.Report.{StatusNamesLocation};
+ghost use Rattle.diy_tools.specs.{KeptRequests.{AnswersCrossing, CrossesFor, CrossesOn}, Report.{StatusNamesLocation}};
 
 use crate::listing::listing_status;
 use crate::machines::on_machine;

@@ -1,10 +1,7 @@
 ghost use Rattle.std.specs.Prelude.{◌≡◌};
 ghost use Rattle.diy_words.specs.Given.{HasForm};
 ghost use Rattle.diy_words.specs.declared.request.Request.TheVariants as requests;
-ghost use Rattle.diy_tools.specs.DemoAnswers.{demo_on};
-ghost use Rattle.diy_tools.specs.ArchMachines.{machine_of};
-ghost use Rattle.diy_tools.specs.PrintAnswers.{Prints};
-ghost use Rattle.diy_tools.specs.Report.{StatusNamesLocation};
+ghost use Rattle.diy_tools.specs.{DemoAnswers.{demo_on}, ArchMachines.{machine_of}, PrintAnswers.{Prints}, Report.{StatusNamesLocation}};
 
 use crate::machines::on_machine;
 use crate::status::{Device, Status};

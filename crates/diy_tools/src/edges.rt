@@ -1,8 +1,7 @@
 ghost use Rattle.std.specs.Prelude.{◌≤◌, length, IfErr};
 ghost use Rattle.edge_algebra.specs.Compose.{composed};
 ghost use Rattle.test_maker.specs.Made.{NamesLocation};
-ghost use Rattle.diy_tools.specs.KeptRequests.{MakesCycle, edges_kept, refused_edges};
-ghost use Rattle.diy_tools.specs.Refused.{refused_list, refused_composing};
+ghost use Rattle.diy_tools.specs.{KeptRequests.{MakesCycle, edges_kept, refused_edges}, Refused.{refused_list, refused_composing}};
 
 use edge_algebra::{Cycle, cycle};
 use edges_from_text::EdgeList;

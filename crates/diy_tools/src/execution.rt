@@ -4,10 +4,8 @@ ghost use Rattle.exec_text.specs.Written.{text_of_execution};
 ghost use Rattle.litmus_text.specs.Printable.{IsTestName};
 ghost use Rattle.diy_words.specs.Given.{HasForm};
 ghost use Rattle.diy_words.specs.declared.request.Request.TheVariants as requests;
-ghost use Rattle.diy_tools.specs.ArchMachines.{machine, machine_of};
-ghost use Rattle.diy_tools.specs.KeptRequests.{AnswersIntended, AnswersIncoherent, RunsOn, LoopRunsOn, PrintsInMemory};
-ghost use Rattle.diy_tools.specs.PrintAnswers.{Prints};
-ghost use Rattle.diy_tools.specs.Report.{StatusNamesLocation};
+ghost use Rattle.diy_tools.specs.{ArchMachines.{machine, machine_of}, KeptRequests.{AnswersIntended, AnswersIncoherent, RunsOn, LoopRunsOn, PrintsInMemory}};
+ghost use Rattle.diy_tools.specs.{PrintAnswers.{Prints}, Report.{StatusNamesLocation}};
 
 use crate::machines::on_machine;
 use crate::status::{Device, Status};

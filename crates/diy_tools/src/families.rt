@@ -1,15 +1,10 @@
-ghost use Rattle.std.specs.Prelude.{◌≡◌, ◌<◌, Ok, length};
-ghost use Rattle.std.specs.List.{All};
+ghost use Rattle.std.specs.{Prelude.{◌≡◌, ◌<◌, Ok, length}, List.{All}};
 ghost use Rattle.diy_io.specs.Shelf.{Idle};
 ghost use Rattle.tests_from_files.specs.FilesEnds.{FilesClassified};
-ghost use Rattle.diy_words.specs.Given.{GivesTask};
-ghost use Rattle.diy_words.specs.Requests.{asked_of};
+ghost use Rattle.diy_words.specs.{Given.{GivesTask}, Requests.{asked_of}};
 ghost use Rattle.diy_words.specs.declared.request.Request.TheVariants as requests;
-ghost use Rattle.diy_tools.specs.Answers.{Answers};
-ghost use Rattle.diy_tools.specs.FamilyAnswers.{AnswersFamilies, file_kind, files_status, read_on};
-ghost use Rattle.diy_tools.specs.KeptRequests.{ClassifiesNamedFiles};
-ghost use Rattle.diy_tools.specs.Report.{StatusNamesLocation};
-ghost use Rattle.diy_tools.specs.Statuses.{classify_status};
+ghost use Rattle.diy_tools.specs.{Answers.{Answers}, FamilyAnswers.{AnswersFamilies, file_kind, files_status, read_on}, KeptRequests.{ClassifiesNamedFiles}};
+ghost use Rattle.diy_tools.specs.{Report.{StatusNamesLocation}, Statuses.{classify_status}};
 
 use crate::machines::on_machine;
 use crate::naming::lines_status;

@@ -1,14 +1,9 @@
-ghost use Rattle.std.specs.Prelude.{◌≡◌, ◌≤◌, length};
-ghost use Rattle.std.specs.Option.{ForSome};
+ghost use Rattle.std.specs.{Prelude.{◌≡◌, ◌≤◌, length}, Option.{ForSome}};
 ghost use Rattle.relax_edges.specs.declared.TheConstants.{MAX_EDGES};
 ghost use Rattle.diy_io.specs.Shelf.{Idle};
-ghost use Rattle.diy_words.specs.Given.{HasForm, list_kept};
-ghost use Rattle.diy_words.specs.declared.request.Request.TheVariants.{List, Lines};
-ghost use Rattle.diy_tools.specs.ListAnswers.{AnswersList, AnswersListed};
-ghost use Rattle.diy_tools.specs.KeptRequests.{EndsOn, EndsLinesOn, asked_listing};
-ghost use Rattle.diy_tools.specs.ArchMachines.{machine_of};
-ghost use Rattle.diy_tools.specs.Report.{StatusNamesLocation};
-ghost use Rattle.diy_tools.specs.Statuses.{listing_status};
+ghost use Rattle.diy_words.specs.{Given.{HasForm, list_kept}, declared.request.Request.TheVariants.{List, Lines}};
+ghost use Rattle.diy_tools.specs.{ListAnswers.{AnswersList, AnswersListed}, KeptRequests.{EndsOn, EndsLinesOn, asked_listing}, ArchMachines.{machine_of}};
+ghost use Rattle.diy_tools.specs.{Report.{StatusNamesLocation}, Statuses.{listing_status}};
 
 use crate::machines::on_machine;
 use crate::status::{Device, Status};

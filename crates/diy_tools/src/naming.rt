@@ -1,10 +1,7 @@
 ghost use Rattle.std.specs.Prelude.{◌≡◌};
 ghost use Rattle.cycles_from_lines.specs.Normed.{Norms, name_line};
-ghost use Rattle.diy_tools.specs.PrintAnswers.{AnswersEdges, Prints};
-ghost use Rattle.diy_tools.specs.NameAnswers.{AnswersLines, AnswersName};
-ghost use Rattle.diy_tools.specs.KeptRequests.{AnswersKept, edges_kept, refused_edges};
-ghost use Rattle.diy_tools.specs.Report.{StatusNamesLocation};
-ghost use Rattle.diy_tools.specs.Statuses.{lines_status, norm_status};
+ghost use Rattle.diy_tools.specs.{PrintAnswers.{AnswersEdges, Prints}, NameAnswers.{AnswersLines, AnswersName}};
+ghost use Rattle.diy_tools.specs.{KeptRequests.{AnswersKept, edges_kept, refused_edges}, Report.{StatusNamesLocation}, Statuses.{lines_status, norm_status}};
 
 use crate::edges::cycle_of_edges;
 use crate::status::{Device, Status, TextKind};

@@ -1,8 +1,6 @@
-ghost use Rattle.std.specs.Prelude.{◌≡◌, ◌<◌, ◌++◌, codes, slice_get};
-ghost use Rattle.std.specs.Fmt.{decimal};
+ghost use Rattle.std.specs.{Prelude.{◌≡◌, ◌<◌, ◌++◌, codes, slice_get}, Fmt.{decimal}};
 ghost use Rattle.relax_edges.specs.declared.TheConstants.{MAX_EDGES};
-ghost use Rattle.diy_io.specs.Page.{Sends};
-ghost use Rattle.diy_io.specs.Wrote.{Wrote};
+ghost use Rattle.diy_io.specs.{Page.{Sends}, Wrote.{Wrote}};
 ghost use Rattle.test_maker.specs.declared.refusal.Refusal.TheVariants as refusals;
 ghost use Rattle.test_maker.specs.Made.{NamesLocation};
 ghost use Rattle.diy_tools.specs.Report.{status_line, refusal_line, refusal_text, usage_line, usage_text, line_text, log_text, test_kind_text, exec_text, kind_text, word_at, file_text, shown_word, device_text, StatusNamesLocation, text_line};

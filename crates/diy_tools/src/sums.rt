@@ -1,8 +1,6 @@
 ghost use Rattle.std.specs.Prelude.{◌≡◌, ◌<◌, length};
 ghost use Rattle.diy_io.specs.Shelf.{Idle};
-ghost use Rattle.diy_tools.specs.Report.{StatusNamesLocation};
-ghost use Rattle.diy_tools.specs.SumAnswers.{sum_status};
-ghost use Rattle.diy_tools.specs.KeptRequests.{AnswersSumOf, SumsFiles, SumsInput};
+ghost use Rattle.diy_tools.specs.{Report.{StatusNamesLocation}, SumAnswers.{sum_status}, KeptRequests.{AnswersSumOf, SumsFiles, SumsInput}};
 
 use crate::status::{Device, Status, TextKind};
 use diy_io::{Shelf, Sink, Source, Words};

@@ -1,13 +1,9 @@
 ghost use Rattle.std.specs.Prelude.{◌≡◌, true, IfErr, IfSome};
 ghost use Rattle.diy_words.specs.TestNames.{is_name};
-ghost use Rattle.litmus_text.specs.Printable.{IsTestName};
-ghost use Rattle.litmus_text.specs.Tests.{test_seen};
-ghost use Rattle.litmus_text.specs.TestText.{test_text};
+ghost use Rattle.litmus_text.specs.{Printable.{IsTestName}, Tests.{test_seen}, TestText.{test_text}};
 ghost use Rattle.test_maker.specs.Made.{CanPrint, NamesLocation};
-ghost use Rattle.diy_tools.specs.PrintAnswers.{Prints};
-ghost use Rattle.diy_tools.specs.KeptRequests.{AnswersCycle, AnswersOne, MakesCycle, chosen_name, edges_kept, refused_edges};
-ghost use Rattle.diy_tools.specs.ArchMachines.{machine, machine_of};
-ghost use Rattle.diy_tools.specs.Report.{StatusNamesLocation};
+ghost use Rattle.diy_tools.specs.{PrintAnswers.{Prints}, KeptRequests.{AnswersCycle, AnswersOne, MakesCycle, chosen_name, edges_kept, refused_edges}};
+ghost use Rattle.diy_tools.specs.{ArchMachines.{machine, machine_of}, Report.{StatusNamesLocation}};
 
 use crate::edges::cycle_of_edges;
 use crate::machines::on_machine;

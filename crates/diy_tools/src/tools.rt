@@ -1,11 +1,6 @@
 ghost use Rattle.std.specs.Prelude.{◌≡◌};
 ghost use Rattle.diy_io.specs.Shelf.{Idle};
-ghost use Rattle.diy_tools.specs.Answers.{Answers};
-ghost use Rattle.diy_tools.specs.Causes.{Causes};
-ghost use Rattle.diy_tools.specs.Complete.{Complete};
-ghost use Rattle.diy_tools.specs.Headline.{Headline};
-ghost use Rattle.diy_tools.specs.Limit.{Limited};
-ghost use Rattle.diy_tools.specs.Memory.{NeverWantsMemory};
+ghost use Rattle.diy_tools.specs.{Answers.{Answers}, Causes.{Causes}, Complete.{Complete}, Headline.{Headline}, Limit.{Limited}, Memory.{NeverWantsMemory}};
 ghost use Rattle.diy_tools.specs.Report.{TakesLine, status_line, StatusNamesLocation};
 
 use crate::checking::check;

@@ -1,16 +1,10 @@
-ghost use Rattle.std.specs.Prelude.{◌≡◌, ◌≤◌, length};
-ghost use Rattle.std.specs.Option.{ForSome};
-ghost use Rattle.diy_io.specs.Shelf.{Idle};
+ghost use Rattle.std.specs.{Prelude.{◌≡◌, ◌≤◌, length}, Option.{ForSome}};
+ghost use Rattle.diy_io.specs.{Shelf.{Idle}, Page.{Sends}, Wrote.{Wrote}};
 ghost use Rattle.diy_words.specs.Given.{HasForm};
 ghost use Rattle.diy_words.specs.declared.request.Request.TheVariants as requests;
-ghost use Rattle.diy_io.specs.Page.{Sends};
-ghost use Rattle.diy_io.specs.Wrote.{Wrote};
 ghost use Rattle.litmus_text.specs.Printable.{IsTestName};
-ghost use Rattle.diy_tools.specs.KeptRequests.{AnswersShowing, PutsRuns, ShowsOn, WritesRunsOf};
-ghost use Rattle.diy_tools.specs.ArchMachines.{machine, machine_of};
-ghost use Rattle.diy_tools.specs.PrintAnswers.{Prints};
-ghost use Rattle.diy_tools.specs.Report.{StatusNamesLocation};
-ghost use Rattle.diy_tools.specs.WhyAnswers.{why_line};
+ghost use Rattle.diy_tools.specs.{KeptRequests.{AnswersShowing, PutsRuns, ShowsOn, WritesRunsOf}, ArchMachines.{machine, machine_of}, PrintAnswers.{Prints}};
+ghost use Rattle.diy_tools.specs.{Report.{StatusNamesLocation}, WhyAnswers.{why_line}};
 
 use crate::edges::cycle_of_edges;
 use crate::machines::on_machine;

@@ -1,5 +1,4 @@
-ghost use Rattle.std.specs.Prelude.{◌≡◌, ◌<◌, [], length, IfOk, OnErr};
-ghost use Rattle.std.specs.List.{All};
+ghost use Rattle.std.specs.{Prelude.{◌≡◌, ◌<◌, [], length, IfOk, OnErr}, List.{All}};
 ghost use Rattle.diy_words.specs.Requests.{asked_of, files_of, IsClassifying};
 
 use crate::options::{Tool, option_named};

@@ -1,6 +1,4 @@
-ghost use Rattle.std.specs.Prelude.{◌≡◌, Some, None, Option, if◌then◌else◌};
-ghost use Rattle.std.specs.Option.{option_map};
-ghost use Rattle.std.specs.List.{list_all};
+ghost use Rattle.std.specs.{Prelude.{◌≡◌, Some, None, Option, if◌then◌else◌}, Option.{option_map}, List.{list_all}};
 ghost use Rattle.text_parts_laws.specs.Names.{is_name_byte};
 ghost use Rattle.diy_words.specs.TestNames.{is_name};
 

@@ -1,18 +1,11 @@
 ghost use Rattle.std.specs.Prelude.{◌≡◌, ◌<◌, ◌≤◌, ◌+◌, ◌^◌, Err};
-ghost use Rattle.relax_edges.specs.Architectures.{arch_of};
-ghost use Rattle.relax_edges.specs.Relaxations.{relaxes_of};
-ghost use Rattle.relax_edges.specs.declared.TheConstants.{MAX_EDGES};
-ghost use Rattle.edges_from_text.specs.declared.read.Separators.TheVariants.{BlanksAndCommas};
-ghost use Rattle.edges_from_text.specs.Spelled.{edges_of};
+ghost use Rattle.relax_edges.specs.{Architectures.{arch_of}, Relaxations.{relaxes_of}, declared.TheConstants.{MAX_EDGES}};
+ghost use Rattle.edges_from_text.specs.{declared.read.Separators.TheVariants.{BlanksAndCommas}, Spelled.{edges_of, text_edges}};
 ghost use Rattle.edge_algebra.specs.Compose.{composed};
-ghost use Rattle.edges_from_text.specs.Spelled.{text_edges};
-ghost use Rattle.diy_words.specs.CodeNotes.{cycle_kept};
-ghost use Rattle.diy_words.specs.NumberWords.{number_to};
-ghost use Rattle.diy_words.specs.declared.options.Tool.TheVariants as tools;
-ghost use Rattle.diy_words.specs.declared.usage.UsageKind.TheVariants.{ExcludedOption};
-ghost use Rattle.diy_words.specs.Parts.{Unvalued, mode_named};
-ghost use Rattle.diy_words.specs.Notes.{before_noted, more_choices};
+ghost use Rattle.diy_words.specs.{CodeNotes.{cycle_kept}, NumberWords.{number_to}, declared.usage.UsageKind.TheVariants.{ExcludedOption}};
+ghost use Rattle.diy_words.specs.{Parts.{Unvalued, mode_named}, Notes.{before_noted, more_choices}};
 ghost use Rattle.diy_words.specs.Sayings.{Before, SaysRelaxes, SaysPlace, SaysSize, SaysThreads, SaysAccesses, said_by, arch_said, name_said, mode_said, obs_said, why_said, co_said, exec_said, lines_said, file_folder_said, edges_said, relaxes_said, relax_usage, number_said, after_said, folder_said, checked_said, operand_said, begins_option};
+ghost use Rattle.diy_words.specs.declared.options.Tool.TheVariants as tools;
 
 use crate::name::name_of;
 use crate::number::number_to;
@@ -69,8 +62,7 @@ pub struct Notes<'a> {
 }
 
 impl<'a> Notes<'a> {
-    ghost use Rattle.diy_words.specs.CodeNotes.{code_notes, notes_after, notes_alone, notes_dashed, notes_left, notes_valued};
-    ghost use Rattle.diy_words.specs.Notes.{no_notes};
+    ghost use Rattle.diy_words.specs.{CodeNotes.{code_notes, notes_after, notes_alone, notes_dashed, notes_left, notes_valued}, Notes.{no_notes}};
 
     pub fn new() -> Notes<'a>
         ensures { code_notes result ≡ no_notes }

@@ -1,8 +1,4 @@
-ghost use Rattle.std.specs.Prelude.{◌≡◌, ◌≤◌, true, false, IfSome};
-ghost use Rattle.std.specs.Char.{is_ascii_digit};
-ghost use Rattle.std.specs.List.{list_all};
-ghost use Rattle.std.specs.Result.{result_ok};
-ghost use Rattle.std.specs.Str.Parse.{digits_value};
+ghost use Rattle.std.specs.{Prelude.{◌≡◌, ◌≤◌, true, false, IfSome}, Char.{is_ascii_digit}, List.{list_all}, Result.{result_ok}, Str.Parse.{digits_value}};
 ghost use Rattle.diy_words.specs.NumberWords.{is_number, number_to};
 
 /// The number from 1 to `greatest` that a text is, if it is one: 1 to 7 digits.

@@ -1,8 +1,7 @@
 ghost use Rattle.std.specs.Prelude.{◌≡◌, ◌<◌, ◌+◌, ◌^◌, ℕ, List, Some, length, drop, IfOk};
 ghost use Rattle.diy_words.specs.declared.usage.UsageKind.TheVariants.{MissingArch, MissingWhy};
 ghost use Rattle.diy_words.specs.Requests.{asked_of, asked_for, asks, AsksWhy, AsksName, AsksFamilies, AsksCross, AsksDemo, AsksCheck, why_asked, test_or_execution, coherence_or_execution, list_or_lines, check_asked, one_asked, diyone_asked, norm_asked, cross_asked, families_with, demo_with};
-ghost use Rattle.diy_words.specs.Given.{GivesTask, HasForm, WithinWords};
-ghost use Rattle.diy_words.specs.CodeNotes.{Steps, GivesAtEnd, GivesFrom, IsPlain, IsOption, code_notes};
+ghost use Rattle.diy_words.specs.{Given.{GivesTask, HasForm, WithinWords}, CodeNotes.{Steps, GivesAtEnd, GivesFrom, IsPlain, IsOption, code_notes}};
 
 use crate::notes::{Notes, missing_value};
 use crate::options::{OptionName, Tool, option_named, tool_named};

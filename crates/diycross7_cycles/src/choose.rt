@@ -1,9 +1,6 @@
-ghost use Rattle.std.specs.Prelude.{◌≡◌, ◌==◌, cond, None, Some, All, length, IfOk, OnOk};
-ghost use Rattle.std.specs.List.{list_any};
+ghost use Rattle.std.specs.{Prelude.{◌≡◌, ◌==◌, cond, None, Some, All, length, IfOk, OnOk}, List.{list_any}};
 ghost use Rattle.test_maker.specs.Refusals.{refusal_of};
-ghost use Rattle.diycross7_cycles.specs.Choices.{crossed, is_accepted};
-ghost use Rattle.diycross7_cycles.specs.Known.{AreNormalForms};
-ghost use Rattle.diycross7_cycles.specs.CrossingSteps.{chosen, keep_accepted};
+ghost use Rattle.diycross7_cycles.specs.{Choices.{crossed, is_accepted}, Known.{AreNormalForms}, CrossingSteps.{chosen, keep_accepted}};
 
 use crate::kept::Kept;
 use arch_trait::Arch;

@@ -1,6 +1,5 @@
 ghost use Rattle.std.specs.Prelude.{◌≡◌, [], OnOk};
-ghost use Rattle.diycross7_cycles.specs.Known.{AreNormalForms};
-ghost use Rattle.diycross7_cycles.specs.CrossingSteps.{keep_turned};
+ghost use Rattle.diycross7_cycles.specs.{Known.{AreNormalForms}, CrossingSteps.{keep_turned}};
 
 use crate::normal_form::NormalForm;
 use diy_io::NoMemory;

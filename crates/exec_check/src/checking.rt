@@ -2,8 +2,7 @@ ghost use Rattle.std.specs.Prelude.{◌≡◌, ◌↔◌, IfOk, IsTrue, length};
 ghost use Rattle.arch_trait.specs.PlaceNames.{number_in};
 ghost use Rattle.litmus_text.specs.ReadPrograms.{program_read};
 ghost use Rattle.program_meaning.specs.Programs.{IsCandidate};
-ghost use Rattle.exec_check.specs.Verdicts.{Checks, IsVerdict, EndsInCondition};
-ghost use Rattle.exec_check.specs.CheckingSteps.{Judges};
+ghost use Rattle.exec_check.specs.{Verdicts.{Checks, IsVerdict, EndsInCondition}, CheckingSteps.{Judges}};
 
 use crate::edges::edges_on;
 use crate::errors::CheckError;

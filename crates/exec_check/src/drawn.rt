@@ -1,8 +1,6 @@
-ghost use Rattle.std.specs.Prelude.{◌≡◌, ◌+◌, ◌==◌, ◌≤◌, ◌++◌, ◌∷◌, [], cond, length, IfOk, OnOk};
-ghost use Rattle.std.specs.List.{list_any};
+ghost use Rattle.std.specs.{Prelude.{◌≡◌, ◌+◌, ◌==◌, ◌≤◌, ◌++◌, ◌∷◌, [], cond, length, IfOk, OnOk}, List.{list_any}};
 ghost use Rattle.exec_check.specs.Graphs.{access_drawn, initial_places, initial_write, is_followed, is_initial, is_reached, points_drawn, reads_initial, relates};
-ghost use Rattle.program_meaning.specs.Accesses.{is_read};
-ghost use Rattle.program_meaning.specs.Interleavings.{writes_to};
+ghost use Rattle.program_meaning.specs.{Accesses.{is_read}, Interleavings.{writes_to}};
 
 use exec_meaning::{Access, SeenAccess, WriteAt};
 use relax_edges::Dir;

@@ -1,6 +1,5 @@
 ghost use Rattle.std.specs.Prelude.{◌≡◌, ◌<◌, length};
-ghost use Rattle.diy_io.specs.Shelf.{Idle};
-ghost use Rattle.diy_io.specs.Opened.{name_at};
+ghost use Rattle.diy_io.specs.{Shelf.{Idle}, Opened.{name_at}};
 ghost use Rattle.exec_check.specs.CheckingSteps.{TestFileTo, TestClosedTo, ExecFileTo, ExecClosedTo};
 
 use crate::checked_errors::CheckFault;

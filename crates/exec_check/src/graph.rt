@@ -1,15 +1,12 @@
-ghost use Rattle.std.specs.Prelude.{◌≡◌, ◌+◌, ◌<◌, ◌≤◌, ◌++◌, ◌==◌, ◌||◌, [], cond, IfOk, OnOk, length, map};
-ghost use Rattle.std.specs.List.{enumerate_from, filter, flat_map};
+ghost use Rattle.std.specs.{Prelude.{◌≡◌, ◌+◌, ◌<◌, ◌≤◌, ◌++◌, ◌==◌, ◌||◌, [], cond, IfOk, OnOk, length, map}, List.{enumerate_from, filter, flat_map}};
 ghost use Rattle.list_laws.specs.Numbers.{upto};
 ghost use Rattle.diy_io.specs.Pieces.{joined_text};
 ghost use Rattle.cycle_events.specs.Resolution.{event_after};
-ghost use Rattle.final_cond.specs.Conditions.{cond_view};
-ghost use Rattle.final_cond.specs.CondText.{cond_text};
+ghost use Rattle.final_cond.specs.{Conditions.{cond_view}, CondText.{cond_text}};
 ghost use Rattle.litmus_text.specs.ReadPrograms.{program_read};
 ghost use Rattle.program_meaning.specs.{Programs.IsCandidate, Standing.event_name};
 ghost use Rattle.relax_edges.specs.declared.TheConstants.{MAX_EDGES};
-ghost use Rattle.exec_check.specs.Verdicts.{judged_cycle};
-ghost use Rattle.exec_check.specs.CheckingSteps.{AreEdgesOf};
+ghost use Rattle.exec_check.specs.{Verdicts.{judged_cycle}, CheckingSteps.{AreEdgesOf}};
 ghost use Rattle.exec_check.specs.Graphs.{access_line, access_name, access_word, arrow_line, arrow_of, cluster_line, cluster_opening, column, condition_line, dir_word, graph_text, initial_line, is_in_thread, kind_look, lap_word, letter_word, lines_drawn, mark_word, member_word, name_word, opening, pair_line, pair_lines, pairs_by, place_word, point_lines, point_word, position_word, quoted_byte, relates, relation_lines, relation_look, standing_lines};
 
 use crate::drawn::{Drawn, Point, Relation, initial_places, points_drawn, relates};

@@ -1,5 +1,4 @@
-ghost use Rattle.exec_check.specs.Verdicts.{OneVerdict};
-ghost use Rattle.exec_check.specs.GraphLaws.{CoPairsLaw, EndsLaw, FrPairsLaw, NodesLaw, PoPairsLaw, RfPairsLaw, StandingArrowsLaw};
+ghost use Rattle.exec_check.specs.{Verdicts.{OneVerdict}, GraphLaws.{CoPairsLaw, EndsLaw, FrPairsLaw, NodesLaw, PoPairsLaw, RfPairsLaw, StandingArrowsLaw}};
 
 /// An execution of a test has one verdict: all that are right have the same text.
 #[tactic(auto, using(crate::proofs::OneVerdict::one_verdict))]

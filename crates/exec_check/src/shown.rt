@@ -1,9 +1,7 @@
 ghost use Rattle.std.specs.Prelude.{◌≡◌, IfOk, option_map};
 ghost use Rattle.diy_io.specs.Wrote.{Wrote};
 ghost use Rattle.arch_trait.specs.PlaceNames.{number_in};
-ghost use Rattle.exec_check.specs.Verdicts.{IsVerdict};
-ghost use Rattle.exec_check.specs.Graphs.{graph_if, shown_text};
-ghost use Rattle.exec_check.specs.CheckingSteps.{text_of};
+ghost use Rattle.exec_check.specs.{Verdicts.{IsVerdict}, Graphs.{graph_if, shown_text}, CheckingSteps.{text_of}};
 
 use crate::graph::graph_of;
 use crate::verdict::{Judged, Verdict};

@@ -1,6 +1,5 @@
 ghost use Rattle.std.specs.Prelude.{◌≡◌, ◌+◌, ◌≤◌, length};
-ghost use Rattle.diy_io.specs.Page.{Sends};
-ghost use Rattle.diy_io.specs.Wrote.{Wrote};
+ghost use Rattle.diy_io.specs.{Page.{Sends}, Wrote.{Wrote}};
 ghost use Rattle.exec_check.specs.Verdicts.{answer_line, answer_word, edge_line, edge_lines, further_lines, judged_lines, verdict_text};
 ghost use Rattle.relax_edges.specs.declared.TheConstants.{MAX_EDGES};
 

@@ -1,7 +1,5 @@
 ghost use Rattle.std.specs.Prelude.{◌≡◌, ◌++◌, map, IfOk, OnOk};
-ghost use Rattle.program_meaning.specs.Accesses.{at_name, accesses_of, visits_of, is_read, reads_before};
-ghost use Rattle.program_meaning.specs.Executions.{same_write};
-ghost use Rattle.program_meaning.specs.Deciding.{name, writes_to};
+ghost use Rattle.program_meaning.specs.{Accesses.{at_name, accesses_of, visits_of, is_read, reads_before}, Executions.{same_write}, Deciding.{name, writes_to}};
 ghost use Rattle.exec_meaning.specs.EndedRuns.{item_access};
 
 use micro_ops::{Item, Trace};

@@ -1,10 +1,7 @@
-ghost use Rattle.std.specs.Prelude.{◌≡◌, ◌↔◌, IsTrue, IfOk, length};
-ghost use Rattle.std.specs.List.{list_all, list_any};
-ghost use Rattle.program_meaning.specs.Accesses.{at_name};
-ghost use Rattle.program_meaning.specs.Executions.{same_write, IsExecutionOf};
-ghost use Rattle.program_meaning.specs.Programs.{IsCandidate};
-ghost use Rattle.litmus_text.specs.ReadPrograms.{program_read};
+ghost use Rattle.std.specs.{Prelude.{◌≡◌, ◌↔◌, IsTrue, IfOk, length}, List.{list_all, list_any}};
+ghost use Rattle.program_meaning.specs.{Accesses.{at_name}, Executions.{same_write, IsExecutionOf}, Programs.{IsCandidate}};
 ghost use Rattle.program_meaning.specs.Deciding.{every, name, writes_there, can_read, are_reads, are_distinct, is_covered, thread_covered, is_order, reads_fit, orders_fit, lists_fit};
+ghost use Rattle.litmus_text.specs.ReadPrograms.{program_read};
 
 use crate::accesses::{
     Accesses, access_at, all_accesses, has_numbers, is_read, is_same, writes_to,

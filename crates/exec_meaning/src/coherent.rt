@@ -1,10 +1,8 @@
 ghost use Rattle.std.specs.Prelude.{◌≡◌, ◌↔◌, ◌<◌, ◌||◌, not, nat_lt, IsTrue, IfOk, Some, None, length, count_by, take, position};
-ghost use Rattle.program_meaning.specs.Accesses.{is_read, reads_before};
-ghost use Rattle.program_meaning.specs.Executions.{same_write};
+ghost use Rattle.program_meaning.specs.{Accesses.{is_read, reads_before}, Executions.{same_write}};
 ghost use Rattle.program_meaning.specs.Coherence.{order_place, order_at, read_at, source_at, coherence_place, IsCoherent};
-ghost use Rattle.program_meaning.specs.Programs.{IsCandidate, IsCoherentIn};
+ghost use Rattle.program_meaning.specs.{Programs.{IsCandidate, IsCoherentIn}, Deciding.{name, may_follow, agrees, agrees_later, thread_coheres, coheres}};
 ghost use Rattle.litmus_text.specs.ReadPrograms.{program_read};
-ghost use Rattle.program_meaning.specs.Deciding.{name, may_follow, agrees, agrees_later, thread_coheres, coheres};
 
 use crate::accesses::{Accesses, all_accesses, has_numbers, is_read};
 use crate::execution::{Execution, Read};

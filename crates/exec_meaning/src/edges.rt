@@ -1,9 +1,6 @@
-ghost use Rattle.std.specs.Prelude.{◌≡◌, ◌↔◌, ◌==◌, ◌^◌, ◌<◌, IsTrue, IfOk, length, map};
-ghost use Rattle.std.specs.Int.{bit_at};
+ghost use Rattle.std.specs.{Prelude.{◌≡◌, ◌↔◌, ◌==◌, ◌^◌, ◌<◌, IsTrue, IfOk, length, map}, Int.{bit_at}};
 ghost use Rattle.cycle_events.specs.Resolution.{event_after};
-ghost use Rattle.program_meaning.specs.Accesses.{at_name, visits_of};
-ghost use Rattle.program_meaning.specs.Standing.{access_at, is_in_mask, event_name};
-ghost use Rattle.program_meaning.specs.Programs.{IsCandidate};
+ghost use Rattle.program_meaning.specs.{Accesses.{at_name, visits_of}, Standing.{access_at, is_in_mask, event_name}, Programs.{IsCandidate}};
 ghost use Rattle.litmus_text.specs.ReadPrograms.{program_read};
 ghost use Rattle.exec_meaning.specs.StandingEdges.{EdgeStands, named_access, same_fence, barriers_agree, is_alone, are_at, is_source, reaches, comes_before, communicates_by, joins, depends_as, barriers_wait, waits, depends_by, ties_by, stands, stands_if};
 

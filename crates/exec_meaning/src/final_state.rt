@@ -1,8 +1,7 @@
 ghost use Rattle.std.specs.Prelude.{◌≡◌, ◌<◌, ◌≤◌, ◌++◌, IfOk, OnOk, length, map};
 ghost use Rattle.arch_trait.specs.PlaceNames.{number_in};
 ghost use Rattle.micro_ops.specs.RunThreads.{value_in_run};
-ghost use Rattle.program_meaning.specs.Coherence.{final_value};
-ghost use Rattle.program_meaning.specs.Programs.{IsCandidate};
+ghost use Rattle.program_meaning.specs.{Coherence.{final_value}, Programs.{IsCandidate}};
 ghost use Rattle.litmus_text.specs.ReadPrograms.{program_read};
 ghost use Rattle.exec_meaning.specs.Finals.{registers_at, all_registers, places_at, EndsIn};
 

@@ -1,7 +1,5 @@
-ghost use Rattle.std.specs.Prelude.{◌≡◌, ◌≤◌, ◌++◌, length, map, IfOk, OnOk};
-ghost use Rattle.std.specs.List.{enumerate_from, flat_map};
-ghost use Rattle.program_meaning.specs.Accesses.{visits_of};
-ghost use Rattle.program_meaning.specs.Programs.{IsCandidate};
+ghost use Rattle.std.specs.{Prelude.{◌≡◌, ◌≤◌, ◌++◌, length, map, IfOk, OnOk}, List.{enumerate_from, flat_map}};
+ghost use Rattle.program_meaning.specs.{Accesses.{visits_of}, Programs.{IsCandidate}};
 ghost use Rattle.litmus_text.specs.ReadPrograms.{program_read};
 ghost use Rattle.exec_meaning.specs.SeenAccesses.{seen_access, seen_in, seen_in_thread};
 

@@ -1,14 +1,10 @@
-ghost use Rattle.std.specs.Prelude.{◌≡◌, ◌<◌, ◌+◌, [], IfOk, length, map, slice_index_or};
-ghost use Rattle.std.specs.List.{range_with_len};
-ghost use Rattle.text_parts_laws.specs.Words.{words};
-ghost use Rattle.exec_text.specs.declared.errors.ExecKind.TheVariants.{BadThread, BadRead, BadPlace, BadWrite};
-ghost use Rattle.exec_meaning.specs.KeptExecutions.{with_read, with_write};
-ghost use Rattle.text_parts_laws.specs.Lines.{lines_of};
+ghost use Rattle.std.specs.{Prelude.{◌≡◌, ◌<◌, ◌+◌, [], IfOk, length, map, slice_index_or}, List.{range_with_len}};
+ghost use Rattle.text_parts_laws.specs.{Words.{words}, Lines.{lines_of}};
+ghost use Rattle.exec_text.specs.declared.errors.ExecKind.TheVariants.{BadThread, BadRead, BadPlace, BadWrite, EndMissing};
 ghost use Rattle.exec_text.specs.ExecutionText.{access_named, all_named, execution_read, read_named, thread_head, reads_told, writes_told, all_reads_told, all_writes_told, place_head_at};
 ghost use Rattle.exec_text.specs.ExecutionSteps.{AtLine, ReadsLine, ReadsLines, ReadsText, line_added, lines_added};
-ghost use Rattle.exec_text.specs.declared.errors.ExecKind.TheVariants.{EndMissing};
-ghost use Rattle.exec_text.specs.declared.errors.ExecError.TheVariants.{Text};
-ghost use Rattle.exec_text.specs.declared.reading.LineError.TheVariants.{NoMemory as NoMemoryForLine};
+ghost use Rattle.exec_text.specs.{declared.errors.ExecError.TheVariants.{Text}, declared.reading.LineError.TheVariants.{NoMemory as NoMemoryForLine}};
+ghost use Rattle.exec_meaning.specs.KeptExecutions.{with_read, with_write};
 
 use crate::errors::{ExecError, ExecFault, ExecKind};
 use crate::heads::{is_place_head, is_thread_head};

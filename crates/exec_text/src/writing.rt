@@ -1,6 +1,4 @@
-ghost use Rattle.std.specs.Prelude.{◌≡◌, ◌++◌, IfOk, OnOk, length, map};
-ghost use Rattle.std.specs.Fmt.{decimal};
-ghost use Rattle.std.specs.List.{enumerate_from, flat_map, zip};
+ghost use Rattle.std.specs.{Prelude.{◌≡◌, ◌++◌, IfOk, OnOk, length, map}, Fmt.{decimal}, List.{enumerate_from, flat_map, zip}};
 ghost use Rattle.litmus_text.specs.TestText.{with_line_feed};
 ghost use Rattle.exec_text.specs.ExecutionText.{place_head, thread_head};
 ghost use Rattle.exec_text.specs.Written.{access_word, place_line, read_word, source_word, text_of_execution, thread_line};

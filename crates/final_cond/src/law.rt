@@ -1,8 +1,5 @@
 ghost use Rattle.std.specs.Prelude.{◌≡◌, Ok};
-ghost use Rattle.final_cond.specs.Conditions.{CondSeen};
-ghost use Rattle.final_cond.specs.CondText.{cond_text};
-ghost use Rattle.final_cond.specs.ConditionReadBack.{IsFormedCondition};
-ghost use Rattle.final_cond.specs.ConditionReading.{cond_read};
+ghost use Rattle.final_cond.specs.{Conditions.{CondSeen}, CondText.{cond_text}, ConditionReadBack.{IsFormedCondition}, ConditionReading.{cond_read}};
 
 /// A law: the text that `print_cond` writes of a condition is one that `read_cond` reads as that
 /// condition, where it has 1 to `MAX_TERMS` terms, its threads are below 64, its names are of their

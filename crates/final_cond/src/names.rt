@@ -1,6 +1,4 @@
-ghost use Rattle.std.specs.Prelude.{◌≡◌, ◌≤◌, true, length, option_map, cond, Some, None};
-ghost use Rattle.std.specs.Char.{is_ascii};
-ghost use Rattle.std.specs.List.{list_all};
+ghost use Rattle.std.specs.{Prelude.{◌≡◌, ◌≤◌, true, length, option_map, cond, Some, None}, Char.{is_ascii}, List.{list_all}};
 ghost use Rattle.text_parts_laws.specs.Names.{is_place_name, is_register_name};
 
 use crate::cond::{PlaceName, RegName};

@@ -1,8 +1,5 @@
-ghost use Rattle.std.specs.Prelude.{◌≡◌, ◌≤◌, ◌<◌, ◌*◌, ◌++◌, List, map, codes, length};
-ghost use Rattle.std.specs.Fmt.{decimal};
-ghost use Rattle.std.specs.List.{flat_map};
-ghost use Rattle.diy_io.specs.Page.{page_after};
-ghost use Rattle.diy_io.specs.Wrote.{Wrote};
+ghost use Rattle.std.specs.{Prelude.{◌≡◌, ◌≤◌, ◌<◌, ◌*◌, ◌++◌, List, map, codes, length}, Fmt.{decimal}, List.{flat_map}};
+ghost use Rattle.diy_io.specs.{Page.{page_after}, Wrote.{Wrote}};
 ghost use Rattle.final_cond.specs.Conditions.{InRegister, AtPlace, term_view, cond_view};
 ghost use Rattle.final_cond.specs.CondText.{quantifier_word, term_text, further_term_text, terms_text, cond_text};
 

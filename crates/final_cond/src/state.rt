@@ -1,6 +1,5 @@
 ghost use Rattle.std.specs.Prelude.{◌≡◌, ◌↔◌, [], ◌∷◌, ◌++◌, IsTrue, map, OnOk, OnErr};
-ghost use Rattle.final_cond.specs.Conditions.{left_view, cond_view};
-ghost use Rattle.final_cond.specs.States.{same_left_seen, value_in_state, Meets, pair_view};
+ghost use Rattle.final_cond.specs.{Conditions.{left_view, cond_view}, States.{same_left_seen, value_in_state, Meets, pair_view}};
 
 use crate::cond::{Cond, Left, Term};
 use diy_io::NoMemory;

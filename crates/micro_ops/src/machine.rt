@@ -1,7 +1,6 @@
 ghost use Rattle.std.specs.Prelude.{◌≡◌, ◌<◌, All, OnErr, IfSome, true, replicate};
 ghost use Rattle.micro_ops.specs.Machine.{num, step, write_effect, loading, storing, branching, place_reached, address_mask};
-ghost use Rattle.micro_ops.specs.Running.{initial_state, is_load, starting};
-ghost use Rattle.micro_ops.specs.Machines.{state_of, held_by_register, effect, InRange};
+ghost use Rattle.micro_ops.specs.{Running.{initial_state, is_load, starting}, Machines.{state_of, held_by_register, effect, InRange}};
 
 use crate::held::Held;
 use crate::operand::{add_immediate, equal, exclusive_or, or_immediate, place, sum};

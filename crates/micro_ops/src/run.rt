@@ -1,9 +1,7 @@
 ghost use Rattle.std.specs.Prelude.{◌≡◌, ◌<◌, ◌≤◌, ◌^◌, ◌++◌, [], ◌∷◌, length, All, Option, Some, None, OnOk, OnErr, IfOk, IfErr, IsErrOf, count_by, true, false};
-ghost use Rattle.micro_ops.specs.Machine.{step};
-ghost use Rattle.micro_ops.specs.Machines.{state_of, InRange};
+ghost use Rattle.micro_ops.specs.{Machine.{step}, Machines.{state_of, InRange}};
 ghost use Rattle.micro_ops.specs.Running.{At, beginning, go, led, is_load, is_label, is_past, lands, runs, outcome, Ended, ReadsLeft};
-ghost use Rattle.micro_ops.specs.RunThreads.{value_in_run, goes_on, CausedBy};
-ghost use Rattle.micro_ops.specs.Runners.{point_of, error_of};
+ghost use Rattle.micro_ops.specs.{RunThreads.{value_in_run, goes_on, CausedBy}, Runners.{point_of, error_of}};
 
 use crate::machine::Machine;
 use crate::operation::{Item, Micro};

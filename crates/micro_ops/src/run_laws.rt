@@ -1,8 +1,7 @@
 //! The laws of runs: each function does nothing, and its contract is the law.
 ghost use Rattle.std.specs.Prelude.{◌≡◌, ℕ, ◌++◌, List, Option, false, true};
 ghost use Rattle.relax_edges.specs.declared.kinds.Value.{Value};
-ghost use Rattle.micro_ops.specs.declared.operation.Micro.{Micro};
-ghost use Rattle.micro_ops.specs.declared.held.Held.{Held};
+ghost use Rattle.micro_ops.specs.{declared.operation.Micro.{Micro}, declared.held.Held.{Held}};
 ghost use Rattle.micro_ops.specs.Running.{Run, Point, At, go, exec, lands, is_past, is_written, beginning, OnRun, RunNamesLoads, JumpLands, KeepsHeld, MadeAtMostOne};
 ghost use Rattle.micro_ops.specs.RunThreads.{StopsAt, goes_on};
 

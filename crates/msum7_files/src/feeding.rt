@@ -1,7 +1,6 @@
 ghost use Rattle.std.specs.Prelude.{true, ◌≡◌, ◌+◌, ◌≤◌, ◌^◌, ◌++◌, ℕ, List, [], length, OnOk, IfOk};
 ghost use Rattle.log_sum.specs.Representing.{IsBetweenLogs};
-ghost use Rattle.msum7_files.specs.FileFaults.{sum_fault, sum_end_at};
-ghost use Rattle.msum7_files.specs.declared.feeding.ReadFault.TheVariants.{Log, Device};
+ghost use Rattle.msum7_files.specs.{FileFaults.{sum_fault, sum_end_at}, declared.feeding.ReadFault.TheVariants.{Log, Device}};
 
 use crate::sum_end::SumEnd;
 use diy_io::{Failed, MAX_INPUT, NoMemory, Sink};

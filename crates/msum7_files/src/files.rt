@@ -1,9 +1,7 @@
 ghost use Rattle.std.specs.Prelude.{◌≡◌, ◌<◌, ◌≤◌, length, ℕ, List, [], Result, MatchResult};
 ghost use Rattle.diy_io.specs.Shelf.{Idle, IsReading};
-ghost use Rattle.msum7_files.specs.Logs.{max_piece};
-ghost use Rattle.msum7_files.specs.FileFeeding.{ReadsLogs, ReadTo, SummedTo, ClosedTo, ForLogs};
-ghost use Rattle.msum7_files.specs.LogFiles.{log_seen, ModeAfter, LogFileTo, log_file_end};
-ghost use Rattle.msum7_files.specs.SumEnds.{FilesSummed};
+ghost use Rattle.msum7_files.specs.{Logs.{max_piece}, FileFeeding.{ReadsLogs, ReadTo, SummedTo, ClosedTo, ForLogs}};
+ghost use Rattle.msum7_files.specs.{LogFiles.{log_seen, ModeAfter, LogFileTo, log_file_end}, SumEnds.{FilesSummed}};
 
 use crate::feeding::{Feeding, PIECE, ReadFault};
 use crate::sum_end::SumEnd;

@@ -1,7 +1,5 @@
 ghost use Rattle.std.specs.Prelude.{◌≡◌, ◌<◌, ◌≤◌, length, ℕ, List, [], Result};
-ghost use Rattle.msum7_files.specs.Logs.{max_piece};
-ghost use Rattle.msum7_files.specs.FileFeeding.{ReadsLogs, SummedTo};
-ghost use Rattle.msum7_files.specs.SumEnds.{InputSummed};
+ghost use Rattle.msum7_files.specs.{Logs.{max_piece}, FileFeeding.{ReadsLogs, SummedTo}, SumEnds.{InputSummed}};
 
 use crate::feeding::{Feeding, PIECE, ReadFault};
 use crate::sum_end::SumEnd;

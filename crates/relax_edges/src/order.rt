@@ -1,12 +1,8 @@
-ghost use Rattle.std.specs.Prelude.{◌≡◌, ◌<◌, ◌≤◌, ◌+◌, ◌*◌, ◌==◌, ◌↔◌, IsTrue, Some};
+ghost use Rattle.std.specs.{Prelude.{◌≡◌, ◌<◌, ◌≤◌, ◌+◌, ◌*◌, ◌==◌, ◌↔◌, IsTrue, Some}, Cmp.{partial_order_from_own_ties}, Cmp.Rules.{comparing}};
+ghost use Rattle.std.specs.{Cmp.Lexicographic.{slice_cmp}, Ordering.{nat_cmp, on, as_partial_cmp}};
 ghost use Rattle.std.proofs.Common.{rules};
-ghost use Rattle.std.specs.Cmp.{partial_order_from_own_ties};
-ghost use Rattle.std.specs.Cmp.Rules.{comparing};
-ghost use Rattle.std.specs.Cmp.Lexicographic.{slice_cmp};
-ghost use Rattle.std.specs.Ordering.{nat_cmp, on, as_partial_cmp};
 ghost use Rattle.relax_edges.specs.Order.{rank_of, kind_rank, ends_rank, com_rank, dir_rank, sd_rank, reach_rank, pick_rank, fence_rank, fence_words, dependency_rank, dependency_words};
-ghost use Rattle.relax_edges.specs.Marks.{markable_kind, markable_fence, markable_dependency};
-ghost use Rattle.relax_edges.specs.WordParts.{word_of};
+ghost use Rattle.relax_edges.specs.{Marks.{markable_kind, markable_fence, markable_dependency}, WordParts.{word_of}};
 
 use crate::edge::Edge;
 use crate::kinds::{Com, DepKind, Dir, FenceKind, Pick, Reach, Sd};

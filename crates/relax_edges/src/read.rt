@@ -1,9 +1,6 @@
-ghost use Rattle.std.specs.Prelude.{◌≡◌, ◌∷◌, [], ◌++◌, reverse};
+ghost use Rattle.std.specs.{Prelude.{◌≡◌, ◌∷◌, [], ◌++◌, reverse}, Option.{option_map}, Result.{result_ok}};
 ghost use Rattle.relax_edges.specs.WordReading.{mark_named, kind_read, edge_spelled, dir_named, sd_named, reach_named, com_named, dependency_named, riscv_fence_named, fence_named, communication_of, two_sided_of, one_sided_of, read_as_communication, read_back_two_sided};
-ghost use Rattle.relax_edges.specs.Spelling.{edge_of};
-ghost use Rattle.relax_edges.specs.EdgeTable.{unmarked};
-ghost use Rattle.std.specs.Option.{option_map};
-ghost use Rattle.std.specs.Result.{result_ok};
+ghost use Rattle.relax_edges.specs.{Spelling.{edge_of}, EdgeTable.{unmarked}};
 
 use crate::edge::Edge;
 use crate::kinds::{ArchName, Com, DepKind, Dir, FenceKind, Kind, Mark, Pick, Reach, Sd};

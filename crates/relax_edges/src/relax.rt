@@ -1,8 +1,5 @@
-ghost use Rattle.std.specs.Prelude.{◌≡◌, ◌<◌, ◌≤◌, [], true, length, slice_get, Some, Ok, Err, MatchResult, ◌==◌};
-ghost use Rattle.std.specs.List.{list_any};
-ghost use Rattle.relax_edges.specs.JoinedEdges.{is_joined};
-ghost use Rattle.relax_edges.specs.Relaxations.{IsRelax, IsRelaxes, are_distinct_paths, is_same};
-ghost use Rattle.relax_edges.specs.RelaxKept.{keep_path, at_most_64};
+ghost use Rattle.std.specs.{Prelude.{◌≡◌, ◌<◌, ◌≤◌, [], true, length, slice_get, Some, Ok, Err, MatchResult, ◌==◌}, List.{list_any}};
+ghost use Rattle.relax_edges.specs.{JoinedEdges.{is_joined}, Relaxations.{IsRelax, IsRelaxes, are_distinct_paths, is_same}, RelaxKept.{keep_path, at_most_64}};
 
 use crate::edge::Edge;
 use crate::relax_error::RelaxKind;
@@ -17,8 +14,7 @@ pub struct Relax {
 
 impl Model for Relax {
     ghost use Rattle.std.specs.Prelude.{List};
-    ghost use Rattle.relax_edges.specs.declared.edge.Edge.{Edge as EdgeValue};
-    ghost use Rattle.relax_edges.specs.Relaxations.{IsRelax};
+    ghost use Rattle.relax_edges.specs.{declared.edge.Edge.{Edge as EdgeValue}, Relaxations.{IsRelax}};
 
     ghost Value = { List EdgeValue };
 
@@ -66,8 +62,7 @@ pub struct Relaxes {
 
 impl Model for Relaxes {
     ghost use Rattle.std.specs.Prelude.{List};
-    ghost use Rattle.relax_edges.specs.declared.edge.Edge.{Edge as EdgeValue};
-    ghost use Rattle.relax_edges.specs.Relaxations.{IsRelaxes};
+    ghost use Rattle.relax_edges.specs.{declared.edge.Edge.{Edge as EdgeValue}, Relaxations.{IsRelaxes}};
 
     ghost Value = { List (List EdgeValue) };
 

@@ -1,8 +1,5 @@
 ghost use Rattle.std.specs.Prelude.{◌≡◌, ◌≤◌, [], length, Ok, Err, OnErr, MatchResult};
-ghost use Rattle.relax_edges.specs.RelaxText.{items_of};
-ghost use Rattle.relax_edges.specs.RelaxSearch.{KeepsRelaxations};
-ghost use Rattle.relax_edges.specs.RelaxKept.{kept_items};
-ghost use Rattle.relax_edges.specs.Relaxations.{relaxes_of};
+ghost use Rattle.relax_edges.specs.{RelaxText.{items_of}, RelaxSearch.{KeepsRelaxations}, RelaxKept.{kept_items}, Relaxations.{relaxes_of}};
 
 use crate::relax::Relaxes;
 use crate::relax_error::RelaxError;

@@ -1,7 +1,5 @@
-ghost use Rattle.std.specs.Prelude.{◌≡◌, ◌≤◌, length};
-ghost use Rattle.std.specs.List.{position, position_or_len};
-ghost use Rattle.relax_edges.specs.RelaxText.{is_separator, is_bracket};
-ghost use Rattle.relax_edges.specs.RelaxRuns.{end_test};
+ghost use Rattle.std.specs.{Prelude.{◌≡◌, ◌≤◌, length}, List.{position, position_or_len}};
+ghost use Rattle.relax_edges.specs.{RelaxText.{is_separator, is_bracket}, RelaxRuns.{end_test}};
 
 /// What ends a run of bytes in the text of relaxations.
 #[derive(Clone, Copy)]

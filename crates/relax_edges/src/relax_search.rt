@@ -1,9 +1,6 @@
 ghost use Rattle.std.specs.Prelude.{◌≡◌, ◌<◌, ◌≤◌, ◌+◌, ◌∷◌, [], ◌++◌, true, length, map, Ok, Err, OnOk, MatchResult};
 ghost use Rattle.arrayvec.specs.ArrayVec.{array_vec_len};
-ghost use Rattle.relax_edges.specs.RelaxText.{words_of};
-ghost use Rattle.relax_edges.specs.JoinedEdges.{is_joined};
-ghost use Rattle.relax_edges.specs.RelaxKept.{keep_all, at_most_64};
-ghost use Rattle.relax_edges.specs.Relaxations.{word_edges};
+ghost use Rattle.relax_edges.specs.{RelaxText.{words_of}, JoinedEdges.{is_joined}, RelaxKept.{keep_all, at_most_64}, Relaxations.{word_edges}};
 ghost use Rattle.relax_edges.specs.RelaxSearch.{paths_after, KeepsPaths};
 
 use crate::edge::Edge;

@@ -1,10 +1,6 @@
-ghost use Rattle.std.specs.Prelude.{◌≡◌, ◌<◌, ◌≤◌, ◌+◌, ◌∷◌, [], ◌++◌, length, MatchOption};
-ghost use Rattle.std.specs.List.{list_any};
-ghost use Rattle.std.specs.Option.{option_to_list};
+ghost use Rattle.std.specs.{Prelude.{◌≡◌, ◌<◌, ◌≤◌, ◌+◌, ◌∷◌, [], ◌++◌, length, MatchOption}, List.{list_any}, Option.{option_to_list}};
 ghost use Rattle.arrayvec.specs.ArrayVec.{array_vec_len};
-ghost use Rattle.relax_edges.specs.Spelling.{edge_of};
-ghost use Rattle.relax_edges.specs.RelaxText.{is_separator, words_of, is_empty};
-ghost use Rattle.relax_edges.specs.Relaxations.{word_edges};
+ghost use Rattle.relax_edges.specs.{Spelling.{edge_of}, RelaxText.{is_separator, words_of, is_empty}, Relaxations.{word_edges}};
 ghost use Rattle.relax_edges.specs.Stars.{edges_by_last, edges_by_end};
 
 use crate::edge::Edge;

@@ -1,7 +1,5 @@
-ghost use Rattle.std.specs.Prelude.{◌≡◌, ◌≤◌, ◌<◌, length, map};
-ghost use Rattle.std.specs.Str.{IsAscii};
-ghost use Rattle.relax_edges.specs.WordParts.{word_of};
-ghost use Rattle.relax_edges.specs.AllEdges.{edges_in_order};
+ghost use Rattle.std.specs.{Prelude.{◌≡◌, ◌≤◌, ◌<◌, length, map}, Str.{IsAscii}};
+ghost use Rattle.relax_edges.specs.{WordParts.{word_of}, AllEdges.{edges_in_order}};
 
 use crate::edge::Edge;
 use arrayvec::ArrayString;

@@ -1,6 +1,5 @@
 ghost use Rattle.std.specs.Prelude.{◌≡◌, ◌≤◌, length, IfErr};
-ghost use Rattle.test_maker.specs.Refusals.{crowded_thread, foreign_edge, is_crowded, refusal_of};
-ghost use Rattle.test_maker.specs.Made.{Judges, NamesLocation};
+ghost use Rattle.test_maker.specs.{Refusals.{crowded_thread, foreign_edge, is_crowded, refusal_of}, Made.{Judges, NamesLocation}};
 
 use crate::refusal::Refusal;
 use crate::steps::{Steps, fill_events, fill_observer, steps_of, thread_count};

@@ -1,13 +1,9 @@
 ghost use Rattle.std.specs.Prelude.{◌≡◌, ◌<◌, ◌≤◌, ◌+◌, ◌++◌, ◌∷◌, [], length, map};
 ghost use Rattle.arrayvec.specs.ArrayVec.{array_vec_len};
-ghost use Rattle.final_cond.specs.declared.cond.Quantifier.TheVariants.{Exists};
-ghost use Rattle.final_cond.specs.Conditions.{term_view};
+ghost use Rattle.final_cond.specs.{declared.cond.Quantifier.TheVariants.{Exists}, Conditions.{term_view}};
 ghost use Rattle.cycle_events.specs.Resolution.{move_count};
-ghost use Rattle.arch_trait.specs.PlaceNames.{letters};
-ghost use Rattle.arch_trait.specs.Writing.{name_in};
-ghost use Rattle.tests_force_cycles.specs.CycleSteps.{numbers_read};
-ghost use Rattle.tests_force_cycles.specs.TestOf.{is_named_location, last_terms, load_term};
-ghost use Rattle.arch_trait.specs.Codes.{AllBelow};
+ghost use Rattle.arch_trait.specs.{PlaceNames.{letters}, Writing.{name_in}, Codes.{AllBelow}};
+ghost use Rattle.tests_force_cycles.specs.{CycleSteps.{numbers_read}, TestOf.{is_named_location, last_terms, load_term}};
 ghost use Rattle.test_maker.specs.ConditionTerms.{place_term, terms_of_loads};
 
 use arch_trait::{Arch, Places, Step};

@@ -2,8 +2,7 @@ ghost use Rattle.std.specs.Prelude.{◌≡◌, List, None, Ok};
 ghost use Rattle.relax_edges.specs.declared.edge.Edge.{Edge};
 ghost use Rattle.cycle_events.specs.Resolution.{resolution_of, turned};
 ghost use Rattle.arch_trait.specs.Threads.{Puts};
-ghost use Rattle.test_maker.specs.Made.{AreOfArch};
-ghost use Rattle.test_maker.specs.Refusals.{foreign_edge};
+ghost use Rattle.test_maker.specs.{Made.{AreOfArch}, Refusals.{foreign_edge}};
 
 /// Laws of the resolution of a cycle: it is the turned cycle; and where no edge of the cycle is foreign to
 /// an architecture, none of the resolution is.

@@ -1,11 +1,9 @@
 ghost use Rattle.std.specs.Prelude.{◌≡◌, ◌≤◌, length, IfErr, IfOk, OnOk};
 ghost use Rattle.cycle_events.specs.Resolution.{turned};
-ghost use Rattle.arch_trait.specs.PlaceNames.{number_in};
-ghost use Rattle.arch_trait.specs.Writing.{name_in};
+ghost use Rattle.arch_trait.specs.{PlaceNames.{number_in}, Writing.{name_in}};
 ghost use Rattle.relax_edges.specs.declared.kinds.ObsMode.TheVariants.{Avoid};
 ghost use Rattle.litmus_text.specs.Tests.{test_seen};
-ghost use Rattle.tests_force_cycles.specs.TestHeadline.{Forces, HasCode, HasTest};
-ghost use Rattle.tests_force_cycles.specs.TestOf.{plain};
+ghost use Rattle.tests_force_cycles.specs.{TestHeadline.{Forces, HasCode, HasTest}, TestOf.{plain}};
 ghost use Rattle.test_maker.specs.Made.{MakesSeenTest, MakesTest, MakesValued, AreOfArch, CanPrint, NamesLocation};
 
 use crate::acceptance::all_of_arch;

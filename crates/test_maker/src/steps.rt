@@ -1,10 +1,8 @@
 ghost use Rattle.std.specs.Prelude.{◌≡◌, ℕ, ◌<◌, ◌≤◌, ◌+◌, length, map, Some, slice_get};
 ghost use Rattle.list_laws.specs.Numbers.{upto};
-ghost use Rattle.cycle_events.specs.Resolution.{external_count, move_count, slot_of, thread_of};
-ghost use Rattle.cycle_events.specs.Values.{write_count};
+ghost use Rattle.cycle_events.specs.{Resolution.{external_count, move_count, slot_of, thread_of}, Values.{write_count}};
 ghost use Rattle.program_meaning.specs.Intended.{observed_locations};
-ghost use Rattle.tests_force_cycles.specs.CycleSteps.{event_link, event_step, thread_steps, observing, observer_steps, cycle_steps};
-ghost use Rattle.tests_force_cycles.specs.TestOf.{plain};
+ghost use Rattle.tests_force_cycles.specs.{CycleSteps.{event_link, event_step, thread_steps, observing, observer_steps, cycle_steps}, TestOf.{plain}};
 ghost use Rattle.test_maker.specs.ThreadStarts.{IsThreadStart, all_steps};
 
 use arch_trait::{Link, Step, link_of};

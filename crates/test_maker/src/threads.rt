@@ -1,12 +1,9 @@
 ghost use Rattle.std.specs.Prelude.{◌≡◌, ◌<◌, ◌≤◌, ◌+◌, false, length, map};
 ghost use Rattle.arrayvec.specs.ArrayVec.{array_vec_len};
 ghost use Rattle.final_cond.specs.Conditions.{term_view};
-ghost use Rattle.arch_trait.specs.Threads.{FitSteps};
-ghost use Rattle.arch_trait.specs.Writing.{name_in};
-ghost use Rattle.tests_force_cycles.specs.CycleSteps.{numbers_read};
-ghost use Rattle.tests_force_cycles.specs.TestOf.{last_terms};
-ghost use Rattle.test_maker.specs.Made.{AreOfArch};
-ghost use Rattle.test_maker.specs.ConditionTerms.{PutsThread, PutsThreads};
+ghost use Rattle.arch_trait.specs.{Threads.{FitSteps}, Writing.{name_in}};
+ghost use Rattle.tests_force_cycles.specs.{CycleSteps.{numbers_read}, TestOf.{last_terms}};
+ghost use Rattle.test_maker.specs.{Made.{AreOfArch}, ConditionTerms.{PutsThread, PutsThreads}};
 
 use crate::condition::put_load_terms;
 use crate::refusal::Refusal;

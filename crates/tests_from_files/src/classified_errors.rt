@@ -1,6 +1,5 @@
 ghost use Rattle.std.specs.Prelude.{◌≡◌};
-ghost use Rattle.tests_from_files.specs.declared.classified_errors.CycleFault.TheVariants.{Device, Text};
-ghost use Rattle.tests_from_files.specs.Read.{file_end, file_fault};
+ghost use Rattle.tests_from_files.specs.{declared.classified_errors.CycleFault.TheVariants.{Device, Text}, Read.{file_end, file_fault}};
 ghost use Rattle.tests_from_files.specs.QuotedCycle.{test_error, classified_kind};
 
 use crate::{FileFault, TestFileError, TestFileKind};

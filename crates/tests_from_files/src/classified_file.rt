@@ -1,6 +1,5 @@
 ghost use Rattle.std.specs.Prelude.{◌≡◌, ◌<◌, length};
-ghost use Rattle.diy_io.specs.Shelf.{Idle};
-ghost use Rattle.diy_io.specs.Opened.{name_at};
+ghost use Rattle.diy_io.specs.{Shelf.{Idle}, Opened.{name_at}};
 ghost use Rattle.tests_from_files.specs.Read.{CycleTo, ClosedTo};
 
 use crate::classified_errors::CycleFault;

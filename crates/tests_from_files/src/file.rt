@@ -1,8 +1,6 @@
 ghost use Rattle.std.specs.Prelude.{◌≡◌, ◌<◌, length};
-ghost use Rattle.diy_io.specs.Shelf.{Idle, IsReading};
-ghost use Rattle.diy_io.specs.Opened.{name_at};
-ghost use Rattle.tests_from_files.specs.FilesRead.{FileTo};
-ghost use Rattle.tests_from_files.specs.OpenFiles.{OpenTo};
+ghost use Rattle.diy_io.specs.{Shelf.{Idle, IsReading}, Opened.{name_at}};
+ghost use Rattle.tests_from_files.specs.{FilesRead.{FileTo}, OpenFiles.{OpenTo}};
 
 use crate::errors::{FileFault, ReadFault};
 use crate::text::read_text;

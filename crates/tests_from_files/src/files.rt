@@ -1,5 +1,4 @@
-ghost use Rattle.std.specs.Prelude.{◌≡◌, ◌<◌, length};
-ghost use Rattle.std.specs.List.{All};
+ghost use Rattle.std.specs.{Prelude.{◌≡◌, ◌<◌, length}, List.{All}};
 ghost use Rattle.diy_io.specs.Shelf.{Idle};
 ghost use Rattle.tests_from_files.specs.FilesEnds.{ClassifiesFiles};
 

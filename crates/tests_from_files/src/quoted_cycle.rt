@@ -1,6 +1,5 @@
 ghost use Rattle.std.specs.Prelude.{◌≡◌};
-ghost use Rattle.tests_from_files.specs.declared.classified_errors.TextFault.TheVariants.{Wrong};
-ghost use Rattle.tests_from_files.specs.QuotedCycle.{cycle_or_fault, no_cycle, text_said};
+ghost use Rattle.tests_from_files.specs.{declared.classified_errors.TextFault.TheVariants.{Wrong}, QuotedCycle.{cycle_or_fault, no_cycle, text_said}};
 ghost use Rattle.tests_from_files.specs.Read.{SaysCycleInMemory};
 
 use crate::classified_errors::{FileError, FileKind, TextFault};

@@ -1,6 +1,5 @@
 ghost use Rattle.std.specs.Prelude.{◌≡◌, Ok};
-ghost use Rattle.tests_from_files.specs.declared.errors.NoTest.TheVariants.{Wrong};
-ghost use Rattle.tests_from_files.specs.declared.errors.TestFileKind.TheVariants.{Test};
+ghost use Rattle.tests_from_files.specs.{declared.errors.NoTest.TheVariants.{Wrong}, declared.errors.TestFileKind.TheVariants.{Test}};
 ghost use Rattle.tests_from_files.specs.TestSaid.{is_arch, headed_said, test_said, SaysTestInMemory};
 
 use crate::errors::{NoTest, TestFileError, TestFileKind};

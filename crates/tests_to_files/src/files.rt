@@ -1,5 +1,4 @@
-ghost use Rattle.std.specs.Prelude.{◌≡◌, ◌≤◌, ◌++◌, length};
-ghost use Rattle.std.specs.Option.{ForSome, option_map};
+ghost use Rattle.std.specs.{Prelude.{◌≡◌, ◌≤◌, ◌++◌, length}, Option.{ForSome, option_map}};
 ghost use Rattle.tests_to_files.specs.ListedFiles.{file_named, path_of, stem_named};
 
 use arrayvec::ArrayString;

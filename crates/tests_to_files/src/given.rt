@@ -1,11 +1,7 @@
-ghost use Rattle.std.specs.Prelude.{◌≡◌, ◌≤◌, ◌∷◌, [], length, None, OnOk, OnErr};
-ghost use Rattle.std.specs.List.{All};
-ghost use Rattle.std.specs.Option.{ForSome};
+ghost use Rattle.std.specs.{Prelude.{◌≡◌, ◌≤◌, ◌∷◌, [], length, None, OnOk, OnErr}, List.{All}, Option.{ForSome}};
 ghost use Rattle.diy_io.specs.Shelf.{Idle};
 ghost use Rattle.test_maker.specs.Refusals.{refusal_of};
-ghost use Rattle.tests_to_files.specs.ListedFiles.{file_lines};
-ghost use Rattle.tests_to_files.specs.GivenCycles.{PutUpTo, EndsPutting, given_files_of};
-ghost use Rattle.tests_to_files.specs.Plans.{test_files_of};
+ghost use Rattle.tests_to_files.specs.{ListedFiles.{file_lines}, GivenCycles.{PutUpTo, EndsPutting, given_files_of}, Plans.{test_files_of}};
 ghost use Rattle.tests_to_files.specs.Putting.{PutFiles, PutPart};
 
 use crate::ending::ListingEnd;

@@ -1,10 +1,8 @@
 ghost use Rattle.std.specs.Prelude.{◌≡◌, ◌≤◌, ◌↔◌, true, List, OnOk, OnErr};
-ghost use Rattle.relax_edges.specs.declared.TheConstants.{MAX_EDGES};
-ghost use Rattle.relax_edges.specs.declared.edge.Edge.{Edge as EdgeValue};
+ghost use Rattle.relax_edges.specs.{declared.TheConstants.{MAX_EDGES}, declared.edge.Edge.{Edge as EdgeValue}};
 ghost use Rattle.edge_algebra_laws.specs.Composable.{IsCycle};
 ghost use Rattle.cycle_enum.specs.Walking.{KnowsOf, Says};
-ghost use Rattle.tests_to_files.specs.ListedLines.{EndsLines, StopsAtLine, WritesLines};
-ghost use Rattle.tests_to_files.specs.Plans.{IsPlanned, Seeks, is_sought, plan_in, walk_plan};
+ghost use Rattle.tests_to_files.specs.{ListedLines.{EndsLines, StopsAtLine, WritesLines}, Plans.{IsPlanned, Seeks, is_sought, plan_in, walk_plan}};
 
 use crate::listing::Listing;
 use crate::names::next_accepted;

@@ -1,19 +1,12 @@
-ghost use Rattle.std.specs.Prelude.{◌≡◌, ◌≤◌, ◌↔◌, true, Some, None, length, List, [], ◌∷◌, OnOk, OnErr, IfOk, IfSome};
-ghost use Rattle.std.specs.Option.{ForSome};
-ghost use Rattle.relax_edges.specs.declared.TheConstants.{MAX_EDGES};
-ghost use Rattle.relax_edges.specs.declared.edge.Edge.{Edge as EdgeValue};
+ghost use Rattle.std.specs.{Prelude.{◌≡◌, ◌≤◌, ◌↔◌, true, Some, None, length, List, [], ◌∷◌, OnOk, OnErr, IfOk, IfSome}, Option.{ForSome}};
+ghost use Rattle.relax_edges.specs.{declared.TheConstants.{MAX_EDGES}, declared.edge.Edge.{Edge as EdgeValue}};
 ghost use Rattle.edge_algebra_laws.specs.Composable.{IsCycle};
 ghost use Rattle.cycle_enum.specs.Walking.{KnowsOf, Lists, Says};
-ghost use Rattle.diy_io.specs.Shelf.{Idle};
-ghost use Rattle.diy_io.specs.Wrote.{Wrote};
+ghost use Rattle.diy_io.specs.{Shelf.{Idle}, Wrote.{Wrote}};
 ghost use Rattle.test_maker.specs.Refusals.{refusal_of};
-ghost use Rattle.tests_to_files.specs.ListingEnds.{BeginsAfter, EndsAfter, EndsListing};
-ghost use Rattle.tests_to_files.specs.ListedFiles.{count_line, file_of};
-ghost use Rattle.tests_to_files.specs.Arrives.{ArrivesOrEnds};
-ghost use Rattle.tests_to_files.specs.Keeping.{PutsAll, StopsPutting};
-ghost use Rattle.tests_to_files.specs.Plans.{HaveTests, is_sought, Seeks, plan_in, test_file_of, walk_plan, wanted_in};
-ghost use Rattle.tests_to_files.specs.Putting.{PutFiles, FailsAt};
-ghost use Rattle.tests_to_files.specs.Ready.{IsReady};
+ghost use Rattle.tests_to_files.specs.{ListingEnds.{BeginsAfter, EndsAfter, EndsListing}, ListedFiles.{count_line, file_of}, Arrives.{ArrivesOrEnds}};
+ghost use Rattle.tests_to_files.specs.{Keeping.{PutsAll, StopsPutting}, Plans.{HaveTests, is_sought, Seeks, plan_in, test_file_of, walk_plan, wanted_in}};
+ghost use Rattle.tests_to_files.specs.{Putting.{PutFiles, FailsAt}, Ready.{IsReady}};
 
 use crate::ending::ListingEnd;
 use crate::files::{FileName, Path, file_named, set_path};

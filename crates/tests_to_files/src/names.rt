@@ -1,11 +1,8 @@
-ghost use Rattle.std.specs.Prelude.{◌≡◌, ◌≤◌, ◌+◌, ◌++◌, [], Some, None, length, codes, IsTrue, IsFalse, OnOk, OnErr};
-ghost use Rattle.std.specs.Option.{ForSome, ForNone};
+ghost use Rattle.std.specs.{Prelude.{◌≡◌, ◌≤◌, ◌+◌, ◌++◌, [], Some, None, length, codes, IsTrue, IsFalse, OnOk, OnErr}, Option.{ForSome, ForNone}};
 ghost use Rattle.edge_algebra_laws.specs.CycleOrder.{IsNormal};
 ghost use Rattle.cycle_enum.specs.Walking.{KnowsOf, Lists};
 ghost use Rattle.diy_io.specs.Shelf.{Idle};
-ghost use Rattle.tests_to_files.specs.ListedFiles.{file_of};
-ghost use Rattle.tests_to_files.specs.Arrives.{ArrivesOrEnds};
-ghost use Rattle.tests_to_files.specs.Keeping.{KeepsFile, NamesKept, NamesRest, StopsNames, StopsRest};
+ghost use Rattle.tests_to_files.specs.{ListedFiles.{file_of}, Arrives.{ArrivesOrEnds}, Keeping.{KeepsFile, NamesKept, NamesRest, StopsNames, StopsRest}};
 ghost use Rattle.tests_to_files.specs.Plans.{HaveTests};
 ghost use Rattle.test_maker.specs.Refusals.{refusal_of};
 

@@ -1,12 +1,7 @@
-ghost use Rattle.std.specs.Prelude.{◌≡◌, ◌≤◌, [], ◌∷◌, length, map, OnOk, OnErr};
-ghost use Rattle.std.specs.List.{All};
+ghost use Rattle.std.specs.{Prelude.{◌≡◌, ◌≤◌, [], ◌∷◌, length, map, OnOk, OnErr}, List.{All}};
 ghost use Rattle.diy_io.specs.Shelf.{Idle};
-ghost use Rattle.litmus_text.specs.KeptCells.{HoldsTable};
-ghost use Rattle.litmus_text.specs.Tests.{IsPrintable, test_seen};
-ghost use Rattle.litmus_text.specs.TestText.{test_text};
-ghost use Rattle.litmus_text.specs.declared.limits.TheConstants.{MAX_TEST_NAME};
-ghost use Rattle.tests_to_files.specs.GivenCycles.{PutUpTo};
-ghost use Rattle.tests_to_files.specs.Putting.{PutFiles, PutPart, file_put};
+ghost use Rattle.litmus_text.specs.{KeptCells.{HoldsTable}, Tests.{IsPrintable, test_seen}, TestText.{test_text}, declared.limits.TheConstants.{MAX_TEST_NAME}};
+ghost use Rattle.tests_to_files.specs.{GivenCycles.{PutUpTo}, Putting.{PutFiles, PutPart, file_put}};
 
 use crate::files::Path;
 use arch_trait::Arch;

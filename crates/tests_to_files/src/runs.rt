@@ -1,8 +1,7 @@
 ghost use Rattle.std.specs.Prelude.{◌≡◌, ◌<◌, ◌≤◌, ◌+◌, length};
 ghost use Rattle.relax_edges.specs.declared.TheConstants.{MAX_EDGES};
 ghost use Rattle.cycle_events.specs.Resolution.{external_count};
-ghost use Rattle.tests_to_files.specs.Plans.{has_few_accesses};
-ghost use Rattle.tests_to_files.specs.InternalRuns.{next_run, run_after, stays_below};
+ghost use Rattle.tests_to_files.specs.{Plans.{has_few_accesses}, InternalRuns.{next_run, run_after, stays_below}};
 
 use relax_edges::Edge;
 

@@ -1,9 +1,7 @@
-ghost use Rattle.std.specs.Prelude.{◌≡◌, ◌↔◌, IsFalse, nat_le};
-ghost use Rattle.std.specs.List.{list_all};
+ghost use Rattle.std.specs.{Prelude.{◌≡◌, ◌↔◌, IsFalse, nat_le}, List.{list_all}};
 ghost use Rattle.relax_edges.specs.EdgeTable.{is_of_arch};
 ghost use Rattle.cycle_events.specs.Resolution.{external_count};
-ghost use Rattle.tests_to_files.specs.Plans.{ends_inside, ends_of_arch, has_few_threads, is_sought, may_lead};
-ghost use Rattle.tests_to_files.specs.InternalRuns.{HasLongRun};
+ghost use Rattle.tests_to_files.specs.{Plans.{ends_inside, ends_of_arch, has_few_threads, is_sought, may_lead}, InternalRuns.{HasLongRun}};
 
 use crate::runs::{has_few_accesses, stays_below};
 use arch_trait::Arch;

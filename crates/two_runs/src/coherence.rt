@@ -1,12 +1,9 @@
 ghost use Rattle.std.specs.Prelude.{◌≡◌, IfErr, IfOk};
 ghost use Rattle.arch_trait.specs.Writing.{name_in};
-ghost use Rattle.litmus_text.specs.Printable.{IsTestName};
-ghost use Rattle.litmus_text.specs.Tests.{test_seen};
-ghost use Rattle.litmus_text.specs.TestText.{test_text};
+ghost use Rattle.litmus_text.specs.{Printable.{IsTestName}, Tests.{test_seen}, TestText.{test_text}};
 ghost use Rattle.test_maker.specs.Made.{CanPrint};
 ghost use Rattle.co_tests_laws.specs.CoherenceTests.{HasCoherenceTest, coherence_test_of, incoherent_execution};
-ghost use Rattle.two_runs.specs.IntendedRuns.{IsRunOf, RunNamesLocation};
-ghost use Rattle.two_runs.specs.CoherenceRuns.{GivesCoherenceRun};
+ghost use Rattle.two_runs.specs.{IntendedRuns.{IsRunOf, RunNamesLocation}, CoherenceRuns.{GivesCoherenceRun}};
 
 use crate::errors::RunError;
 use crate::incoherent::incoherent_run;

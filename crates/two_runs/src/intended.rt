@@ -1,15 +1,10 @@
 ghost use Rattle.std.specs.Prelude.{◌≡◌, IfErr, IfOk, None, Ok};
-ghost use Rattle.cycle_events.specs.Resolution.{resolution_of, turned};
-ghost use Rattle.cycle_events.specs.Values.{valuation_of};
+ghost use Rattle.cycle_events.specs.{Resolution.{resolution_of, turned}, Values.{valuation_of}};
 ghost use Rattle.arch_trait.specs.Writing.{name_in};
-ghost use Rattle.litmus_text.specs.Printable.{IsTestName};
-ghost use Rattle.litmus_text.specs.Tests.{test_seen};
-ghost use Rattle.tests_force_cycles.specs.TestHeadline.{HasTest};
-ghost use Rattle.tests_force_cycles.specs.TestOf.{test_of};
-ghost use Rattle.test_maker.specs.Made.{CanPrint};
-ghost use Rattle.test_maker.specs.Refusals.{refusal_of};
-ghost use Rattle.two_runs.specs.IntendedRuns.{GivesRun, RunNamesLocation};
-ghost use Rattle.two_runs.specs.Runs.{numbers_by, run_by};
+ghost use Rattle.litmus_text.specs.{Printable.{IsTestName}, Tests.{test_seen}};
+ghost use Rattle.tests_force_cycles.specs.{TestHeadline.{HasTest}, TestOf.{test_of}};
+ghost use Rattle.test_maker.specs.{Made.{CanPrint}, Refusals.{refusal_of}};
+ghost use Rattle.two_runs.specs.{IntendedRuns.{GivesRun, RunNamesLocation}, Runs.{numbers_by, run_by}};
 
 use crate::errors::RunError;
 use crate::printed::read_printed;

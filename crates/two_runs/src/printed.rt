@@ -1,7 +1,5 @@
 ghost use Rattle.std.specs.Prelude.{◌≡◌, IfOk, Ok};
-ghost use Rattle.litmus_text.specs.Tests.{test_seen};
-ghost use Rattle.litmus_text.specs.TestText.{test_text};
-ghost use Rattle.litmus_text.specs.TestReading.{test_read};
+ghost use Rattle.litmus_text.specs.{Tests.{test_seen}, TestText.{test_text}, TestReading.{test_read}};
 ghost use Rattle.test_maker.specs.Made.{CanPrint};
 ghost use Rattle.two_runs.specs.IntendedRuns.{IsRead};
 

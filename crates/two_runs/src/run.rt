@@ -1,5 +1,4 @@
-ghost use Rattle.std.specs.Prelude.{◌≡◌, ◌<◌, length, IfOk};
-ghost use Rattle.std.specs.Option.{ForSome};
+ghost use Rattle.std.specs.{Prelude.{◌≡◌, ◌<◌, length, IfOk}, Option.{ForSome}};
 ghost use Rattle.two_runs.specs.Runs.{numbers_by, run_by};
 
 use crate::observers::{add_observers, observed_locations};

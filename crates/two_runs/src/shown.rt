@@ -1,11 +1,9 @@
 ghost use Rattle.std.specs.Prelude.{◌≡◌, List, IfErr, Ok, Some};
 ghost use Rattle.relax_edges.specs.declared.edge.Edge.{Edge};
-ghost use Rattle.cycle_events.specs.Resolution.{resolution_of};
-ghost use Rattle.cycle_events.specs.Values.{observer_need};
+ghost use Rattle.cycle_events.specs.{Resolution.{resolution_of}, Values.{observer_need}};
 ghost use Rattle.litmus_text.specs.Printable.{IsTestName};
 ghost use Rattle.test_maker.specs.Made.{AreOfArch};
-ghost use Rattle.two_runs.specs.IntendedRuns.{RunNamesLocation};
-ghost use Rattle.two_runs.specs.Shown.{Shows, ShowsNeed, ShowsResolution, ShowsResolved};
+ghost use Rattle.two_runs.specs.{IntendedRuns.{RunNamesLocation}, Shown.{Shows, ShowsNeed, ShowsResolution, ShowsResolved}};
 
 use crate::errors::RunError;
 use crate::printed::read_text;

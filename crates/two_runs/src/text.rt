@@ -1,10 +1,7 @@
-ghost use Rattle.std.specs.Prelude.{◌≡◌, length, IfErr, IfOk};
-ghost use Rattle.std.specs.List.{All};
-ghost use Rattle.litmus_text.specs.Tests.{IsPrintable, test_seen};
-ghost use Rattle.litmus_text.specs.TestText.{test_text};
+ghost use Rattle.std.specs.{Prelude.{◌≡◌, length, IfErr, IfOk}, List.{All}};
+ghost use Rattle.litmus_text.specs.{Tests.{IsPrintable, test_seen}, TestText.{test_text}};
 ghost use Rattle.test_maker.specs.Made.{AreOfArch};
-ghost use Rattle.two_runs.specs.IntendedRuns.{RunNamesLocation};
-ghost use Rattle.two_runs.specs.Shown.{GivesText};
+ghost use Rattle.two_runs.specs.{IntendedRuns.{RunNamesLocation}, Shown.{GivesText}};
 
 use crate::errors::RunError;
 use crate::sink::TextSink;
