@@ -17,7 +17,7 @@ use Rattle.exec_meaning.specs.SeenAccesses.{seen_access, seen_in, seen_in_thread
 use Rattle.exec_check.specs.declared.drawn.{Drawn.Drawn, Point.TheVariants.At, Point.TheVariants.Initial, Relation.Relation}
 use Rattle.exec_check.specs.declared.drawn.Relation.TheVariants.{Po, Rf, Co, Fr}
 use Rattle.exec_check.specs.Graphs.{access_drawn, drawn_in, initial_places, initial_write, is_initial, is_reached, pairs_by, reads_initial, relates}
-use Rattle.exec_check.specs.GraphLaws.{Node, Start, Made, IsDrawn, IsFirstWrite, IsNodeIn, ReadsInitial, FollowsInThread, IsReadFrom, FollowsInOrder, IsOverwritten, ListsPairs, drawn_as, NodesLaw, EndsLaw, PoPairsLaw, RfPairsLaw, CoPairsLaw, FrPairsLaw}
+use Rattle.exec_check.specs.GraphLaws.{Node, InitialWrite, TheAccess, IsDrawn, IsFirstWrite, IsNodeIn, ReadsInitial, FollowsInThread, IsReadFrom, FollowsInOrder, IsOverwritten, ListsPairs, drawn_as, NodesLaw, EndsLaw, PoPairsLaw, RfPairsLaw, CoPairsLaw, FrPairsLaw}
 use Rattle.exec_check.proofs.Members.{In, in_any, in_cases, in_filter, in_flat_map, in_left, in_map, in_numbered, in_of, in_right, in_to, in_upto, of_any, of_filter, of_flat_map, of_map, of_numbered, of_upto}
 
 -- a pair that passes a test is one of elements
@@ -166,7 +166,7 @@ reads_seen test x place seen s h = (reads_initial_decides (accesses_in (program_
 
 -- each node is drawn
 node_there : (test : TestRead) (x : Execution) (n : Node) → IsNodeIn test x n → In (drawn_as (accesses_in (program_read test) x) x n) (drawn_in test x)
-node_there test x (Start place) h =
+node_there test x (InitialWrite place) h =
     let seen = seen_in (program_read test) x in
     let e = h.reader in
     let s = seen_access (accesses_in (program_read test) x) x e.name.thread e.name.access e.visit.access e.visit.mark in
@@ -176,9 +176,9 @@ node_there test x (Start place) h =
     (in_filter (λ place. list_any (reads_initial place) seen) (upto (length test.places)) place
     (in_any (reads_initial place) seen s there ((reads_initial_decides (accesses_in (program_read test) x) x place e).1 h.reads))
     (in_upto (length test.places) place h.within)))
-node_there test x (Made e) h =
+node_there test x (TheAccess e) h =
     let seen = seen_in (program_read test) x in
-    in_right (map initial_write (initial_places (length test.places) seen)) (map access_drawn seen) (drawn_as (accesses_in (program_read test) x) x (Made e))
+    in_right (map initial_write (initial_places (length test.places) seen)) (map access_drawn seen) (drawn_as (accesses_in (program_read test) x) x (TheAccess e))
     (in_map access_drawn seen (seen_access (accesses_in (program_read test) x) x e.name.thread e.name.access e.visit.access e.visit.mark)
     (seen_there (accesses_in (program_read test) x) x (visits_in (program_read test) x) e.name e.visit h))
 
@@ -199,7 +199,7 @@ node_of test x d h = of_part (in_cases (map initial_write initial) (map access_d
         let reader = of_any (reads_initial place.0) seen passes.0 in
         let s = seen_of (accesses_in (program_read test) x) x (visits_in (program_read test) x) reader.0 reader.1 in
         record {
-          node = Start place.0;
+          node = InitialWrite place.0;
           is_node = record {
             within = of_upto (length test.places) place.0 passes.1;
             reader = s.named;
@@ -211,7 +211,7 @@ node_of test x d h = of_part (in_cases (map initial_write initial) (map access_d
     of_part (inr g) =
         let one = of_map access_drawn seen d g in
         let s = seen_of (accesses_in (program_read test) x) x (visits_in (program_read test) x) one.0 one.1 in
-        record { node = Made s.named; is_node = s.there; is = sym (ap access_drawn s.is ∙ one.2) }
+        record { node = TheAccess s.named; is_node = s.there; is = sym (ap access_drawn s.is ∙ one.2) }
 
 pub nodes_law : NodesLaw
 nodes_law test x d = (
@@ -245,29 +245,29 @@ before_decides : (m n : ℕ) → Decides (nat_lt m n) (m < n)
 before_decides m n = (ltb-true m n, lt-ltb m n)
 
 po_decides : (threads : List (List Access)) (x : Execution) (m n : Node) → Decides (relates Po (drawn_as threads x m) (drawn_as threads x n)) (FollowsInThread threads x m n)
-po_decides threads x (Made e) (Made f) =
+po_decides threads x (TheAccess e) (TheAccess f) =
     let d = both (e.name.thread == f.name.thread) (f.name.access == e.name.access + 1) (same_decides e.name.thread f.name.thread)
     (same_decides f.name.access (e.name.access + 1)) in
     (λ t. let p = d.0 t in record { thread = sym p.0; next = p.1 }, λ r. d.1 (sym r.thread, r.next))
-po_decides threads x (Made e) (Start place) = never false (λ h. cc h)
-po_decides threads x (Start place) n = never false (λ h. cc h)
+po_decides threads x (TheAccess e) (InitialWrite place) = never false (λ h. cc h)
+po_decides threads x (InitialWrite place) n = never false (λ h. cc h)
 
 rf_decides : (threads : List (List Access)) (x : Execution) (m n : Node) → Decides (relates Rf (drawn_as threads x m) (drawn_as threads x n)) (IsReadFrom threads x m n)
-rf_decides threads x (Made e) (Made f) =
+rf_decides threads x (TheAccess e) (TheAccess f) =
     let b = f.visit.access in
     let source = source_at threads x f.name in
     let d = both (reads_by b.dir) (is_reached source b.place (At e.name.thread e.name.access)) (reads_decides b.dir) (reached_decides source b.place e.name) in
     (λ t. let p = d.0 t in record { reads = p.0; source = p.1 }, λ r. d.1 (r.reads, r.source))
-rf_decides threads x (Start place) (Made f) =
+rf_decides threads x (InitialWrite place) (TheAccess f) =
     let b = f.visit.access in
     let source = source_at threads x f.name in
     let d = both (reads_by b.dir) (is_reached source b.place (Initial place)) (reads_decides b.dir) (reached_initially source b.place place) in
     (λ t. let p = d.0 t in record { reads = p.0; there = p.1.0; source = p.1.1 }, λ r. d.1 (r.reads, (r.there, r.source)))
-rf_decides threads x (Made e) (Start place) = never false (λ h. cc h)
-rf_decides threads x (Start place) (Start other) = never false (λ h. cc h)
+rf_decides threads x (TheAccess e) (InitialWrite place) = never false (λ h. cc h)
+rf_decides threads x (InitialWrite place) (InitialWrite other) = never false (λ h. cc h)
 
 co_decides : (threads : List (List Access)) (x : Execution) (m n : Node) → Decides (relates Co (drawn_as threads x m) (drawn_as threads x n)) (FollowsInOrder threads x m n)
-co_decides threads x (Made e) (Made f) =
+co_decides threads x (TheAccess e) (TheAccess f) =
     let a = e.visit.access in
     let b = f.visit.access in
     let m = coherence_place threads x e.name a in
@@ -277,15 +277,15 @@ co_decides threads x (Made e) (Made f) =
       λ t. let p = d.0 t in record { first = p.0.0; second = p.1.0.0; there = p.0.1; next = p.1.1 },
       λ r. d.1 ((r.first, r.there), ((r.second, sym r.there), r.next)),
     )
-co_decides threads x (Start place) (Made f) = first_write threads x place f
-co_decides threads x (Made e) (Start place) =
+co_decides threads x (InitialWrite place) (TheAccess f) = first_write threads x place f
+co_decides threads x (TheAccess e) (InitialWrite place) =
     let a = e.visit.access in
     let m = coherence_place threads x e.name a in
     last_fails (writes_to place a) (place == a.place) (0 == m + 1) (λ h. omega (arith, eqb-true 0 (m + 1) h))
-co_decides threads x (Start place) (Start other) = last_fails (place == other) (other == place) false (λ h. cc h)
+co_decides threads x (InitialWrite place) (InitialWrite other) = last_fails (place == other) (other == place) false (λ h. cc h)
 
 fr_decides : (threads : List (List Access)) (x : Execution) (m n : Node) → Decides (relates Fr (drawn_as threads x m) (drawn_as threads x n)) (IsOverwritten threads x m n)
-fr_decides threads x (Made e) (Made f) =
+fr_decides threads x (TheAccess e) (TheAccess f) =
     let a = e.visit.access in
     let b = f.visit.access in
     let m = coherence_place threads x e.name a in
@@ -294,11 +294,11 @@ fr_decides threads x (Made e) (Made f) =
       λ t. let p = d.0 t in record { reads = p.0; writes = p.1.0.0; there = sym p.1.0.1; later = p.1.1 },
       λ r. d.1 (r.reads, ((r.writes, sym r.there), r.later)),
     )
-fr_decides threads x (Made e) (Start place) =
+fr_decides threads x (TheAccess e) (InitialWrite place) =
     let a = e.visit.access in
     let m = coherence_place threads x e.name a in
     last_fails (reads_by a.dir) (place == a.place) (nat_lt m 0) (λ h. omega (arith, ltb-true m 0 h))
-fr_decides threads x (Start place) n = never false (λ h. cc h)
+fr_decides threads x (InitialWrite place) n = never false (λ h. cc h)
 
 pub po_pairs_law : PoPairsLaw
 po_pairs_law = pairs_are Po FollowsInThread po_decides

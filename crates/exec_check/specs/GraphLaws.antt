@@ -19,8 +19,8 @@ use Rattle.exec_check.specs.Verdicts.{IsVerdict, judged_cycle}
 
 -- a node of a graph: the initial write of a place, or an access
 pub data Node : Type 0 where
-  Start : ℕ → Node
-  Made : NamedAccess → Node
+  InitialWrite : ℕ → Node
+  TheAccess : NamedAccess → Node
 
 -- an access of an execution of a test
 abbrev pub IsAccessIn : TestRead → Execution → NamedAccess → Type 0
@@ -41,13 +41,13 @@ pub record IsInitiallyRead (test : TestRead) (x : Execution) (place : ℕ) : Typ
 
 -- a node of the graph of an execution of a test: the initial write of a place whose initial value is read, or an access
 abbrev pub IsNodeIn : TestRead → Execution → Node → Type 0
-IsNodeIn test x (Start place) = IsInitiallyRead test x place
-IsNodeIn test x (Made e) = IsAccessIn test x e
+IsNodeIn test x (InitialWrite place) = IsInitiallyRead test x place
+IsNodeIn test x (TheAccess e) = IsAccessIn test x e
 
 -- as it is drawn
 abbrev pub drawn_as : List (List Access) → Execution → Node → Drawn
-drawn_as threads x (Start place) = initial_write place
-drawn_as threads x (Made e) = access_drawn (seen_access threads x e.name.thread e.name.access e.visit.access e.visit.mark)
+drawn_as threads x (InitialWrite place) = initial_write place
+drawn_as threads x (TheAccess e) = access_drawn (seen_access threads x e.name.thread e.name.access e.visit.access e.visit.mark)
 
 -- a node of the graph of an execution, drawn so
 pub record IsDrawn (test : TestRead) (x : Execution) (drawn : Drawn) : Type 0 where
@@ -71,9 +71,9 @@ pub record IsNextAccess (e f : NamedAccess) : Type 0 where
 
 -- program order leads to the next access, and no initial write is in it
 abbrev pub FollowsInThread : List (List Access) → Execution → Node → Node → Type 0
-FollowsInThread threads x (Made e) (Made f) = IsNextAccess e f
-FollowsInThread threads x (Made e) (Start place) = ⊥
-FollowsInThread threads x (Start place) n = ⊥
+FollowsInThread threads x (TheAccess e) (TheAccess f) = IsNextAccess e f
+FollowsInThread threads x (TheAccess e) (InitialWrite place) = ⊥
+FollowsInThread threads x (InitialWrite place) n = ⊥
 
 -- the second reads, and reads the first
 pub record IsReadBy (threads : List (List Access)) (x : Execution) (e f : NamedAccess) : Type 0 where
@@ -82,10 +82,10 @@ pub record IsReadBy (threads : List (List Access)) (x : Execution) (e f : NamedA
 
 -- reads-from leads from what is read, a write or an initial write, to what reads it
 abbrev pub IsReadFrom : List (List Access) → Execution → Node → Node → Type 0
-IsReadFrom threads x (Made e) (Made f) = IsReadBy threads x e f
-IsReadFrom threads x (Start place) (Made f) = ReadsInitial threads x place f
-IsReadFrom threads x (Made e) (Start place) = ⊥
-IsReadFrom threads x (Start place) (Start other) = ⊥
+IsReadFrom threads x (TheAccess e) (TheAccess f) = IsReadBy threads x e f
+IsReadFrom threads x (InitialWrite place) (TheAccess f) = ReadsInitial threads x place f
+IsReadFrom threads x (TheAccess e) (InitialWrite place) = ⊥
+IsReadFrom threads x (InitialWrite place) (InitialWrite other) = ⊥
 
 -- both write to one place, and the second is next in its coherence order
 pub record IsNextWrite (threads : List (List Access)) (x : Execution) (e f : NamedAccess) : Type 0 where
@@ -102,10 +102,10 @@ pub record IsFirstWrite (x : Execution) (place : ℕ) (e : NamedAccess) : Type 0
 
 -- coherence order leads to the next write, and from an initial write to the first one
 abbrev pub FollowsInOrder : List (List Access) → Execution → Node → Node → Type 0
-FollowsInOrder threads x (Made e) (Made f) = IsNextWrite threads x e f
-FollowsInOrder threads x (Start place) (Made f) = IsFirstWrite x place f
-FollowsInOrder threads x (Made e) (Start place) = ⊥
-FollowsInOrder threads x (Start place) (Start other) = ⊥
+FollowsInOrder threads x (TheAccess e) (TheAccess f) = IsNextWrite threads x e f
+FollowsInOrder threads x (InitialWrite place) (TheAccess f) = IsFirstWrite x place f
+FollowsInOrder threads x (TheAccess e) (InitialWrite place) = ⊥
+FollowsInOrder threads x (InitialWrite place) (InitialWrite other) = ⊥
 
 -- the first reads, and the second writes to its place, later in the coherence order than what is read
 pub record IsReadBefore (threads : List (List Access)) (x : Execution) (e f : NamedAccess) : Type 0 where
@@ -116,9 +116,9 @@ pub record IsReadBefore (threads : List (List Access)) (x : Execution) (e f : Na
 
 -- from-read leads from a read to each later write, and never from or to an initial write
 abbrev pub IsOverwritten : List (List Access) → Execution → Node → Node → Type 0
-IsOverwritten threads x (Made e) (Made f) = IsReadBefore threads x e f
-IsOverwritten threads x (Made e) (Start place) = ⊥
-IsOverwritten threads x (Start place) n = ⊥
+IsOverwritten threads x (TheAccess e) (TheAccess f) = IsReadBefore threads x e f
+IsOverwritten threads x (TheAccess e) (InitialWrite place) = ⊥
+IsOverwritten threads x (InitialWrite place) n = ⊥
 
 -- a pair of nodes is in a list exactly where this relation holds between them
 abbrev pub ListsPairs : (List Drawn → List (Drawn × Drawn)) → (List (List Access) → Execution → Node → Node → Type 0) → Type 0
