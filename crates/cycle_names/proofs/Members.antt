@@ -1,5 +1,5 @@
 -- Members of lists, those that pass a test, and the one before which none comes.
-use Rattle.cycle_names.proofs.Vocabulary.{◌≡◌, ◌<◌, ◌⊎◌, ℕ, zero, suc, Bool, true, false, Some, None, List, [], ◌∷◌, ◌++◌, map, filter, take, drop, slice_get, find, list_any, list_all, refl, sym, ◌∙◌, ap, inl, inr, arith, and_parts, cond-true, cond-false, same_Some, map_push, map-append, drop-map, take-map, upto, by_test, by_less, rotated}
+use Rattle.cycle_names.proofs.Vocabulary.{◌≡◌, ◌<◌, ◌⊎◌, ℕ, zero, suc, Bool, true, false, Some, None, List, [], ◌∷◌, ◌++◌, map, filter, take, drop, slice_get, find, list_any, list_all, refl, sym, ◌∙◌, ap, inl, inr, arith, and_parts, cond-true, cond-false, same_Some, map_push, map-append, drop-map, take-map, list_all-append, and_comm, take-append-drop, upto, by_test, by_less, rotated}
 
 module _ {A : Type 0} where
   -- x is a member of a list
@@ -165,6 +165,11 @@ same_head x y xs ys e = cc
 -- and the others are equal
 pub same_tail : {A : Type 0} (x y : A) (xs ys : List A) → x ∷ xs ≡ y ∷ ys → xs ≡ ys
 same_tail x y xs ys e = cc
+
+-- a test passes for all of a rotation where it does for all of the list
+pub all_rotated : {A : Type 0} (p : A → Bool) (k : ℕ) (u : List A) → list_all p (rotated k u) ≡ list_all p u
+all_rotated p k u =
+    list_all-append p (drop k u) (take k u) ∙ and_comm (list_all p (drop k u)) (list_all p (take k u)) ∙ sym (list_all-append p (take k u) (drop k u)) ∙ ap (list_all p) (take-append-drop k u)
 
 -- what a function makes of a rotation
 pub map_rotated : {A B : Type 0} (f : A → B) (k : ℕ) (u : List A) → map f (rotated k u) ≡ rotated k (map f u)

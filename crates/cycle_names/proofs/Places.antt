@@ -1,6 +1,6 @@
 -- The places from which rotations fit, as the code finds them, and the rotation that it names a cycle from.
-use Rattle.cycle_names.proofs.Vocabulary.{◌≡◌, ◌<◌, ◌+◌, ◌&&◌, ℕ, true, false, Option, Some, None, MatchOption, List, [], ◌∷◌, ◌++◌, length, map, take, drop, list_all, refl, sym, ◌∙◌, ap, arith, inl, inr, get_or, and_parts, length-map, length-take, length-drop, map-append, take-append-drop, list_all-append, list_all_at, and_comm, and-true, Edge, is_same, IsCycle, rotated, Family, Slot, family_edges, all_families, outline, is_plain_outside, rotations, fits_family, is_of_family, found_family, slot_edge, edge_slot, word_ranks_below, comes_before, joins_at, JoinsNone, JoinNone, JoinsLeast, IsNamedAt}
-use Rattle.cycle_names.proofs.Members.{Member, find_none, filter_among, filter_passes, filter_member, member_upto, upto_member, map_rotated}
+use Rattle.cycle_names.proofs.Vocabulary.{◌≡◌, ◌<◌, ◌+◌, ◌&&◌, ℕ, true, false, Option, Some, None, MatchOption, List, [], ◌∷◌, ◌++◌, length, map, take, drop, list_all, refl, sym, ◌∙◌, ap, arith, inl, inr, get_or, and_parts, length-map, length-take, length-drop, map-append, take-append-drop, list_all_at, and-true, Edge, is_same, IsCycle, rotated, Family, Slot, family_edges, all_families, outline, is_plain_outside, rotations, fits_family, is_of_family, found_family, slot_edge, edge_slot, word_ranks_below, comes_before, joins_at, JoinsNone, JoinNone, JoinsLeast, IsNamedAt}
+use Rattle.cycle_names.proofs.Members.{Member, find_none, filter_among, filter_passes, filter_member, member_upto, upto_member, all_rotated, map_rotated}
 use Rattle.cycle_names.proofs.{Below.below_irreflexive, Below.below_transitive, Plain.plain_rotated, Tables.no_slot, Marks.is_either}
 use Rattle.cycle_names.proofs.{Outlines.plain_of_fits, Chosen.first_by_words, Chosen.named_in_family}
 use Rattle.cycle_names.proofs.Families.{fitting, fits_either, family_found, is_of_fitting, listed, never_other}
@@ -17,11 +17,7 @@ no_family u h = find_none (is_of_family u) all_families (λ f m t. h f t)
 all_either : (u : List Edge) (f : Family) → is_of_family u f ≡ true → list_all is_either u ≡ true
 all_either u f h =
     let w = fitting u f h in
-    ap (list_all is_either) (sym (take-append-drop w.place u))
-    ∙ list_all-append is_either (take w.place u) (drop w.place u)
-    ∙ and_comm (list_all is_either (take w.place u)) (list_all is_either (drop w.place u))
-    ∙ sym (list_all-append is_either (drop w.place u) (take w.place u))
-    ∙ fits_either f (rotated w.place u) w.fit
+    sym (all_rotated is_either w.place u) ∙ fits_either f (rotated w.place u) w.fit
 
 -- a cycle with an edge that is neither is of none
 pub none_beside : (u : List Edge) (i : ℕ) (d : Edge) → i < length u → edge_slot (get_or u i d) ≡ None → found_family u ≡ None

@@ -1,6 +1,6 @@
 -- What comes after a family's word in a name, by the links of a cycle.
-use Rattle.cycle_names.proofs.Vocabulary.{arith, ◌≡◌, ◌==◌, ◌&&◌, ◌||◌, ℕ, Bool, true, not, cond, Some, None, List, [], ◌∷◌, ◌++◌, drop, take, codes, find, list_all, flat_map, join_by, bytes_eq, bytes_decides, by_test, refl, sym, ◌∙◌, ap, append_assoc, cond-true, cond-false, flat_map-append, R, Edge, is_diff, word_of, rotated, PO_RANK, link_word, link_words, after_plus, all_equal, plural, links_text, pod, link_text, word_rank, has_word_rank}
-use Rattle.cycle_names.proofs.Members.{found_first, found_later, found_in, found_nowhere}
+use Rattle.cycle_names.proofs.Vocabulary.{arith, ◌≡◌, ◌==◌, ◌&&◌, ◌||◌, ℕ, Bool, true, not, cond, Option, Some, None, List, [], ◌∷◌, ◌++◌, drop, take, codes, find, find-append, option_or, option_map, list_all, flat_map, join_by, bytes_eq, bytes_decides, by_test, refl, sym, ◌∙◌, ap, append_assoc, cond-true, cond-false, flat_map-append, R, Edge, is_diff, word_of, rotated, PO_RANK, link_word, link_words, after_plus, all_equal, plural, links_text, pod, link_text, word_rank, has_word_rank}
+use Rattle.cycle_names.proofs.Members.{found_first, found_later, found_in, found_nowhere, all_rotated}
 use Rattle.cycle_names.proofs.{Tables.link_words_equal, Outlines.words_of_link, Outlines.words_of_plain}
 
 -- a test of the words of the links, by the first edge
@@ -70,6 +70,19 @@ text_of_some v e h =
     ∙ ap (λ b. (PO_RANK == word_rank e) && b) (sym (ap all_equal r.words) ∙ equal) in
     let one : plural (link_words v) ≡ link_text e ++ codes "s" = ap plural r.words ∙ sym (ap (λ s. s ++ codes "s") (cond-true (is_diff e) (after_plus (link_word e)) [] r.links)) in
     rw (plain, equal, one, each_text v) (cond_turned (PO_RANK == word_rank e) (list_all (has_word_rank (word_rank e)) v) [] (link_text e ++ codes "s") (flat_map link_text v))
+
+-- the same for a rotation, whose first link is that of the edges from its place on, if they have one, and else that of those before it
+module _ {X : Type 0} (now : X → Edge) (u back prefix : List Edge) (k : ℕ) (b : back ≡ drop k u) (p : prefix ≡ take k u) (r s link : Option X)
+    (in_back : option_map now r ≡ find is_diff back) (in_prefix : option_map now s ≡ find is_diff prefix) (first : link ≡ option_or r s) where
+  first_turned : find is_diff (rotated k u) ≡ option_map now link
+  first_turned = rw (← b, ← p, first) (find-append is_diff back prefix ∙ rw (← in_back, ← in_prefix) (grind arith))
+
+  pub turned_none : link ≡ None → links_text (link_words (rotated k u)) ≡ []
+  turned_none h = text_of_none (rotated k u) (first_turned ∙ ap (option_map now) h)
+
+  pub turned_some : (x : X) → link ≡ Some x → links_text (link_words (rotated k u)) ≡
+      cond (list_all (has_word_rank (word_rank (now x))) u) (cond (PO_RANK == word_rank (now x)) [] (link_text (now x) ++ codes "s")) (flat_map link_text back ++ flat_map link_text prefix)
+  turned_some x h = text_of_some (rotated k u) (now x) (first_turned ∙ ap (option_map now) h) ∙ rw (b, p, all_rotated (has_word_rank (word_rank (now x))) k u) (ap (cond (list_all (has_word_rank (word_rank (now x))) u) _) (flat_map-append link_text (drop k u) (take k u)))
 
 -- the words of a rotation, added for its first edge, for the edges after it and for those of the prefix, are those of the rotation
 pub joined_rotation : (separator : List ℕ) (u : List Edge) (place : ℕ) (first : Edge) (rest prefix : List Edge) (old word one between new : List ℕ) → drop place u ≡ first ∷ rest → take place u ≡ prefix →

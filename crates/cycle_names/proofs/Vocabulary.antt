@@ -5,13 +5,13 @@ pub use Rattle.std.proofs.Math.Seq.{drop-append_seam}
 pub use Rattle.std.proofs.lemmas.Bool.{and_parts, cases_order, cond-false, cond-true, cond_both, eq-eqb, false≢true, le-leb, leb-true, lt-ltb, ltb-true, not-true, or_cases, or_left, or_right}
 pub use Rattle.std.proofs.lemmas.Grind.{common_steps, flat_map-append}
 pub use Rattle.std.proofs.lemmas.List.{append-nil, drop-map, length-drop, length-map, length-take, map-append, map_push, take-append-drop, take-map, take_at}
-pub use Rattle.std.proofs.lemmas.List.Folds.{list_all-append, list_all_at, list_any-append}
+pub use Rattle.std.proofs.lemmas.List.Folds.{find-append, list_all-append, list_all_at, list_any-append}
 pub use Rattle.std.proofs.lemmas.Option.{same_Some}
 pub use Rattle.std.proofs.lemmas.Result.{err_from_is_err_and}
 pub use Rattle.std.specs.Cmp.{booleans_Decides}
 pub use Rattle.std.specs.Cmp.Lexicographic.{bytes_decides, slice_cmp}
 pub use Rattle.std.specs.List.{before_first, find, flat_map, join_by, list_all, list_any, onto_first, position_or_len, slice_split}
-pub use Rattle.std.specs.Option.{option_map}
+pub use Rattle.std.specs.Option.{option_map, option_or}
 pub use Rattle.std.specs.Ordering.{is_lt, nat_cmp, ordering_index, ordering_then}
 pub use Rattle.std.specs.Prelude.{Bool, Err, IsOk, List, MatchOption, None, Ok, Option, Result, Some, [], codes, cond, drop, false, filter, length, map, nat_eq, nat_le, nat_lt, not, slice_get, suc, take, true, unwrap_or, zero, ℕ, ◌&&◌, ◌*◌, ◌++◌, ◌+◌, ◌-◌, ◌<◌, ◌==◌, ◌||◌, ◌∷◌, ◌≡◌, ◌≤◌, ◌⊎◌}
 pub use Rattle.std.specs.Str.{bytes_eq}

@@ -15,9 +15,6 @@ use crate::slot::{Slot, slot_of};
 use arrayvec::ArrayVec;
 use relax_edges::{Edge, Mark};
 
-/// The edges of a cycle of a family.
-pub(crate) type Few = ArrayVec<Edge, LONGEST>;
-
 /// What the edges of a list join.
 type Slots = ArrayVec<Slot, LONGEST>;
 
@@ -56,7 +53,7 @@ fn push_slots(edges: &[Edge], slots: &mut Slots) -> bool
     ensures { cond result (map slot_edge slots.new.items ≡ outline edges.now) (found_family edges.now ≡ None) }
 {
     for edge in edges {
-        let Some(slot) = slot_of(*edge) else {
+        let Some(slot) = slot_of(edge) else {
             return false;
         };
         slots.push(slot);
@@ -168,12 +165,12 @@ fn turned_from(edges: &[Edge], place: usize) -> Turned<'_>
 }
 
 /// The first edge of a rotation, and what is left of it.
-fn next_of(edges: Turned<'_>) -> Option<(Edge, Turned<'_>)>
-    ensures { MatchOption result (in_order edges.entry ≡ []) (λ next. in_order edges.entry ≡ next.0 ∷ in_order next.1) }
+fn next_of(edges: Turned<'_>) -> Option<(&Edge, Turned<'_>)>
+    ensures { MatchOption result (in_order edges.entry ≡ []) (λ next. in_order edges.entry ≡ next.0.now ∷ in_order next.1) }
 {
     match edges.from {
         [edge, rest @ ..] => Some((
-            *edge,
+            edge,
             Turned {
                 from: rest,
                 before: edges.before,
@@ -181,7 +178,7 @@ fn next_of(edges: Turned<'_>) -> Option<(Edge, Turned<'_>)>
         )),
         [] => match edges.before {
             [edge, rest @ ..] => Some((
-                *edge,
+                edge,
                 Turned {
                     from: rest,
                     before: edges.from,
@@ -207,28 +204,6 @@ fn are_below(edges: Turned<'_>, others: Turned<'_>) -> bool
     own < its || own == its && are_below(rest, others_left)
 }
 
-/// The rotation of a list that begins at a place.
-pub(crate) fn rotation_of(edges: &[Edge], place: usize) -> Few
-    requires few { length edges.now ≤ LONGEST }
-    requires place { place ≤ length edges.now }
-    ensures { result.items ≡ rotated place edges.now }
-{
-    let (prefix, back) = edges.split_at(place);
-    let mut turned = Few::new();
-    push_edges(back, &mut turned);
-    push_edges(prefix, &mut turned);
-    turned
-}
-
-fn push_edges(edges: &[Edge], list: &mut Few)
-    requires { length list.old.items + length edges.now ≤ LONGEST }
-    ensures { list.new.items ≡ list.old.items ++ edges.now }
-{
-    for edge in edges {
-        list.push(*edge);
-    }
-}
-
 /// Whether each event of a cycle between two external edges is plain.
 fn is_plain_outside(edges: &[Edge]) -> bool
     ensures { result ≡ is_plain_outside edges.now }
@@ -245,18 +220,18 @@ fn all_plain(edges: &[Edge], last: &Edge) -> bool
 {
     match edges {
         [] => true,
-        [edge] => is_plain_before(*edge, *last),
+        [edge] => is_plain_before(edge, last),
         [edge, rest @ ..] => {
             let [next, ..] = rest else {
                 return true;
             };
-            is_plain_before(*edge, *next) && all_plain(rest, last)
+            is_plain_before(edge, next) && all_plain(rest, last)
         }
     }
 }
 
-fn is_plain_before(edge: Edge, next: Edge) -> bool
-    ensures { result ≡ (same_mark (target_mark edge) Plain || not (is_external edge && is_external next)) }
+fn is_plain_before(edge: &Edge, next: &Edge) -> bool
+    ensures { result ≡ (same_mark (target_mark edge.now) Plain || not (is_external edge.now && is_external next.now)) }
 {
     edge.target_mark() == Mark::Plain || !(edge.is_external() && next.is_external())
 }

@@ -107,8 +107,20 @@ fn kind_word_rank(kind: Kind, letters: u8) -> u8
 
 /// The rank of a link's word among the words of links, in byte order, and 0 for an edge that is no
 /// link.
-pub(crate) fn word_rank(edge: Edge) -> u8
-    ensures { result ≡ word_rank edge }
+pub(crate) fn word_rank(edge: &Edge) -> u8
+    ensures { result ≡ word_rank edge.now }
+{
+    match edge {
+        Edge::Marked(_) => marked_word_rank(edge),
+        _ => kind_word_rank(edge.kind(), 0),
+    }
+}
+
+/// The same of an edge with marks. It is apart so that `word_rank` is short for edges without marks,
+/// which are met most often.
+#[inline(never)]
+fn marked_word_rank(edge: &Edge) -> u8
+    ensures { result ≡ word_rank edge.now }
 {
     kind_word_rank(
         edge.kind(),
@@ -178,6 +190,7 @@ fn mark_letters(from: Mark, to: Mark) -> &'static str
 }
 
 /// The word of a link of a kind without letters.
+#[inline]
 fn kind_link(kind: Kind) -> &'static str
     ensures { result.now ≡ kind_link_text kind [] }
 {
@@ -210,9 +223,9 @@ pub(crate) fn is_spelled(edge: Edge, text: &[u8]) -> bool
 }
 
 /// Adds a `+` and the word of a link to a name, and nothing for another edge, which costs little.
-pub(crate) fn push_link<const N: usize>(edge: Edge, name: &mut ArrayString<N>)
+pub(crate) fn push_link<const N: usize>(edge: &Edge, name: &mut ArrayString<N>)
     requires { length name.old.bytes + MAX_LINK ≤ N }
-    ensures text { name.new.bytes ≡ name.old.bytes ++ link_text edge }
+    ensures text { name.new.bytes ≡ name.old.bytes ++ link_text edge.now }
     ensures short { length name.new.bytes ≤ length name.old.bytes + MAX_LINK }
 {
     if edge.is_diff() {
@@ -223,10 +236,10 @@ pub(crate) fn push_link<const N: usize>(edge: Edge, name: &mut ArrayString<N>)
 /// Adds a `+` and the word of a link to a name.
 #[tactic(auto, using(crate::proofs::Tables::link_parts_short))]
 #[inline(never)]
-fn push_link_word<const N: usize>(edge: Edge, name: &mut ArrayString<N>)
-    requires link { is_diff edge ≡ true }
+fn push_link_word<const N: usize>(edge: &Edge, name: &mut ArrayString<N>)
+    requires link { is_diff edge.now ≡ true }
     requires room { length name.old.bytes + MAX_LINK ≤ N }
-    ensures text { name.new.bytes ≡ name.old.bytes ++ link_text edge }
+    ensures text { name.new.bytes ≡ name.old.bytes ++ link_text edge.now }
     ensures short { length name.new.bytes ≤ length name.old.bytes + MAX_LINK }
 {
     name.push_str("+");
@@ -235,9 +248,9 @@ fn push_link_word<const N: usize>(edge: Edge, name: &mut ArrayString<N>)
 }
 
 /// Adds the letters of an edge's marks, which most edges don't have.
-fn push_letters<const N: usize>(edge: Edge, name: &mut ArrayString<N>)
-    requires { length name.old.bytes + length (mark_letters (source_mark edge) (target_mark edge)) ≤ N }
-    ensures { name.new.bytes ≡ name.old.bytes ++ mark_letters (source_mark edge) (target_mark edge) }
+fn push_letters<const N: usize>(edge: &Edge, name: &mut ArrayString<N>)
+    requires { length name.old.bytes + length (mark_letters (source_mark edge.now) (target_mark edge.now)) ≤ N }
+    ensures { name.new.bytes ≡ name.old.bytes ++ mark_letters (source_mark edge.now) (target_mark edge.now) }
 {
     match edge {
         Edge::Marked(_) => name.push_str(mark_letters(edge.source_mark(), edge.target_mark())),

@@ -8,7 +8,7 @@ ghost use Rattle.cycle_names.specs.Fitting.{IsFitOf};
 ghost use Rattle.cycle_names.specs.Laws.{IsName};
 
 use crate::family::Family;
-use crate::fit::{Fit, named_fit, rotation_of};
+use crate::fit::{Fit, named_fit};
 use crate::words::{Separator, push_links, push_rotation, push_rotation_twice};
 use arrayvec::ArrayString;
 use edge_algebra::Cycle;
@@ -104,7 +104,7 @@ fn push_family_name<const N: usize>(edges: &[Edge], fit: Fit, name: &mut ArraySt
     ensures { name.new.bytes ≡ name_of edges.now }
 {
     name.push_str(fit.family.word());
-    push_links(rotation_of(edges, fit.place).as_slice(), name);
+    push_links(edges, fit.place, name);
 }
 
 /// Adds the name of a cycle of no family to an empty text.

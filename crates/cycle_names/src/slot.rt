@@ -76,8 +76,8 @@ fn link_slot(from: Dir, to: Dir) -> Slot
 
 /// What an edge joins, whatever its marks, if it is a link or external: a cycle of a family has no
 /// other.
-pub(crate) fn slot_of(edge: Edge) -> Option<Slot>
-    ensures { result ≡ edge_slot edge }
+pub(crate) fn slot_of(edge: &Edge) -> Option<Slot>
+    ensures { result ≡ edge_slot edge.now }
 {
     kind_slot(edge.kind())
 }

@@ -1,4 +1,4 @@
-ghost use Rattle.std.specs.Prelude.{◌≡◌, ◌+◌, ◌*◌, ◌<◌, ◌≤◌, ◌++◌, length};
+ghost use Rattle.std.specs.Prelude.{◌≡◌, ◌+◌, ◌*◌, ◌<◌, ◌≤◌, ◌++◌, length, option_map};
 ghost use Rattle.std.specs.List.{find, list_all, flat_map, join_by};
 ghost use Rattle.relax_edges.specs.EdgeTable.{is_diff};
 ghost use Rattle.relax_edges.specs.WordParts.{word_of};
@@ -18,18 +18,22 @@ pub(crate) const MAX_LINKS: usize = MAX_LINK * LONGEST;
 /// The most bytes of a separator and the word of an edge.
 const MAX_SEPARATED: usize = 15;
 
-/// Adds what a name of a family has after the family's word, for a cycle in the rotation that fits.
-pub(crate) fn push_links<const N: usize>(edges: &[Edge], name: &mut ArrayString<N>)
+/// Adds what a name of a family has after the family's word, for a cycle in the rotation from a place,
+/// which fits.
+pub(crate) fn push_links<const N: usize>(edges: &[Edge], place: usize, name: &mut ArrayString<N>)
     requires few { length edges.now ≤ LONGEST }
+    requires place { place ≤ length edges.now }
     requires room { length name.old.bytes + MAX_LINKS ≤ N }
-    ensures { name.new.bytes ≡ name.old.bytes ++ links_text (link_words edges.now) }
+    ensures { name.new.bytes ≡ name.old.bytes ++ links_text (link_words (rotated place edges.now)) }
 {
-    let Some(link) = first_link(edges) else {
+    let (prefix, back) = edges.split_at(place);
+    let Some(link) = first_link(back).or(first_link(prefix)) else {
         return;
     };
     let rank = word_rank(link);
     if !have_rank(edges, rank) {
-        push_each(edges, name);
+        push_each(back, name);
+        push_each(prefix, name);
     } else if rank != PO_RANK {
         push_link(link, name);
         name.push_str("s");
@@ -37,14 +41,14 @@ pub(crate) fn push_links<const N: usize>(edges: &[Edge], name: &mut ArrayString<
 }
 
 /// The first link of a list of edges, if there is one.
-fn first_link(edges: &[Edge]) -> Option<Edge>
-    ensures { result ≡ find is_diff edges.now }
+fn first_link(edges: &[Edge]) -> Option<&Edge>
+    ensures { option_map (λ edge. edge.now) result ≡ find is_diff edges.now }
 {
     match edges {
         [] => None,
         [edge, rest @ ..] => {
             if edge.is_diff() {
-                Some(*edge)
+                Some(edge)
             } else {
                 first_link(rest)
             }
@@ -59,7 +63,7 @@ fn have_rank(edges: &[Edge], rank: u8) -> bool
     match edges {
         [] => true,
         [edge, rest @ ..] => {
-            (!edge.is_diff() || rank == word_rank(*edge)) && have_rank(rest, rank)
+            (!edge.is_diff() || rank == word_rank(edge)) && have_rank(rest, rank)
         }
     }
 }
@@ -71,7 +75,7 @@ fn push_each<const N: usize>(links: &[Edge], name: &mut ArrayString<N>)
     ensures short { length name.new.bytes ≤ length name.old.bytes + MAX_LINK * length links.now }
 {
     for link in links {
-        push_link(*link, name);
+        push_link(link, name);
     }
 }
 

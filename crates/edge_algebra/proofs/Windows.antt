@@ -1,24 +1,27 @@
--- Each rotation of a list is a part of the list repeated twice, and the least is found among those from each place.
-use Rattle.std.proofs.Common.{◌≡◌, ◌<◌, ◌≤◌, ℕ, ◌+◌, ◌-◌, true, false, List, ◌++◌, length, take, drop, map, refl, sym, ◌∙◌, ap, arith, below_more}
-use Rattle.std.proofs.lemmas.List.{append-nil, length-map, map-append, drop-map, take-map}
+-- Rotations are compared rank by rank, and the least is found among those from each place.
+use Rattle.std.proofs.Common.{◌≡◌, ◌<◌, ℕ, zero, suc, ◌+◌, ◌%◌, ◌&&◌, ◌||◌, nat_lt, nat_eq, true, false, Some, List, [], ◌∷◌, ◌++◌, length, slice_get, take, drop, map, refl, sym, ◌∙◌, ap, arith, below_more}
+use Rattle.std.proofs.lemmas.List.{append-nil, map-append, drop-map, take-map}
 use Rattle.relax_edges.specs.declared.edge.Edge.{Edge}
 use Rattle.relax_edges.specs.Order.{rank_of}
 use Rattle.edge_algebra_laws.specs.{Rotation.rotated, CycleOrder.Above, CycleOrder.IsNormal, CycleOrder.ranks_below}
-use Rattle.edge_algebra_laws.proofs.Rotating.{rotation_of_place, window}
+use Rattle.edge_algebra_laws.proofs.{Rotating.rotation_of_place, Places.rotated_at}
 use Rattle.edge_algebra_laws.proofs.Ordering.{above_irreflexive, above_transitive, above_of_ranks, ranks_of_above}
 
 -- the ranks of a rotation are the rotation of the ranks
 pub ranks_rotated : (k : ℕ) (u : List Edge) → map rank_of (rotated k u) ≡ rotated k (map rank_of u)
 ranks_rotated k u = map-append rank_of (drop k u) (take k u) ∙ ap (λ w. w ++ map rank_of (take k u)) (sym (drop-map rank_of k u)) ∙ ap (λ w. drop k (map rank_of u) ++ w) (sym (take-map rank_of k u))
 
--- the two parts of the twice repeated ranks that the code compares are two rotations of the ranks
-pub compared : (u : List Edge) (ranks : List ℕ) (k l : ℕ) → ranks ≡ map rank_of u ++ map rank_of u → k ≤ length u → l ≤ length u →
-    ranks_below (take ((k + length u) - k) (drop k ranks)) (take ((l + length u) - l) (drop l ranks)) ≡ ranks_below (rotated k (map rank_of u)) (rotated l (map rank_of u))
-compared u ranks k l e hk hl =
-    let part : (i : ℕ) → i ≤ length u → take ((i + length u) - i) (drop i ranks) ≡ rotated i (map rank_of u) = λ i h.
-    let n : (i + length u) - i ≡ length (map rank_of u) = omega (arith, length-map u rank_of) in
-    rw (n, e) (window i (map rank_of u) (omega (arith, length-map u rank_of))) in
-    rw (part k hk, part l hl) refl
+-- a list from an element on
+from_element : (ranks : List ℕ) (i x : ℕ) → slice_get ranks i ≡ Some x → drop i ranks ≡ x ∷ drop (i + 1) ranks
+from_element [] i x h = cc
+from_element (y ∷ ranks) zero x h = grind arith
+from_element (y ∷ ranks) (suc i) x h = grind (arith, (from_element ranks i x h))
+
+-- two rotations of a list of ranks are compared from a place on by their ranks there, and then from the next place on
+pub compared : (ranks : List ℕ) (i k l x y : ℕ) → k < length ranks → l < length ranks → i < length ranks → slice_get ranks ((i + k) % length ranks) ≡ Some x → slice_get ranks ((i + l) % length ranks) ≡ Some y →
+    ranks_below (drop i (rotated k ranks)) (drop i (rotated l ranks)) ≡ (nat_lt x y || nat_eq x y && ranks_below (drop (i + 1) (rotated k ranks)) (drop (i + 1) (rotated l ranks)))
+compared ranks i k l x y hk hl hi a b =
+    rw (from_element (rotated k ranks) i x (rotated_at k ranks i hk hi ∙ a), from_element (rotated l ranks) i y (rotated_at l ranks i hl hi ∙ b)) refl
 
 -- of the rotations from the places below k none is less than the one from `least`, and `least` is 0 where the list is a normal form
 pub record LeastUpTo (u : List Edge) (k least : ℕ) : Type 0 where

@@ -1,4 +1,4 @@
-ghost use Rattle.std.specs.Prelude.{◌≡◌, ◌+◌, ◌<◌, ◌≤◌, ◌↔◌, ◌++◌, length, map, IsTrue};
+ghost use Rattle.std.specs.Prelude.{◌≡◌, ◌+◌, ◌<◌, ◌≤◌, ◌↔◌, ◌%◌, length, map, slice_get, Some, IsTrue};
 ghost use Rattle.relax_edges.specs.Order.{rank_of};
 ghost use Rattle.edge_algebra_laws.specs.CycleOrder.{IsLeast, IsNormal, ranks_below};
 ghost use Rattle.edge_algebra_laws.specs.Rotation.{IsRotation, rotated};
@@ -6,8 +6,6 @@ ghost use Rattle.edge_algebra_laws.specs.Rotation.{IsRotation, rotated};
 use crate::Cycle;
 use arrayvec::ArrayVec;
 use relax_edges::{Edge, MAX_EDGES};
-
-const TWICE: usize = 2 * MAX_EDGES;
 
 impl Cycle {
     /// The normal form of the cycle: its least rotation, lists of edges compared edge by edge in
@@ -54,12 +52,9 @@ fn least_place(edges: &[Edge], ranks: &[u16]) -> u8
     ensures least { IsNormal (rotated result edges.now) }
     ensures stays { IsNormal edges.now → result ≡ 0 }
 {
-    let ranks = twice(ranks);
-    let ranks = ranks.as_slice();
-    let len = edges.len();
     let mut least = 0;
-    for place in 1..len {
-        if is_below(&ranks[place..place + len], &ranks[least..least + len]) {
+    for place in 1..edges.len() {
+        if is_below(ranks, place, least) {
             least = place;
         }
     }
@@ -78,39 +73,33 @@ pub fn ranks_of(edges: &[Edge]) -> ArrayVec<u16, MAX_EDGES>
     ranks
 }
 
-/// A list of ranks, twice over: the ranks of each rotation are a part of it.
-fn twice(ranks: &[u16]) -> ArrayVec<u16, TWICE>
-    requires { length ranks.now ≤ MAX_EDGES }
-    ensures { result.items ≡ ranks.now ++ ranks.now }
+/// Whether the rotation of a list of ranks from a place is less than the one from another, at the
+/// first place where they differ.
+fn is_below(ranks: &[u16], place: usize, other: usize) -> bool
+    requires few { length ranks.now ≤ MAX_EDGES }
+    requires place { place < length ranks.now }
+    requires other { other < length ranks.now }
+    ensures { result ≡ ranks_below (rotated place ranks.now) (rotated other ranks.now) }
 {
-    let mut list = ArrayVec::new();
-    append(ranks, &mut list);
-    append(ranks, &mut list);
-    list
-}
-
-/// Appends ranks to a list of them.
-fn append(ranks: &[u16], list: &mut ArrayVec<u16, TWICE>)
-    requires { length list.old.items + length ranks.now ≤ TWICE }
-    ensures { list.new.items ≡ list.old.items ++ ranks.now }
-{
-    match list.try_extend_from_slice(ranks) {
-        Ok(()) => {}
-        Err(_) => unreachable!(),
+    for i in 0..ranks.len() {
+        let rank = rank_at(ranks, i + place);
+        let its = rank_at(ranks, i + other);
+        if rank != its {
+            return rank < its;
+        }
     }
+    false
 }
 
-/// Whether the first list of ranks is less at the first place where they differ, which both have.
-fn is_below(ranks: &[u16], others: &[u16]) -> bool
-    ensures { result ≡ ranks_below ranks.now others.now }
+/// The rank at a place of a cycle, whose first place comes after its last.
+fn rank_at(ranks: &[u16], i: usize) -> u16
+    requires some { 0 < length ranks.now }
+    requires within { i < length ranks.now + length ranks.now }
+    ensures { slice_get ranks.now (i % length ranks.now) ≡ Some result }
 {
-    match ranks {
-        [] => false,
-        [rank, ranks_left @ ..] => match others {
-            [] => false,
-            [other, others_left @ ..] => {
-                rank < other || rank == other && is_below(ranks_left, others_left)
-            }
-        },
+    if i < ranks.len() {
+        ranks[i]
+    } else {
+        ranks[i - ranks.len()]
     }
 }

@@ -4,4 +4,4 @@ use Rattle.cycle_names.proofs.Tables.{link_parts_short}
 use Rattle.cycle_names.proofs.link.push_link_word.Goals as goal
 
 pub returns-clause-short : goal.returns-clause-short
-returns-clause-short g c = let h = link_parts_short c.args.edge in grind (arith, common_steps, length-append, h)
+returns-clause-short g c = let h = link_parts_short c.args.edge.now in grind (arith, common_steps, length-append, h)

@@ -1,8 +1,7 @@
 -- The place that the search ends with begins the least rotation.
-use Rattle.std.proofs.Common.{◌≡◌, ◌++◌, map, sym, ◌∙◌, arith}
-use Rattle.relax_edges.specs.Order.{rank_of}
+use Rattle.std.proofs.Common.{sym, ◌∙◌, arith}
 use Rattle.edge_algebra_laws.proofs.Rotating.{normal_of_places, rotation_of_place}
-use Rattle.edge_algebra.proofs.Windows.{compared, first, kept, replaced}
+use Rattle.edge_algebra.proofs.Windows.{first, kept, replaced}
 use Rattle.edge_algebra.proofs.normal.least_place.Goals.{then-is_below, else-is_below}
 use Rattle.edge_algebra.proofs.normal.least_place.Goals as goal
 
@@ -11,8 +10,7 @@ loop-place-init c = first c.args.edges.now c.requires.some
 
 pub loop-place-preserved : goal.loop-place-preserved
 loop-place-preserved c =
-    let ranks : c.as_slice-ranks.result.now ≡ map rank_of c.args.edges.now ++ map rank_of c.args.edges.now = c.as_slice-ranks.ensures.value ∙ rw c.requires.ranks at c.twice-ranks.ensures in
-    let test = c.is_below.ensures ∙ compared c.args.edges.now c.as_slice-ranks.result.now c.loop-place.place c.loop-place.least ranks (omega arith) (omega (arith, c.loop-place.invariant.within)) in
+    let test = rw c.requires.ranks at c.is_below.ensures in
     elim c.if-is_below.branch [
       | then-is_below w ↦ rw w.least-is (replaced c.args.edges.now c.loop-place.place c.loop-place.least c.loop-place.invariant c.loop-place-test.true (sym test ∙ w.if-is_below.true))
       | else-is_below w ↦ rw w.least-is (kept c.args.edges.now c.loop-place.place c.loop-place.least c.loop-place.invariant (sym test ∙ w.if-is_below.false))
