@@ -41,6 +41,11 @@ pub link_words_equal : (a b : Edge) → bytes_eq (link_word a) (link_word b) ≡
 unfolding ranks_alike
 link_words_equal a b = (booleans_Decides _ _).0 (each_pair ranks_alike all_ranks_alike a b)
 
+-- the word of an edge is empty where it is no link
+pub link_is_empty : (e : Edge) → is_diff e ≡ not (length (kind_link_text (kind_of e) []) == 0)
+unfolding edges_in_order
+link_is_empty = each_agrees is_diff (λ e. not (length (kind_link_text (kind_of e) []) == 0)) refl
+
 -- a slot leads to another location where the edge does
 pub slot_is_diff : (e : Edge) → is_diff (edge_of_slot e) ≡ is_diff e
 unfolding edges_in_order

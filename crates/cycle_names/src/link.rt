@@ -222,29 +222,19 @@ pub(crate) fn is_spelled(edge: Edge, text: &[u8]) -> bool
     word.as_str().as_bytes() == text
 }
 
-/// Adds a `+` and the word of a link to a name, and nothing for another edge, which costs little.
+/// Adds a `+` and the word of a link to a name, and nothing for another edge.
+#[tactic(auto, using(crate::proofs::Tables::link_parts_short, crate::proofs::Tables::link_is_empty))]
 pub(crate) fn push_link<const N: usize>(edge: &Edge, name: &mut ArrayString<N>)
     requires { length name.old.bytes + MAX_LINK ≤ N }
     ensures text { name.new.bytes ≡ name.old.bytes ++ link_text edge.now }
     ensures short { length name.new.bytes ≤ length name.old.bytes + MAX_LINK }
 {
-    if edge.is_diff() {
-        push_link_word(edge, name);
+    let word = kind_link(edge.kind());
+    if !word.is_empty() {
+        name.push_str("+");
+        name.push_str(word);
+        push_letters(edge, name);
     }
-}
-
-/// Adds a `+` and the word of a link to a name.
-#[tactic(auto, using(crate::proofs::Tables::link_parts_short))]
-#[inline(never)]
-fn push_link_word<const N: usize>(edge: &Edge, name: &mut ArrayString<N>)
-    requires link { is_diff edge.now ≡ true }
-    requires room { length name.old.bytes + MAX_LINK ≤ N }
-    ensures text { name.new.bytes ≡ name.old.bytes ++ link_text edge.now }
-    ensures short { length name.new.bytes ≤ length name.old.bytes + MAX_LINK }
-{
-    name.push_str("+");
-    name.push_str(kind_link(edge.kind()));
-    push_letters(edge, name);
 }
 
 /// Adds the letters of an edge's marks, which most edges don't have.
