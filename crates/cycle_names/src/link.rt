@@ -224,6 +224,7 @@ pub(crate) fn is_spelled(edge: Edge, text: &[u8]) -> bool
 
 /// Adds a `+` and the word of a link to a name, and nothing for another edge.
 #[tactic(auto, using(crate::proofs::Tables::link_parts_short, crate::proofs::Tables::link_is_empty))]
+#[inline(always)]
 pub(crate) fn push_link<const N: usize>(edge: &Edge, name: &mut ArrayString<N>)
     requires { length name.old.bytes + MAX_LINK ≤ N }
     ensures text { name.new.bytes ≡ name.old.bytes ++ link_text edge.now }
@@ -233,17 +234,18 @@ pub(crate) fn push_link<const N: usize>(edge: &Edge, name: &mut ArrayString<N>)
     if !word.is_empty() {
         name.push_str("+");
         name.push_str(word);
-        push_letters(edge, name);
+        match edge {
+            Edge::Marked(_) => push_letters(edge, name),
+            _ => {}
+        }
     }
 }
 
-/// Adds the letters of an edge's marks, which most edges don't have.
+/// Adds the letters of an edge's marks. It is apart since most edges have none.
+#[inline(never)]
 fn push_letters<const N: usize>(edge: &Edge, name: &mut ArrayString<N>)
     requires { length name.old.bytes + length (mark_letters (source_mark edge.now) (target_mark edge.now)) ≤ N }
     ensures { name.new.bytes ≡ name.old.bytes ++ mark_letters (source_mark edge.now) (target_mark edge.now) }
 {
-    match edge {
-        Edge::Marked(_) => name.push_str(mark_letters(edge.source_mark(), edge.target_mark())),
-        _ => {}
-    }
+    name.push_str(mark_letters(edge.source_mark(), edge.target_mark()));
 }

@@ -3,5 +3,5 @@ use Rattle.std.proofs.{Common.arith, Common.length-append, lemmas.Grind.common_s
 use Rattle.cycle_names.proofs.Tables.{link_parts_short}
 use Rattle.cycle_names.proofs.link.push_link.Goals as goal
 
-pub returns-then-not-is_empty-clause-short : goal.returns-then-not-is_empty-clause-short
-returns-then-not-is_empty-clause-short g c = let h = link_parts_short c.args.edge.now in grind (arith, common_steps, length-append, h)
+pub returns-in-Marked-clause-short : goal.returns-in-Marked-clause-short
+returns-in-Marked-clause-short g c = let h = link_parts_short c.args.edge.now in grind (arith, common_steps, length-append, h)
