@@ -1,5 +1,6 @@
 -- Rotations are compared rank by rank, and the least is found among those from each place.
-use Rattle.std.proofs.Common.{◌≡◌, ◌<◌, ℕ, zero, suc, ◌+◌, ◌%◌, ◌&&◌, ◌||◌, nat_lt, nat_eq, true, false, Some, List, [], ◌∷◌, ◌++◌, length, slice_get, take, drop, map, refl, sym, ◌∙◌, ap, arith, below_more}
+use Rattle.std.proofs.Common.{◌≡◌, ◌<◌, ℕ, zero, suc, ◌+◌, ◌%◌, ◌&&◌, ◌||◌, nat_lt, nat_eq, true, false, Some, List, [], ◌∷◌, ◌++◌, length, slice_get, get_or, take, drop, map, refl, sym, ◌∙◌, ap, arith, below_more}
+use Rattle.std.proofs.{Math.Nat.mod-eq_of_lt, lemmas.Option.slice_get-get_or}
 use Rattle.std.proofs.lemmas.List.{append-nil, map-append, drop-map, take-map}
 use Rattle.relax_edges.specs.declared.edge.Edge.{Edge}
 use Rattle.relax_edges.specs.Order.{rank_of}
@@ -22,6 +23,14 @@ pub compared : (ranks : List ℕ) (i k l x y : ℕ) → k < length ranks → l <
     ranks_below (drop i (rotated k ranks)) (drop i (rotated l ranks)) ≡ (nat_lt x y || nat_eq x y && ranks_below (drop (i + 1) (rotated k ranks)) (drop (i + 1) (rotated l ranks)))
 compared ranks i k l x y hk hl hi a b =
     rw (from_element (rotated k ranks) i x (rotated_at k ranks i hk hi ∙ a), from_element (rotated l ranks) i y (rotated_at l ranks i hl hi ∙ b)) refl
+
+-- a rotation that begins with a greater rank is not less
+pub begins_greater : (ranks : List ℕ) (k l d e : ℕ) → k < length ranks → l < length ranks → get_or ranks l e < get_or ranks k d → ranks_below (rotated k ranks) (rotated l ranks) ≡ false
+begins_greater ranks k l d e hk hl h =
+    let at : (i c : ℕ) → i < length ranks → slice_get ranks ((0 + i) % length ranks) ≡ Some (get_or ranks i c) = λ i c hi.
+    ap (slice_get ranks) (mod-eq_of_lt {n = 0 + i} {m = length ranks} (omega arith) ∙ omega arith) ∙ slice_get-get_or ranks i c hi in
+    let c = compared ranks 0 k l _ _ hk hl (omega arith) (at k d hk) (at l e hl) in
+    grind (arith, c)
 
 -- of the rotations from the places below k none is less than the one from `least`, and `least` is 0 where the list is a normal form
 pub record LeastUpTo (u : List Edge) (k least : ℕ) : Type 0 where

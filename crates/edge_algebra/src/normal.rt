@@ -81,6 +81,10 @@ fn is_below(ranks: &[u16], place: usize, other: usize) -> bool
     requires other { other < length ranks.now }
     ensures { result ≡ ranks_below (rotated place ranks.now) (rotated other ranks.now) }
 {
+    // Most rotations begin with a greater rank.
+    if ranks[place] > ranks[other] {
+        return false;
+    }
     for i in 0..ranks.len() {
         let rank = rank_at(ranks, i + place);
         let its = rank_at(ranks, i + other);

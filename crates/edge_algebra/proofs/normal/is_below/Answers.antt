@@ -1,7 +1,10 @@
--- The rotations are compared from each place on by their ranks there, and then from the next place on.
-use Rattle.std.proofs.Common.{arith}
-use Rattle.edge_algebra.proofs.Windows.{compared}
+-- A rotation that begins with a greater rank is not less. The rotations are compared from each place on by their ranks there, and then from the next place on.
+use Rattle.std.proofs.Common.{sym, arith}
+use Rattle.edge_algebra.proofs.Windows.{begins_greater, compared}
 use Rattle.edge_algebra.proofs.normal.is_below.Goals as goal
+
+pub returns-then-ranks-place : goal.returns-then-ranks-place
+returns-then-ranks-place c = sym (begins_greater c.args.ranks.now c.args.place c.args.other _ _ c.requires.place c.requires.other c.if-ranks-place.true)
 
 pub returns-then-rank-its : goal.returns-then-rank-its
 returns-then-rank-its c =
