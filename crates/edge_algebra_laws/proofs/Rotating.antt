@@ -1,7 +1,7 @@
 -- Rotations: an equivalence, the same as those by a place, and of them one is least.
-use Rattle.std.proofs.Common.{◌≡◌, ◌<◌, ◌≤◌, inl, inr, ℕ, List, [], ◌∷◌, ◌++◌, length, take, drop, refl, sym, ◌∙◌, ap, arith, append_assoc, length-append, ◌+◌}
-use Rattle.std.proofs.lemmas.List.{append-nil, take-append-drop, take_at, drop_at, drop-append-le, length-drop}
-use Rattle.std.proofs.{lemmas.Bool.cases_lt, Math.Seq.take-append-add}
+use Rattle.std.proofs.Common.{◌≡◌, ◌<◌, ◌≤◌, inl, inr, ℕ, List, [], ◌∷◌, ◌++◌, length, take, drop, refl, sym, ◌∙◌, ap, arith, append_assoc, length-append}
+use Rattle.std.proofs.lemmas.List.{append-nil, take-append-drop, take_at, drop_at}
+use Rattle.std.proofs.lemmas.Bool.{cases_lt}
 use Rattle.relax_edges.specs.declared.edge.Edge.{Edge}
 use Rattle.edge_algebra_laws.specs.{Rotation.IsRotation, Rotation.rotated, Laws.Place, CycleOrder.Above, CycleOrder.IsNormal, CycleOrder.IsLeast}
 use Rattle.edge_algebra_laws.proofs.Ordering.{same_if_not_above}
@@ -94,9 +94,3 @@ pub normal_of_places : (u v : List Edge) → 0 < length u → IsRotation u v →
 normal_of_places u v some r none w s h =
     let p = place_of_rotation u w some (rotation_on u v w r s) in
     none p.place p.within (rw (← p.is) h)
-
--- the part from place k of a list repeated twice, as long as the list, is the rotation from k
-pub window : {A : Type 0} (k : ℕ) (u : List A) → k ≤ length u → take (length u) (drop k (u ++ u)) ≡ rotated k u
-window k u h =
-    let rest : length u ≡ length (drop k u) + k = omega (arith, length-drop k u) in
-    rw (drop-append-le k u u h) (ap (λ n. take n (drop k u ++ u)) rest ∙ take-append-add (drop k u) u k)
