@@ -1,56 +1,70 @@
 -- A condition that is read term by term is read as it is defined.
-use Rattle.litmus_text.proofs.Vocabulary.{CondRead, Err, Fault, Follow, List, MAX_TERMS, Mentioned, None, Ok, Option, Quantifier, Result, Setting, Some, TermRead, TermSeen, TermsFormed, TermsRead, TestKind, TextError, TooLarge, Writing, [], and_more, arith, at_begin, bad, cond, cond_here, cond_scanned, condition_of, end_at_start, faulty_with, follow_read, followed_by, lines_over, list_any, names_with, none_over, opening_read, refl, suc, term_formed, term_here, terms_formed, terms_here, unblanked, zero, ℕ, ◌==◌, ◌>>=◌, ◌∙◌, ◌∷◌, ◌≡◌}
+use Rattle.std.proofs.lemmas.Grind.{flat_map-append}
+use Rattle.litmus_text.proofs.Vocabulary.{CondEntry, CondPart, CondRead, Err, Fault, Follow, List, MAX_TERMS, Mentioned, None, Ok, Option, Quantifier, Result, Setting, Some, TermRead, TermSeen, TermsRead, TextError, TooLarge, Writing, [], a_naming, a_term, an_error, and_more, ap, append_assoc, arith, at_begin, bad, by_line, cond_here, cond_scanned, condition_of, end_at_start, entries_of, error_in, filter, flat_map, follow_part, follow_read, names_in, none_over, not, number_added, names_added, opening_read, over_in_line, refl, suc, term_here, term_in, term_part, terms_here, unblanked, unless, with_before, with_follow, with_names, zero, ℕ, ◌++◌, ◌==◌, ◌>>=◌, ◌∙◌, ◌∷◌, ◌≡◌}
+use Rattle.litmus_text.proofs.RowsScanned.{stop, with_names_append}
 
--- the terms that were read, and what they say of places
+-- the errors of entries, by the names of places before them
+abbrev errors_by : List (List ℕ) → List CondEntry → List TextError
+errors_by names [] = []
+errors_by names (a_naming n name ∷ entries) = over_in_line n (number_added names name) ++ errors_by (names_added names name) entries
+errors_by names (a_term term ∷ entries) = errors_by names entries
+errors_by names (an_error n kind ∷ entries) = record { line = n; kind = kind } ∷ errors_by names entries
+
+errors_same : (names : List (List ℕ)) (before entries : List CondEntry)
+    → flat_map (error_in names) (with_before before entries) ≡ errors_by (with_names names (flat_map names_in before)) entries
+errors_same names before [] = refl
+errors_same names before (entry ∷ entries) = grind (arith, (errors_same names (before ++ entry ∷ []) entries), flat_map-append, with_names_append)
+
+-- the terms, and the names of places after them
 abbrev Scanned : Type 0
-Scanned = Result (List TermSeen × Mentioned) TextError
+Scanned = Result (List TermSeen × List (List ℕ)) TextError
 
--- the first of some lines, where there may be one before them
-abbrev or_first : Option ℕ → List ℕ → Option ℕ
-or_first (Some n) lines = Some n
-or_first None [] = None
-or_first None (n ∷ lines) = Some n
+-- the error of the first place that was one too many so far, if one was
+abbrev over_errors : Option ℕ → List TextError
+over_errors None = []
+over_errors (Some n) = record { line = n; kind = TooLarge } ∷ []
 
--- a fault of the form, or the terms with what they say of places
-abbrev unless : ℕ → Option TestKind → Mentioned → List TermSeen → Scanned
-unless begins (Some kind) next terms = bad kind begins
-unless begins None next terms = Ok (terms, next)
-
--- what the scan gives, by its state before some terms and by these
-abbrev expected : ℕ → Mentioned → TermsFormed → Scanned
-expected begins s formed =
-    cond (list_any (λ n. n == begins) (lines_over s.names formed.named)) (bad TooLarge begins)
-    (unless begins formed.fault (record { names = names_with s.names formed.named; over = or_first s.over (lines_over s.names formed.named) }) formed.terms)
+-- what the scan gives, by its state before some entries and by these
+abbrev expected : ℕ → Mentioned → List CondEntry → Scanned
+expected begins s entries =
+    stop (filter (λ error. error.line == begins) (errors_by s.names entries))
+    (stop (over_errors s.over) (stop (filter (λ error. not (error.line == begins)) (errors_by s.names entries))
+    (Ok (flat_map term_in entries, with_names s.names (flat_map names_in entries)))))
 
 -- what ends the terms is judged
 abbrev ended : ℕ → TermsRead → Scanned
-ended begins read = at_begin begins (end_at_start (unblanked read.rest)) >>= λ end. Ok (read.terms, read.state)
+ended begins read = at_begin begins (end_at_start (unblanked read.rest)) >>= λ end. none_over read.state >>= λ kept. Ok (read.terms, kept)
+
+-- the entries of a part, and those of what is left after it
+abbrev chained : CondPart → (List ℕ → List CondEntry) → List CondEntry
+chained part more = part.entries ++ elim part.rest as (λ _. List CondEntry) [ None ↦ [] | Some rest ↦ more rest ]
 
 -- a term at the beginning of what is left, and what follows from it
-term_step : (w : Writing) (here : Setting) (s : Mentioned) (text : List ℕ) (old : TermRead → Scanned) (new : TermSeen → List ℕ → TermsFormed)
+term_step : (w : Writing) (here : Setting) (s : Mentioned) (text : List ℕ) (old : TermRead → Scanned) (more : List ℕ → List CondEntry)
     → ((term : TermSeen) (rest : List ℕ) (next : Mentioned)
-    → old (record { term = term; state = next; rest = rest }) ≡ expected here.begins next (new term rest))
-    → (term_here w here s text >>= old) ≡ expected here.begins s (term_formed w here new text)
+    → old (record { term = term; state = next; rest = rest }) ≡ expected here.begins next (a_term term ∷ more rest))
+    → (term_here w here s text >>= old) ≡ expected here.begins s (chained (term_part w here text) more)
 unfolding term_here
-term_step w here s text old new same = grind arith
+term_step w here s text old more same = grind arith
 
 -- the terms, one after another
 terms_step : (w : Writing) (here : Setting) (room : ℕ) (s : Mentioned) (text : List ℕ)
-    → (terms_here w here room s text >>= ended here.begins) ≡ expected here.begins s (terms_formed w here room text)
-unfolding terms_here terms_formed
+    → (terms_here w here room s text >>= ended here.begins) ≡ expected here.begins s (entries_of w here room text)
+unfolding terms_here entries_of
 terms_step w here zero s text =
     bound (term_here w here s text)
-    ∙ term_step w here s text (λ read. bad TooLarge here.begins) (λ term rest. faulty_with TooLarge) (λ term rest next. refl)
+    ∙ term_step w here s text (λ read. bad TooLarge here.begins) (λ rest. an_error here.begins TooLarge ∷ []) (λ term rest next. grind arith)
   where
     bound : (r : Result TermRead TextError) → ((r >>= λ read. bad TooLarge here.begins) >>= ended here.begins) ≡ (r >>= λ read. bad TooLarge here.begins)
     bound (x) = grind arith
 terms_step w here (suc room) s text =
     bound (term_here w here s text)
-    ∙ term_step w here s text further (λ term rest. followed_by term (terms_formed w here room) (follow_read rest)) (by_further (terms_step w here room))
+    ∙ term_step w here s text further (λ rest. chained (follow_part here.begins (follow_read rest)) (entries_of w here room)) (by_further (terms_step w here room))
+    ∙ ap (expected here.begins s) (split (term_part w here text))
   where
     Later : Type 0
     Later = (next : Mentioned) (after : List ℕ)
-        → (terms_here w here room next after >>= ended here.begins) ≡ expected here.begins next (terms_formed w here room after)
+        → (terms_here w here room next after >>= ended here.begins) ≡ expected here.begins next (entries_of w here room after)
 
     more : TermRead → Result TermsRead TextError
     more read = at_begin here.begins (follow_read read.rest) >>= λ follow. and_more read (terms_here w here room) follow.0 follow.1
@@ -61,24 +75,31 @@ terms_step w here (suc room) s text =
     bound : (r : Result TermRead TextError) → ((r >>= more) >>= ended here.begins) ≡ (r >>= further)
     bound (x) = grind arith
 
+    split : (part : CondPart) → chained part (λ rest. chained (follow_part here.begins (follow_read rest)) (entries_of w here room)) ≡ chained (with_follow here.begins part) (entries_of w here room)
+    split part = grind (arith, append_assoc)
+
     by_follow : Later → (term : TermSeen) (next : Mentioned) (follow : Result (Follow × List ℕ) Fault) (rest : List ℕ)
         → ((at_begin here.begins follow >>= λ f. and_more (record { term = term; state = next; rest = rest }) (terms_here w here room) f.0 f.1) >>= ended
         here.begins)
-        ≡ expected here.begins next (followed_by term (terms_formed w here room) follow)
+        ≡ expected here.begins next (a_term term ∷ chained (follow_part here.begins follow) (entries_of w here room))
     by_follow same term next (x) rest = grind arith
 
     by_further : Later → (term : TermSeen) (rest : List ℕ) (next : Mentioned)
         → further (record { term = term; state = next; rest = rest }) ≡ expected here.begins next
-        (followed_by term (terms_formed w here room) (follow_read rest))
+        (a_term term ∷ chained (follow_part here.begins (follow_read rest)) (entries_of w here room))
     by_further same term rest next = by_follow same term next (follow_read rest) rest
 
 -- the condition by what was scanned
-abbrev finished : Quantifier → List TermSeen × Mentioned → Result CondRead TextError
-finished quantifier read = none_over read.1 >>= λ kept. Ok (record { cond = record { quantifier = quantifier; terms = read.0 }; names = kept })
+abbrev finished : Quantifier → List TermSeen × List (List ℕ) → Result CondRead TextError
+finished quantifier read = Ok (record { cond = record { quantifier = quantifier; terms = read.0 }; names = read.1 })
 
-expected_is : (begins : ℕ) (quantifier : Quantifier) (names : List (List ℕ)) (formed : TermsFormed)
-    → (expected begins (record { names = names; over = None }) formed >>= finished quantifier) ≡ condition_of begins quantifier names formed
-expected_is begins quantifier names formed = grind arith
+expected_is : (begins : ℕ) (quantifier : Quantifier) (names : List (List ℕ)) (entries : List CondEntry)
+    → (expected begins (record { names = names; over = None }) entries >>= finished quantifier) ≡ condition_of begins quantifier names entries
+expected_is begins quantifier names entries = rw (errors_same names [] entries) (first _ _)
+  where
+    first : (xs ys : List TextError) → (stop xs (stop ys (Ok (flat_map term_in entries, with_names names (flat_map names_in entries)))) >>= finished quantifier)
+        ≡ unless (xs ++ ys) (record { cond = record { quantifier = quantifier; terms = flat_map term_in entries }; names = with_names names (flat_map names_in entries) })
+    first xs ys = grind arith
 
 ended_finished : (begins : ℕ) (quantifier : Quantifier) (r : Result TermsRead TextError)
     → (r >>= λ read. at_begin begins (end_at_start (unblanked read.rest)) >>= λ end. none_over read.state >>= λ kept.
@@ -95,11 +116,11 @@ scanned_is w here names = of (opening_read here.text.bytes)
         → (at_begin here.begins opening >>= λ o. terms_here w here MAX_TERMS (record { names = names; over = None }) o.1 >>= λ read.
         at_begin here.begins (end_at_start (unblanked read.rest)) >>= λ end. none_over read.state >>= λ kept.
         Ok (record { cond = record { quantifier = o.0; terms = read.terms }; names = kept }))
-        ≡ (at_begin here.begins opening >>= λ o. condition_of here.begins o.0 names (terms_formed w here MAX_TERMS o.1))
+        ≡ (at_begin here.begins opening >>= λ o. condition_of here.begins o.0 names (entries_of w here MAX_TERMS o.1))
     of (Err fault) = refl
     of (Ok opening) =
         cc (
           (ended_finished here.begins opening.0 (terms_here w here MAX_TERMS (record { names = names; over = None }) opening.1)),
           (terms_step w here MAX_TERMS (record { names = names; over = None }) opening.1),
-          (expected_is here.begins opening.0 names (terms_formed w here MAX_TERMS opening.1)),
+          (expected_is here.begins opening.0 names (entries_of w here MAX_TERMS opening.1)),
         )

@@ -1,6 +1,7 @@
 -- The rows that are read cell by cell are read as they are defined.
 use Rattle.std.proofs.lemmas.Grind.{flat_map-append}
 use Rattle.std.proofs.lemmas.List.{append-nil}
+use Rattle.list_laws.proofs.Errors.{before_append}
 use Rattle.litmus_text.proofs.Vocabulary.{AllByRecursion, BadTable, Bool, Column, Err, Lines, List, MAX_ROWS, Micro, Name, None, Ok, Option, RawInstr, Result, Some, TableEntry, TextError, WithPlaces, Writing, [], a_fault, an_instr, ap, append_assoc, arith, before_columns, by_test, cell_entries, cell_if, cell_read, cells_of, codes, column_by, cond, cut_at, ends, ends_rows, entries_if, entries_in, entry_if, entry_in_line, entry_or_nothing, enumerate_from, eqb-suc-zero, eqb-zero-suc, false, fault_in, fits_in_column, flat_map, instr_in, instr_or_nothing, instr_put, is_well_named, label, label_named, label_of, labels_by, length, line, map, names_added, nat_lt, ne_eqb, no_column, no_columns, nothing, number_raw, op_after, op_in, op_numbered, over_in, place, place_named, place_of, placed_in, places_by, range_with_len, read_numbered, refl, row_read, rows_read, rows_scanned, suc, sym, take, true, with_before, with_names, with_places, written_in, zero, ℕ, ◌&&◌, ◌++◌, ◌+◌, ◌<◌, ◌==◌, ◌>>=◌, ◌∙◌, ◌∷◌, ◌≡◌, ◌≤◌}
 
 -- the faults of entries, with those that come before them
@@ -8,16 +9,12 @@ abbrev faults : List (List ℕ) → List TableEntry → List TableEntry → List
 faults names b xs = flat_map (fault_in names) (with_before b xs)
 
 -- the first of some faults, or what follows where there is none
-abbrev stop : {A : Type 0} → List TextError → Result A TextError → Result A TextError
+abbrev pub stop : {A : Type 0} → List TextError → Result A TextError → Result A TextError
 stop [] r = r
 stop (f ∷ fs) r = Err f
 
 stop_then : {A B : Type 0} (fs : List TextError) (r : Result A TextError) (f : A → Result B TextError) → (stop fs r >>= f) ≡ stop fs (r >>= f)
 stop_then fs r f = grind arith
-
-before_append : {A : Type 0} (b xs ys : List A) → with_before b (xs ++ ys) ≡ with_before b xs ++ with_before (b ++ xs) ys
-before_append b [] ys = ap (λ c. with_before c ys) (sym (append-nil b))
-before_append b (x ∷ xs) ys = grind (arith, (before_append (b ++ x ∷ []) xs ys), append_assoc)
 
 faults_append : (names : List (List ℕ)) (b xs ys : List TableEntry) → faults names b (xs ++ ys) ≡ faults names b xs ++ faults names (b ++ xs) ys
 faults_append names b xs ys = grind (arith, before_append, flat_map-append)
@@ -29,7 +26,7 @@ chain : {A B : Type 0} (names : List (List ℕ)) (b xs ys : List TableEntry) (r 
     → (r >>= f) ≡ stop (faults names b (xs ++ ys)) (Ok (more (b ++ (xs ++ ys))))
 chain names b xs ys r out more f first second = grind (arith, faults_append, append_assoc)
 
-with_names_append : (table xs ys : List (List ℕ)) → with_names table (xs ++ ys) ≡ with_names (with_names table xs) ys
+pub with_names_append : (table xs ys : List (List ℕ)) → with_names table (xs ++ ys) ≡ with_names (with_names table xs) ys
 with_names_append table [] ys = refl
 with_names_append table (x ∷ xs) ys = with_names_append (names_added table x) xs ys
 

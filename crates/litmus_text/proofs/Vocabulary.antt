@@ -20,7 +20,8 @@ unfoldable pub use Rattle.final_cond.specs.CondText.{cond_text, left_text, term_
 pub use Rattle.final_cond.specs.declared.{cond.Quantifier.Quantifier, cond.Quantifier.TheVariants.Exists, cond.Quantifier.TheVariants.Forall, cond.Quantifier.TheVariants.NotExists, cond.TheConstants.MAX_TERMS}
 pub use Rattle.final_cond.specs.declared.{errors.CondKind.TheVariants.BadTerm, read.Follow.Follow}
 pub use Rattle.list_laws.proofs.{Cases.by_test, Distinct.distinct_push, Elements.all_append, Elements.all_parts, Elements.list_all-weaker, Places.none_passes}
-pub use Rattle.litmus_text.specs.Condition.{CondRead, Setting, TermsFormed, at_begin, condition_of, faulty_with, followed_by, lines_over, names_with, term_formed}
+pub use Rattle.list_laws.specs.Errors.{unless, with_before}
+pub use Rattle.litmus_text.specs.Condition.{CondEntry, CondPart, CondRead, Setting, a_naming, a_term, an_error, at_begin, by_line, condition_of, error_in, over_in_line, names_in, term_in, term_part, follow_part, with_follow}
 pub use Rattle.litmus_text.specs.ConditionScan.{Mentioned, TermRead, TermsRead, and_more, before_read, left_put, none_over}
 pub use Rattle.litmus_text.specs.InitialState.{Begun, Braced, InitialItem, Worth, a_number, a_place, address_begun, brace_ends, braced_read, closed, empty, gives, initial_line, is_given, item_if, item_parts, item_put, item_with, nothing_begun, open_to, some_item, whole_left, with_value, with_worth, worth_if, worth_of, zero_at}
 pub use Rattle.litmus_text.specs.Items.{Link, LinkFits, link_values, links_mention, links_of, links_once}
@@ -29,7 +30,7 @@ pub use Rattle.litmus_text.specs.Progress.{CodeFits, OpFits, RowProgress, advanc
 pub use Rattle.litmus_text.specs.ReadTerms.{TermFits, is_known, left_mention, terms_mention}
 pub use Rattle.litmus_text.specs.Runnable.{AllNameRegisters, AllRunnable, IsRunnable, NamesRegisters, ops_in}
 pub use Rattle.litmus_text.specs.TableScan.{before_columns, cell_if, instr_or_nothing, instr_put}
-pub use Rattle.litmus_text.specs.TestTable.{Cells, Column, TableEntry, WithPlaces, a_fault, an_instr, cells_if, column_by, comes_once, entries_if, entry_if, entry_in_line, entry_or_nothing, fault_in, fits_in_column, is_head, is_label_of, is_label_row, label_named, label_of, labels_by, lands_among, no_column, no_columns, op_after, op_in, op_numbered, over_in, place_named, place_of, placed_in, places_by, with_before, with_names, with_places}
+pub use Rattle.litmus_text.specs.TestTable.{Cells, Column, TableEntry, WithPlaces, a_fault, an_instr, cells_if, column_by, comes_once, entries_if, entry_if, entry_in_line, entry_or_nothing, fault_in, fits_in_column, is_head, is_label_of, is_label_row, label_named, label_of, labels_by, lands_among, no_column, no_columns, op_after, op_in, op_numbered, over_in, place_named, place_of, placed_in, places_by, with_names, with_places}
 pub use Rattle.litmus_text.specs.TextLines.{Lines, bad, ends, is_comment, line, line_kept}
 pub use Rattle.litmus_text.specs.Views.{begun_seen, cells_seen, column_seen, joined_seen, mentioned_seen, pieces_if, pieces_left, setting_seen, term_read_seen, text_left}
 pub use Rattle.litmus_text.specs.{Header.quote_cut, Joined.Joined, Joined.no_text, Joined.with_text, KeptCells.HoldsColumn, KeptCells.all_texts, PaddedCells.PutsCell, PaddedCells.padded_at, PaddedCells.text_in}
@@ -41,7 +42,7 @@ unfoldable pub use Rattle.litmus_text.specs.InitialState.{braced, initial_read, 
 unfoldable pub use Rattle.litmus_text.specs.TableScan.{cell_read, instr_in, row_read, rows_scanned}
 unfoldable pub use Rattle.litmus_text.specs.TestTable.{after_locations, all_labels_judged, cell_entries, cells_of, entries_in, head_read, heads_read, labels_judged, rows_read}
 unfoldable pub use Rattle.litmus_text.specs.TestText.{cell_text, column_of, edges_line, header_line, initial_lines, item_text, row_count, row_line, table_lines, test_lines, test_text, width_of}
-unfoldable pub use Rattle.litmus_text.specs.{Condition.cond_here, Condition.condition_read, Condition.terms_formed, ConditionScan.cond_scanned, ConditionScan.term_here, ConditionScan.terms_here, Joined.all_joined}
+unfoldable pub use Rattle.litmus_text.specs.{Condition.cond_here, Condition.condition_read, Condition.entries_of, ConditionScan.cond_scanned, ConditionScan.term_here, ConditionScan.terms_here, Joined.all_joined}
 unfoldable pub use Rattle.litmus_text.specs.{TestReading.arch_in_text, TestReading.lines_read, TestReading.test_read, TextLines.is_passed, TextLines.lines_from, TextLines.lines_in}
 unfoldable pub use Rattle.litmus_text.specs.{TextParts.part_lines, TextParts.parts_left, TextParts.rows_from, Views.body_read, Views.rest_read, Views.table_read}
 pub use Rattle.litmus_text.specs.declared.errors.TestKind.TheVariants.{BadCondition, BadHeader, BadInit, BadInstruction, BadLabel, BadQuote, BadTable, EndMissing, TooLarge}

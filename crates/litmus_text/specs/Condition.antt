@@ -2,16 +2,18 @@
 -- In what follows `n` is the number of a line, `here` the setting of the condition, and `w` says how the architecture names its registers.
 -- Source: the litmus format of the herdtools manual; what is a fault, and where, is own.
 use Rattle.std.specs.Prelude.{ℕ, zero, suc, ◌-◌, ◌==◌, Bool, true, cond, ◌&&◌, nat_lt, List, [], ◌∷◌, ◌++◌, Option, Some, None, Result, Ok, Err}
-use Rattle.std.specs.{Prelude.length, Prelude.is_some, List.list_any}
+use Rattle.std.specs.{Prelude.length, Prelude.is_some, Prelude.not, List.filter, List.flat_map}
+use Rattle.list_laws.specs.Errors.{with_before, unless}
 use Rattle.final_cond.specs.declared.{cond.TheConstants.MAX_TERMS, cond.Quantifier.Quantifier, read.Follow.Follow}
 use Rattle.final_cond.specs.declared.read.Follow.TheVariants as follows
 use Rattle.text_parts_laws.specs.{Blanks.unblanked, ReadingSteps.◌>>=◌}
 use Rattle.final_cond.specs.Conditions.{LeftSeen, InRegister, AtPlace, TermSeen, CondSeen}
 use Rattle.final_cond.specs.ConditionReading.{Fault, opening_read, left_read, right_read, follow_read, end_at_start, has_form}
-use Rattle.arch_trait.specs.{PlaceNames.number_in, PlaceNames.number_added, PlaceNames.names_added, Writing.Writing}
+use Rattle.arch_trait.specs.{PlaceNames.number_in, PlaceNames.number_added, Writing.Writing}
 use Rattle.litmus_text.specs.declared.errors.{TestKind.TestKind, TestKind.TheVariants.BadCondition, TestKind.TheVariants.TooLarge}
 use Rattle.litmus_text.specs.declared.errors.{TestKind.TheVariants.EndMissing, TextError.TextError}
 use Rattle.litmus_text.specs.TextLines.{Lines, ends, line, bad}
+use Rattle.litmus_text.specs.TestTable.{with_names}
 use Rattle.litmus_text.specs.Joined.{Joined, no_text, with_text, all_joined, line_at}
 
 -- the setting of a condition: how many threads the table has, the number of the line where the condition begins, and its text
@@ -34,107 +36,116 @@ abbrev pub may_stand : Writing → ℕ → LeftSeen → Bool
 may_stand w threads (InRegister thread name) = nat_lt thread threads && is_some (number_in w.registers name)
 may_stand w threads (AtPlace name) = true
 
--- that a place is named in a line
-pub record Naming : Type 0 where
-  pub at_line : ℕ
-  pub place : List ℕ
+-- After its quantifier and `(` the text gives entries: a place that a left side names in a line, a term, or an error of the form, after which nothing is
+-- read. A place is an error of its line if it is one too many among all that are named before it, those before the condition included; there is room for
+-- 64. An error of the form stands at the line where the condition begins. Errors at that line count before those at later lines; the first of them counts.
 
--- the place that a left side in a line names, if it names one
-abbrev pub named_in : ℕ → LeftSeen → List Naming
-named_in n (InRegister thread name) = []
-named_in n (AtPlace name) = record { at_line = n; place = name } ∷ []
+-- what the text of a condition gives: a place of a name that is named in a line, a term, or an error
+pub data CondEntry : Type 0 where
+  a_naming : (n : ℕ) (name : List ℕ) → CondEntry
+  a_term : (term : TermSeen) → CondEntry
+  an_error : (n : ℕ) (kind : TestKind) → CondEntry
 
--- the terms of a text up to the first fault of their form: the terms, the places named before that fault, and that fault, if there is one
-pub record TermsFormed : Type 0 where
-  pub terms : List TermSeen
-  pub named : List Naming
-  pub fault : Option TestKind
+-- the entry of a left side in a line, if it names a place
+abbrev pub naming_in : ℕ → LeftSeen → List CondEntry
+naming_in n (InRegister thread name) = []
+naming_in n (AtPlace name) = a_naming n name ∷ []
 
--- no term, but a fault of this kind
-abbrev pub faulty_with : TestKind → TermsFormed
-faulty_with kind = record { terms = []; named = []; fault = Some kind }
+-- the entries of a part of the text, and the text after it, if there is more to read
+pub record CondPart : Type 0 where
+  pub entries : List CondEntry
+  pub rest : Option (List ℕ)
 
--- a term before others
-abbrev pub term_before : TermSeen → TermsFormed → TermsFormed
-term_before term others = record others { terms = term ∷ others.terms }
+-- a part that hasn't its form, of a condition that begins in this line
+abbrev pub bad_part : ℕ → CondPart
+bad_part begins = record { entries = an_error begins BadCondition ∷ []; rest = None }
 
--- The terms from one on, where its left side was read and its value is read next. What the term gives, with the text after it, is left to `further`.
-abbrev pub with_value : LeftSeen → (TermSeen → List ℕ → TermsFormed) → Result (ℕ × List ℕ) Fault → TermsFormed
-with_value left further (Err fault) = faulty_with BadCondition
-with_value left further (Ok right) = further (record { left = left; value = right.0 }) right.1
+-- entries before those of a part
+abbrev pub part_after : List CondEntry → CondPart → CondPart
+part_after entries part = record part { entries = entries ++ part.entries }
 
--- The terms from one on, where its left side is read next. A left side that may stand there names its place, whatever comes after it.
-abbrev pub with_left : Writing → Setting → ℕ → (TermSeen → List ℕ → TermsFormed) → Result (LeftSeen × List ℕ) Fault → TermsFormed
-with_left w here n further (Err fault) = faulty_with BadCondition
-with_left w here n further (Ok left) =
-    cond (may_stand w here.threads left.0) (named_before (named_in n left.0) (with_value left.0 further (right_read left.1))) (faulty_with BadCondition)
-  where
-    named_before : List Naming → TermsFormed → TermsFormed
-    named_before named others = record others { named = named ++ others.named }
+-- the end of a term, from the value that its left side is to have
+abbrev pub value_part : ℕ → LeftSeen → Result (ℕ × List ℕ) Fault → CondPart
+value_part begins left (Err fault) = bad_part begins
+value_part begins left (Ok right) = record { entries = a_term (record { left = left; value = right.0 }) ∷ []; rest = Some right.1 }
 
--- the terms from the one at the beginning of a text on, where `further` says what that term gives, with the text after it
-abbrev pub term_formed : Writing → Setting → (TermSeen → List ℕ → TermsFormed) → List ℕ → TermsFormed
-term_formed w here further text = with_left w here (line_of_rest here (unblanked text)) further (left_read has_form (unblanked text))
+-- a term by its left side, in a line; a left side that may stand there names its place whatever comes after it
+abbrev pub left_part : Writing → Setting → ℕ → Result (LeftSeen × List ℕ) Fault → CondPart
+left_part w here n (Err fault) = bad_part here.begins
+left_part w here n (Ok left) =
+    cond (may_stand w here.threads left.0) (part_after (naming_in n left.0) (value_part here.begins left.0 (right_read left.1))) (bad_part here.begins)
 
--- the last term, where nothing but blanks comes after its `)`
-abbrev pub last_term : TermSeen → Result (List ℕ) Fault → TermsFormed
-last_term term (Err fault) = faulty_with BadCondition
-last_term term (Ok rest) = record { terms = term ∷ []; named = []; fault = None }
+-- the term at the beginning of a text
+abbrev pub term_part : Writing → Setting → List ℕ → CondPart
+term_part w here text = left_part w here (line_of_rest here (unblanked text)) (left_read has_form (unblanked text))
 
--- the terms from one on, by what follows it: `)` and the end of the text, or a sign and further terms
-abbrev pub followed_by : TermSeen → (List ℕ → TermsFormed) → Result (Follow × List ℕ) Fault → TermsFormed
-followed_by term further (Err fault) = faulty_with BadCondition
-followed_by term further (Ok (follows.End, rest)) = last_term term (end_at_start (unblanked rest))
-followed_by term further (Ok (follows.Term, rest)) = term_before term (further rest)
+-- the end of the text, which nothing but blanks comes before
+abbrev pub end_part : ℕ → Result (List ℕ) Fault → CondPart
+end_part begins (Err fault) = bad_part begins
+end_part begins (Ok rest) = record { entries = []; rest = None }
 
--- the terms of a text, at most so many, up to its end; where the form of one term more is right, the condition is too large
-unfoldable pub terms_formed : Writing → Setting → ℕ → List ℕ → TermsFormed
-terms_formed w here zero text = term_formed w here (λ term rest. faulty_with TooLarge) text
-terms_formed w here (suc room) text = term_formed w here (λ term rest. followed_by term (terms_formed w here room) (follow_read rest)) text
+-- what follows a term: `)` and the end of the text, or a sign, with more to read after it
+abbrev pub follow_part : ℕ → Result (Follow × List ℕ) Fault → CondPart
+follow_part begins (Err fault) = bad_part begins
+follow_part begins (Ok (follows.End, rest)) = end_part begins (end_at_start (unblanked rest))
+follow_part begins (Ok (follows.Term, rest)) = record { entries = []; rest = Some rest }
 
--- the lines of the places that are one too many, where the places named one after another are added to a table of names, which has room for 64, each
--- that is new as the last
-abbrev pub lines_over : List (List ℕ) → List Naming → List ℕ
-lines_over names [] = []
-lines_over names (naming ∷ named) = over_before (number_added names naming.place) (lines_over (names_added names naming.place) named)
-  where
-    over_before : Option ℕ → List ℕ → List ℕ
-    over_before (Some place) lines = lines
-    over_before None lines = naming.at_line ∷ lines
+-- a term with what follows it, if its form is right
+abbrev pub with_follow : ℕ → CondPart → CondPart
+with_follow begins part = elim part.rest as (λ _. CondPart) [ None ↦ part | Some rest ↦ part_after part.entries (follow_part begins (follow_read rest)) ]
 
--- the table of names after these places were named, where one too many isn't added
-abbrev pub names_with : List (List ℕ) → List Naming → List (List ℕ)
-names_with names [] = names
-names_with names (naming ∷ named) = names_with (names_added names naming.place) named
+-- the entries of a text of at most so many terms, up to its end; if the form of one term more is right, the condition is too large
+unfoldable pub entries_of : Writing → Setting → ℕ → List ℕ → List CondEntry
+entries_of w here zero text =
+    let part = term_part w here text in
+    part.entries ++ elim part.rest as (λ _. List CondEntry) [ None ↦ [] | Some rest ↦ an_error here.begins TooLarge ∷ [] ]
+entries_of w here (suc room) text =
+    let part = with_follow here.begins (term_part w here text) in
+    part.entries ++ elim part.rest as (λ _. List CondEntry) [ None ↦ [] | Some rest ↦ entries_of w here room rest ]
+
+-- the name of the place that an entry names, if it names one
+abbrev pub names_in : CondEntry → List (List ℕ)
+names_in (a_naming n name) = name ∷ []
+names_in entry = []
+
+-- the term of an entry, if it is one
+abbrev pub term_in : CondEntry → List TermSeen
+term_in (a_term term) = term ∷ []
+term_in entry = []
+
+-- the error of a place in a line, if the place gets no number, because it is one too many
+abbrev pub over_in_line : ℕ → Option ℕ → List TextError
+over_in_line n (Some place) = []
+over_in_line n None = record { line = n; kind = TooLarge } ∷ []
+
+-- the error of an entry, by the entries before it and the places that were named before the condition, if it has one
+abbrev pub error_in : List (List ℕ) → List CondEntry × CondEntry → List TextError
+error_in names (before, a_naming n name) = over_in_line n (number_added (with_names names (flat_map names_in before)) name)
+error_in names (before, a_term term) = []
+error_in names (before, an_error n kind) = record { line = n; kind = kind } ∷ []
+
+-- the errors in the order in which they count: first those at the line where the condition begins
+abbrev pub by_line : ℕ → List TextError → List TextError
+by_line begins errors = filter (λ error. error.line == begins) errors ++ filter (λ error. not (error.line == begins)) errors
 
 -- a condition that was read, and the names of places after it
 pub record CondRead : Type 0 where
   pub cond : CondSeen
   pub names : List (List ℕ)
 
--- a condition, or the fault of the first place that is one too many, by the lines of those that are
-abbrev pub with_room : CondRead → List ℕ → Result CondRead TextError
-with_room read [] = Ok read
-with_room read (n ∷ lines) = bad TooLarge n
-
--- a condition, or its first fault: one of its form, if it has one, or else that of the first place that is one too many, by the lines of those that are
-abbrev pub unless_faulty : ℕ → Quantifier → List (List ℕ) → TermsFormed → Option TestKind → List ℕ → Result CondRead TextError
-unless_faulty begins quantifier names formed (Some kind) lines = bad kind begins
-unless_faulty begins quantifier names formed None lines =
-    with_room (record { cond = record { quantifier = quantifier; terms = formed.terms }; names = names_with names formed.named }) lines
-
--- a condition by its quantifier and its terms, or its first fault: a place too many in the line where it begins, then a fault of its form, then the first
--- place too many in a later line
-abbrev pub condition_of : ℕ → Quantifier → List (List ℕ) → TermsFormed → Result CondRead TextError
-condition_of begins quantifier names formed =
-    cond (list_any (λ n. n == begins) (lines_over names formed.named)) (bad TooLarge begins)
-    (unless_faulty begins quantifier names formed formed.fault (lines_over names formed.named))
+-- a condition by its quantifier and its entries, or the first error that counts
+abbrev pub condition_of : ℕ → Quantifier → List (List ℕ) → List CondEntry → Result CondRead TextError
+condition_of begins quantifier names entries =
+    unless (by_line begins (flat_map (error_in names) (with_before [] entries))) (record {
+      cond = record { quantifier = quantifier; terms = flat_map term_in entries };
+      names = with_names names (flat_map names_in entries);
+    })
 
 -- the condition that a whole text is, by the names of the places that were named before it
 unfoldable pub cond_here : Writing → Setting → List (List ℕ) → Result CondRead TextError
 cond_here w here names = do
   opening ← at_begin here.begins (opening_read here.text.bytes)
-  condition_of here.begins opening.0 names (terms_formed w here MAX_TERMS opening.1)
+  condition_of here.begins opening.0 names (entries_of w here MAX_TERMS opening.1)
 
 -- the condition that the lines which are left are, in a test of so many threads, by the names of the places that were named before it
 unfoldable pub condition_read : Writing → ℕ → List (List ℕ) → Lines → Result CondRead TextError

@@ -6,6 +6,7 @@ use Rattle.std.specs.Prelude.{option_map, count_by, length, map, take}
 use Rattle.std.specs.List.{list_all, flat_map, enumerate_from, range_with_len}
 use Rattle.std.specs.{Fmt.decimal, Str.bytes_eq}
 use Rattle.std.proofs.Math.ListN.{replicate}
+use Rattle.list_laws.specs.Errors.{with_before, unless}
 use Rattle.micro_ops.specs.declared.operation.Micro.{Micro}
 use Rattle.micro_ops.specs.declared.operation.Micro.TheVariants as ops
 use Rattle.arch_trait.specs.{Cells.ends_rows, Cells.first_word, Cells.is_access, PlaceNames.number_added, PlaceNames.names_added}
@@ -133,11 +134,6 @@ entries_in w threads k (line n text rest) =
     (cond (nat_lt k MAX_ROWS) (row_entries w n threads (cells_of text)) (a_fault n TooLarge ∷ []))
     (entries_in w threads (k + 1) rest))
 
--- each of some elements with all that come before it: with the elements of `before`, and those of the list itself
-abbrev pub with_before : {A : Type 0} → List A → List A → List (List A × A)
-with_before before [] = []
-with_before before (x ∷ xs) = (before, x) ∷ with_before (before ++ x ∷ []) xs
-
 -- the place that is named, if a place is
 abbrev pub place_of : Name → List (List ℕ)
 place_of (writing.place name) = name ∷ []
@@ -212,11 +208,6 @@ fault_in names (before, a_fault n kind) = record { line = n; kind = kind } ∷ [
 -- the columns of so many threads after these entries, with the names of places
 abbrev pub columns_by : List (List ℕ) → ℕ → List TableEntry → WithPlaces (List Column)
 columns_by names threads entries = with_places (places_by names entries) (map (λ thread. column_by names thread entries) (range_with_len 0 threads))
-
--- the first of some faults, or what is right where there is none
-abbrev pub unless : {A : Type 0} → List TextError → A → Result A TextError
-unless [] x = Ok x
-unless (fault ∷ faults) x = Err fault
 
 -- the rows of a table of so many threads: the columns and the names of places after them, by those that were named before the table, and the lines from
 -- the one that ends the rows on, or the first fault
