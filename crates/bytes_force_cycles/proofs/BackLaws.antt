@@ -2,7 +2,7 @@
 use Rattle.std.proofs.Common.{ℕ, List, ◌≡◌, true}
 use Rattle.relax_edges.specs.declared.kinds.ArchName.{ArchName}
 use Rattle.arch_trait.specs.{Threads.Puts, Writing.Writing, Writing.WritesBack, Cells.WritesCells, SeenTests.TestSeen, PlaceNames.number_in}
-use Rattle.litmus_text.specs.{Reread.IsReadable, Mentioned.TestReadsBack}
+use Rattle.litmus_text.specs.{Reread.IsReadable, TestReadsBack.TestReadsBack}
 use Rattle.litmus_text.proofs.MentionedBack as mentioned_back
 use Rattle.std.specs.Prelude.{is_some}
 use Rattle.litmus_text.proofs.NamesBack.{Numbered}

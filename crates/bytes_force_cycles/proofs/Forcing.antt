@@ -5,7 +5,7 @@ use Rattle.final_cond.specs.States.{Meets}
 use Rattle.cycle_events.specs.Resolution.{move_count}
 use Rattle.arch_trait.specs.{Laws.IsArch, PlaceNames.letters, PlaceNames.number_in, Threads.Puts, Writing.Writing, Writing.WritesBack}
 use Rattle.arch_trait.specs.{Writing.name_in}
-use Rattle.litmus_text.specs.{Mentioned.TestReadsBack, Reread.reread, TestReading.TestRead, TestText.test_text}
+use Rattle.litmus_text.specs.{TestReadsBack.TestReadsBack, Reread.reread, TestReading.TestRead, TestText.test_text}
 use Rattle.program_meaning.specs.{Executions.Execution, Intended.intended, Programs.Program, Programs.IsCandidate, Programs.IsCoherentIn}
 use Rattle.program_meaning.specs.{Standing.AllStand}
 use Rattle.tests_force_cycles.specs.{FinalStates.final_state, FinalStates.IsAskedFor, TestHeadline.HasTest, TestHeadline.IsRenumbered}

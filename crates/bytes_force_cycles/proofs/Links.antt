@@ -6,7 +6,7 @@ use Rattle.cycle_events.specs.Resolution.{move_count}
 use Rattle.final_cond.specs.States.{Meets}
 use Rattle.arch_trait.specs.{Cells.WritesCells, Cells.MakesOneAccess, Laws.IsArch, PlaceNames.letters, PlaceNames.number_in, SeenTests.TestSeen}
 use Rattle.arch_trait.specs.{Threads.Puts, Writing.Writing, Writing.WritesBack, Writing.name_in}
-use Rattle.litmus_text.specs.{Mentioned.TestReadsBack, Reread.reread, TestReading.TestRead, TestText.test_text}
+use Rattle.litmus_text.specs.{TestReadsBack.TestReadsBack, Reread.reread, TestReading.TestRead, TestText.test_text}
 use Rattle.program_meaning.specs.{Executions.Execution, Standing.AllStand, Standing.event_name}
 use Rattle.program_meaning.specs.Programs.{Program, IsCandidate, IsCoherentIn, accesses_in}
 use Rattle.program_meaning.specs.Intended.{IsNumbering, cycle_accesses, intended, observed_locations}

@@ -11,7 +11,7 @@ use Rattle.arch_trait.specs.{Codes.MakesSteps, PlaceRenumbering.step_at, PlaceRe
 use Rattle.arch_trait.specs.declared.link.Link.TheVariants as links
 use Rattle.arch_trait.specs.Threads.{ThreadCode, left_after, loads_after, thread_items, loads_in}
 use Rattle.arch_trait_laws.proofs.Renumbered.{loads_kept, renumbered_makes}
-use Rattle.litmus_text.specs.Mentioned.{is_in, op_is_in}
+use Rattle.litmus_text.specs.TestReadsBack.{is_in, op_is_in}
 
 -- another number for one place
 abbrev pub moved : ℕ → ℕ → ℕ

@@ -6,7 +6,7 @@ use Rattle.relax_edges.specs.declared.{kinds.ArchName.ArchName, kinds.ObsMode.Ob
 use Rattle.cycle_events.specs.Resolution.{move_count}
 use Rattle.arch_trait.specs.{Cells.WritesCells, Cells.MakesOneAccess, Laws.IsArch, PlaceNames.letters, Threads.Puts, Writing.Writing}
 use Rattle.arch_trait.specs.{Writing.WritesBack, Writing.name_in}
-use Rattle.litmus_text.specs.{Mentioned.TestReadsBack, Reread.reread, TestReading.TestRead}
+use Rattle.litmus_text.specs.{TestReadsBack.TestReadsBack, Reread.reread, TestReading.TestRead}
 use Rattle.bytes_force_cycles.proofs.{BackLaws.reads_back, Readable.readable, ScLaws.tests_are_sc_per_location}
 use Rattle.tests_force_cycles.specs.{TestHeadline.HasTest, TestPrograms.test_program, TestOf.test_of}
 use Rattle.bytes_force_cycles.specs.{Readings.program_read, ScLaws.ScDecides, ScLaws.PrintedAreScPerLocation}

@@ -15,7 +15,7 @@ use Rattle.arch_trait.specs.declared.step.Step.{Step}
 use Rattle.arch_trait.specs.{Laws.IsArch, PlaceNames.location_name, PlaceNames.letters, PlaceRenumbering.renumbered, Taking.initial_values}
 use Rattle.arch_trait.specs.{Threads.Puts, Threads.ThreadCode, Threads.compiled, Writing.name_in, SeenTests.TestSeen}
 use Rattle.arch_trait_laws.proofs.{NameLaws.length-letters, NameLaws.letters_more, NameLaws.location_new, CodeLaws.makes_steps}
-use Rattle.litmus_text.specs.{Items.links_of, Mentioned.is_in, Mentioned.op_is_in, Placing.place_in, Reread.thread_reread}
+use Rattle.litmus_text.specs.{Items.links_of, TestReadsBack.is_in, TestReadsBack.op_is_in, Placing.place_in, Reread.thread_reread}
 use Rattle.litmus_text.specs.Placing as placing
 use Rattle.litmus_text.proofs.NamesBack.{IsAmong, none_among, push_among, few_names}
 use Rattle.bytes_force_cycles.proofs.{BackLaws.numbered_in, Mentioning.place_is_in}

@@ -61,7 +61,7 @@ pub use Rattle.list_laws.proofs.{Elements.all_append, Elements.all_parts, Number
 pub use Rattle.list_laws.proofs.Totals.{classes_total, sum_upto_same}
 pub use Rattle.list_laws.specs.Numbers.{upto}
 pub use Rattle.litmus_text.proofs.NamesBack.{IsAmong, few_names, none_among, push_among}
-pub use Rattle.litmus_text.specs.{Items.LinkFits, Items.links_of, Mentioned.TestReadsBack, Mentioned.is_in, Mentioned.op_is_in}
+pub use Rattle.litmus_text.specs.{Items.LinkFits, Items.links_of, TestReadsBack.TestReadsBack, TestReadsBack.is_in, TestReadsBack.op_is_in}
 pub use Rattle.litmus_text.specs.{Placing.or_zero, Placing.place_in, Printable.IsTestName, Progress.CodeFits, Progress.code_lands, ReadTerms.TermFits}
 pub use Rattle.litmus_text.specs.{Reread.IsReadable, Reread.reread, TestReading.TestRead, TestText.test_text}
 pub use Rattle.program_meaning.proofs.{Names.GotFrom, Names.got_from_list, Runs.accesses-count}

@@ -1,5 +1,5 @@
 -- The printed header of the table is read back.
-use Rattle.litmus_text.proofs.Vocabulary.{AllByRecursion, Begun, Cells, Lines, List, Ok, ThreadCode, Writing, [], add-zero, after_run, all_both, and_from, ap, append_assoc, arith, before_padded, bytes_same, cell_text, column_of, columns_of, decimal, decimal_passes, enumerate_from, head_read, heads_read, inked_ends, is_blank, is_head, is_place_byte, is_row_byte, length, line, list_all, map, nat_lt, not, refl, replicate_more, row_line, spaces_class, sym, trim_blanks, true, zero-add, ℕ, ◌+◌, ◌<◌, ◌^◌, ◌∙◌, ◌∷◌, ◌≡◌, ◌≤◌}
+use Rattle.litmus_text.proofs.Vocabulary.{flat_map, length-map, length-enumerate_from, head_error, AllByRecursion, Begun, Lines, List, Ok, ThreadCode, Writing, [], after_run, all_both, and_from, append_assoc, arith, before_padded, bytes_same, cell_text, column_of, columns_of, decimal, decimal_passes, enumerate_from, head_read, heads_read, inked_ends, is_blank, is_head, is_place_byte, is_row_byte, length, line, list_all, map, nat_lt, not, refl, replicate_more, row_line, spaces_class, trim_blanks, true, ℕ, ◌+◌, ◌<◌, ◌^◌, ◌∙◌, ◌∷◌, ◌≡◌, ◌≤◌}
 use Rattle.litmus_text.proofs.{CellBack.padded, LineBack.IsLine, TableBack.spaced, TableBack.row_cells, TableBack.cells_without, TableBack.row_line_is}
 
 place_on_row : (b : ℕ) → is_place_byte b ≡ true → is_row_byte b ≡ true
@@ -19,9 +19,8 @@ unfolding cell_text column_of
 head_cell w places n t h = grind (arith, append_assoc, replicate_more, head_trimmed, bytes_same)
 
 heads_back : (w : Writing) (places : List (List ℕ)) (line_number n : ℕ) (threads : List ThreadCode) → n + length threads ≤ 64
-    → heads_read line_number true n (map (spaced (cell_text 0)) (map (column_of w places) (enumerate_from n threads))) ≡ Ok (n + length threads)
-unfolding heads_read
-heads_back w places m n [] h = ap Ok (sym (add-zero n))
+    → flat_map (head_error line_number) (enumerate_from n (map (spaced (cell_text 0)) (map (column_of w places) (enumerate_from n threads)))) ≡ []
+heads_back w places m n [] h = refl
 heads_back w places m n (t ∷ threads) h = grind (arith, (heads_back w places m (n + 1) threads (omega arith)), head_cell)
 
 head_bytes : (w : Writing) (places : List (List ℕ)) (n : ℕ) (threads : List ThreadCode) → n + length threads ≤ 64
@@ -34,16 +33,16 @@ head_bytes w places n (t ∷ threads) h = grind (arith, (head_bytes w places (n 
 pub head_back : (w : Writing) (places : List (List ℕ)) (n : ℕ) (t : ThreadCode) (threads : List ThreadCode) (begun : Begun) (rest : Lines) → length (t ∷ threads) ≤ 64
     → list_all (λ v. nat_lt v.0 (length (t ∷ threads))) begun.values ≡ true
     → head_read begun (line n (row_line (columns_of w places (t ∷ threads)) 0) rest) ≡ Ok (length (t ∷ threads), rest)
-unfolding head_read row_line
+unfolding head_read heads_read row_line
 head_back w places n t threads begun rest few there =
     let f = cell_text 0 in
     let x = column_of w places (0, t) in
     let xs = map (column_of w places) (enumerate_from (0 + 1) threads) in
     let bytes = head_bytes w places 0 (t ∷ threads) (omega arith) in
     let cells = row_cells f x xs (cells_without 124 f (x ∷ xs) refl bytes) (cells_without 59 f (x ∷ xs) refl bytes) in
-    let heads : heads_read n true 0 (map (spaced f) (x ∷ xs)) ≡ Ok (length (t ∷ threads)) = heads_back w places n 0 (t ∷ threads) (omega arith) ∙ ap Ok (zero-add (length (t ∷ threads))) in
-    let go : (c : Cells) → c ≡ record { texts = map (spaced f) (x ∷ xs); whole = true } → heads_read n c.whole 0 c.texts ≡ Ok (length (t ∷ threads)) = λ c e. ap (λ c. heads_read n c.whole 0 c.texts) e ∙ heads in
-    rw (go _ cells, there) refl
+    let heads = heads_back w places n 0 (t ∷ threads) (omega arith) in
+    let count : length (map (spaced f) (x ∷ xs)) ≡ length (t ∷ threads) = grind (arith, length-map, length-enumerate_from) in
+    rw (cells, heads, count, there) refl
 
 -- the printed header of a table is a line that isn't passed over
 pub head_line_is : (w : Writing) (places : List (List ℕ)) (t : ThreadCode) (threads : List ThreadCode) → length (t ∷ threads) ≤ 64 → IsLine (row_line (columns_of w places (t ∷ threads)) 0)

@@ -1,6 +1,6 @@
 -- The labels of printed threads are judged to be right: each is in its thread once, after the branch.
 use Rattle.micro_ops.specs.declared.operation.Micro.TheVariants as ops
-use Rattle.litmus_text.proofs.Vocabulary.{AllByRecursion, List, Micro, Ok, [], all_labels_judged, arith, code_lands, column_so_far, comes_once, count_by, is_label_of, is_label_row, labels_judged, lands_among, map, op_renumbered, placed_from, refl, sum_by-cons, true, ℕ, ◌+◌, ◌∷◌, ◌≡◌}
+use Rattle.litmus_text.proofs.Vocabulary.{flat_map, with_after, landing_error, AllByRecursion, List, Micro, Ok, [], all_labels_judged, arith, code_lands, column_so_far, comes_once, count_by, is_label_of, is_label_row, lands_among, map, op_renumbered, placed_from, refl, sum_by-cons, true, ℕ, ◌+◌, ◌∷◌, ◌≡◌}
 
 label_kept : (label : ℕ) (table : List (List ℕ)) (names : ℕ → List ℕ) (op : Micro) → is_label_of label (op_renumbered table names op) ≡ is_label_of label op
 label_kept label table names op = grind arith
@@ -20,8 +20,7 @@ landing_kept (ops.BranchNz a label) table names n m all remainder = once_kept la
 landing_kept op table names n m all remainder = refl
 
 judged_back : (table : List (List ℕ)) (names : ℕ → List ℕ) (n m : ℕ) (all code : List Micro) → code_lands all code ≡ true
-    → labels_judged (placed_from table names n all) (placed_from table names m code) ≡ Ok tt
-unfolding labels_judged
+    → flat_map (landing_error (placed_from table names n all)) (with_after (placed_from table names m code)) ≡ []
 judged_back table names n m all [] h = refl
 judged_back table names n m all (op ∷ code) h = grind (arith, (judged_back table names n (m + 1) all code), landing_kept)
 

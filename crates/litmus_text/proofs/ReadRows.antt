@@ -1,7 +1,7 @@
 -- Texts of tests that are read, and those that are refused, computed.
 use Rattle.relax_edges.specs.declared.kinds.Value.TheVariants as values
 use Rattle.micro_ops.specs.declared.operation.Micro.TheVariants as ops
-use Rattle.litmus_text.proofs.Vocabulary.{AtPlace, BadCondition, BadHeader, BadInit, BadInstruction, BadLabel, BadQuote, BadTable, EndMissing, Exists, Fence, InRegister, LeftSeen, List, MFence, Micro, None, NotExists, Ok, OperandTexts, Option, PPC, RawInstr, Some, TermSeen, ThreadRead, TooLarge, Value, Writing, Written, X86, [], after_locations, after_run, after_settings, all_joined, all_labels_judged, arch_in_text, arch_read, bad, before_blanks, braced, bytes_eq, cell_entries, cells_of, codes, cond, cond_here, condition_read, cut_at, digits, ends_rows, entries_in, flat_map, follow_read, head_read, header_read, heads_read, immediate_number, initial_read, inside_brackets, is_passed, is_place_name, is_register_name, is_setting, item_of, item_read, items_read, label, labels_judged, leading_run, left_at_start, left_read, lines_from, lines_in, lines_read, none, nothing, number_in, number_of, one, opening_read, operands_in, place, quote_read, refl, right_read, rows_read, sign_read, entries_of, test_read, two, value_read, without_return, words, ℕ, ◌++◌, ◌==◌, ◌∷◌, ◌≡◌}
+use Rattle.litmus_text.proofs.Vocabulary.{AtPlace, BadCondition, BadHeader, BadInit, BadInstruction, BadLabel, BadQuote, BadTable, EndMissing, Exists, Fence, InRegister, LeftSeen, List, MFence, Micro, None, NotExists, Ok, OperandTexts, Option, PPC, RawInstr, Some, TermSeen, ThreadRead, TooLarge, Value, Writing, Written, X86, [], after_locations, after_run, after_settings, all_joined, all_labels_judged, arch_in_text, arch_read, bad, before_blanks, braced, bytes_eq, cell_entries, cells_of, codes, cond, cond_here, condition_read, cut_at, digits, ends_rows, entries_in, flat_map, follow_read, head_read, header_read, heads_read, immediate_number, initial_read, inside_brackets, is_passed, is_place_name, is_register_name, is_setting, item_of, item_read, items_read, label, leading_run, left_at_start, left_read, lines_from, lines_in, lines_read, none, nothing, number_in, number_of, one, opening_read, operands_in, place, quote_read, refl, right_read, rows_read, sign_read, entries_of, test_read, two, value_read, without_return, words, ℕ, ◌++◌, ◌==◌, ◌∷◌, ◌≡◌}
 
 x86_registers : List (List ℕ)
 x86_registers = codes "EAX" ∷ codes "EBX" ∷ codes "ECX" ∷ []
@@ -74,7 +74,7 @@ term left value = record { left = left; value = value }
 
 -- what a text is read by
 reading : Unit {0}
-unfolding test_read lines_read lines_from lines_in is_passed without_return header_read quote_read is_setting after_settings words cut_at initial_read braced items_read item_read item_of head_read heads_read cells_of rows_read entries_in cell_entries ends_rows labels_judged all_labels_judged after_locations condition_read cond_here entries_of all_joined opening_read sign_read left_read left_at_start right_read value_read follow_read leading_run after_run is_place_name is_register_name number_of before_blanks operands_in immediate_number inside_brackets digits arch_in_text arch_read x86 x86_registers dollar mov_of x86_raw x86_of mov text thread term ppc ppc_registers ppc_raw label_of base_of
+unfolding test_read lines_read lines_from lines_in is_passed without_return header_read quote_read is_setting after_settings words cut_at initial_read braced items_read item_read item_of head_read heads_read cells_of rows_read entries_in cell_entries ends_rows all_labels_judged after_locations condition_read cond_here entries_of all_joined opening_read sign_read left_read left_at_start right_read value_read follow_read leading_run after_run is_place_name is_register_name number_of before_blanks operands_in immediate_number inside_brackets digits arch_in_text arch_read x86 x86_registers dollar mov_of x86_raw x86_of mov text thread term ppc ppc_registers ppc_raw label_of base_of
 reading = tt
 
 -- the printed store buffering test of X86

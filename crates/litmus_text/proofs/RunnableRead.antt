@@ -1,7 +1,7 @@
 -- What is read can be run.
 use Rattle.litmus_text.specs.declared.reading.table.Column.{Column as ThreadColumn}
 use Rattle.arch_trait.specs.declared.reading.InstrError.TheVariants as instrs
-use Rattle.litmus_text.proofs.Vocabulary.{All-filter, All-from_recursion, All-get_or, All-map, All-replicate, AllByRecursion, AllNameRegisters, AllRunnable, Bool, Column, Err, InRange, InstrError, IsRunnable, Lines, List, Micro, Name, NamesRegisters, None, Ok, Option, Placed, RawInstr, ReadInstr, Result, Some, TextError, Value, WithPlaces, Writing, Written, [], all_labels_judged, ap, arith, by_test, cell_if, cell_read, cells_of, column_seen, comes_once, cond, count_by, cut_at, ends, ends_rows, filter, fits_in_column, get_or, get_or-map, instr_in, instr_or_nothing, instr_put, instr_read, is_access, is_label_row, is_load, labels_judged, lands, lands_among, length, length-append, length-map, line, ltb-true, map, nat_lt, no_column, no_columns, number_raw, occurs, occurs_if, ops_in, read_numbered, recursion_from_All, refl, row_read, rows_scanned, subst, sum_by-cons, sum_by_push, sym, target, true, values_of_thread, with_label, with_places, written_in, ℕ, ◌++◌, ◌+◌, ◌<◌, ◌==◌, ◌>>=◌, ◌∙◌, ◌∷◌, ◌≡◌, ◌≤◌}
+use Rattle.litmus_text.proofs.Vocabulary.{flat_map, unless, with_after, landing_error, All-filter, All-from_recursion, All-get_or, All-map, All-replicate, AllByRecursion, AllNameRegisters, AllRunnable, Bool, Column, Err, InRange, InstrError, IsRunnable, Lines, List, Micro, Name, NamesRegisters, None, Ok, Option, Placed, RawInstr, ReadInstr, Result, Some, TextError, Value, WithPlaces, Writing, Written, [], all_labels_judged, ap, arith, by_test, cell_if, cell_read, cells_of, column_seen, comes_once, cond, count_by, cut_at, ends, ends_rows, filter, fits_in_column, get_or, get_or-map, instr_in, instr_or_nothing, instr_put, instr_read, is_access, is_label_row, is_load, lands, lands_among, length, length-append, length-map, line, ltb-true, map, nat_lt, no_column, no_columns, number_raw, occurs, occurs_if, ops_in, read_numbered, recursion_from_All, refl, row_read, rows_scanned, subst, sum_by-cons, sum_by_push, sym, target, true, values_of_thread, with_label, with_places, written_in, ℕ, ◌++◌, ◌+◌, ◌<◌, ◌==◌, ◌>>=◌, ◌∙◌, ◌∷◌, ◌≡◌, ◌≤◌}
 use Rattle.litmus_text.proofs.ElementLaws.{all_weaker}
 
 -- what is read raw names registers of the machine
@@ -106,8 +106,7 @@ once_occurs l all placed h = grind (arith, occurs_counted)
 landing_occurs : (op : Micro) (all placed : List Placed) → lands_among is_label_row op all placed ≡ true → occurs_if (target op) (map (λ (p : Placed). p.op) placed) ≡ true
 landing_occurs op all placed h = grind (arith, once_occurs)
 
-judged_lands : (all placed : List Placed) → labels_judged all placed ≡ Ok tt → lands (map (λ (p : Placed). p.op) placed) ≡ true
-unfolding labels_judged
+judged_lands : (all placed : List Placed) → flat_map (landing_error all) (with_after placed) ≡ [] → lands (map (λ (p : Placed). p.op) placed) ≡ true
 judged_lands all [] h = refl
 judged_lands all (p ∷ placed) h = grind (arith, (judged_lands all placed), landing_occurs)
 
@@ -118,7 +117,7 @@ loads_few : (placed : List Placed) → count_by is_load (map (λ (p : Placed). p
 loads_few [] = omega arith
 loads_few (p ∷ placed) = search (arith, (loads_few placed), load_access, sum_by-cons)
 
-column_runs : (column : Column) → IsGood 2048 column.ops → labels_judged column.ops column.ops ≡ Ok tt → IsRunnable (ops_in column)
+column_runs : (column : Column) → IsGood 2048 column.ops → flat_map (landing_error column.ops) (with_after column.ops) ≡ [] → IsRunnable (ops_in column)
 column_runs column g h = record {
   in_range = All-map InRange (λ (p : Placed). p.op) column.ops (All-from_recursion (λ (p : Placed). InRange p.op) column.ops g.in_range);
   landing = judged_lands column.ops column.ops h;
@@ -126,11 +125,15 @@ column_runs column g h = record {
   short = grind (arith, length-map);
 }
 
+neither_faulty : {A : Type 0} (xs ys : List TextError) (x : A) → unless (xs ++ ys) x ≡ Ok x → (xs ≡ []) × (unless ys x ≡ Ok x)
+neither_faulty [] ys x h = (refl, h)
+neither_faulty (e ∷ xs) ys x h = grind arith
+
 -- the code of columns whose labels were judged
 all_run : (columns : List Column) → AllGood 2048 columns → all_labels_judged columns ≡ Ok tt → AllRunnable columns
 unfolding all_labels_judged
 all_run [] g h = tt
-all_run (column ∷ columns) g h = grind (arith, (all_run columns g.1), (column_runs column g.0))
+all_run (column ∷ columns) g h = let k = neither_faulty _ _ tt h in (column_runs column g.0 k.0, all_run columns g.1 k.1)
 
 -- the columns of a table that was read can be run
 pub columns_run : (w : Writing) (names : List (List ℕ)) (threads : ℕ) (columns : List Column) (s : WithPlaces (List Column)) (ls rest : Lines) → RawInRange w

@@ -1,29 +1,34 @@
 -- Reading the table as loops do.
 use Rattle.litmus_text.specs.declared.reading.table.Column.{Column as ThreadColumn}
 use Rattle.std.proofs.lemmas.List.{append-nil}
-use Rattle.litmus_text.proofs.Vocabulary.{BadTable, Bool, Cells, Column, CutParts, EndMissing, Err, Lines, List, MAX_ROWS, MAX_THREADS, Ok, Result, Some, TextError, TooLarge, WithPlaces, Writing, [], add-one, ap, append_assoc, arith, bad, before_columns, cell_read, cells_of, codes, column_seen, cond, cut_at, drop, drop-cons, drop-length, drop-set-lt, ends, ends_rows, false, get_or, get_or-map, heads_read, instr_in, instr_or_nothing, is_head, le-ltb, length, length-map, line, lt-ltb, map, map-set, refl, row_read, rows_scanned, set, sym, take, take-append-add, take-length, take_more_set, true, with_places, ℕ, ◌++◌, ◌+◌, ◌<◌, ◌>>=◌, ◌∙◌, ◌∷◌, ◌≡◌, ◌≤◌}
+use Rattle.litmus_text.proofs.Vocabulary.{BadTable, Bool, Cells, Column, CutParts, EndMissing, Err, Lines, List, MAX_ROWS, MAX_THREADS, Ok, Result, Some, TextError, TooLarge, WithPlaces, Writing, [], add-one, ap, append_assoc, arith, bad, before_columns, cell_read, cells_of, codes, column_seen, cond, cut_at, drop, drop-cons, drop-length, drop-set-lt, ends, ends_rows, false, get_or, get_or-map, heads_read, head_error, end_error, enumerate_from, flat_map, unless, add-zero, zero-add,  instr_in, instr_or_nothing, is_head, le-ltb, length, length-map, line, lt-ltb, map, map-set, refl, row_read, rows_scanned, set, sym, take, take-append-add, take-length, take_more_set, true, with_places, ℕ, ◌++◌, ◌+◌, ◌<◌, ◌>>=◌, ◌∙◌, ◌∷◌, ◌≡◌, ◌≤◌}
+
+-- the number of threads, by the cells of the header from that of a thread on
+abbrev pub heads_from : ℕ → Bool → ℕ → List (List ℕ) → Result ℕ TextError
+heads_from n whole k cells = unless (flat_map (head_error n) (enumerate_from k cells) ++ end_error n whole) (k + length cells)
+
+-- the header is read from its first cell on
+pub heads_first : (n : ℕ) (row : Cells) → heads_read n row ≡ heads_from n row.whole 0 row.texts
+unfolding heads_read
+heads_first n row = rw (zero-add (length row.texts)) refl
 
 -- where no cell of the header is left, the threads are counted
-pub heads_end : (n k : ℕ) (whole : Bool) (ps : List (List ℕ)) → ps ≡ [] → heads_read n whole k ps ≡ cond whole (Ok k) (bad BadTable n)
-unfolding heads_read
-heads_end n k whole ps e = rw e refl
+pub heads_end : (n k : ℕ) (whole : Bool) (ps : List (List ℕ)) → ps ≡ [] → heads_from n whole k ps ≡ cond whole (Ok k) (bad BadTable n)
+heads_end n k whole ps e = grind (arith, add-zero)
 
--- a cell that isn't that of the next thread is a fault
-pub heads_bad : (n k : ℕ) (whole : Bool) (ps : List (List ℕ)) (cell : List ℕ) (rest : List (List ℕ)) → ps ≡ cell ∷ rest → is_head k cell ≡ false → heads_read n whole k ps ≡ bad BadTable n
-unfolding heads_read
+-- a cell that isn't that of the next thread is an error
+pub heads_bad : (n k : ℕ) (whole : Bool) (ps : List (List ℕ)) (cell : List ℕ) (rest : List (List ℕ)) → ps ≡ cell ∷ rest → is_head k cell ≡ false → heads_from n whole k ps ≡ bad BadTable n
 heads_bad n k whole ps cell rest e h = rw (e, h) refl
 
 -- a cell of one thread too many is too large
 pub heads_full : (n k : ℕ) (whole : Bool) (ps : List (List ℕ)) (cell : List ℕ) (rest : List (List ℕ)) → ps ≡ cell ∷ rest → is_head k cell ≡ true → MAX_THREADS ≤ k
-    → heads_read n whole k ps ≡ bad TooLarge n
-unfolding heads_read
+    → heads_from n whole k ps ≡ bad TooLarge n
 heads_full n k whole ps cell rest e h f = rw (e, h, le-ltb k MAX_THREADS f) refl
 
 -- after the cell of the next thread the others are read
 pub heads_more : (n k : ℕ) (whole : Bool) (ps : List (List ℕ)) (cell : List ℕ) (rest : List (List ℕ)) → ps ≡ cell ∷ rest → is_head k cell ≡ true → k < MAX_THREADS
-    → heads_read n whole (k + 1) rest ≡ heads_read n whole k ps
-unfolding heads_read
-heads_more n k whole ps cell rest e h f = rw (e, h, lt-ltb k MAX_THREADS f) refl
+    → heads_from n whole (k + 1) rest ≡ heads_from n whole k ps
+heads_more n k whole ps cell rest e h f = let same : (k + 1) + length rest ≡ k + length (cell ∷ rest) = omega arith in rw (e, h, lt-ltb k MAX_THREADS f, same) refl
 
 -- the columns that were read before others
 abbrev pub carried : List Column → Result (WithPlaces (List Column)) TextError → Result (WithPlaces (List Column)) TextError

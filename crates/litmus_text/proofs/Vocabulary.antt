@@ -25,12 +25,12 @@ pub use Rattle.litmus_text.specs.Condition.{CondEntry, CondPart, CondRead, Setti
 pub use Rattle.litmus_text.specs.ConditionScan.{Mentioned, TermRead, TermsRead, and_more, before_read, left_put, none_over}
 pub use Rattle.litmus_text.specs.InitialState.{Begun, Braced, InitialItem, Worth, a_number, a_place, address_begun, brace_ends, braced_read, closed, empty, gives, initial_line, is_given, item_if, item_parts, item_put, item_with, nothing_begun, open_to, some_item, whole_left, with_value, with_worth, worth_if, worth_of, zero_at}
 pub use Rattle.litmus_text.specs.Items.{Link, LinkFits, link_values, links_mention, links_of, links_once}
-pub use Rattle.litmus_text.specs.Mentioned.{TestReadsBack, is_in, left_is_in, op_is_in}
+pub use Rattle.litmus_text.specs.TestReadsBack.{TestReadsBack, is_in, left_is_in, op_is_in}
 pub use Rattle.litmus_text.specs.Progress.{CodeFits, OpFits, RowProgress, advanced, code_lands, column_at, is_placed, mentioned_first, moved, progress, row_mentions}
 pub use Rattle.litmus_text.specs.ReadTerms.{TermFits, is_known, left_mention, terms_mention}
 pub use Rattle.litmus_text.specs.Runnable.{AllNameRegisters, AllRunnable, IsRunnable, NamesRegisters, ops_in}
 pub use Rattle.litmus_text.specs.TableScan.{before_columns, cell_if, instr_or_nothing, instr_put}
-pub use Rattle.litmus_text.specs.TestTable.{Cells, Column, TableEntry, WithPlaces, a_fault, an_instr, cells_if, column_by, comes_once, entries_if, entry_if, entry_in_line, entry_or_nothing, fault_in, fits_in_column, is_head, is_label_of, is_label_row, label_named, label_of, labels_by, lands_among, no_column, no_columns, op_after, op_in, op_numbered, over_in, place_named, place_of, placed_in, places_by, with_names, with_places}
+pub use Rattle.litmus_text.specs.TestTable.{Cells, Column, TableEntry, WithPlaces, a_fault, an_instr, cells_if, column_by, comes_once, entries_if, entry_if, entry_in_line, entry_or_nothing, fault_in, fits_in_column, head_error, end_error, is_head, is_label_of, is_label_row, label_named, label_of, labels_by, landing_error, lands_among, no_column, no_columns, op_after, op_in, op_numbered, over_in, place_named, place_of, placed_in, places_by, with_after, with_names, with_places}
 pub use Rattle.litmus_text.specs.TextLines.{Lines, bad, ends, is_comment, line, line_kept}
 pub use Rattle.litmus_text.specs.Views.{begun_seen, cells_seen, column_seen, joined_seen, mentioned_seen, pieces_if, pieces_left, setting_seen, term_read_seen, text_left}
 pub use Rattle.litmus_text.specs.{Header.quote_cut, Joined.Joined, Joined.no_text, Joined.with_text, KeptCells.HoldsColumn, KeptCells.all_texts, PaddedCells.PutsCell, PaddedCells.padded_at, PaddedCells.text_in}
@@ -40,7 +40,7 @@ pub use Rattle.litmus_text.specs.{TestText.columns_of, TestText.items_lines, Tes
 unfoldable pub use Rattle.litmus_text.specs.Header.{after_settings, arch_read, header_read, is_setting, quote_read}
 unfoldable pub use Rattle.litmus_text.specs.InitialState.{braced, initial_read, item_of, item_read, items_read}
 unfoldable pub use Rattle.litmus_text.specs.TableScan.{cell_read, instr_in, row_read, rows_scanned}
-unfoldable pub use Rattle.litmus_text.specs.TestTable.{after_locations, all_labels_judged, cell_entries, cells_of, entries_in, head_read, heads_read, labels_judged, rows_read}
+unfoldable pub use Rattle.litmus_text.specs.TestTable.{after_locations, all_labels_judged, cell_entries, cells_of, entries_in, head_read, heads_read, rows_read}
 unfoldable pub use Rattle.litmus_text.specs.TestText.{cell_text, column_of, edges_line, header_line, initial_lines, item_text, row_count, row_line, table_lines, test_lines, test_text, width_of}
 unfoldable pub use Rattle.litmus_text.specs.{Condition.cond_here, Condition.condition_read, Condition.entries_of, ConditionScan.cond_scanned, ConditionScan.term_here, ConditionScan.terms_here, Joined.all_joined}
 unfoldable pub use Rattle.litmus_text.specs.{TestReading.arch_in_text, TestReading.lines_read, TestReading.test_read, TextLines.is_passed, TextLines.lines_from, TextLines.lines_in}

@@ -14,6 +14,7 @@ pub mod Runnable
 pub mod Condition
 pub mod ConditionScan
 pub mod TestReading
+pub mod TestReadsBack
 pub mod ReadPrograms
 pub mod Printable
 pub mod Placing
@@ -22,7 +23,6 @@ pub mod Progress
 pub mod Items
 pub mod ReadTerms
 pub mod Reread
-pub mod Mentioned
 pub mod ReadingAnswers
 pub mod Views
 pub mod KeptCells

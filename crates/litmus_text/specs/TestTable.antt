@@ -1,7 +1,7 @@
 -- The table of a test: its header, its rows, and the labels in its columns. In what follows `n` is the number of a line of the text, and `w` says how the
 -- architecture writes its instructions.
 -- Source: the litmus format of the herdtools manual; what is a fault, and where, is own.
-use Rattle.std.specs.Prelude.{ℕ, ◌+◌, ◌==◌, Bool, true, false, cond, not, ◌&&◌, ◌||◌, nat_lt, List, [], ◌∷◌, ◌++◌, Option, Some, None, Result, Ok, Err, codes}
+use Rattle.std.specs.Prelude.{ℕ, ◌+◌, ◌==◌, Bool, true, false, cond, not, ◌&&◌, ◌||◌, nat_lt, List, [], ◌∷◌, ◌++◌, Option, Some, None, Result, Ok, codes}
 use Rattle.std.specs.Prelude.{option_map, count_by, length, map, take}
 use Rattle.std.specs.List.{list_all, flat_map, enumerate_from, range_with_len}
 use Rattle.std.specs.{Fmt.decimal, Str.bytes_eq}
@@ -38,14 +38,19 @@ cells_of text = cells_if text (cut_at 59 text)
 abbrev pub is_head : ℕ → List ℕ → Bool
 is_head thread cell = bytes_eq (trim_blanks cell) (codes "P" ++ decimal thread)
 
--- The number of threads, by the cells of the header from that of a thread on and whether the header is whole. Each cell is that of the next thread, and
--- there are at most MAX_THREADS.
-unfoldable pub heads_read : ℕ → Bool → ℕ → List (List ℕ) → Result ℕ TextError
-heads_read n whole thread [] = cond whole (Ok thread) (bad BadTable n)
-heads_read n whole thread (cell ∷ cells) =
-    cond (is_head thread cell)
-    (cond (nat_lt thread MAX_THREADS) (heads_read n whole (thread + 1) cells) (bad TooLarge n))
-    (bad BadTable n)
+-- the error of a cell of the header with the number of the cell, if it has one: it isn't the cell of the thread with this number, or there is no room
+-- for so many threads
+abbrev pub head_error : ℕ → ℕ × List ℕ → List TextError
+head_error n (thread, cell) =
+    cond (is_head thread cell) (cond (nat_lt thread MAX_THREADS) [] (record { line = n; kind = TooLarge } ∷ [])) (record { line = n; kind = BadTable } ∷ [])
+
+-- the error of a line of the table that isn't whole
+abbrev pub end_error : ℕ → Bool → List TextError
+end_error n whole = cond whole [] (record { line = n; kind = BadTable } ∷ [])
+
+-- the number of threads, which is that of the cells of the header, or the first error
+unfoldable pub heads_read : ℕ → Cells → Result ℕ TextError
+heads_read n row = unless (flat_map (head_error n) (enumerate_from 0 row.texts) ++ end_error n row.whole) (length row.texts)
 
 -- the number of threads, where each thread to which the initial state gives a value is one of them
 abbrev pub threads_there : ℕ → Begun → ℕ → Result ℕ TextError
@@ -55,7 +60,7 @@ threads_there n begun threads = cond (list_all (λ v. nat_lt v.0 threads) begun.
 unfoldable pub head_read : Begun → Lines → TextRead ℕ
 head_read begun (ends n) = bad EndMissing n
 head_read begun (line n text rest) = do
-  threads ← heads_read n (cells_of text).whole 0 (cells_of text).texts
+  threads ← heads_read n (cells_of text)
   there ← threads_there n begun threads
   Ok (there, rest)
 
@@ -236,17 +241,19 @@ lands_among is_label (ops.BranchEq label) all remainder = comes_once (is_label l
 lands_among is_label (ops.BranchNz a label) all remainder = comes_once (is_label label) all remainder
 lands_among is_label _ all remainder = true
 
--- the branches of a thread, from one of its operations on, have their labels after them; the first that hasn't is a fault in its line
-unfoldable pub labels_judged : List Placed → List Placed → Result (Unit {0}) TextError
-labels_judged all [] = Ok tt
-labels_judged all (placed ∷ remainder) = cond (lands_among is_label_row placed.op all remainder) (labels_judged all remainder) (bad BadLabel placed.at_line)
+-- each of some elements with all that come after it
+abbrev pub with_after : {A : Type 0} → List A → List (A × List A)
+with_after [] = []
+with_after (x ∷ xs) = (x, xs) ∷ with_after xs
 
--- the branches of all threads have their labels after them; the first that hasn't, thread by thread, is a fault in its line
+-- the error of an operation of a thread, with the operations after it, if it has one: it is a branch whose label doesn't come after it, or comes twice
+abbrev pub landing_error : List Placed → Placed × List Placed → List TextError
+landing_error all (placed, remainder) =
+    cond (lands_among is_label_row placed.op all remainder) [] (record { line = placed.at_line; kind = BadLabel } ∷ [])
+
+-- the branches of all threads have their labels after them; the first that hasn't, thread by thread, is an error in its line
 unfoldable pub all_labels_judged : List Column → Result (Unit {0}) TextError
-all_labels_judged [] = Ok tt
-all_labels_judged (column ∷ columns) = do
-  judged ← labels_judged column.ops column.ops
-  all_labels_judged columns
+all_labels_judged columns = unless (flat_map (λ column. flat_map (landing_error column.ops) (with_after column.ops)) columns) tt
 
 -- so many columns without operations
 abbrev pub no_columns : ℕ → List Column

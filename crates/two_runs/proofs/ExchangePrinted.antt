@@ -6,7 +6,7 @@ use Rattle.cycle_events.specs.{Resolution.event_before, Resolution.move_count, V
 use Rattle.cycle_events.specs.declared.needs.NeedsObserver.{NeedsObserver}
 use Rattle.arch_trait.specs.{Cells.WritesCells, Cells.MakesOneAccess, Laws.IsArch, PlaceNames.letters, PlaceNames.number_in, Threads.Puts}
 use Rattle.arch_trait.specs.{Writing.Writing, Writing.WritesBack, Writing.name_in, SeenTests.TestSeen}
-use Rattle.litmus_text.specs.{Mentioned.TestReadsBack, Reread.reread, TestReading.TestRead, TestText.test_text}
+use Rattle.litmus_text.specs.{TestReadsBack.TestReadsBack, Reread.reread, TestReading.TestRead, TestText.test_text}
 use Rattle.bytes_force_cycles.proofs.{BackLaws.reads_back, Readable.readable}
 use Rattle.program_meaning.specs.{Executions.Execution, Programs.Program, Intended.intended, Intended.location_numbered}
 use Rattle.accesses_force_cycles.specs.Exchange.{exchanged, exchanged_order}

@@ -10,7 +10,7 @@ use Rattle.arch_trait.specs.{Cells.WritesCells, Cells.MakesOneAccess, Laws.IsArc
 use Rattle.arch_trait.specs.{Writing.Writing, Writing.WritesBack, Writing.name_in, SeenTests.TestSeen}
 use Rattle.arch_trait_laws.proofs.NameLaws.{length-letters, location_new}
 use Rattle.litmus_text.specs.declared.errors.TextError.{TextError}
-use Rattle.litmus_text.specs.{Mentioned.TestReadsBack, Mentioned.is_in, Printable.IsTestName, Reread.reread, TestReading.TestRead}
+use Rattle.litmus_text.specs.{TestReadsBack.TestReadsBack, TestReadsBack.is_in, Printable.IsTestName, Reread.reread, TestReading.TestRead}
 use Rattle.litmus_text.specs.{TestReading.test_read, TestText.test_text}
 use Rattle.bytes_force_cycles.proofs.{BackLaws.reads_back, BackLaws.numbered_in, Readable.readable, Rereading.got_is}
 use Rattle.program_meaning.specs.declared.WriteAt.{WriteAt}

@@ -1,6 +1,8 @@
 ghost use Rattle.std.specs.Prelude.{◌≡◌, map, count_by};
+ghost use Rattle.std.specs.List.{flat_map};
+ghost use Rattle.list_laws.specs.Errors.{unless};
 ghost use Rattle.litmus_text.specs.ReadingAnswers.{GivesTest};
-ghost use Rattle.litmus_text.specs.TestTable.{is_label_row, lands_among, labels_judged, all_labels_judged};
+ghost use Rattle.litmus_text.specs.TestTable.{is_label_row, lands_among, landing_error, with_after, all_labels_judged};
 ghost use Rattle.litmus_text.specs.Views.{column_seen};
 
 use crate::errors::{TestKind, TextError, error_at_line};
@@ -35,9 +37,8 @@ fn is_landing(op: &Micro, all: &[Placed], remainder: &[Placed]) -> bool
 }
 
 /// Judges the labels of the branches from an operation of a thread on.
-#[tactic(auto, unfolding(crate::specs::TestTable::labels_judged))]
 fn judge_labels(all: &[Placed], remainder: &[Placed]) -> Result<(), TextError>
-    ensures { GivesTest (λ judged. judged) result (labels_judged all.now remainder.now) }
+    ensures { GivesTest (λ judged. judged) result (unless (flat_map (landing_error all.now) (with_after remainder.now)) tt) }
 {
     match remainder {
         [] => Ok(()),

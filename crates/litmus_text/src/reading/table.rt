@@ -64,9 +64,9 @@ fn is_head(thread: usize, cell: &[u8]) -> bool
 }
 
 /// How many threads the cells of the header are of.
-#[tactic(auto, using(crate::proofs::TableLoops::heads_end, crate::proofs::TableLoops::heads_more))]
+#[tactic(auto, using(crate::proofs::TableLoops::heads_first, crate::proofs::TableLoops::heads_end, crate::proofs::TableLoops::heads_more))]
 fn count_heads(number: u64, cells: Cells<'_>) -> Result<usize, TextError>
-    ensures heads { GivesTest (λ threads. threads) result (heads_read number (cells_seen cells.entry).whole 0 (cells_seen cells.entry).texts) }
+    ensures heads { GivesTest (λ threads. threads) result (heads_read number (cells_seen cells.entry)) }
     ensures few { IfOk result (λ threads. threads ≤ MAX_THREADS) }
 {
     let mut threads = 0;
