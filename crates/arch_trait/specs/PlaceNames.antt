@@ -4,6 +4,7 @@ use Rattle.std.specs.Prelude.{ℕ, zero, suc, ◌+◌, ◌/◌, ◌%◌, ◌≤�
 use Rattle.std.specs.List.{list_all, position_from, range_with_len, IsDistinct}
 use Rattle.std.specs.Str.{bytes_eq}
 use Rattle.text_parts_laws.specs.Names.{is_place_name}
+use Rattle.arch_trait.specs.declared.places.TheConstants.{MAX_PLACES}
 
 -- the letters of the first locations, in order
 abbrev pub location_letters : List ℕ
@@ -22,11 +23,11 @@ location_name k = get_or location_letters (k % 26) 0 ∷ lap_mark (k / 26)
 abbrev pub letters : ℕ → List (List ℕ)
 letters n = map location_name (range_with_len 0 n)
 
--- a table of names: each has the form of a place's name and is in it once, and there are at most 64
+-- a table of names: each has the form of a place's name and is in it once, and there are at most MAX_PLACES
 pub record IsTable (names : List (List ℕ)) : Type 0 where
   pub formed : list_all is_place_name names ≡ true
   pub once : IsDistinct bytes_eq names
-  pub few : length names ≤ 64
+  pub few : length names ≤ MAX_PLACES
 
 -- the number of a name: its place in the table
 abbrev pub number_in : List (List ℕ) → List ℕ → Option ℕ
@@ -36,12 +37,12 @@ number_in names name = position_from (λ x. bytes_eq x name) 0 names
 -- it is added last, if there is room
 abbrev pub number_or_next : Option ℕ → ℕ → Option ℕ
 number_or_next (Some i) _ = Some i
-number_or_next None count = cond (nat_lt count 64) (Some count) None
+number_or_next None count = cond (nat_lt count MAX_PLACES) (Some count) None
 
 -- the table with a name: as it is if it has the name or has no room, else with the name added last
 abbrev pub with_name : Option ℕ → List (List ℕ) → List ℕ → List (List ℕ)
 with_name (Some _) names _ = names
-with_name None names name = cond (nat_lt (length names) 64) (names ++ name ∷ []) names
+with_name None names name = cond (nat_lt (length names) MAX_PLACES) (names ++ name ∷ []) names
 
 -- the number of a name in a table to which it is added if it is new
 abbrev pub number_added : List (List ℕ) → List ℕ → Option ℕ

@@ -1,7 +1,7 @@
 -- Reading the table as loops do.
 use Rattle.litmus_text.specs.declared.reading.table.Column.{Column as ThreadColumn}
 use Rattle.std.proofs.lemmas.List.{append-nil}
-use Rattle.litmus_text.proofs.Vocabulary.{BadTable, Bool, Cells, Column, CutParts, EndMissing, Err, Lines, List, MAX_ROWS, MAX_THREADS, Ok, Result, Some, TextError, TooLarge, WithPlaces, Writing, [], add-one, ap, append_assoc, arith, bad, before_columns, cell_read, cells_of, codes, column_seen, cond, cut_at, drop, drop-cons, drop-length, drop-set-lt, ends, ends_rows, false, get_or, get_or-map, heads_read, head_error, end_error, enumerate_from, flat_map, unless, add-zero, zero-add,  instr_in, instr_or_nothing, is_head, le-ltb, length, length-map, line, lt-ltb, map, map-set, refl, row_read, rows_scanned, set, sym, take, take-append-add, take-length, take_more_set, true, with_places, ℕ, ◌++◌, ◌+◌, ◌<◌, ◌>>=◌, ◌∙◌, ◌∷◌, ◌≡◌, ◌≤◌}
+use Rattle.litmus_text.proofs.Vocabulary.{BadTable, Bool, Cells, Column, CutParts, EndMissing, Err, Lines, List, MAX_ROWS, MAX_THREADS, Ok, Result, Some, TextError, TooLarge, WithPlaces, Writing, [], add-one, ap, append_assoc, arith, bad, before_columns, cell_read, cells_of, codes, column_seen, cond, cut_at, drop, drop-cons, drop-length, drop-set-lt, ends, ends_rows, false, get_or, get_or-map, heads_read, head_error, end_error, enumerate_from, flat_map, unless, add-zero, zero-add, instr_in, instr_or_nothing, is_head, le-ltb, length, length-map, line, lt-ltb, map, map-set, refl, row_read, rows_scanned, set, sym, take, take-append-add, take-length, take_more_set, true, with_places, ℕ, ◌++◌, ◌+◌, ◌<◌, ◌>>=◌, ◌∙◌, ◌∷◌, ◌≡◌, ◌≤◌}
 
 -- the number of threads, by the cells of the header from that of a thread on
 abbrev pub heads_from : ℕ → Bool → ℕ → List (List ℕ) → Result ℕ TextError

@@ -1,4 +1,4 @@
--- The condition of a test, at the end of its text. Its lines are read as one text, and a fault of its form stands at the line where the condition begins.
+-- The condition of a test, at the end of its text. Its lines are read as one text, and an error of its form stands at the line where it begins.
 -- In what follows `n` is the number of a line, `here` the setting of the condition, and `w` says how the architecture names its registers.
 -- Source: the litmus format of the herdtools manual; what is a fault, and where, is own.
 use Rattle.std.specs.Prelude.{ℕ, zero, suc, ◌-◌, ◌==◌, Bool, true, cond, ◌&&◌, nat_lt, List, [], ◌∷◌, ◌++◌, Option, Some, None, Result, Ok, Err}
@@ -37,10 +37,10 @@ may_stand w threads (InRegister thread name) = nat_lt thread threads && is_some 
 may_stand w threads (AtPlace name) = true
 
 -- After its quantifier and `(` the text gives entries: a place that a left side names in a line, a term, or an error of the form, after which nothing is
--- read. A place is an error of its line if it is one too many among all that are named before it, those before the condition included; there is room for
--- 64. An error of the form stands at the line where the condition begins. Errors at that line count before those at later lines; the first of them counts.
+-- read. A named place is an error of its line if it is one too many among all places that are named so far, those before the condition included; there
+-- is room for MAX_PLACES. The first error by its line counts, and of those of one line the first in the text.
 
--- what the text of a condition gives: a place of a name that is named in a line, a term, or an error
+-- what stands in the text of a condition: a place that is named in a line, a term, or an error, which has a line
 pub data CondEntry : Type 0 where
   a_naming : (n : ℕ) (name : List ℕ) → CondEntry
   a_term : (term : TermSeen) → CondEntry
@@ -124,7 +124,7 @@ error_in names (before, a_naming n name) = over_in_line n (number_added (with_na
 error_in names (before, a_term term) = []
 error_in names (before, an_error n kind) = record { line = n; kind = kind } ∷ []
 
--- the errors in the order in which they count: first those at the line where the condition begins
+-- errors by their lines, which go up with the text: those at the line where the condition begins are first, whatever comes before them
 abbrev pub by_line : ℕ → List TextError → List TextError
 by_line begins errors = filter (λ error. error.line == begins) errors ++ filter (λ error. not (error.line == begins)) errors
 

@@ -6,6 +6,7 @@ use Rattle.relax_edges.specs.declared.kinds.Value.{Value}
 use Rattle.relax_edges.specs.declared.kinds.Value.TheVariants as values
 use Rattle.text_parts_laws.specs.Names.{is_place_name}
 use Rattle.arch_trait.specs.{Threads.ThreadCode, PlaceNames.number_in, PlaceNames.names_added, Writing.Writing}
+use Rattle.litmus_text.specs.declared.limits.TheConstants.{MAX_THREADS}
 use Rattle.litmus_text.specs.Placing.{place_in}
 
 -- an address register of a thread, and its place
@@ -31,9 +32,9 @@ links_once done [] = true
 links_once done (link ∷ links) =
     not (list_any (λ d. (d.0 == link.0) && (d.1.0 == link.1.0)) done) && links_once (done ++ link ∷ []) links
 
--- an address register of a thread below 64 that tests use, with a place of a table
+-- an address register of a thread that a test can have, one that tests use, with a place of a table
 pub record LinkFits (w : Writing) (table : List (List ℕ)) (names : ℕ → List ℕ) (link : Link) : Type 0 where
-  pub thread : link.0 < 64
+  pub thread : link.0 < MAX_THREADS
   pub register : link.1.0 < length w.registers
   pub formed : is_place_name (names link.1.1) ≡ true
   pub inside : is_some (number_in table (names link.1.1)) ≡ true

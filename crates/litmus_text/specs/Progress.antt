@@ -5,6 +5,7 @@ use Rattle.text_parts_laws.specs.Names.{is_place_name}
 use Rattle.micro_ops.specs.declared.operation.Micro.{Micro}
 use Rattle.micro_ops.specs.declared.operation.Micro.TheVariants as ops
 use Rattle.arch_trait.specs.{Threads.Puts, PlaceNames.number_in, Cells.is_access, LabelOrder.is_next, LabelOrder.labels_after}
+use Rattle.litmus_text.specs.declared.limits.TheConstants.{MAX_ACCESSES}
 use Rattle.litmus_text.specs.{TestTable.Column, TestTable.is_label_of, TestTable.lands_among, Placing.mentioned, TablePlan.column_so_far}
 
 -- the operations of a thread that were read, and those that are left
@@ -51,7 +52,7 @@ pub record OpFits (a : Puts) (table : List (List ℕ)) (names : ℕ → List ℕ
   pub has : a.has op ≡ true
   pub placed : is_placed table names op ≡ true
   pub next : is_next labels op ≡ true
-  pub room : (not (is_access op) || nat_lt accesses 64) ≡ true
+  pub room : (not (is_access op) || nat_lt accesses MAX_ACCESSES) ≡ true
 
 -- operations one after another fit so
 abbrev pub CodeFits : Puts → List (List ℕ) → (ℕ → List ℕ) → ℕ → ℕ → List Micro → Type 0

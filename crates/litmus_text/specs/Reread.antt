@@ -6,6 +6,7 @@ use Rattle.relax_edges.specs.declared.kinds.ArchName.{ArchName}
 use Rattle.relax_edges.specs.declared.kinds.Value.TheVariants as values
 use Rattle.relax_edges.specs.WordParts.{word_of}
 use Rattle.final_cond.specs.declared.cond.TheConstants.{MAX_TERMS}
+use Rattle.arch_trait.specs.declared.places.TheConstants.{MAX_PLACES}
 use Rattle.arch_trait.specs.{Threads.Puts, Threads.ThreadCode, Writing.Writing, Writing.name_in, SeenTests.TestSeen}
 use Rattle.litmus_text.specs.declared.limits.TheConstants.{MAX_TEST_TEXT, MAX_THREADS, MAX_ROWS}
 use Rattle.litmus_text.specs.{TestText.test_text, TestReading.ThreadRead, TestReading.TestRead, Placing.place_in, Placing.op_renumbered}
@@ -38,7 +39,7 @@ pub record IsReadable (a : Puts) (arch : ArchName) (w : Writing) (name : List �
   pub short : length (test_text arch w name test) ≤ MAX_TEST_TEXT
   pub threads_some : 0 < length test.threads
   pub threads_few : length test.threads ≤ MAX_THREADS
-  pub places_few : length test.places ≤ 64
+  pub places_few : length test.places ≤ MAX_PLACES
   pub rows_few : AllByRecursion (λ t. length t.instrs ≤ MAX_ROWS) test.threads
   pub codes : AllByRecursion (λ t. CodeFits a test.places (name_in test.places) 0 0 t.instrs) test.threads
   pub lands : AllByRecursion (λ t. code_lands t.instrs t.instrs ≡ true) test.threads
