@@ -47,19 +47,19 @@ term_step : (w : Writing) (here : Setting) (s : Mentioned) (text : List ℕ) (ol
 unfolding term_here
 term_step w here s text old more same = grind arith
 
+bound : {A B C : Type 0} (r : Result A TextError) (f : A → Result B TextError) (g : B → Result C TextError) → ((r >>= f) >>= g) ≡ (r >>= λ x. f x >>= g)
+bound (x) f g = grind arith
+
 -- the terms, one after another
 terms_step : (w : Writing) (here : Setting) (room : ℕ) (s : Mentioned) (text : List ℕ)
     → (terms_here w here room s text >>= ended here.begins) ≡ expected here.begins s (entries_of w here room text)
 unfolding terms_here entries_of
 terms_step w here zero s text =
-    bound (term_here w here s text)
+    bound (term_here w here s text) (λ read. bad TooLarge here.begins) (ended here.begins)
     ∙ term_step w here s text (λ read. bad TooLarge here.begins) (λ rest. an_error here.begins TooLarge ∷ []) (λ term rest next. grind arith)
-  where
-    bound : (r : Result TermRead TextError) → ((r >>= λ read. bad TooLarge here.begins) >>= ended here.begins) ≡ (r >>= λ read. bad TooLarge here.begins)
-    bound (x) = grind arith
 terms_step w here (suc room) s text =
-    bound (term_here w here s text)
-    ∙ term_step w here s text further (λ rest. chained (follow_part here.begins (follow_read rest)) (entries_of w here room)) (by_further (terms_step w here room))
+    bound (term_here w here s text) more (ended here.begins)
+    ∙ term_step w here s text further (followed (entries_of w here room)) (by_further (terms_step w here room))
     ∙ ap (expected here.begins s) (split (term_part w here text))
   where
     Later : Type 0
@@ -72,10 +72,10 @@ terms_step w here (suc room) s text =
     further : TermRead → Scanned
     further read = more read >>= ended here.begins
 
-    bound : (r : Result TermRead TextError) → ((r >>= more) >>= ended here.begins) ≡ (r >>= further)
-    bound (x) = grind arith
+    followed : (List ℕ → List CondEntry) → List ℕ → List CondEntry
+    followed others rest = chained (follow_part here.begins (follow_read rest)) others
 
-    split : (part : CondPart) → chained part (λ rest. chained (follow_part here.begins (follow_read rest)) (entries_of w here room)) ≡ chained (with_follow here.begins part) (entries_of w here room)
+    split : (part : CondPart) → chained part (followed (entries_of w here room)) ≡ chained (with_follow here.begins part) (entries_of w here room)
     split part = grind (arith, append_assoc)
 
     by_follow : Later → (term : TermSeen) (next : Mentioned) (follow : Result (Follow × List ℕ) Fault) (rest : List ℕ)
@@ -95,11 +95,11 @@ finished quantifier read = Ok (record { cond = record { quantifier = quantifier;
 
 expected_is : (begins : ℕ) (quantifier : Quantifier) (names : List (List ℕ)) (entries : List CondEntry)
     → (expected begins (record { names = names; over = None }) entries >>= finished quantifier) ≡ condition_of begins quantifier names entries
-expected_is begins quantifier names entries = rw (errors_same names [] entries) (first _ _)
+expected_is begins quantifier names entries = rw (errors_same names [] entries) (first _ _ _)
   where
-    first : (xs ys : List TextError) → (stop xs (stop ys (Ok (flat_map term_in entries, with_names names (flat_map names_in entries)))) >>= finished quantifier)
-        ≡ unless (xs ++ ys) (record { cond = record { quantifier = quantifier; terms = flat_map term_in entries }; names = with_names names (flat_map names_in entries) })
-    first xs ys = grind arith
+    first : (xs ys : List TextError) (read : List TermSeen × List (List ℕ)) → (stop xs (stop ys (Ok read)) >>= finished quantifier)
+        ≡ unless (xs ++ ys) (record { cond = record { quantifier = quantifier; terms = read.0 }; names = read.1 })
+    first xs ys read = grind arith
 
 ended_finished : (begins : ℕ) (quantifier : Quantifier) (r : Result TermsRead TextError)
     → (r >>= λ read. at_begin begins (end_at_start (unblanked read.rest)) >>= λ end. none_over read.state >>= λ kept.

@@ -21,7 +21,7 @@ pub use Rattle.final_cond.specs.declared.{cond.Quantifier.Quantifier, cond.Quant
 pub use Rattle.final_cond.specs.declared.{errors.CondKind.TheVariants.BadTerm, read.Follow.Follow}
 pub use Rattle.list_laws.proofs.{Cases.by_test, Distinct.distinct_push, Elements.all_append, Elements.all_parts, Elements.list_all-weaker, Places.none_passes}
 pub use Rattle.list_laws.specs.Errors.{unless, with_before}
-pub use Rattle.litmus_text.specs.Condition.{CondEntry, CondPart, CondRead, Setting, a_naming, a_term, an_error, at_begin, by_line, condition_of, error_in, over_in_line, names_in, term_in, term_part, follow_part, with_follow}
+pub use Rattle.litmus_text.specs.Condition.{CondEntry, CondPart, CondRead, Setting, a_naming, a_term, an_error, at_begin, condition_of, error_in, over_in_line, names_in, term_in, term_part, follow_part, with_follow}
 pub use Rattle.litmus_text.specs.ConditionScan.{Mentioned, TermRead, TermsRead, and_more, before_read, left_put, none_over}
 pub use Rattle.litmus_text.specs.InitialState.{Begun, Braced, InitialItem, Worth, a_number, a_place, address_begun, brace_ends, braced_read, closed, empty, gives, initial_line, is_given, item_if, item_parts, item_put, item_with, nothing_begun, open_to, some_item, whole_left, with_value, with_worth, worth_if, worth_of, zero_at}
 pub use Rattle.litmus_text.specs.Items.{Link, LinkFits, link_values, links_mention, links_of, links_once}
@@ -46,7 +46,7 @@ unfoldable pub use Rattle.litmus_text.specs.{Condition.cond_here, Condition.cond
 unfoldable pub use Rattle.litmus_text.specs.{TestReading.arch_in_text, TestReading.lines_read, TestReading.test_read, TextLines.is_passed, TextLines.lines_from, TextLines.lines_in}
 unfoldable pub use Rattle.litmus_text.specs.{TextParts.part_lines, TextParts.parts_left, TextParts.rows_from, Views.body_read, Views.rest_read, Views.table_read}
 pub use Rattle.litmus_text.specs.declared.errors.TestKind.TheVariants.{BadCondition, BadHeader, BadInit, BadInstruction, BadLabel, BadQuote, BadTable, EndMissing, TooLarge}
-pub use Rattle.litmus_text.specs.declared.{cell.TheConstants.CELL_ROOM, column.TheConstants.KEPT_CELLS, errors.ReadError.ReadError, errors.TestKind.TestKind, errors.TextError.TextError, head.TheConstants.WORD_ROOM}
+pub use Rattle.litmus_text.specs.declared.{cell.TheConstants.CELL_ROOM, column.TheConstants.KEPT_CELLS, errors.ReadError.ReadError, errors.TextError.TextError, head.TheConstants.WORD_ROOM}
 pub use Rattle.litmus_text.specs.declared.{initial.TheConstants.ITEM_ROOM, limits.TheConstants.MAX_ROWS, limits.TheConstants.MAX_THREADS, parts.TextPart.TextPart}
 pub use Rattle.litmus_text.specs.declared.{parts.TextPart.TheVariants.Edges, parts.TextPart.TheVariants.Items, parts.TextPart.TheVariants.Row, reading.table.Placed.Placed}
 pub use Rattle.micro_ops.specs.Running.{is_load, lands, occurs, occurs_if, target}

@@ -88,8 +88,8 @@ fits_in_column column op = not (is_access op) || nat_lt (count_by (λ placed. is
 
 -- The rows of the table. Each row, read by itself, gives entries: an instruction or a label in the column of a thread, or a fault. Each entry is then
 -- judged with all entries before it: it is too large if it names a place that is one too many of those named so far, the initial state included, or
--- a label that is one too many in its thread, or if it is an access too many of its thread; there is room for MAX_PLACES places, and for as many labels a thread.
--- The first fault counts.
+-- a label that is one too many in its thread, or if it is an access too many of its thread; there is room for MAX_PLACES places, and for as many labels
+-- of a thread. The first fault counts.
 
 -- what stands in a line of the table: an instruction or a label in the column of a thread, with the name that it mentions, or a fault of the line
 pub data TableEntry : Type 0 where
