@@ -78,16 +78,9 @@ terms_step w here (suc room) s text =
     split : (part : CondPart) → chained part (followed (entries_of w here room)) ≡ chained (with_follow here.begins part) (entries_of w here room)
     split part = grind (arith, append_assoc)
 
-    by_follow : Later → (term : TermSeen) (next : Mentioned) (follow : Result (Follow × List ℕ) Fault) (rest : List ℕ)
-        → ((at_begin here.begins follow >>= λ f. and_more (record { term = term; state = next; rest = rest }) (terms_here w here room) f.0 f.1) >>= ended
-        here.begins)
-        ≡ expected here.begins next (a_term term ∷ chained (follow_part here.begins follow) (entries_of w here room))
-    by_follow same term next (x) rest = grind arith
-
     by_further : Later → (term : TermSeen) (rest : List ℕ) (next : Mentioned)
-        → further (record { term = term; state = next; rest = rest }) ≡ expected here.begins next
-        (a_term term ∷ chained (follow_part here.begins (follow_read rest)) (entries_of w here room))
-    by_further same term rest next = by_follow same term next (follow_read rest) rest
+        → further (record { term = term; state = next; rest = rest }) ≡ expected here.begins next (a_term term ∷ followed (entries_of w here room) rest)
+    by_further same term rest next = grind arith
 
 -- the condition by what was scanned
 abbrev finished : Quantifier → List TermSeen × List (List ℕ) → Result CondRead TextError

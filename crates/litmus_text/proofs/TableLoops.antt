@@ -1,16 +1,11 @@
 -- Reading the table as loops do.
 use Rattle.litmus_text.specs.declared.reading.table.Column.{Column as ThreadColumn}
 use Rattle.std.proofs.lemmas.List.{append-nil}
-use Rattle.litmus_text.proofs.Vocabulary.{BadTable, Bool, Cells, Column, CutParts, EndMissing, Err, Lines, List, MAX_ROWS, MAX_THREADS, Ok, Result, Some, TextError, TooLarge, WithPlaces, Writing, [], add-one, ap, append_assoc, arith, bad, before_columns, cell_read, cells_of, codes, column_seen, cond, cut_at, drop, drop-cons, drop-length, drop-set-lt, ends, ends_rows, false, get_or, get_or-map, heads_read, head_error, end_error, enumerate_from, flat_map, unless, add-zero, zero-add, instr_in, instr_or_nothing, is_head, le-ltb, length, length-map, line, lt-ltb, map, map-set, refl, row_read, rows_scanned, set, sym, take, take-append-add, take-length, take_more_set, true, with_places, ℕ, ◌++◌, ◌+◌, ◌<◌, ◌>>=◌, ◌∙◌, ◌∷◌, ◌≡◌, ◌≤◌}
+use Rattle.litmus_text.proofs.Vocabulary.{BadTable, Bool, Cells, Column, CutParts, EndMissing, Err, Lines, List, MAX_ROWS, MAX_THREADS, Ok, Result, Some, TextError, TooLarge, WithPlaces, Writing, [], add-one, ap, append_assoc, arith, bad, before_columns, cell_read, cells_of, codes, column_seen, cond, cut_at, drop, drop-cons, drop-length, drop-set-lt, ends, ends_rows, false, get_or, get_or-map, head_error, end_error, enumerate_from, flat_map, unless, add-zero, instr_in, instr_or_nothing, is_head, le-ltb, length, length-map, line, lt-ltb, map, map-set, refl, row_read, rows_scanned, set, sym, take, take-append-add, take-length, take_more_set, true, with_places, ℕ, ◌++◌, ◌+◌, ◌<◌, ◌>>=◌, ◌∙◌, ◌∷◌, ◌≡◌, ◌≤◌}
 
 -- the number of threads, by the cells of the header from that of a thread on
 abbrev pub heads_from : ℕ → Bool → ℕ → List (List ℕ) → Result ℕ TextError
 heads_from n whole k cells = unless (flat_map (head_error n) (enumerate_from k cells) ++ end_error n whole) (k + length cells)
-
--- the header is read from its first cell on
-pub heads_first : (n : ℕ) (row : Cells) → heads_read n row ≡ heads_from n row.whole 0 row.texts
-unfolding heads_read
-heads_first n row = rw (zero-add (length row.texts)) refl
 
 -- where no cell of the header is left, the threads are counted
 pub heads_end : (n k : ℕ) (whole : Bool) (ps : List (List ℕ)) → ps ≡ [] → heads_from n whole k ps ≡ cond whole (Ok k) (bad BadTable n)

@@ -64,7 +64,7 @@ fn is_head(thread: usize, cell: &[u8]) -> bool
 }
 
 /// How many threads the cells of the header are of.
-#[tactic(auto, using(crate::proofs::TableLoops::heads_first, crate::proofs::TableLoops::heads_end, crate::proofs::TableLoops::heads_more))]
+#[tactic(auto, using(crate::proofs::TableLoops::heads_end, crate::proofs::TableLoops::heads_more), unfolding(crate::specs::TestTable::heads_read))]
 fn count_heads(number: u64, cells: Cells<'_>) -> Result<usize, TextError>
     ensures heads { GivesTest (λ threads. threads) result (heads_read number (cells_seen cells.entry)) }
     ensures few { IfOk result (λ threads. threads ≤ MAX_THREADS) }
