@@ -1,8 +1,7 @@
 -- Where each event of a cycle and each load of an observer is among the accesses of the cycle's test, and that these are
 -- all its accesses.
 use Rattle.accesses_force_cycles.proofs.Vocabulary.{◌≡◌, ℕ, ◌+◌, ◌-◌, ◌<◌, List, length, map, Some, slice_get, refl, sym, ◌∙◌, ap, arith, slice_get_within, ObsMode, Edge, upto, by_less, length-map-upto, slice_get-map-upto, slice_get-upto, length-upto, external_count, thread_of, slot_of, events_in, write_count, WriteAt, Access, read, at_name, event_name, observed_locations, event_access, observer_accesses, cycle_accesses, GotFrom, got_from_list}
-use Rattle.accesses_force_cycles.proofs.Lists.{slice_get-append_left, slice_get-append_right, image_of, got_map}
-use Rattle.accesses_force_cycles.proofs.Resolves.{Resolves}
+use Rattle.accesses_force_cycles.proofs.{Lists.{slice_get-append_left, slice_get-append_right, image_of, got_map}, Resolves.Resolves}
 
 -- a thread of the cycle has its events
 pub thread_accesses : (es : List Edge) (mode : ObsMode) (number : ℕ → ℕ) (k : ℕ) → k < external_count es → slice_get (cycle_accesses es mode number) k ≡ Some (map (event_access es number) (events_in es k))

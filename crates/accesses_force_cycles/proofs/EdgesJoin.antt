@@ -1,9 +1,8 @@
 -- Each edge of a cycle joins its events in the intended execution, and so in each one that meets the condition.
 use Rattle.accesses_force_cycles.proofs.Vocabulary.{◌≡◌, ℕ, ◌+◌, ◌<◌, List, length, Some, refl, sym, ◌∙◌, ap, arith, Same, ObsMode, Kind, Edge, kind_of, source_of, target_of, sd_of, edge_at, location_of, event_after, value_of, after_below, Execution, source_at, CommunicatesBy, ComesBefore, Joins, event_name, IsNumbering, event_access, event_at, cycle_accesses, write_of, intended, MeetsCondition}
+use Rattle.accesses_force_cycles.proofs.{Numbering.location_of_number, Accesses.event_at_name, IntendedOrders.{placed_write, place_is_value}}
+use Rattle.accesses_force_cycles.proofs.{OnlyOne.only_the_intended, Resolves.{Resolves, EntersLast, written_by}}
 use Rattle.relax_edges.specs.declared.kinds.Dir.TheVariants as dirs
-use Rattle.accesses_force_cycles.proofs.{Numbering.location_of_number, Accesses.event_at_name, IntendedOrders.placed_write}
-use Rattle.accesses_force_cycles.proofs.{IntendedOrders.place_is_value, OnlyOne.only_the_intended, Resolves.Resolves, Resolves.EntersLast}
-use Rattle.accesses_force_cycles.proofs.{Resolves.written_by}
 
 -- along an edge that keeps the location, the value stays at a read and grows by one at a write
 value_along : (es : List Edge) (i : ℕ) → Resolves es → i < length es → sd_of (edge_at es i) ≡ Same → value_of es (event_after es i) ≡ value_of es i + written_by (target_of (edge_at es i))

@@ -1,14 +1,12 @@
 -- Where an external edge enters an inner write of a location without an observer, the exchanged execution is coherent and
 -- has the reads and the final values of the intended one, but the edge doesn't stand in it.
 use Rattle.accesses_force_cycles.proofs.Vocabulary.{◌≡◌, ℕ, zero, suc, ◌+◌, ◌<◌, ◌≤◌, true, false, List, [], length, Some, slice_get, refl, sym, ◌∙◌, ap, subst, arith, add-one, ◌==◌, filter_map, option_and_then, cond-true, cond-false, eq-eqb, ne_eqb, slice_get_within, Dir, Same, Internal, External, Avoid, Edge, source_of, sd_of, reach_of, upto, by_same, by_less, unrank_upto, length-map-upto, length-upto, slice_get-upto, slice_get-map-upto, edge_at, move_count, thread_of, location_of, event_after, event_before, by_after, before_below, after_before, value_of, write_count, is_observed, edge_into, WriteAt, Access, at_name, IsExecutionOf, IsOrderOf, Joins, event_name, MayFollow, IsCoherent, order_at, coherence_place, last_write, value_of_access, final_value, IsNumbering, event_access, event_at, cycle_accesses, ordered_write, location_order, location_numbered, intended, MeetsCondition, swapped, exchanged_value, exchanged_order, exchanged}
-use Rattle.relax_edges.specs.declared.kinds.Dir.TheVariants as dirs
-use Rattle.accesses_force_cycles.proofs.{Lists.image_of, Numbering.Numbers, Numbering.numbering_onto, Numbering.location_of_number, Accesses.EventAt}
-use Rattle.accesses_force_cycles.proofs.{Accesses.by_origin, Accesses.event_at_name, IntendedOrders.intended_order, IntendedOrders.placed_write}
-use Rattle.accesses_force_cycles.proofs.{IntendedExists.values_follow, IntendedExists.last_of_order, IntendedExists.intended_meets}
-use Rattle.accesses_force_cycles.proofs.{Swaps.swapped_here, Swaps.swapped_before, Swaps.follows_still}
-use Rattle.accesses_force_cycles.proofs.IntendedReads.{IsPlaced, placed, reads-count, intended_are_reads}
+use Rattle.accesses_force_cycles.proofs.{Lists.image_of, Numbering.{Numbers, numbering_onto, location_of_number}, Accesses.{EventAt, by_origin, event_at_name}}
+use Rattle.accesses_force_cycles.proofs.{IntendedOrders.{intended_order, placed_write}, IntendedExists.{values_follow, last_of_order, intended_meets}}
+use Rattle.accesses_force_cycles.proofs.{Swaps.{swapped_here, swapped_before, follows_still}, IntendedReads.{IsPlaced, placed, reads-count, intended_are_reads}}
 use Rattle.accesses_force_cycles.proofs.Rearranged.{Exchanges, order_under, place_under, order_under_is, last_under, empty_under}
 use Rattle.accesses_force_cycles.proofs.Resolves.{Resolves, InnerEntry, later_slot, written_by}
+use Rattle.relax_edges.specs.declared.kinds.Dir.TheVariants as dirs
 
 -- at the event's location two values are exchanged, at the others none
 at_location : (es : List Edge) (event l : ℕ) → l ≡ location_of es event → exchanged_value es event l ≡ swapped (value_of es event)

@@ -1,10 +1,9 @@
 -- The intended execution is an execution of the cycle's accesses, it is coherent per location, and each location's place
 -- has its last value at the end.
 use Rattle.accesses_force_cycles.proofs.Vocabulary.{◌≡◌, ℕ, zero, suc, ◌<◌, ◌≤◌, List, length, Some, slice_get, refl, sym, ◌∙◌, ap, subst, arith, Dir, ObsMode, Edge, source_of, upto, length-map-upto, length-upto, slice_get-upto, slice_get_within, edge_at, move_count, thread_of, location_of, value_of, write_count, WriteAt, Access, at_name, IsExecutionOf, IsOrderOf, event_name, MayFollow, IsCoherent, last_write, final_value, IsNumbering, cycle_accesses, ordered_write, location_order, location_numbered, intended, MeetsCondition}
-use Rattle.accesses_force_cycles.proofs.{Lists.image_of, Lists.length-filter_map-upto, Lists.slice_get-filter_map-upto, Orders.Holds}
-use Rattle.accesses_force_cycles.proofs.{Orders.order_given, Numbering.numbering_onto, Accesses.EventAt, Accesses.LoadAt, Accesses.by_origin}
-use Rattle.accesses_force_cycles.proofs.{IntendedReads.reads-count, IntendedReads.intended_are_reads, IntendedOrders.gives_writes}
-use Rattle.accesses_force_cycles.proofs.{IntendedOrders.intended_order, IntendedOrders.place_is_value, Resolves.Resolves, Resolves.later_slot}
+use Rattle.accesses_force_cycles.proofs.{Lists.{image_of, length-filter_map-upto, slice_get-filter_map-upto}, Orders.{Holds, order_given}}
+use Rattle.accesses_force_cycles.proofs.{Numbering.numbering_onto, Accesses.{EventAt, LoadAt, by_origin}, IntendedReads.{reads-count, intended_are_reads}}
+use Rattle.accesses_force_cycles.proofs.{IntendedOrders.{gives_writes, intended_order, place_is_value}, Resolves.{Resolves, later_slot}}
 use Rattle.accesses_force_cycles.proofs.WriteEvents.{nth_write, write_event, write_at_name, ordered_write-is, rank_below}
 
 -- the order of a location holds its writes

@@ -1,11 +1,10 @@
 -- The coherence order of a location's place: in an execution it holds the location's writes, and in the intended one
 -- they come in the order of their values, so that the coherence place of each access is its value.
 use Rattle.accesses_force_cycles.proofs.Vocabulary.{◌≡◌, ℕ, zero, suc, ◌<◌, ◌≤◌, List, length, Some, slice_get, refl, sym, ◌∙◌, ap, subst, arith, add-one, Dir, ObsMode, Edge, slice_get-map-upto, move_count, write_count, WriteAt, Access, at_name, Execution, IsExecutionOf, IsOrderOf, event_name, order_place, order_at, placed_by, coherence_place, IsNumbering, cycle_accesses, ordered_write, write_of, location_order, location_numbered, intended, GotFrom, got_from_list}
-use Rattle.relax_edges.specs.declared.kinds.Dir.TheVariants as dirs
-use Rattle.accesses_force_cycles.proofs.{Lists.got_below, Orders.Holds, Orders.Gives, Orders.place_given, Numbering.location_of_number}
-use Rattle.accesses_force_cycles.proofs.{ReadLists.source_given, Resolves.Resolves}
-use Rattle.accesses_force_cycles.proofs.WriteEvents.{nth_write, write_event, write_at_name, ordered_write-is, rank_below, source_fixed}
+use Rattle.accesses_force_cycles.proofs.{Lists.got_below, Orders.{Holds, Gives, place_given}, Numbering.location_of_number, ReadLists.source_given}
+use Rattle.accesses_force_cycles.proofs.{Resolves.Resolves, WriteEvents.{nth_write, write_event, write_at_name, ordered_write-is, rank_below, source_fixed}}
 use Rattle.accesses_force_cycles.proofs.IntendedReads.{IsPlaced, placed, source_for, intended_reads}
+use Rattle.relax_edges.specs.declared.kinds.Dir.TheVariants as dirs
 
 -- events of one name are one event
 pub same_event : (es : List Edge) (i j : ℕ) → Resolves es → i < length es → j < length es → event_name es i ≡ event_name es j → i ≡ j

@@ -1,9 +1,8 @@
 -- Where a mode serves a cycle, a write of a location without an observer that an external edge enters is its first or its
 -- last; and what the mode avoid refuses is an inner one.
 use Rattle.accesses_force_cycles.proofs.Vocabulary.{◌≡◌, ℕ, zero, suc, ◌<◌, Bool, true, false, List, [], ◌∷◌, length, Option, Some, None, slice_get, refl, sym, ◌∙◌, ap, arith, Ok, find, filter_map, leb-false, cond-true, cond-false, slice_get_within, External, ObsMode, Accept, Avoid, Force, Edge, source_of, reach_of, upto, by_test, slice_get-upto, any_upto_fails, edge_at, move_count, location_of, NeedsObserver, value_of, write_at, write_count, edge_into, is_inner_entry, is_observed, first_inner_entry, first_need, observer_need, Valuation, valuation_of, IsServed}
+use Rattle.accesses_force_cycles.proofs.{Lists.{length-filter_map-upto, slice_get-filter_map-upto, Kept}, Resolves.{IsWrite, Resolves, EntersLast, InnerEntry}}
 use Rattle.relax_edges.specs.declared.kinds.Dir.TheVariants as dirs
-use Rattle.accesses_force_cycles.proofs.Lists.{length-filter_map-upto, slice_get-filter_map-upto, Kept}
-use Rattle.accesses_force_cycles.proofs.Resolves.{IsWrite, Resolves, EntersLast, InnerEntry}
 
 -- an inner write that an external edge enters passes the test
 is_entry : (es : List Edge) (l i : ℕ) → source_of (edge_at es i) ≡ dirs.W → location_of es i ≡ l → reach_of (edge_into es i) ≡ External → 1 < value_of es i → value_of es i < write_count es l → is_inner_entry es l i ≡ true

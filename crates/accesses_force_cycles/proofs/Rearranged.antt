@@ -1,7 +1,6 @@
 -- The writes of a location in another order: that of their values under a function that exchanges values in pairs.
 use Rattle.accesses_force_cycles.proofs.Vocabulary.{◌≡◌, ℕ, zero, suc, ◌+◌, ◌-◌, ◌<◌, ◌≤◌, List, [], Option, Some, sym, ◌∙◌, ap, subst, arith, add-one, filter_map, ObsMode, Edge, upto, move_count, write_count, WriteAt, at_name, IsOrderOf, order_place, last_write, event_name, IsNumbering, cycle_accesses, ordered_write, write_of}
-use Rattle.accesses_force_cycles.proofs.{Lists.length-filter_map-upto, Lists.slice_get-filter_map-upto, IntendedOrders.gives_writes, Resolves.IsWrite}
-use Rattle.accesses_force_cycles.proofs.{Resolves.Resolves}
+use Rattle.accesses_force_cycles.proofs.{Lists.{length-filter_map-upto, slice_get-filter_map-upto}, IntendedOrders.gives_writes, Resolves.{IsWrite, Resolves}}
 use Rattle.accesses_force_cycles.proofs.Orders.{Holds, Gives, order_given, place_given}
 use Rattle.accesses_force_cycles.proofs.WriteEvents.{nth_write, write_event, write_at_name, ordered_write-is, rank_below}
 

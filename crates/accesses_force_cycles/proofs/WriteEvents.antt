@@ -1,8 +1,7 @@
 -- A value names its write: the writes at a location's place are its write events, with the values from 1.
 use Rattle.accesses_force_cycles.proofs.Vocabulary.{◌≡◌, ℕ, zero, suc, ◌<◌, ◌≤◌, List, Option, Some, None, refl, sym, ◌∙◌, ap, arith, option_map, ObsMode, Edge, source_of, edge_at, move_count, location_of, value_of, write_count, WriteAt, Access, write, at_name, CanRead, event_name, IsNumbering, cycle_accesses, ordered_write, write_of}
+use Rattle.accesses_force_cycles.proofs.{Accesses.{EventAt, LoadAt, by_origin, event_at_name}, Resolves.{IsWrite, Resolves}}
 use Rattle.relax_edges.specs.declared.kinds.Dir.TheVariants as dirs
-use Rattle.accesses_force_cycles.proofs.Accesses.{EventAt, LoadAt, by_origin, event_at_name}
-use Rattle.accesses_force_cycles.proofs.Resolves.{IsWrite, Resolves}
 
 -- a write access is write number k of a location
 pub record WriteEvent (es : List Edge) (number : ℕ → ℕ) (w : WriteAt) (place value : ℕ) : Type 0 where

@@ -1,12 +1,10 @@
 -- The execution that no condition tells apart from the intended one: where an external edge enters an inner write of a
 -- location, that write and the write before it are exchanged in the coherence order. Source: own.
-use Rattle.std.specs.Prelude.{ℕ, ◌+◌, ◌-◌, ◌==◌, if◌then◌else◌, List, map}
-use Rattle.std.specs.List.{filter_map}
-use Rattle.relax_edges.specs.declared.{kinds.ObsMode.TheVariants.Avoid, edge.Edge.Edge}
+use Rattle.std.specs.{Prelude.{ℕ, ◌+◌, ◌-◌, ◌==◌, if◌then◌else◌, List, map}, List.filter_map}
+use Rattle.relax_edges.specs.{declared.kinds.ObsMode.TheVariants.Avoid, declared.edge.Edge.Edge}
 use Rattle.list_laws.specs.Numbers.{upto}
-use Rattle.cycle_events.specs.{Resolution.move_count, Resolution.location_of, Values.value_of, Values.write_count}
-use Rattle.program_meaning.specs.declared.WriteAt.{WriteAt}
-use Rattle.program_meaning.specs.{Executions.Execution, Intended.write_of, Intended.location_numbered, Intended.intended}
+use Rattle.cycle_events.specs.{Resolution.{move_count, location_of}, Values.{value_of, write_count}}
+use Rattle.program_meaning.specs.{declared.WriteAt.WriteAt, Executions.Execution, Intended.{write_of, location_numbered, intended}}
 
 -- a value, where a value and the one before it are exchanged
 abbrev pub swapped : ℕ → ℕ → ℕ

@@ -1,11 +1,9 @@
 -- What the laws of this crate suppose of an execution: facts on accesses alone, whatever the instructions are. `es` is
 -- the list of edges in which threads, locations and values are counted, and `number` numbers the places.
 use Rattle.std.specs.Prelude.{◌≡◌, ℕ, ◌<◌, ◌≤◌, false, List, None}
-use Rattle.relax_edges.specs.declared.{kinds.ObsMode.ObsMode, kinds.ObsMode.TheVariants.Accept, kinds.ObsMode.TheVariants.Avoid}
-use Rattle.relax_edges.specs.declared.{kinds.ObsMode.TheVariants.Force, edge.Edge.Edge}
-use Rattle.cycle_events.specs.{Resolution.move_count, Values.is_observed, Values.observer_need, Values.write_count}
-use Rattle.program_meaning.specs.{Executions.Execution, Executions.IsExecutionOf, Coherence.IsCoherent, Coherence.final_value}
-use Rattle.program_meaning.specs.{Intended.cycle_accesses}
+use Rattle.relax_edges.specs.{declared.kinds.ObsMode.ObsMode, declared.kinds.ObsMode.TheVariants.{Accept, Avoid, Force}, declared.edge.Edge.Edge}
+use Rattle.cycle_events.specs.{Resolution.move_count, Values.{is_observed, observer_need, write_count}}
+use Rattle.program_meaning.specs.{Executions.{Execution, IsExecutionOf}, Coherence.{IsCoherent, final_value}, Intended.cycle_accesses}
 
 -- no write needs an observer that the mode doesn't give
 abbrev pub IsServed : List Edge → ObsMode → Type 0

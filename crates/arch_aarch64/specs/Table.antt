@@ -3,8 +3,7 @@
 use Rattle.std.specs.Prelude.{List, [], ◌∷◌, codes}
 use Rattle.relax_edges.specs.declared.kinds.FenceKind.TheVariants as fences
 use Rattle.micro_ops.specs.declared.operation.Barrier.TheVariants as barriers
-use Rattle.arch_trait.specs.declared.numbered.Numbered.{Numbered}
-use Rattle.arch_trait.specs.{Forms.register_names, Writing.Writing}
+use Rattle.arch_trait.specs.{declared.numbered.Numbered.Numbered, Forms.register_names, Writing.Writing}
 use Rattle.arch_instructions_laws.specs.declared.form.Hole.TheVariants as holes
 use Rattle.arch_instructions_laws.specs.declared.form.Labels.TheVariants as labels
 use Rattle.arch_instructions_laws.specs.declared.kind.Kind.TheVariants as kinds

@@ -3,8 +3,7 @@
 use Rattle.std.proofs.Common.{ℕ, ◌≡◌, true, Bool, not, ◌||◌, List, [], ◌∷◌, arith}
 use Rattle.std.specs.List.{list_all}
 use Rattle.list_laws.proofs.Cases.{implied}
-use Rattle.relax_edges.specs.EdgeTable.{fence_is_of}
-use Rattle.relax_edges.specs.declared.kinds.{ArchName.ArchName, FenceKind.FenceKind}
+use Rattle.relax_edges.specs.{EdgeTable.fence_is_of, declared.kinds.ArchName.ArchName, declared.kinds.FenceKind.FenceKind}
 use Rattle.relax_edges.specs.declared.kinds.FenceKind.TheVariants as fences
 use Rattle.relax_edges.specs.declared.kinds.Pick.TheVariants as picks
 use Rattle.micro_ops.specs.declared.operation.Micro.TheVariants as ops

@@ -1,14 +1,13 @@
 -- In a clear table, the first form that does an operation is the one that reads it back.
-use Rattle.std.proofs.Common.{ℕ, ◌+◌, ◌≡◌, Bool, true, false, ◌&&◌, ◌||◌, nat_le, List, [], ◌∷◌, map, length, ◌∙◌, ap, arith}
-use Rattle.std.specs.{Prelude.Option, Prelude.is_some, List.list_all, List.list_any, Str.bytes_eq}
-use Rattle.std.proofs.lemmas.{Bool.and_parts, Slice.Eq.bytes_eq-Decides}
+use Rattle.std.proofs.{Common.{ℕ, ◌+◌, ◌≡◌, Bool, true, false, ◌&&◌, ◌||◌, nat_le, List, [], ◌∷◌, map, length, ◌∙◌, ap, arith}, lemmas.Bool.and_parts}
+use Rattle.std.proofs.lemmas.Slice.Eq.{bytes_eq-Decides}
+use Rattle.std.specs.{Prelude.{Option, is_some}, List.{list_all, list_any}, Str.bytes_eq}
 use Rattle.micro_ops.specs.declared.operation.Micro.{Micro}
-use Rattle.arch_trait.specs.declared.arch.TheConstants.{MAX_INSTRUCTION_TEXT}
-use Rattle.arch_trait.specs.Writing.{RawInstr}
+use Rattle.arch_trait.specs.{declared.arch.TheConstants.MAX_INSTRUCTION_TEXT, Writing.RawInstr}
 use Rattle.arch_instructions_laws.specs.Kinds.{operands_of, raw_with}
 use Rattle.arch_instructions_laws.specs.Tables.{FormText, operands_fit, does, piece_texts, given_operands, form_written, first_written, form_found, raw_or, first_form_read}
 use Rattle.arch_instructions_laws.specs.ClearTables.{forms_apart, is_first_byte, ending_words, is_piece_good, most_of, is_form_good, is_clear}
-use Rattle.arch_instructions_laws.proofs.{PieceBacks.named, PieceBacks.pieces_back, FormsApart.form_none}
+use Rattle.arch_instructions_laws.proofs.{PieceBacks.{named, pieces_back}, FormsApart.form_none}
 
 -- what the test of a form says
 pub record GoodForm (f : FormText) : Type 0 where

@@ -3,21 +3,17 @@
 -- Source: own.
 use Rattle.std.proofs.Common.{ℕ, ◌+◌, ◌<◌, ◌≤◌, ◌≡◌, ◌==◌, refl, Bool, true, false, Option, List, [], ◌∷◌, length, sym, ap, ◌∙◌, arith}
 use Rattle.std.specs.List.{list_all}
-use Rattle.relax_edges.specs.EdgeTable.{fence_is_of, mark_is_of}
+use Rattle.relax_edges.specs.{EdgeTable.{fence_is_of, mark_is_of}, declared.kinds.ArchName.ArchName, declared.kinds.FenceKind.FenceKind}
+use Rattle.relax_edges.specs.{declared.kinds.Mark.Mark, declared.kinds.Mark.TheVariants.{Plain, Acquire, Release}}
 use Rattle.relax_edges.specs.declared.kinds.Dir.TheVariants as dirs
-use Rattle.relax_edges.specs.declared.kinds.{ArchName.ArchName, FenceKind.FenceKind, Mark.Mark, Mark.TheVariants.Plain, Mark.TheVariants.Acquire}
-use Rattle.relax_edges.specs.declared.kinds.{Mark.TheVariants.Release}
-use Rattle.micro_ops.specs.declared.operation.Micro.{Micro}
+use Rattle.micro_ops.specs.{declared.operation.Micro.Micro, Running.{Run, labels_of, lands}}
 use Rattle.micro_ops.specs.declared.operation.Micro.TheVariants as ops
 use Rattle.micro_ops.specs.declared.operation.Barrier.TheVariants as barriers
-use Rattle.micro_ops.specs.Running.{Run, labels_of, lands}
-use Rattle.arch_trait_laws.proofs.Rules.{run_load_at, run_store_at}
-use Rattle.arch_trait.specs.declared.{link.Link.Link, step.Shape.Shape}
-use Rattle.arch_trait.specs.declared.link.Link.TheVariants as links
-use Rattle.arch_trait.specs.{Cells.MakesOneAccess, Taking.Taken, Taking.take_next, Threads.Put, Threads.Puts}
+use Rattle.arch_trait_laws.proofs.{Rules.{run_load_at, run_store_at}, Accesses.{writes_none, spare_plain, did_load, did_store, did_nothing, did_barrier}}
+use Rattle.arch_trait.specs.{declared.link.Link.Link, declared.step.Shape.Shape, Cells.MakesOneAccess, Taking.{Taken, take_next}, Threads.{Put, Puts}}
 use Rattle.arch_trait.specs.Links.{link_is_of, depends_on_load, link_control, link_items, is_addr, is_data}
 use Rattle.arch_trait.specs.Laws.{DidLink, MakesLinks, MakesAccess, MakesLoads, MakesStores, IsArch, link_room, link_labels, is_at_place}
-use Rattle.arch_trait_laws.proofs.Accesses.{writes_none, spare_plain, did_load, did_store, did_nothing, did_barrier}
+use Rattle.arch_trait.specs.declared.link.Link.TheVariants as links
 
 -- the code of a link: its fence, if it is one
 abbrev pub fence_code : Link → List Micro

@@ -1,13 +1,12 @@
 -- No text is an instruction of two forms that are apart.
 use Rattle.std.proofs.Common.{ℕ, ◌-◌, ◌≡◌, ◌==◌, true, not, ◌&&◌, ◌||◌, nat_le, List, [], ◌∷◌, ◌++◌, Some, None, map, take, drop, ◌∙◌, arith}
-use Rattle.std.specs.{Prelude.Option, Prelude.is_some, Prelude.option_and_then, List.list_all, Str.bytes_eq}
-use Rattle.std.proofs.lemmas.{Bool.and_parts, Bool.not-true, List.take-append-drop, Slice.Eq.bytes_eq-Decides}
+use Rattle.std.proofs.{lemmas.Bool.{and_parts, not-true}, lemmas.List.take-append-drop, lemmas.Slice.Eq.bytes_eq-Decides}
+use Rattle.std.specs.{Prelude.{Option, is_some, option_and_then}, List.list_all, Str.bytes_eq}
 use Rattle.list_laws.proofs.Cases.{eq_swap}
-use Rattle.arch_instructions_laws.specs.declared.{form.Hole.Hole, kind.Operand.Operand}
-use Rattle.arch_instructions_laws.specs.declared.form.Hole.TheVariants as holes
-use Rattle.arch_instructions_laws.specs.Kinds.{FoundOperand}
+use Rattle.arch_instructions_laws.specs.{declared.form.Hole.Hole, declared.kind.Operand.Operand, Kinds.FoundOperand}
 use Rattle.arch_instructions_laws.specs.Tables.{PieceText, FormText, fits_first, after_hole, operands_fit, hole_filled, piece_texts, after_prefix, before_suffix, hole_found, piece_found, joined_operands, pieces_found, form_found, piece_text}
 use Rattle.arch_instructions_laws.specs.ClearTables.{differ, is_empty_hole, is_fixed, text_without_hole, piece_apart, pieces_apart, forms_apart, is_piece_good}
+use Rattle.arch_instructions_laws.specs.declared.form.Hole.TheVariants as holes
 use Rattle.arch_instructions_laws.proofs.PieceBacks.{named, held, piece_back}
 
 not_some : {A : Type 0} (o : Option A) → not (is_some o) ≡ true → o ≡ None

@@ -1,23 +1,20 @@
 -- What a clear table writes fits into the cells of a table.
 use Rattle.std.proofs.Common.{ℕ, ◌+◌, ◌≤◌, ◌≡◌, ◌==◌, refl, true, false, not, ◌&&◌, nat_le, List, [], ◌∷◌, ◌++◌, length, ◌∙◌, ap, length-append, arith}
+use Rattle.std.proofs.{lemmas.Bool.{and_parts, and_from, leb-true}, lemmas.Bool.Decides.nat_tests}
 use Rattle.std.specs.List.{list_all, list_any}
-use Rattle.std.proofs.lemmas.{Bool.and_parts, Bool.and_from, Bool.leb-true, Bool.Decides.nat_tests}
 use Rattle.list_laws.proofs.Elements.{list_all-weaker}
-use Rattle.text_parts_laws.specs.{Words.is_argument_byte, Blanks.is_blank, LeadingRuns.leading_run, LeadingRuns.after_run}
-use Rattle.text_parts_laws.proofs.{NameLaws.place_name_short, RunLaws.after_halts, RunLaws.whole_run, CutLaws.all_both}
+use Rattle.text_parts_laws.specs.{Words.is_argument_byte, Blanks.is_blank, LeadingRuns.{leading_run, after_run}}
+use Rattle.text_parts_laws.proofs.{NameLaws.place_name_short, RunLaws.{after_halts, whole_run}, CutLaws.all_both}
 use Rattle.micro_ops.specs.declared.operation.Micro.{Micro}
 use Rattle.micro_ops.specs.declared.operation.Micro.TheVariants as ops
-use Rattle.arch_trait.specs.Cells.{is_cell_byte, first_word, ends_rows, is_label_op, WritesCells}
-use Rattle.arch_trait.specs.{InstructionReading.few, Threads.Puts, ByteLaws.place_in_cell}
-use Rattle.arch_trait.specs.declared.arch.TheConstants.{MAX_INSTRUCTION_TEXT}
+use Rattle.arch_trait.specs.{Cells.{is_cell_byte, first_word, ends_rows, is_label_op, WritesCells}, InstructionReading.few, Threads.Puts}
+use Rattle.arch_trait.specs.{ByteLaws.place_in_cell, declared.arch.TheConstants.MAX_INSTRUCTION_TEXT}
 use Rattle.arch_trait.specs.Writing.{OperandTexts, listed, written_text, op_name, is_well_named}
 use Rattle.arch_trait_laws.proofs.SpellingLaws.{listed_stops}
-use Rattle.arch_instructions_laws.specs.declared.kind.Operand.{Operand}
-use Rattle.arch_instructions_laws.specs.Kinds.{operands_of}
+use Rattle.arch_instructions_laws.specs.{declared.kind.Operand.Operand, Kinds.operands_of}
 use Rattle.arch_instructions_laws.specs.Tables.{PieceText, TableText, fits_first, after_hole, operands_fit, does, table_has, hole_filled, piece_texts, given_operands, form_written, first_written, table_written, table_writing}
 use Rattle.arch_instructions_laws.specs.ClearTables.{is_fixed_byte, is_first_byte, is_piece_good, most_in, most_of, is_clear}
-use Rattle.arch_instructions_laws.proofs.PieceBacks.{piece_is_good, length-piece_texts}
-use Rattle.arch_instructions_laws.proofs.OperationBacks.{is_named_operand, operands_named}
+use Rattle.arch_instructions_laws.proofs.{PieceBacks.{piece_is_good, length-piece_texts}, OperationBacks.{is_named_operand, operands_named}}
 use Rattle.arch_instructions_laws.proofs.ChosenForms.{form_is_good, done, op_texts, chosen}
 use Rattle.arch_instructions_laws.proofs.PlainForms.{left_named, first_word_fixed, filled_all, filled_short}
 

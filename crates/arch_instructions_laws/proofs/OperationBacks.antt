@@ -1,20 +1,17 @@
 -- The operands of an operation make it again.
-use Rattle.std.proofs.Common.{ℕ, ◌≡◌, refl, Bool, true, List, [], ◌∷◌, Some, map, get_or, ◌∙◌, sym, ap, arith}
+use Rattle.std.proofs.{Common.{ℕ, ◌≡◌, refl, Bool, true, List, [], ◌∷◌, Some, map, get_or, ◌∙◌, sym, ap, arith}, lemmas.Bool.eqb-true}
 use Rattle.std.specs.{Prelude.is_some, List.list_all}
-use Rattle.std.proofs.lemmas.Bool.{eqb-true}
 use Rattle.relax_edges.specs.declared.kinds.Pick.TheVariants as picks
 use Rattle.relax_edges.specs.declared.kinds.FenceKind.TheVariants as fences
-use Rattle.micro_ops.specs.declared.operation.{Micro.Micro, Barrier.Barrier}
+use Rattle.micro_ops.specs.{declared.operation.Micro.Micro, declared.operation.Barrier.Barrier}
 use Rattle.micro_ops.specs.declared.operation.Micro.TheVariants as ops
 use Rattle.micro_ops.specs.declared.operation.Barrier.TheVariants as barriers
 use Rattle.text_parts_laws.specs.Names.{is_place_name}
 use Rattle.arch_trait.specs.Writing.{raw_of, op_name, is_well_named, is_label_name, label_name}
-use Rattle.arch_instructions_laws.specs.declared.kind.{Kind.Kind, Operand.Operand}
+use Rattle.arch_instructions_laws.specs.{declared.kind.Kind.Kind, declared.kind.Operand.Operand}
+use Rattle.arch_instructions_laws.specs.{Kinds.{barrier_number, same_barrier, operands_of, raw_with, with_place_name, unnamed}, Tables.given_operands}
 use Rattle.arch_instructions_laws.specs.declared.kind.Operand.TheVariants as operands
-use Rattle.arch_instructions_laws.specs.Kinds.{barrier_number, same_barrier, operands_of, raw_with, with_place_name, unnamed}
-use Rattle.arch_instructions_laws.specs.Tables.{given_operands}
-use Rattle.arch_instructions_laws.proofs.OfKind.{IsOf, loads_into, orders, is_of}
-use Rattle.arch_instructions_laws.proofs.PieceBacks.{named}
+use Rattle.arch_instructions_laws.proofs.{OfKind.{IsOf, loads_into, orders, is_of}, PieceBacks.named}
 
 -- the barrier of a number
 abbrev barrier_of : ℕ → Barrier

@@ -1,15 +1,13 @@
 -- The operations of a table whose registers are few are in the range of the machine.
-use Rattle.std.proofs.Common.{ℕ, ◌<◌, ◌≤◌, ◌≡◌, Bool, true, ◌&&◌, ◌||◌, nat_le, nat_lt, List, [], ◌∷◌, ◌∙◌, arith}
+use Rattle.std.proofs.{Common.{ℕ, ◌<◌, ◌≤◌, ◌≡◌, Bool, true, ◌&&◌, ◌||◌, nat_le, nat_lt, List, [], ◌∷◌, ◌∙◌, arith}, lemmas.Bool.{and_parts, ltb-true}}
 use Rattle.std.specs.List.{list_all, list_any}
-use Rattle.std.proofs.lemmas.Bool.{and_parts, ltb-true}
-use Rattle.micro_ops.specs.declared.operation.Micro.{Micro}
-use Rattle.micro_ops.specs.Machines.{InRange}
+use Rattle.micro_ops.specs.{declared.operation.Micro.Micro, Machines.InRange}
 use Rattle.arch_trait.specs.{InstructionReading.ReadsOwn, Threads.Puts}
-use Rattle.arch_instructions_laws.specs.declared.{form.Hole.Hole, kind.Kind.Kind, kind.Operand.Operand}
+use Rattle.arch_instructions_laws.specs.{declared.form.Hole.Hole, declared.kind.Kind.Kind, declared.kind.Operand.Operand}
+use Rattle.arch_instructions_laws.specs.Tables.{PieceText, FormText, TableText, after_hole, operands_fit, does, table_has, table_writing}
 use Rattle.arch_instructions_laws.specs.declared.form.Hole.TheVariants as holes
 use Rattle.arch_instructions_laws.specs.declared.kind.Kind.TheVariants as kinds
 use Rattle.arch_instructions_laws.specs.declared.kind.Operand.TheVariants as operands
-use Rattle.arch_instructions_laws.specs.Tables.{PieceText, FormText, TableText, after_hole, operands_fit, does, table_has, table_writing}
 use Rattle.arch_instructions_laws.proofs.{ChosenForms.done, ReadsHad.reads_what_it_has}
 use Rattle.arch_instructions_laws.proofs.OfKind.{IsOf, is_of, sets_number, excludes, adds_number, ors_number, sums, loads, loads_indexed, loads_index_first, loads_into, loads_acquire, stores, stores_indexed, stores_index_first, stores_release, compares, branches_not_zero}
 

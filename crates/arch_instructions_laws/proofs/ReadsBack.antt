@@ -1,22 +1,17 @@
 -- What a clear table writes reads back.
 -- Source: own.
-use Rattle.std.specs.Prelude.{ℕ, ◌≡◌, ◌≤◌, true, ◌&&◌, List, [], ◌∷◌, Option, Some, length}
-use Rattle.std.specs.{List.list_all, List.list_any, List.IsDistinct, Str.bytes_eq}
-use Rattle.std.proofs.Common.{refl, ◌∙◌, ap, arith}
-use Rattle.std.proofs.lemmas.Bool.{and_parts, leb-true}
+use Rattle.std.specs.{Prelude.{ℕ, ◌≡◌, ◌≤◌, true, ◌&&◌, List, [], ◌∷◌, Option, Some, length}, List.{list_all, list_any, IsDistinct}, Str.bytes_eq}
+use Rattle.std.proofs.{Common.{refl, ◌∙◌, ap, arith}, lemmas.Bool.{and_parts, leb-true}}
 use Rattle.text_parts_laws.specs.Names.{is_register_name}
 use Rattle.micro_ops.specs.declared.operation.Micro.{Micro}
 use Rattle.micro_ops.specs.declared.operation.Micro.TheVariants as ops
-use Rattle.arch_trait.specs.declared.numbered.Numbered.{Numbered}
-use Rattle.arch_trait.specs.{Forms.label_alone, Forms.register_names, Threads.Puts}
+use Rattle.arch_trait.specs.{declared.numbered.Numbered.Numbered, Forms.{label_alone, register_names}, Threads.Puts}
 use Rattle.arch_trait.specs.Writing.{WritesBack, Written, none, RawInstr, op_name, is_well_named, raw_of, is_plain, all_plain_texts, label_word}
-use Rattle.arch_trait_laws.proofs.FormBacks.{IsNumbered, names_count, names_formed, names_once, label_word_plain}
-use Rattle.arch_trait_laws.proofs.SpellingLaws.{label_back}
-use Rattle.arch_instructions_laws.specs.declared.form.Labels.{Labels}
-use Rattle.arch_instructions_laws.specs.declared.form.Labels.TheVariants as labels
-use Rattle.arch_instructions_laws.specs.{Kinds.operands_of, ClearTables.forms_apart, ClearTables.is_form_good, ClearTables.is_clear}
+use Rattle.arch_trait_laws.proofs.{FormBacks.{IsNumbered, names_count, names_formed, names_once, label_word_plain}, SpellingLaws.label_back}
+use Rattle.arch_instructions_laws.specs.{declared.form.Labels.Labels, Kinds.operands_of, ClearTables.{forms_apart, is_form_good, is_clear}}
 use Rattle.arch_instructions_laws.specs.Tables.{FormText, TableText, does, are_known, table_has, given_operands, first_written, table_written, first_form_read, label_read, table_raw, table_writing}
-use Rattle.arch_instructions_laws.proofs.{PieceBacks.length-piece_texts, OperationBacks.op_back, OperationBacks.operands_named}
+use Rattle.arch_instructions_laws.specs.declared.form.Labels.TheVariants as labels
+use Rattle.arch_instructions_laws.proofs.{PieceBacks.length-piece_texts, OperationBacks.{op_back, operands_named}}
 use Rattle.arch_instructions_laws.proofs.ChosenForms.{form_is_good, done, op_texts, Chosen, chosen}
 use Rattle.arch_instructions_laws.proofs.PlainForms.{word_plain, pieces_plain, few_back, few_plain, no_label, first_word_fixed}
 

@@ -1,17 +1,16 @@
 -- What a table reads is an operation that it has.
-use Rattle.std.proofs.Common.{ℕ, ◌≡◌, refl, true, false, Bool, ◌&&◌, List, [], ◌∷◌, ◌++◌, Option, Some, None, map, ◌∙◌, ◌-◌, arith}
-use Rattle.std.proofs.lemmas.{List.map-append, Bool.and_from, Bool.or_left, Bool.or_right}
-use Rattle.std.specs.{Prelude.◌==◌, Prelude.option_and_then, List.list_any, Str.bytes_eq}
+use Rattle.std.proofs.{Common.{ℕ, ◌≡◌, refl, true, false, Bool, ◌&&◌, List, [], ◌∷◌, ◌++◌, Option, Some, None, map, ◌∙◌, ◌-◌, arith}, lemmas.List.map-append}
+use Rattle.std.proofs.lemmas.Bool.{and_from, or_left, or_right}
+use Rattle.std.specs.{Prelude.{◌==◌, option_and_then}, List.list_any, Str.bytes_eq}
 use Rattle.list_laws.proofs.Cases.{by_test}
 use Rattle.micro_ops.specs.declared.operation.Micro.{Micro}
 use Rattle.micro_ops.specs.declared.operation.Micro.TheVariants as ops
-use Rattle.arch_trait.specs.Writing.{OperandTexts, one, RawInstr, Written, immediate_number, label_raw}
-use Rattle.arch_trait.specs.Forms.{label_alone}
-use Rattle.arch_instructions_laws.specs.declared.{form.Hole.Hole, form.Labels.Labels, kind.Kind.Kind, kind.Operand.Operand}
-use Rattle.arch_instructions_laws.specs.declared.form.Labels.TheVariants as labels
-use Rattle.arch_instructions_laws.specs.declared.kind.Operand.TheVariants as operands
+use Rattle.arch_trait.specs.{Writing.{OperandTexts, one, RawInstr, Written, immediate_number, label_raw}, Forms.label_alone}
+use Rattle.arch_instructions_laws.specs.{declared.form.Hole.Hole, declared.form.Labels.Labels, declared.kind.Kind.Kind, declared.kind.Operand.Operand}
 use Rattle.arch_instructions_laws.specs.Kinds.{FoundOperand, found_register, found_number, found_place, found_label, operands_of}
 use Rattle.arch_instructions_laws.specs.Tables.{PieceText, FormText, TableText, fits_first, after_hole, operands_fit, does, table_has, hole_found, piece_found, pieces_found, joined_operands, form_found, raw_or, first_form_read, texts_in, are_known, label_read, raw_if, table_raw}
+use Rattle.arch_instructions_laws.specs.declared.form.Labels.TheVariants as labels
+use Rattle.arch_instructions_laws.specs.declared.kind.Operand.TheVariants as operands
 
 -- an operand that was read, with the number 0 for a name
 abbrev zeroed : FoundOperand → Operand

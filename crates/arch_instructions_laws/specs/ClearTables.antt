@@ -1,13 +1,11 @@
 -- A test of a table which shows that what it writes reads back and fits into a cell.
 -- Source: own.
 use Rattle.std.specs.Prelude.{ℕ, ◌+◌, ◌==◌, Bool, true, false, not, ◌&&◌, ◌||◌, nat_le, List, [], ◌∷◌, ◌++◌, is_some, length, codes}
-use Rattle.std.specs.{List.list_all, List.list_any, Str.bytes_eq}
+use Rattle.std.specs.{List.{list_all, list_any}, Str.bytes_eq}
 use Rattle.text_parts_laws.specs.Blanks.{is_blank}
-use Rattle.arch_trait.specs.Cells.{is_cell_byte}
-use Rattle.arch_trait.specs.declared.arch.TheConstants.{MAX_INSTRUCTION_TEXT}
-use Rattle.arch_instructions_laws.specs.declared.form.Hole.{Hole}
+use Rattle.arch_trait.specs.{Cells.is_cell_byte, declared.arch.TheConstants.MAX_INSTRUCTION_TEXT}
+use Rattle.arch_instructions_laws.specs.{declared.form.Hole.Hole, Tables.{PieceText, FormText, piece_found}}
 use Rattle.arch_instructions_laws.specs.declared.form.Hole.TheVariants as holes
-use Rattle.arch_instructions_laws.specs.Tables.{PieceText, FormText, piece_found}
 
 -- two texts differ at a place that both have
 unfoldable pub differ : List ℕ → List ℕ → Bool

@@ -2,15 +2,14 @@
 -- registers are taken, and where each architecture's own instructions come.
 -- Source: the diy tools' tests for Power, Arm and RISC-V.
 use Rattle.std.specs.Prelude.{ℕ, ◌+◌, Bool, true, List, [], ◌∷◌, ◌++◌, Option, Some, None}
-use Rattle.relax_edges.specs.declared.kinds.{ArchName.ArchName, Mark.Mark, Mark.TheVariants.Acquire, Mark.TheVariants.Release}
+use Rattle.relax_edges.specs.{declared.kinds.ArchName.ArchName, declared.kinds.Mark.Mark, declared.kinds.Mark.TheVariants.{Acquire, Release}}
 use Rattle.relax_edges.specs.declared.kinds.FenceKind.TheVariants as fences
 use Rattle.micro_ops.specs.declared.operation.Micro.{Micro}
 use Rattle.micro_ops.specs.declared.operation.Micro.TheVariants as ops
 use Rattle.micro_ops.specs.declared.operation.Barrier.TheVariants as barriers
-use Rattle.arch_trait.specs.declared.{link.Link.Link, step.Shape.Shape}
-use Rattle.arch_trait.specs.declared.link.Link.TheVariants as links
-use Rattle.arch_trait.specs.{Links.is_addr, Links.is_data, Links.source_if, Threads.Put, Threads.Puts}
+use Rattle.arch_trait.specs.{declared.link.Link.Link, declared.step.Shape.Shape, Links.{is_addr, is_data, source_if}, Threads.{Put, Puts}}
 use Rattle.arch_trait.specs.Taking.{Taken, took, address_of, with_address}
+use Rattle.arch_trait.specs.declared.link.Link.TheVariants as links
 
 -- the instructions of an architecture, beside loads and stores of any mark at the address in a register:
 -- `branch s n` branches to label n and depends on register s; `load d v a` loads register v, and

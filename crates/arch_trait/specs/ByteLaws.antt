@@ -1,10 +1,9 @@
 -- The bytes of places' names may be in lines, cells and words of a printed test, and so may all of names and numbers (`place_passes` of
 -- `text_parts_laws` and the laws beside it).
 -- Source: own.
-use Rattle.std.proofs.Common.{◌≡◌, ℕ, true, arith}
-use Rattle.std.proofs.lemmas.Bool.Decides.{nat_tests}
+use Rattle.std.proofs.{Common.{◌≡◌, ℕ, true, arith}, lemmas.Bool.Decides.nat_tests}
 use Rattle.text_parts_laws.specs.Names.{is_place_byte}
-use Rattle.arch_trait.specs.{Cells.is_line_byte, Cells.is_cell_byte, WordBytes.is_instruction_byte}
+use Rattle.arch_trait.specs.{Cells.{is_line_byte, is_cell_byte}, WordBytes.is_instruction_byte}
 
 -- a byte of a place's name may be in a line
 pub place_on_line : (byte : ℕ) → is_place_byte byte ≡ true → is_line_byte byte ≡ true

@@ -1,13 +1,10 @@
 -- What the code of a thread is to do, and how it is formed.
 -- Source: own.
-use Rattle.std.specs.Prelude.{ℕ, ◌<◌, ◌≡◌, Bool, true, List, [], ◌∷◌, length}
-use Rattle.std.specs.List.{list_all, range_with_len}
+use Rattle.std.specs.{Prelude.{ℕ, ◌<◌, ◌≡◌, Bool, true, List, [], ◌∷◌, length}, List.{list_all, range_with_len}}
 use Rattle.relax_edges.specs.declared.kinds.Value.{Value}
-use Rattle.micro_ops.specs.declared.operation.Micro.{Micro}
+use Rattle.micro_ops.specs.{declared.operation.Micro.Micro, Running.{runs, Ended, ReadsShort, ReadsLeft, labels_of, lands}}
 use Rattle.micro_ops.specs.declared.operation.Micro.TheVariants as ops
-use Rattle.micro_ops.specs.Running.{runs, Ended, ReadsShort, ReadsLeft, labels_of, lands}
-use Rattle.arch_trait.specs.declared.{code.Code.Code, step.Step.Step}
-use Rattle.arch_trait.specs.{Taking.initial_values, Laws.InOrder}
+use Rattle.arch_trait.specs.{declared.code.Code.Code, declared.step.Step.Step, Taking.initial_values, Laws.InOrder}
 use Rattle.arch_trait.specs.Threads.{Puts, ThreadCode, thread_items, loads_in, branches_in, visits, HoldNumbers}
 
 -- what the code sees of the code of a thread

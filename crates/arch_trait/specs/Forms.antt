@@ -1,9 +1,7 @@
 -- The names of numbered registers, and labels that are alone in their cell.
 -- Source: the litmus format of the herdtools, and the instruction manuals of Power, Arm and RISC-V.
-use Rattle.std.specs.Prelude.{ℕ, List, Option, None, map}
-use Rattle.std.specs.List.{range_with_len}
-use Rattle.arch_trait.specs.declared.numbered.Numbered.{Numbered}
-use Rattle.arch_trait.specs.Writing.{OperandTexts, none, RawInstr, label_raw, register_text}
+use Rattle.std.specs.{Prelude.{ℕ, List, Option, None, map}, List.range_with_len}
+use Rattle.arch_trait.specs.{declared.numbered.Numbered.Numbered, Writing.{OperandTexts, none, RawInstr, label_raw, register_text}}
 
 -- the name of a numbered register
 abbrev pub register_name : Numbered → ℕ → List ℕ

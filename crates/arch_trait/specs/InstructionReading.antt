@@ -1,15 +1,11 @@
 -- How an instruction is read from the text of its cell, and its name gets a number.
 -- Source: the litmus format of the herdtools; where blanks may be is own.
-use Rattle.std.specs.Prelude.{ℕ, ◌≡◌, ◌==◌, true, cond, List, [], ◌∷◌, Option, Some, None, Result, Ok, Err, map}
-use Rattle.std.specs.List.{slice_split}
-use Rattle.text_parts_laws.specs.{Names.is_place_name, Blanks.is_inked, Blanks.unblanked, Blanks.trim_blanks, LeadingRuns.leading_run}
-use Rattle.text_parts_laws.specs.{LeadingRuns.after_run}
-use Rattle.micro_ops.specs.declared.operation.Micro.{Micro}
-use Rattle.micro_ops.specs.Machines.{InRange}
-use Rattle.arch_trait.specs.declared.reading.InstrError.{InstrError}
-use Rattle.arch_trait.specs.declared.reading.InstrError.TheVariants as errors
-use Rattle.arch_trait.specs.{PlaceNames.number_added, PlaceNames.names_added, Threads.Puts}
+use Rattle.std.specs.{Prelude.{ℕ, ◌≡◌, ◌==◌, true, cond, List, [], ◌∷◌, Option, Some, None, Result, Ok, Err, map}, List.slice_split}
+use Rattle.text_parts_laws.specs.{Names.is_place_name, Blanks.{is_inked, unblanked, trim_blanks}, LeadingRuns.{leading_run, after_run}}
+use Rattle.micro_ops.specs.{declared.operation.Micro.Micro, Machines.InRange}
+use Rattle.arch_trait.specs.{declared.reading.InstrError.InstrError, PlaceNames.{number_added, names_added}, Threads.Puts}
 use Rattle.arch_trait.specs.Writing.{OperandTexts, none, one, two, three, four, more, Written, Name, nothing, place, label, RawInstr, Writing, is_label_name, with_number}
+use Rattle.arch_trait.specs.declared.reading.InstrError.TheVariants as errors
 
 -- the pieces of a text as operands
 abbrev pub few : List (List ℕ) → OperandTexts

@@ -1,7 +1,6 @@
 -- A text cut at its first comma.
 -- Source: own.
-use Rattle.std.specs.Prelude.{ℕ, ◌≡◌, ◌==◌, List, [], ◌∷◌, Option, Some, None}
-use Rattle.std.specs.{List.slice_split, Borrow.Bor}
+use Rattle.std.specs.{Prelude.{ℕ, ◌≡◌, ◌==◌, List, [], ◌∷◌, Option, Some, None}, List.slice_split, Borrow.Bor}
 
 -- the piece before the first comma and the text after it, or one piece alone
 abbrev pub Cut : Option (Bor (List ℕ) × Bor (List ℕ)) → List ℕ → Type 0

@@ -2,8 +2,7 @@
 -- Source: own.
 use Rattle.std.specs.Prelude.{ℕ, map}
 use Rattle.micro_ops.specs.Renumbering.{op_at}
-use Rattle.arch_trait.specs.declared.step.Step.{Step}
-use Rattle.arch_trait.specs.Threads.{ThreadCode}
+use Rattle.arch_trait.specs.{declared.step.Step.Step, Threads.ThreadCode}
 
 -- an access, its place under the number that `number` gives it
 abbrev pub step_at : (ℕ → ℕ) → Step → Step

@@ -2,21 +2,18 @@
 -- the code of a single access.
 use Rattle.std.proofs.Common.{ℕ, ◌<◌, ◌≤◌, ◌≡◌, ◌==◌, true, false, bit_or, List, [], ◌∷◌, ◌++◌, None, length, arith}
 use Rattle.std.specs.List.{list_all}
-use Rattle.relax_edges.specs.EdgeTable.{fence_is_of, mark_fits, mark_is_of}
-use Rattle.relax_edges.specs.declared.kinds.{Mark.Mark, Mark.TheVariants.Plain, Mark.TheVariants.Acquire, Mark.TheVariants.Release}
-use Rattle.relax_edges.specs.declared.kinds.{FenceKind.FenceKind}
+use Rattle.relax_edges.specs.{EdgeTable.{fence_is_of, mark_fits, mark_is_of}, declared.kinds.Mark.Mark}
+use Rattle.relax_edges.specs.{declared.kinds.Mark.TheVariants.{Plain, Acquire, Release}, declared.kinds.FenceKind.FenceKind}
 use Rattle.relax_edges.specs.declared.kinds.Dir.TheVariants as dirs
 use Rattle.relax_edges.specs.declared.kinds.FenceKind.TheVariants as fences
-use Rattle.micro_ops.specs.declared.operation.Micro.{Micro}
+use Rattle.micro_ops.specs.{declared.operation.Micro.Micro, Machine.{num, address_held, held_at_place, bit}}
+use Rattle.micro_ops.specs.Running.{Run, At, Wants, go, exec, labels_of, lands}
 use Rattle.micro_ops.specs.declared.operation.Micro.TheVariants as ops
 use Rattle.micro_ops.specs.declared.operation.Barrier.TheVariants as barriers
-use Rattle.micro_ops.specs.Machine.{num, address_held, held_at_place, bit}
-use Rattle.micro_ops.specs.Running.{Run, At, Wants, go, exec, labels_of, lands}
-use Rattle.arch_trait_laws.proofs.Rules.{holding, after_load, after_store, run_add_to_address}
+use Rattle.arch_trait_laws.proofs.{Rules.{holding, after_load, after_store, run_add_to_address}, Accesses.{written_same, written_other}}
 use Rattle.arch_trait.specs.declared.link.Link.TheVariants as links
-use Rattle.arch_trait.specs.{Links.link_is_of, Cells.is_access, Cells.access_count, Laws.DidLink, Laws.IsWanting, Laws.is_at_place}
+use Rattle.arch_trait.specs.{Links.link_is_of, Cells.{is_access, access_count}, Laws.{DidLink, IsWanting, is_at_place}}
 use Rattle.arch_trait.specs.Addressed.{Instructions, load_op, store_op, load_through, store_through}
-use Rattle.arch_trait_laws.proofs.Accesses.{written_same, written_other}
 
 -- two runs differ in one register alone
 pub record IsBut (d : ℕ) (r u : Run) : Type 0 where

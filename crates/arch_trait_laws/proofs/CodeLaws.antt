@@ -1,8 +1,7 @@
 -- Laws of the code of a thread, for the crates above.
 use Rattle.std.proofs.Common.{false, List, ◌≤◌, ◌*◌, Bool, length, ◌≡◌}
-use Rattle.arch_trait.specs.declared.step.Step.{Step}
-use Rattle.arch_trait.specs.Threads.{Puts, FitSteps, compiled, shape_of, Way, thread_code, loads_in, thread_loads}
-use Rattle.arch_trait.specs.{Codes.MakesSteps, Codes.IsFormedCode, Laws.IsArch}
+use Rattle.arch_trait.specs.{declared.step.Step.Step, Threads.{Puts, FitSteps, compiled, shape_of, Way, thread_code, loads_in, thread_loads}}
+use Rattle.arch_trait.specs.{Codes.{MakesSteps, IsFormedCode}, Laws.IsArch}
 use Rattle.arch_trait.proofs.Whole as whole
 use Rattle.arch_trait.proofs.Codes as codes
 

@@ -1,13 +1,12 @@
 -- The names of labels fit in cells, and those of numbered registers have their form and occur once each.
-use Rattle.std.proofs.Common.{ℕ, zero, suc, ◌+◌, ◌<◌, ◌≤◌, ◌≡◌, refl, true, false, [], map, length, get_or, ◌∙◌, ap, arith}
-use Rattle.std.specs.{Char.is_ascii_alphabetic, Char.is_ascii_alphanumeric, Char.is_ascii_digit, Fmt.decimal, Str.bytes_eq}
+use Rattle.std.proofs.{Common.{ℕ, zero, suc, ◌+◌, ◌<◌, ◌≤◌, ◌≡◌, refl, true, false, [], map, length, get_or, ◌∙◌, ap, arith}, lemmas.Bool.{and_from, le-leb}}
+use Rattle.std.proofs.{lemmas.Fmt.decimal_injective, lemmas.Slice.Eq.bytes_eq-Decides}
+use Rattle.std.specs.{Char.{is_ascii_alphabetic, is_ascii_alphanumeric, is_ascii_digit}, Fmt.decimal, Str.bytes_eq}
 use Rattle.std.specs.List.{list_all, range_with_len, IsDistinct, AllByRecursion}
-use Rattle.std.proofs.lemmas.{Bool.and_from, Bool.le-leb, Fmt.decimal_injective, Slice.Eq.bytes_eq-Decides}
-use Rattle.list_laws.proofs.{Elements.list_all-weaker, Digits.three_digits, Digits.digits_of}
+use Rattle.list_laws.proofs.{Elements.list_all-weaker, Digits.{three_digits, digits_of}}
 use Rattle.text_parts_laws.specs.Names.{is_register_name}
 use Rattle.text_parts_laws.proofs.NameLaws.{digit_alphanumeric}
-use Rattle.arch_trait.specs.declared.numbered.Numbered.{Numbered}
-use Rattle.arch_trait.specs.Forms.{register_name, register_names}
+use Rattle.arch_trait.specs.{declared.numbered.Numbered.Numbered, Forms.{register_name, register_names}}
 use Rattle.arch_trait.specs.Writing.{name_in, is_plain, is_label_name, label_name, label_word}
 
 -- numbered registers: a letter, and numbers of at most three digits

@@ -1,7 +1,6 @@
 -- Laws of the names of locations, for the crates above.
 use Rattle.std.proofs.Common.{ℕ, ◌≡◌, length, ◌+◌, [], ◌∷◌, ◌++◌, ◌<◌}
-use Rattle.arch_trait.specs.PlaceNames.{letters, location_name}
-use Rattle.arch_trait.specs.declared.step.TheConstants.{MAX_STEPS}
+use Rattle.arch_trait.specs.{PlaceNames.{letters, location_name}, declared.step.TheConstants.MAX_STEPS}
 use Rattle.arch_trait.proofs.Tables.{IsNew}
 use Rattle.arch_trait.proofs.Tables as proved
 

@@ -5,9 +5,8 @@
 use Rattle.std.proofs.Common.{ℕ, ◌≤◌, ◌≡◌, refl, true, bit_or, List, [], ◌∷◌, ◌++◌, length, Some, None, ◌∙◌, ap, arith}
 use Rattle.std.proofs.lemmas.Bool.{and_from, or_left, eq-eqb}
 use Rattle.relax_edges.specs.declared.kinds.Mark.TheVariants.{Plain}
-use Rattle.micro_ops.specs.declared.{held.Held.Held, operation.Micro.Micro}
+use Rattle.micro_ops.specs.{declared.held.Held.Held, declared.operation.Micro.Micro, Machine.{num, bit}, Running.{Run, At}}
 use Rattle.micro_ops.specs.declared.operation.Micro.TheVariants as ops
-use Rattle.micro_ops.specs.{Machine.num, Machine.bit, Running.Run, Running.At}
 use Rattle.arch_trait.specs.Laws.{DidLink}
 use Rattle.arch_trait_laws.proofs.Rules.{after_cmp, after_branch, run_add_address, run_load_index, run_load_index_wants, run_store_index, run_cmp_branch, run_branch_nz}
 use Rattle.arch_trait_laws.proofs.Accesses.{Asked, asked, did_control}

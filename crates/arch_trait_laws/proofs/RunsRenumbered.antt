@@ -1,10 +1,9 @@
 -- The run of code whose places have other numbers is its run with these numbers: no operation depends on a place's number.
-use Rattle.std.proofs.Common.{◌≡◌, ℕ, Bool, false, List, [], ◌∷◌, map, Option, Some, None, refl, ◌∙◌, ap, arith}
+use Rattle.std.proofs.{Common.{◌≡◌, ℕ, Bool, false, List, [], ◌∷◌, map, Option, Some, None, refl, ◌∙◌, ap, arith}, lemmas.List.map-append}
 use Rattle.std.specs.Option.{option_map}
-use Rattle.std.proofs.lemmas.List.{map-append}
 use Rattle.relax_edges.specs.declared.kinds.Value.{Value}
-use Rattle.micro_ops.specs.declared.{held.Held.Held, operation.Micro.Micro, operation.Item.Item}
-use Rattle.micro_ops.specs.{Machine.ThreadState, Machine.Effect, Machine.step, Renumbering.op_at, Renumbering.value_at, Renumbering.item_at}
+use Rattle.micro_ops.specs.{declared.held.Held.Held, declared.operation.Micro.Micro, declared.operation.Item.Item, Machine.{ThreadState, Effect, step}}
+use Rattle.micro_ops.specs.Renumbering.{op_at, value_at, item_at}
 use Rattle.micro_ops.specs.Running.{Run, Point, At, Past, Wants, Stuck, is_load, is_label, add_item, led, wanting, taken, go, exec, starting, beginning, Outcome, Ended, ReadsLeft, ReadsShort, NoRule, outcome, runs}
 
 -- what a register, a state, a run and so on are under other numbers

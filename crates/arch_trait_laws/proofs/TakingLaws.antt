@@ -1,7 +1,6 @@
 -- Laws of taking address registers.
 use Rattle.std.proofs.Common.{ℕ, ◌<◌, ◌≤◌, ◌≡◌, List, Some, [], ◌∷◌, ◌++◌, ◌==◌, cond, None, true, ◌+◌}
-use Rattle.arch_trait.specs.Taking.{address_in, Taken, has_address, with_address}
-use Rattle.arch_trait.specs.Laws.{InOrder}
+use Rattle.arch_trait.specs.{Taking.{address_in, Taken, has_address, with_address}, Laws.InOrder}
 use Rattle.arch_trait.proofs.Taking as proved
 
 -- address registers in order are within their bounds

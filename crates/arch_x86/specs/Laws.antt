@@ -1,13 +1,11 @@
 -- X86 obeys the laws of architectures.
-use Rattle.std.proofs.Common.{ℕ, ◌≡◌, refl, Option, arith}
-use Rattle.std.proofs.lemmas.Bool.Decides.{nat_tests}
+use Rattle.std.proofs.{Common.{ℕ, ◌≡◌, refl, Option, arith}, lemmas.Bool.Decides.nat_tests}
 use Rattle.relax_edges.specs.declared.kinds.ArchName.TheVariants as archs
-use Rattle.arch_trait.specs.declared.link.Link.{Link}
+use Rattle.arch_trait.specs.{declared.link.Link.Link, Laws.IsArch}
 use Rattle.arch_trait.specs.declared.link.Link.TheVariants as links
-use Rattle.arch_trait.specs.Laws.{IsArch}
 use Rattle.arch_instructions_laws.specs.Tables.{operands_fit}
-use Rattle.arch_instructions_laws.proofs.{Barriers.fences_had, Fenced.fence_code, Fenced.IsFenced, Fenced.fenced_laws}
-use Rattle.arch_x86.specs.{Table.forms, Table.table, Puts.puts, Puts.x86_link_code}
+use Rattle.arch_instructions_laws.proofs.{Barriers.fences_had, Fenced.{fence_code, IsFenced, fenced_laws}}
+use Rattle.arch_x86.specs.{Table.{forms, table}, Puts.{puts, x86_link_code}}
 
 -- the code of a link is its fence alone
 link_is : (link : Link) (from : Option ℕ) (n : ℕ) → x86_link_code link from n ≡ fence_code link

@@ -1,29 +1,24 @@
 -- The test of a cycle is within the limits of the format: its code, its address registers and its terms.
 use Rattle.std.proofs.Common.{◌≡◌, ℕ, suc, ◌+◌, ◌<◌, ◌≤◌, ◌==◌, Bool, true, false, ◌||◌, List, [], ◌∷◌, ◌++◌, length, map, Some, slice_get, refl, sym, ap, ◌∙◌, subst, arith}
-use Rattle.std.specs.{Prelude.◌&&◌, Prelude.is_some, Prelude.nat_lt, Str.bytes_eq}
-use Rattle.std.specs.List.{AllByRecursion, list_all, filter, position_from, zip}
-use Rattle.std.proofs.lemmas.{Bool.eqb-true, Bool.lt-ltb, Bool.and_from, List.length-map, List.Sums.count_by-le-length, Option.slice_get_within}
-use Rattle.std.proofs.lemmas.{Option.slice_get-get_or, Slice.Eq.bytes_eq-Decides}
-use Rattle.list_laws.proofs.{Elements.all_append, Cases.by_test, Numbers.length-upto, Numbers.slice_get-upto}
+use Rattle.std.proofs.{lemmas.Bool.{eqb-true, lt-ltb, and_from}, lemmas.List.length-map, lemmas.List.Sums.count_by-le-length}
+use Rattle.std.proofs.{lemmas.Option.{slice_get_within, slice_get-get_or}, lemmas.Slice.Eq.bytes_eq-Decides}
+use Rattle.std.specs.{Prelude.{◌&&◌, is_some, nat_lt}, Str.bytes_eq, List.{AllByRecursion, list_all, filter, position_from, zip}}
+use Rattle.list_laws.proofs.{Elements.all_append, Cases.by_test, Numbers.{length-upto, slice_get-upto}}
 use Rattle.list_laws.specs.Numbers.{upto}
-use Rattle.relax_edges.specs.declared.{TheConstants.MAX_EDGES, kinds.ArchName.ArchName, kinds.ObsMode.ObsMode, edge.Edge.Edge}
+use Rattle.relax_edges.specs.{declared.TheConstants.MAX_EDGES, declared.kinds.ArchName.ArchName, declared.kinds.ObsMode.ObsMode, declared.edge.Edge.Edge}
 use Rattle.cycle_events.proofs.Along.{write_count_most}
 use Rattle.cycle_events.specs.Resolution.{IsResolved, move_count}
 use Rattle.text_parts_laws.specs.Names.{is_place_name, is_register_name}
-use Rattle.arch_trait.specs.declared.{arch.TheConstants.MAX_INSTRS, step.Step.Step}
-use Rattle.arch_trait.specs.{Cells.MakesOneAccess, Codes.AllBelow, Codes.IsFormedCode, Laws.IsArch, Laws.InOrder, Links.branches, PlaceNames.letters}
-use Rattle.arch_trait.specs.{PlaceNames.location_name, PlaceNames.number_in, Writing.Writing, Writing.WritesBack, Writing.name_in}
+use Rattle.arch_trait.specs.{declared.arch.TheConstants.MAX_INSTRS, declared.step.Step.Step, Cells.MakesOneAccess, Codes.{AllBelow, IsFormedCode}}
+use Rattle.arch_trait.specs.{Laws.{IsArch, InOrder}, Links.branches, PlaceNames.{letters, location_name, number_in}, Writing.{Writing, WritesBack, name_in}}
 use Rattle.arch_trait.specs.Threads.{Puts, ThreadCode, FitSteps, compiled, is_load_dir, setting_out, visits}
-use Rattle.arch_trait_laws.proofs.{Ordered.compiled_ordered, Ordered.compiled_accesses, NameLaws.location_new, CodeLaws.is_formed}
-use Rattle.arch_trait_laws.proofs.{CodeLaws.thread_short}
-use Rattle.litmus_text.specs.{Items.Link, Items.LinkFits, Items.links_of, Progress.CodeFits, Progress.code_lands, ReadTerms.TermFits}
-use Rattle.bytes_force_cycles.proofs.FormedFits.{HasPlaces, code_fits, lands_once, links_fit}
+use Rattle.arch_trait_laws.proofs.{Ordered.{compiled_ordered, compiled_accesses}, NameLaws.location_new, CodeLaws.{is_formed, thread_short}}
+use Rattle.litmus_text.specs.{Items.{Link, LinkFits, links_of}, Progress.{CodeFits, code_lands}, ReadTerms.TermFits}
+use Rattle.bytes_force_cycles.proofs.{FormedFits.{HasPlaces, code_fits, lands_once, links_fit}, Rereading.got_is}
 use Rattle.accesses_force_cycles.proofs.Lists.{image_of}
-use Rattle.tests_force_cycles.specs.{TestHeadline.HasCode, CycleSteps.cycle_steps, CycleSteps.numbers_read}
+use Rattle.tests_force_cycles.specs.{TestHeadline.HasCode, CycleSteps.{cycle_steps, numbers_read}}
 use Rattle.tests_force_cycles.specs.TestOf.{plain, is_named_location, last_term, last_terms, load_term, thread_terms, load_terms}
-use Rattle.tests_force_cycles.proofs.{Everywhere.all_from, PlaceNames.letter_at, PlaceNames.locations_few}
-use Rattle.tests_force_cycles.proofs.StepsFit.{IsThread, all_at, steps_fit, steps_placed}
-use Rattle.bytes_force_cycles.proofs.Rereading.{got_is}
+use Rattle.tests_force_cycles.proofs.{Everywhere.all_from, PlaceNames.{letter_at, locations_few}, StepsFit.{IsThread, all_at, steps_fit, steps_placed}}
 
 -- what is in a table has a number
 name_found : (k : ℕ) (names : List (List ℕ)) (i : ℕ) (name : List ℕ) → slice_get names i ≡ Some name → is_some (position_from (λ x. bytes_eq x name) k names) ≡ true

@@ -1,17 +1,15 @@
 -- The printed bytes of a readable test of a cycle force the cycle.
 use Rattle.std.proofs.Common.{◌≡◌, ℕ, List, length, refl, sym, ◌∙◌, subst}
-use Rattle.relax_edges.specs.declared.{kinds.ArchName.ArchName, kinds.ObsMode.ObsMode, edge.Edge.Edge}
+use Rattle.relax_edges.specs.{declared.kinds.ArchName.ArchName, declared.kinds.ObsMode.ObsMode, declared.edge.Edge.Edge}
 use Rattle.final_cond.specs.States.{Meets}
 use Rattle.cycle_events.specs.Resolution.{move_count}
-use Rattle.arch_trait.specs.{Laws.IsArch, PlaceNames.letters, PlaceNames.number_in, Threads.Puts, Writing.Writing, Writing.WritesBack}
-use Rattle.arch_trait.specs.{Writing.name_in}
+use Rattle.arch_trait.specs.{Laws.IsArch, PlaceNames.{letters, number_in}, Threads.Puts, Writing.{Writing, WritesBack, name_in}}
 use Rattle.litmus_text.specs.{TestReadsBack.TestReadsBack, Reread.reread, TestReading.TestRead, TestText.test_text}
-use Rattle.program_meaning.specs.{Executions.Execution, Intended.intended, Programs.Program, Programs.IsCandidate, Programs.IsCoherentIn}
-use Rattle.program_meaning.specs.{Standing.AllStand}
-use Rattle.tests_force_cycles.specs.{FinalStates.final_state, FinalStates.IsAskedFor, TestHeadline.HasTest, TestHeadline.IsRenumbered}
-use Rattle.tests_force_cycles.specs.{TestHeadline.Forces, TestPrograms.test_program, TestOf.test_of}
+use Rattle.program_meaning.specs.{Executions.Execution, Intended.intended, Programs.{Program, IsCandidate, IsCoherentIn}, Standing.AllStand}
+use Rattle.tests_force_cycles.specs.{FinalStates.{final_state, IsAskedFor}, TestHeadline.{HasTest, IsRenumbered, Forces}, TestPrograms.test_program}
+use Rattle.tests_force_cycles.specs.TestOf.{test_of}
 use Rattle.tests_force_cycles.proofs.{Headline.renumbered_force_law, RegisterNames.registers_found}
-use Rattle.bytes_force_cycles.specs.{PrintedHeadline.BytesForce, Readings.program_read, Readings.place_in_test, Readings.ReadingAsks}
+use Rattle.bytes_force_cycles.specs.{PrintedHeadline.BytesForce, Readings.{program_read, place_in_test, ReadingAsks}}
 use Rattle.bytes_force_cycles.proofs.NoInterleaving.{WritesInside, NotInOrder, test_writes_within, not_in_order, interleaving_ends}
 use Rattle.bytes_force_cycles.proofs.Rereading.{by_table, reread_test, reread_renumbered, threads_numbered, number_of_location, intended_same}
 

@@ -1,19 +1,14 @@
 -- The code of a thread reads back.
 use Rattle.std.proofs.Common.{◌≡◌, ◌<◌, ◌≤◌, ◌+◌, ◌==◌, ℕ, zero, suc, List, [], ◌∷◌, ◌++◌, true, false, cond, length, map, refl, sym, ap, ◌∙◌, subst, arith, append_assoc, append-nil, zero-add}
-use Rattle.std.specs.Prelude.{Bool, not, ◌&&◌, ◌||◌, nat_lt, is_some, count_by}
-use Rattle.std.specs.List.{list_all, list_any, range_with_len, AllByRecursion}
-use Rattle.std.proofs.lemmas.Bool.{eqb-true, eq-eqb, lt-ltb, ltb-true, and_parts, and_from}
-use Rattle.std.proofs.lemmas.List.Sums.{sum_by-append, sum_by-cons}
+use Rattle.std.proofs.{lemmas.Bool.{eqb-true, eq-eqb, lt-ltb, ltb-true, and_parts, and_from}, lemmas.List.Sums.{sum_by-append, sum_by-cons}}
+use Rattle.std.specs.{Prelude.{Bool, not, ◌&&◌, ◌||◌, nat_lt, is_some, count_by}, List.{list_all, list_any, range_with_len, AllByRecursion}}
 use Rattle.list_laws.proofs.Cases.{by_test}
-use Rattle.micro_ops.specs.declared.operation.Micro.{Micro}
+use Rattle.micro_ops.specs.{declared.operation.Micro.Micro, Running.{labels_of, lands, occurs}}
 use Rattle.micro_ops.specs.declared.operation.Micro.TheVariants as ops
-use Rattle.micro_ops.specs.Running.{labels_of, lands, occurs}
 use Rattle.text_parts_laws.specs.Names.{is_place_name}
-use Rattle.arch_trait.specs.declared.step.Step.{Step}
-use Rattle.arch_trait.specs.{Cells.is_access, Cells.access_count, LabelOrder.labels_after, LabelOrder.is_next, LabelOrder.labels_ordered}
-use Rattle.arch_trait.specs.{Codes.is_within, Laws.InOrder, PlaceNames.number_in, Threads.Puts, Threads.ThreadCode, Threads.visits, Writing.Writing}
-use Rattle.litmus_text.specs.{TestTable.is_label_of, TestTable.comes_once, Progress.is_placed, Progress.CodeFits, Progress.code_lands}
-use Rattle.litmus_text.specs.Items.{Link, links_of, links_once, LinkFits}
+use Rattle.arch_trait.specs.{declared.step.Step.Step, Cells.{is_access, access_count}, LabelOrder.{labels_after, is_next, labels_ordered}, Codes.is_within}
+use Rattle.arch_trait.specs.{Laws.InOrder, PlaceNames.number_in, Threads.{Puts, ThreadCode, visits}, Writing.Writing}
+use Rattle.litmus_text.specs.{TestTable.{is_label_of, comes_once}, Progress.{is_placed, CodeFits, code_lands}, Items.{Link, links_of, links_once, LinkFits}}
 use Rattle.arch_trait_laws.proofs.TakingLaws.{in_order_le}
 
 -- the place of each visit has a name of its form in a table

@@ -1,27 +1,23 @@
 -- The text of a cycle's test isn't too long.
 use Rattle.std.proofs.Common.{◌≡◌, ℕ, zero, suc, ◌+◌, ◌-◌, ◌*◌, ◌<◌, ◌≤◌, true, List, [], ◌∷◌, ◌++◌, length, get_or, map, max, fold, refl, ap, arith, length-append, suc-mul}
-use Rattle.std.specs.{Prelude.codes, Prelude.nat_lt, Fmt.decimal}
-use Rattle.std.specs.List.{AllByRecursion, join_by, flat_map, enumerate_from, range_with_len}
-use Rattle.std.proofs.{Math.ListN.replicate, lemmas.Bool.and_parts, lemmas.Bool.ltb-true, lemmas.Grind.flat_map-append, lemmas.List.length-map}
-use Rattle.std.proofs.{lemmas.List.length-replicate, lemmas.List.Elements.All-from_recursion, lemmas.List.FromFn.length-range_with_len}
-use Rattle.relax_edges.specs.declared.{TheConstants.MAX_EDGES, kinds.ArchName.ArchName, edge.Edge.Edge}
+use Rattle.std.proofs.{Math.ListN.replicate, lemmas.Bool.{and_parts, ltb-true}, lemmas.Grind.flat_map-append, lemmas.List.{length-map, length-replicate}}
+use Rattle.std.proofs.{lemmas.List.Elements.All-from_recursion, lemmas.List.FromFn.length-range_with_len}
+use Rattle.std.specs.{Prelude.{codes, nat_lt}, Fmt.decimal, List.{AllByRecursion, join_by, flat_map, enumerate_from, range_with_len}}
+use Rattle.relax_edges.specs.{declared.TheConstants.MAX_EDGES, declared.kinds.ArchName.ArchName, declared.edge.Edge.Edge, Architectures.arch_word}
+use Rattle.relax_edges.specs.WordParts.{word_of}
 use Rattle.relax_edges.specs.declared.kinds.ArchName.TheVariants as archs
-use Rattle.relax_edges.specs.{Architectures.arch_word, WordParts.word_of}
 use Rattle.edge_algebra_laws.proofs.SpellingLaws.{word_short}
 use Rattle.micro_ops.specs.declared.operation.Micro.{Micro}
-use Rattle.final_cond.specs.declared.cond.Quantifier.{Quantifier}
+use Rattle.final_cond.specs.{declared.cond.Quantifier.Quantifier, Conditions.{LeftSeen, InRegister, AtPlace, TermSeen, CondSeen}}
+use Rattle.final_cond.specs.{CondText.{quantifier_word, left_text, term_text, further_term_text, terms_text, cond_text}, ConditionReadBack.IsFormedTerm}
+use Rattle.final_cond.specs.ConditionReading.{has_form}
 use Rattle.final_cond.specs.declared.cond.Quantifier.TheVariants as quantifiers
-use Rattle.final_cond.specs.Conditions.{LeftSeen, InRegister, AtPlace, TermSeen, CondSeen}
-use Rattle.final_cond.specs.CondText.{quantifier_word, left_text, term_text, further_term_text, terms_text, cond_text}
 use Rattle.text_parts_laws.specs.Names.{is_register_name}
-use Rattle.final_cond.specs.{ConditionReadBack.IsFormedTerm, ConditionReading.has_form}
-use Rattle.text_parts_laws.proofs.{LengthLaws.pieces_short, NameLaws.place_name_short, NameLaws.register_name_short, NumberLaws.two_digits}
-use Rattle.text_parts_laws.proofs.{NumberLaws.ten_digits}
-use Rattle.arch_trait.specs.declared.arch.TheConstants.{MAX_INSTRS}
-use Rattle.arch_trait.specs.{Threads.ThreadCode, Writing.Writing, Writing.op_text, Writing.name_in, SeenTests.TestSeen}
+use Rattle.text_parts_laws.proofs.{LengthLaws.pieces_short, NameLaws.{place_name_short, register_name_short}, NumberLaws.{two_digits, ten_digits}}
+use Rattle.arch_trait.specs.{declared.arch.TheConstants.MAX_INSTRS, Threads.ThreadCode, Writing.{Writing, op_text, name_in}, SeenTests.TestSeen}
 use Rattle.litmus_text.specs.declared.limits.TheConstants.{MAX_TEST_TEXT}
-use Rattle.list_laws.proofs.Elements.{flat_map-flat_map}
 use Rattle.litmus_text.specs.TestText.{header_line, edges_line, item_text, items_lines, initial_lines, column_of, width_of, cell_text, row_line, row_count, table_lines, test_lines, with_line_feed, test_text}
+use Rattle.list_laws.proofs.Elements.{flat_map-flat_map}
 
 -- pieces of at most c bytes each, with a separator between
 joined_short : {X : Type 0} (f : X → List ℕ) (sep : List ℕ) (c e : ℕ) (xs : List X) → c + length sep ≤ e → AllByRecursion (λ x. length (f x) ≤ c) xs → length (join_by f sep xs) ≤ length xs * e

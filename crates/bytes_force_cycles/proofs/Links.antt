@@ -1,29 +1,26 @@
 -- The laws on links and on the condition, of what is read of the printed text of a cycle's test: it is the test, except for the
 -- numbers of places.
 use Rattle.std.proofs.Common.{◌≡◌, ℕ, List, [], length, refl, sym, ◌∙◌, subst}
-use Rattle.relax_edges.specs.declared.{kinds.ArchName.ArchName, kinds.ObsMode.ObsMode, edge.Edge.Edge}
+use Rattle.relax_edges.specs.{declared.kinds.ArchName.ArchName, declared.kinds.ObsMode.ObsMode, declared.edge.Edge.Edge}
 use Rattle.cycle_events.specs.Resolution.{move_count}
 use Rattle.final_cond.specs.States.{Meets}
-use Rattle.arch_trait.specs.{Cells.WritesCells, Cells.MakesOneAccess, Laws.IsArch, PlaceNames.letters, PlaceNames.number_in, SeenTests.TestSeen}
-use Rattle.arch_trait.specs.{Threads.Puts, Writing.Writing, Writing.WritesBack, Writing.name_in}
+use Rattle.arch_trait.specs.{Cells.{WritesCells, MakesOneAccess}, Laws.IsArch, PlaceNames.{letters, number_in}, SeenTests.TestSeen, Threads.Puts}
+use Rattle.arch_trait.specs.Writing.{Writing, WritesBack, name_in}
 use Rattle.litmus_text.specs.{TestReadsBack.TestReadsBack, Reread.reread, TestReading.TestRead, TestText.test_text}
-use Rattle.program_meaning.specs.{Executions.Execution, Standing.AllStand, Standing.event_name}
-use Rattle.program_meaning.specs.Programs.{Program, IsCandidate, IsCoherentIn, accesses_in}
+use Rattle.program_meaning.specs.{Executions.Execution, Standing.{AllStand, event_name}, Programs.{Program, IsCandidate, IsCoherentIn, accesses_in}}
 use Rattle.program_meaning.specs.Intended.{IsNumbering, cycle_accesses, intended, observed_locations}
 use Rattle.accesses_force_cycles.proofs.{Bridge.resolves, IntendedReads.reads-count}
 use Rattle.accesses_force_cycles.proofs.Programs as programs
 use Rattle.accesses_force_cycles.specs.Joining.{MakesAccesses}
 use Rattle.sc_and_interleavings.specs.{Sequential.HasNoCycle, LinkLaws.IsLink, Links.PrecedesBut}
 use Rattle.sc_and_interleavings.proofs.{OneLink.each_link_closes, Outcomes.standing_is_outcome}
-use Rattle.tests_force_cycles.specs.{FinalStates.final_state, FinalStates.IsAskedFor, TestHeadline.HasTest, TestHeadline.IsRenumbered}
-use Rattle.tests_force_cycles.specs.{TestPrograms.test_program, TestOf.test_of}
-use Rattle.tests_force_cycles.proofs.{Headline.renumbered_numbers, Headline.renumbered_program, Headline.tests_ask_law, Making.makes}
-use Rattle.tests_force_cycles.proofs.{Making.makes_enough, Making.intended_enough, RegisterNames.registers_found, TestCodes.cycle_codes}
-use Rattle.tests_force_cycles.proofs.{TestCodes.cycle_program, TestCodes.are_codes}
-use Rattle.bytes_force_cycles.specs.{PrintedHeadline.BytesForce, Readings.program_read, Readings.place_in_test, Readings.ReadingAsks}
+use Rattle.tests_force_cycles.specs.{FinalStates.{final_state, IsAskedFor}, TestHeadline.{HasTest, IsRenumbered}, TestPrograms.test_program, TestOf.test_of}
+use Rattle.tests_force_cycles.proofs.{Headline.{renumbered_numbers, renumbered_program, tests_ask_law}, Making.{makes, makes_enough, intended_enough}}
+use Rattle.tests_force_cycles.proofs.{RegisterNames.registers_found, TestCodes.{cycle_codes, cycle_program, are_codes}}
+use Rattle.bytes_force_cycles.specs.{PrintedHeadline.BytesForce, Readings.{program_read, place_in_test, ReadingAsks}}
+use Rattle.bytes_force_cycles.specs.Links.{IsPrintedTest, LinkCloses, EachLinkMayBreak, ConditionDecides}
 use Rattle.bytes_force_cycles.proofs.{BackLaws.reads_back, Forcing.bytes_force, Readable.readable, PrintedSc.same_test}
 use Rattle.bytes_force_cycles.proofs.Rereading.{reread_test, reread_renumbered, by_table, threads_numbered, number_of_location, intended_same}
-use Rattle.bytes_force_cycles.specs.Links.{IsPrintedTest, LinkCloses, EachLinkMayBreak, ConditionDecides}
 
 -- the law on links for the program of a cycle's test, under any numbers of places
 cycle_links : (a : Puts) (register_name : ℕ → List ℕ) (es : List Edge) (mode : ObsMode) (test : TestSeen) (number : ℕ → ℕ)

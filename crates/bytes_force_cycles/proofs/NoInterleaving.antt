@@ -1,22 +1,19 @@
 -- No interleaving of a test's program ends in the outcome that its condition asks for, and no sequentially consistent execution.
 use Rattle.std.proofs.Common.{◌≡◌, ℕ, List, length, Option, subst, arith}
 use Rattle.std.specs.Prelude.{is_some}
-use Rattle.relax_edges.specs.declared.{kinds.Value.Value, kinds.ObsMode.ObsMode, edge.Edge.Edge}
+use Rattle.relax_edges.specs.{declared.kinds.Value.Value, declared.kinds.ObsMode.ObsMode, declared.edge.Edge.Edge}
 use Rattle.cycle_events.specs.Resolution.{IsResolved}
-use Rattle.final_cond.specs.{Conditions.LeftSeen, Conditions.InRegister, Conditions.AtPlace, States.Meets}
+use Rattle.final_cond.specs.{Conditions.{LeftSeen, InRegister, AtPlace}, States.Meets}
 use Rattle.arch_trait.specs.{Laws.IsArch, PlaceNames.number_in, SeenTests.TestSeen, Threads.Puts, Writing.Writing}
 use Rattle.litmus_text.specs.TestReading.{TestRead}
-use Rattle.program_meaning.specs.declared.WriteAt.{WriteAt}
-use Rattle.program_meaning.specs.{Executions.Execution, Programs.Program, Programs.IsCandidate, Programs.accesses_in, Standing.AllStand}
-use Rattle.program_meaning.specs.{Interleavings.accesses_on}
+use Rattle.program_meaning.specs.{declared.WriteAt.WriteAt, Executions.Execution, Programs.{Program, IsCandidate, accesses_in}, Standing.AllStand}
+use Rattle.program_meaning.specs.Interleavings.{accesses_on}
 use Rattle.accesses_force_cycles.proofs.Bridge.{resolves}
-use Rattle.sc_and_interleavings.specs.{CoherenceLaws.WritesWithin, Sequential.IsSequential, Made.made_by, Made.IsOfInterleaving}
-use Rattle.sc_and_interleavings.proofs.{SequentialMade.writes_to_own, Made.interleavings_make_executions, InterleavingLaws.sequential_is_coherent}
-use Rattle.sc_and_interleavings.proofs.{InterleavingLaws.standing_is_not_sequential}
-use Rattle.tests_force_cycles.specs.{FinalStates.final_state, TestHeadline.HasTest, TestHeadline.IsRenumbered, TestOf.test_of}
-use Rattle.tests_force_cycles.specs.{TestPrograms.test_program}
-use Rattle.tests_force_cycles.proofs.{Headline.renumbered_numbers, Headline.renumbered_program, Making.makes, TestCodes.cycle_codes}
-use Rattle.tests_force_cycles.proofs.{TestCodes.cycle_program, TestCodes.are_codes}
+use Rattle.sc_and_interleavings.specs.{CoherenceLaws.WritesWithin, Sequential.IsSequential, Made.{made_by, IsOfInterleaving}}
+use Rattle.sc_and_interleavings.proofs.{SequentialMade.writes_to_own, Made.interleavings_make_executions}
+use Rattle.sc_and_interleavings.proofs.InterleavingLaws.{sequential_is_coherent, standing_is_not_sequential}
+use Rattle.tests_force_cycles.specs.{FinalStates.final_state, TestHeadline.{HasTest, IsRenumbered}, TestOf.test_of, TestPrograms.test_program}
+use Rattle.tests_force_cycles.proofs.{Headline.{renumbered_numbers, renumbered_program}, Making.makes, TestCodes.{cycle_codes, cycle_program, are_codes}}
 use Rattle.bytes_force_cycles.specs.Readings.{program_read, ReadingAsks, state_after, InterleavingMeets}
 use Rattle.bytes_force_cycles.proofs.BackLaws.{numbered_in}
 

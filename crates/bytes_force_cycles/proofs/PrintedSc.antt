@@ -1,16 +1,14 @@
 -- The law of printed tests: what is read of their text is the test, except for the numbers of places.
 use Rattle.std.proofs.Common.{◌≡◌, ℕ, List, Ok, length, sym, ◌∙◌, subst}
 use Rattle.std.specs.Prelude.{Result}
-use Rattle.litmus_text.specs.declared.errors.TextError.{TextError}
-use Rattle.relax_edges.specs.declared.{kinds.ArchName.ArchName, kinds.ObsMode.ObsMode, edge.Edge.Edge}
+use Rattle.litmus_text.specs.{declared.errors.TextError.TextError, TestReadsBack.TestReadsBack, Reread.reread, TestReading.TestRead}
+use Rattle.relax_edges.specs.{declared.kinds.ArchName.ArchName, declared.kinds.ObsMode.ObsMode, declared.edge.Edge.Edge}
 use Rattle.cycle_events.specs.Resolution.{move_count}
-use Rattle.arch_trait.specs.{Cells.WritesCells, Cells.MakesOneAccess, Laws.IsArch, PlaceNames.letters, Threads.Puts, Writing.Writing}
-use Rattle.arch_trait.specs.{Writing.WritesBack, Writing.name_in}
-use Rattle.litmus_text.specs.{TestReadsBack.TestReadsBack, Reread.reread, TestReading.TestRead}
+use Rattle.arch_trait.specs.{Cells.{WritesCells, MakesOneAccess}, Laws.IsArch, PlaceNames.letters, Threads.Puts, Writing.{Writing, WritesBack, name_in}}
 use Rattle.bytes_force_cycles.proofs.{BackLaws.reads_back, Readable.readable, ScLaws.tests_are_sc_per_location}
-use Rattle.tests_force_cycles.specs.{TestHeadline.HasTest, TestPrograms.test_program, TestOf.test_of}
-use Rattle.bytes_force_cycles.specs.{Readings.program_read, ScLaws.ScDecides, ScLaws.PrintedAreScPerLocation}
 use Rattle.bytes_force_cycles.proofs.Rereading.{reread_test, reread_renumbered, by_table, threads_numbered}
+use Rattle.tests_force_cycles.specs.{TestHeadline.HasTest, TestPrograms.test_program, TestOf.test_of}
+use Rattle.bytes_force_cycles.specs.{Readings.program_read, ScLaws.{ScDecides, PrintedAreScPerLocation}}
 
 -- the law for what is read back of a printed test
 read_sc : (a : Puts) (arch : ArchName) (w : Writing) (name : List ℕ) (es : List Edge) (mode : ObsMode) → IsArch a → HasTest a es mode → (r : TestReadsBack arch w name (test_of a (name_in w.registers) es mode)) → ScDecides (program_read (reread r.table name (test_of a (name_in w.registers) es mode)))

@@ -1,25 +1,22 @@
 -- The test of a cycle, under a name of its form, reads back.
 use Rattle.std.proofs.Common.{◌≡◌, ℕ, ◌+◌, ◌<◌, ◌≤◌, true, List, [], ◌∷◌, ◌++◌, length, map, sym, ◌∙◌, subst, arith, cond, Some}
+use Rattle.std.proofs.{lemmas.Bool.{and_parts, leb-true}, lemmas.List.length-map, lemmas.Option.slice_get_within}
 use Rattle.std.specs.List.{AllByRecursion, list_all}
-use Rattle.std.proofs.lemmas.{Bool.and_parts, Bool.leb-true, List.length-map, Option.slice_get_within}
-use Rattle.relax_edges.specs.declared.{TheConstants.MAX_EDGES, kinds.ArchName.ArchName, kinds.ObsMode.ObsMode, edge.Edge.Edge}
+use Rattle.relax_edges.specs.{declared.TheConstants.MAX_EDGES, declared.kinds.ArchName.ArchName, declared.kinds.ObsMode.ObsMode, declared.edge.Edge.Edge}
 use Rattle.cycle_events.specs.Resolution.{move_count}
 use Rattle.micro_ops.specs.declared.operation.Micro.{Micro}
 use Rattle.final_cond.specs.{Conditions.TermSeen, ConditionReadBack.IsFormedTerm}
 use Rattle.text_parts_laws.specs.Names.{is_register_name}
 use Rattle.text_parts_laws.proofs.NameLaws.{place_name_short, register_name_short}
-use Rattle.arch_trait.specs.{Cells.WritesCells, Cells.MakesOneAccess, Cells.is_access, LabelOrder.labels_after, Laws.IsArch, Laws.InOrder}
-use Rattle.arch_trait.specs.{PlaceNames.letters, PlaceNames.location_name, Threads.Puts, Threads.compiled}
-use Rattle.arch_trait.specs.Writing.{Writing, WritesBack, name_in, op_text}
+use Rattle.arch_trait.specs.{Cells.{WritesCells, MakesOneAccess, is_access}, LabelOrder.labels_after, Laws.{IsArch, InOrder}}
+use Rattle.arch_trait.specs.{PlaceNames.{letters, location_name}, Threads.{Puts, compiled}, Writing.{Writing, WritesBack, name_in, op_text}}
 use Rattle.arch_trait_laws.proofs.NameLaws.{length-letters, location_new}
-use Rattle.litmus_text.specs.{Printable.IsTestName, Progress.CodeFits, Progress.code_lands, Reread.IsReadable, ReadTerms.TermFits}
-use Rattle.bytes_force_cycles.proofs.{FormedFits.links_single, Lengths.AreShort, Lengths.IsSmall, Lengths.text_short, SomeTerm.some_term}
-use Rattle.litmus_text.proofs.RowBack.{named_op}
-use Rattle.tests_force_cycles.specs.{TestHeadline.HasCode, CycleSteps.cycle_steps}
-use Rattle.tests_force_cycles.specs.TestOf.{plain, last_terms, load_terms, test_of}
-use Rattle.tests_force_cycles.proofs.{Everywhere.all_from, PlaceNames.letter_at, PlaceNames.locations_few, StepsAt.steps-count, StepsAt.steps_few}
-use Rattle.tests_force_cycles.proofs.{Terms.terms_few}
+use Rattle.litmus_text.specs.{Printable.IsTestName, Progress.{CodeFits, code_lands}, Reread.IsReadable, ReadTerms.TermFits}
+use Rattle.bytes_force_cycles.proofs.{FormedFits.links_single, Lengths.{AreShort, IsSmall, text_short}, SomeTerm.some_term}
 use Rattle.bytes_force_cycles.proofs.Fits.{all_links_fit, code_short, each_code, terms_fit, thread_code_fits, thread_is, thread_lands}
+use Rattle.litmus_text.proofs.RowBack.{named_op}
+use Rattle.tests_force_cycles.specs.{TestHeadline.HasCode, CycleSteps.cycle_steps, TestOf.{plain, last_terms, load_terms, test_of}}
+use Rattle.tests_force_cycles.proofs.{Everywhere.all_from, PlaceNames.{letter_at, locations_few}, StepsAt.{steps-count, steps_few}, Terms.terms_few}
 
 pub registers_short : (names : List (List ℕ)) → list_all is_register_name names ≡ true → AreShort names
 registers_short [] h = tt

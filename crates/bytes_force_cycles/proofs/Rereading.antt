@@ -1,30 +1,27 @@
 -- What is read of the printed test of a cycle is that test, but for the numbers of places.
 use Rattle.std.proofs.Common.{◌≡◌, ℕ, zero, suc, ◌+◌, ◌<◌, ◌≤◌, Bool, true, List, [], ◌∷◌, get_or, map, Some, slice_get, refl, sym, ap, ◌∙◌, subst, arith}
+use Rattle.std.proofs.{lemmas.List.Folds.find-append, lemmas.Option.{slice_get_within, slice_get-get_or}}
 use Rattle.std.specs.List.{AllByRecursion, find}
-use Rattle.std.proofs.lemmas.{List.Folds.find-append, Option.slice_get_within, Option.slice_get-get_or}
 use Rattle.list_laws.proofs.Elements.{all_parts}
-use Rattle.relax_edges.specs.declared.{TheConstants.MAX_EDGES, kinds.ObsMode.ObsMode, edge.Edge.Edge}
+use Rattle.relax_edges.specs.{declared.TheConstants.MAX_EDGES, declared.kinds.ObsMode.ObsMode, declared.edge.Edge.Edge}
 use Rattle.relax_edges.specs.declared.kinds.Value.TheVariants as values
-use Rattle.micro_ops.specs.declared.operation.Micro.{Micro}
-use Rattle.micro_ops.specs.Renumbering.{op_at}
+use Rattle.micro_ops.specs.{declared.operation.Micro.Micro, Renumbering.op_at}
 use Rattle.list_laws.specs.Numbers.{upto}
 use Rattle.cycle_events.specs.Resolution.{IsResolved, move_count, events_in, slot_of}
 use Rattle.cycle_events.specs.Resolution as resolution
-use Rattle.cycle_events.proofs.{Arcs.leaving, Arcs.thread_below, Locations.location_first, Threads.event_in_slot}
-use Rattle.arch_trait.specs.declared.step.Step.{Step}
-use Rattle.arch_trait.specs.{Laws.IsArch, PlaceNames.location_name, PlaceNames.letters, PlaceRenumbering.renumbered, Taking.initial_values}
-use Rattle.arch_trait.specs.{Threads.Puts, Threads.ThreadCode, Threads.compiled, Writing.name_in, SeenTests.TestSeen}
-use Rattle.arch_trait_laws.proofs.{NameLaws.length-letters, NameLaws.letters_more, NameLaws.location_new, CodeLaws.makes_steps}
-use Rattle.litmus_text.specs.{Items.links_of, TestReadsBack.is_in, TestReadsBack.op_is_in, Placing.place_in, Reread.thread_reread}
+use Rattle.cycle_events.proofs.{Arcs.{leaving, thread_below}, Locations.location_first, Threads.event_in_slot}
+use Rattle.arch_trait.specs.{declared.step.Step.Step, Laws.IsArch, PlaceNames.{location_name, letters}, PlaceRenumbering.renumbered, Taking.initial_values}
+use Rattle.arch_trait.specs.{Threads.{Puts, ThreadCode, compiled}, Writing.name_in, SeenTests.TestSeen}
+use Rattle.arch_trait_laws.proofs.{NameLaws.{length-letters, letters_more, location_new}, CodeLaws.makes_steps}
+use Rattle.litmus_text.specs.{Items.links_of, TestReadsBack.{is_in, op_is_in}, Placing.place_in, Reread.thread_reread}
 use Rattle.litmus_text.specs.Placing as placing
 use Rattle.litmus_text.proofs.NamesBack.{IsAmong, none_among, push_among, few_names}
 use Rattle.bytes_force_cycles.proofs.{BackLaws.numbered_in, Mentioning.place_is_in}
 use Rattle.program_meaning.specs.Intended.{intended, location_numbered}
 use Rattle.accesses_force_cycles.proofs.Lists.{got_map, map_same}
-use Rattle.tests_force_cycles.specs.{TestHeadline.HasCode, TestHeadline.IsRenumbered, TestPrograms.thread_from, CycleSteps.event_step}
-use Rattle.tests_force_cycles.specs.{CycleSteps.thread_steps, CycleSteps.cycle_steps, TestOf.plain, TestOf.test_of}
-use Rattle.tests_force_cycles.proofs.{Everywhere.all_gets, PlaceNames.letter_at, PlaceNames.locations_few, StepsAt.thread_steps_at}
-use Rattle.tests_force_cycles.proofs.{StepsFit.steps_fit}
+use Rattle.tests_force_cycles.specs.{TestHeadline.{HasCode, IsRenumbered}, TestPrograms.thread_from, CycleSteps.{event_step, thread_steps, cycle_steps}}
+use Rattle.tests_force_cycles.specs.TestOf.{plain, test_of}
+use Rattle.tests_force_cycles.proofs.{Everywhere.all_gets, PlaceNames.{letter_at, locations_few}, StepsAt.thread_steps_at, StepsFit.steps_fit}
 use Rattle.bytes_force_cycles.specs.Readings.{thread_read}
 
 -- the number that a table gives the place of a location, by the names of a test

@@ -1,24 +1,21 @@
 -- The condition of a cycle's test has a term.
 use Rattle.std.proofs.Common.{◌≡◌, ℕ, suc, ◌+◌, ◌-◌, ◌<◌, ◌≤◌, Bool, true, false, cond, List, ◌∷◌, ◌++◌, length, Some, slice_get, refl, ap, ◌∙◌, arith, length-append}
-use Rattle.std.specs.{Prelude.not, Prelude.nat_le, Prelude.count_by, List.filter, List.sum_by}
-use Rattle.std.proofs.lemmas.{Bool.le-leb, Bool.and_from, List.length-map, List.Sums.count_by-le-length, List.Sums.length-filter}
-use Rattle.std.proofs.lemmas.{List.Sums.sum_by-cons}
+use Rattle.std.proofs.{lemmas.Bool.{le-leb, and_from}, lemmas.List.length-map, lemmas.List.Sums.{count_by-le-length, length-filter, sum_by-cons}}
+use Rattle.std.specs.{Prelude.{not, nat_le, count_by}, List.{filter, sum_by}}
 use Rattle.list_laws.proofs.{Cases.by_test, Numbers.slice_get-upto, Ranks.rank_upto}
 use Rattle.list_laws.specs.Numbers.{upto}
-use Rattle.relax_edges.specs.declared.{kinds.Dir.Dir, kinds.ObsMode.ObsMode, edge.Edge.Edge}
+use Rattle.relax_edges.specs.{declared.kinds.Dir.Dir, declared.kinds.ObsMode.ObsMode, declared.edge.Edge.Edge, EdgeTable.{is_external, same_dir, source_of}}
 use Rattle.relax_edges.specs.declared.kinds.Dir.TheVariants as dirs
-use Rattle.relax_edges.specs.EdgeTable.{is_external, same_dir, source_of}
 use Rattle.cycle_events.specs.Resolution.{IsResolved, edge_at, event_after, events_in, external_count, location_of, move_count, slot_of}
-use Rattle.cycle_events.specs.Resolution as resolution
-use Rattle.cycle_events.proofs.{Arcs.last_keeps, Arcs.location_below, Arcs.thread_below, Around.after_below, Threads.event_in_slot, Along.value_after}
-use Rattle.cycle_events.proofs.{Along.value_most, Along.write_value}
 use Rattle.cycle_events.specs.Values.{is_observed, value_of, write_count}
-use Rattle.arch_trait.specs.declared.step.Step.{Step}
-use Rattle.arch_trait.specs.Threads.{Puts, is_load_dir, loads_in}
+use Rattle.cycle_events.specs.Resolution as resolution
+use Rattle.cycle_events.proofs.{Arcs.{last_keeps, location_below, thread_below}, Around.after_below, Threads.event_in_slot}
+use Rattle.cycle_events.proofs.Along.{value_after, value_most, write_value}
+use Rattle.arch_trait.specs.{declared.step.Step.Step, Threads.{Puts, is_load_dir, loads_in}}
 use Rattle.accesses_force_cycles.proofs.Lists.{got_map}
 use Rattle.tests_force_cycles.specs.CycleSteps.{event_step, thread_steps, observing, observer_steps, cycle_steps}
 use Rattle.tests_force_cycles.specs.TestOf.{plain, is_named_location, last_term, last_terms, load_terms}
-use Rattle.tests_force_cycles.proofs.{StepsAt.thread_steps_at, StepsAt.observer_steps_at, Terms.load_terms-count}
+use Rattle.tests_force_cycles.proofs.{StepsAt.{thread_steps_at, observer_steps_at}, Terms.load_terms-count}
 
 -- a term of a sum is at most the sum
 pub term_most : {X : Type 0} (f : X → ℕ) (xs : List X) (k : ℕ) (x : X) → slice_get xs k ≡ Some x → f x ≤ sum_by f xs

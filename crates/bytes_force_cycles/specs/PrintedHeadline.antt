@@ -1,13 +1,11 @@
 -- What the bytes of a printed test say of its cycle.
 -- Source: own.
 use Rattle.std.specs.Prelude.{◌≡◌, ℕ, List, Ok}
-use Rattle.relax_edges.specs.declared.{kinds.ArchName.ArchName, kinds.ObsMode.ObsMode, edge.Edge.Edge}
-use Rattle.final_cond.specs.declared.cond.Quantifier.TheVariants.{Exists}
-use Rattle.final_cond.specs.States.{Meets}
-use Rattle.arch_trait.specs.{PlaceNames.number_in, Threads.Puts, Writing.Writing, Writing.name_in}
-use Rattle.litmus_text.specs.{Printable.IsTestName, Reread.IsReadable, TestReading.TestRead, TestReading.test_read, TestText.test_text}
-use Rattle.program_meaning.specs.declared.WriteAt.{WriteAt}
-use Rattle.program_meaning.specs.{Executions.Execution, Programs.IsCandidate, Programs.accesses_in, Intended.intended, Standing.AllStand}
+use Rattle.relax_edges.specs.{declared.kinds.ArchName.ArchName, declared.kinds.ObsMode.ObsMode, declared.edge.Edge.Edge}
+use Rattle.final_cond.specs.{declared.cond.Quantifier.TheVariants.Exists, States.Meets}
+use Rattle.arch_trait.specs.{PlaceNames.number_in, Threads.Puts, Writing.{Writing, name_in}}
+use Rattle.litmus_text.specs.{Printable.IsTestName, Reread.IsReadable, TestReading.{TestRead, test_read}, TestText.test_text}
+use Rattle.program_meaning.specs.{declared.WriteAt.WriteAt, Executions.Execution, Programs.{IsCandidate, accesses_in}, Intended.intended, Standing.AllStand}
 use Rattle.sc_and_interleavings.specs.Sequential.{IsSequential}
 use Rattle.tests_force_cycles.specs.{FinalStates.final_state, TestHeadline.HasTest, TestOf.test_of}
 use Rattle.bytes_force_cycles.specs.Readings.{program_read, place_in_test, ReadingAsks, InterleavingMeets}

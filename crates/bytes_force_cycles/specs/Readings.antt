@@ -1,19 +1,13 @@
 -- What the reading of a test's text means: its program, and the executions that it asks for.
 -- Source: own.
-use Rattle.std.specs.Prelude.{ℕ, List, Option}
-use Rattle.std.specs.Option.{option_and_then, option_map}
-use Rattle.relax_edges.specs.declared.kinds.Value.{Value}
-use Rattle.relax_edges.specs.declared.kinds.Value.TheVariants.{Num}
-use Rattle.final_cond.specs.Conditions.{LeftSeen, InRegister, AtPlace}
-use Rattle.final_cond.specs.States.{Meets}
-use Rattle.arch_trait.specs.PlaceNames.{location_name, number_in}
-use Rattle.arch_trait.specs.Writing.{Writing}
+use Rattle.std.specs.{Prelude.{ℕ, List, Option}, Option.{option_and_then, option_map}}
+use Rattle.relax_edges.specs.{declared.kinds.Value.Value, declared.kinds.Value.TheVariants.Num}
+use Rattle.final_cond.specs.{Conditions.{LeftSeen, InRegister, AtPlace}, States.Meets}
+use Rattle.arch_trait.specs.{PlaceNames.{location_name, number_in}, Writing.Writing}
 use Rattle.litmus_text.specs.Placing.{place_in}
 pub use Rattle.litmus_text.specs.ReadPrograms.{thread_read, program_read}
 use Rattle.litmus_text.specs.TestReading.{TestRead}
-use Rattle.program_meaning.specs.Executions.{Execution}
-use Rattle.program_meaning.specs.declared.WriteAt.{WriteAt}
-use Rattle.program_meaning.specs.Programs.{Program, IsCandidate, IsCoherentIn}
+use Rattle.program_meaning.specs.{Executions.Execution, declared.WriteAt.WriteAt, Programs.{Program, IsCandidate, IsCoherentIn}}
 use Rattle.program_meaning.specs.Interleavings.{IsInterleavingOf, accesses_on, register_on, value_after}
 use Rattle.tests_force_cycles.specs.FinalStates.{final_state}
 

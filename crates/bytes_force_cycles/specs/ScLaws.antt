@@ -2,13 +2,12 @@
 -- coherence.
 -- Source: own.
 use Rattle.std.specs.Prelude.{ℕ, ◌≡◌, ◌↔◌, List, Ok}
-use Rattle.relax_edges.specs.declared.{kinds.ArchName.ArchName, kinds.ObsMode.ObsMode, edge.Edge.Edge}
-use Rattle.arch_trait.specs.{Laws.IsArch, Threads.Puts, Writing.Writing, Writing.name_in, SeenTests.TestSeen}
-use Rattle.litmus_text.specs.{Printable.IsTestName, TestReading.TestRead, TestReading.test_read, TestText.test_text}
-use Rattle.program_meaning.specs.Executions.{Execution}
-use Rattle.program_meaning.specs.Programs.{Program, IsCandidate, IsCoherentIn, accesses_in}
+use Rattle.relax_edges.specs.{declared.kinds.ArchName.ArchName, declared.kinds.ObsMode.ObsMode, declared.edge.Edge.Edge}
+use Rattle.arch_trait.specs.{Laws.IsArch, Threads.Puts, Writing.{Writing, name_in}, SeenTests.TestSeen}
+use Rattle.litmus_text.specs.{Printable.IsTestName, TestReading.{TestRead, test_read}, TestText.test_text}
+use Rattle.program_meaning.specs.{Executions.Execution, Programs.{Program, IsCandidate, IsCoherentIn, accesses_in}}
 use Rattle.sc_and_interleavings.specs.Relations.{IsScPerLocation}
-use Rattle.tests_force_cycles.specs.{TestHeadline.HasTest, TestHeadline.IsRenumbered, TestPrograms.test_program, TestOf.test_of}
+use Rattle.tests_force_cycles.specs.{TestHeadline.{HasTest, IsRenumbered}, TestPrograms.test_program, TestOf.test_of}
 use Rattle.bytes_force_cycles.specs.Readings.{program_read}
 
 -- each candidate execution of a program is coherent per location exactly where it is SC per location

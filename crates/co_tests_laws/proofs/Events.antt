@@ -1,14 +1,13 @@
 -- The accesses of a coherence test are at one place and their writes are numbered by their values, so one execution alone
 -- has these values: the stated one. Each edge joins its accesses in it, and it has a cycle.
 use Rattle.co_tests_laws.proofs.Vocabulary.{◌≡◌, ◌≢◌, ℕ, suc, ◌+◌, ◌-◌, ◌<◌, ◌≤◌, true, false, List, [], ◌∷◌, ◌++◌, length, map, Option, Some, None, slice_get, refl, sym, ◌∙◌, ap, subst, arith, add-one, filter, filter_map, option_map, map-append, upto, by_less, Dir, Sd, Same, Diff, Reach, Internal, External, Com, Kind, Avoid, Edge, kind_of, kind_source, kind_target, source_of, target_of, sd_of, reach_of, is_external, same_dir, IsCycle, edge_at, ends_outside, external_count, move_count, thread_of, slot_of, location_of, events_in, event_after, thread_in, thread_out, thread_up, thread_end, thread-zero, slot_in, event_in_slot, slot_of_event, by_after, after_below, source_after, write_at_from, is_write_number, is_observed, value_of, write_count, WriteAt, Access, write, is_read, reads_by, got_from, at_name, Execution, source_at, AreAt, CommunicatesBy, ComesBefore, Reaches, Joins, event_name, IsNumbering, observed_locations, event_access, event_at, observer_accesses, cycle_accesses, ordered_write, write_of, event_read, observer_reads, reads_in, location_order, location_numbered, intended, GotFrom, got_from_list, got_map, image_of, map_same, map-map, filter-map, location_of_number, EventAt, thread_accesses, observer_thread, reads_by_source, written_by, moves, stays_inside, goes_outside, orders_by, cut_open, writes_in, HasCycle}
+use Rattle.co_tests_laws.proofs.{OnePlace.{Numbered, by_value, source_in, by_values, by_values_source, by_values_place}, Turning.{Falls, has_cycle}}
+use Rattle.co_tests_laws.proofs.Opened.{source_same, external_same, same_at, opened-length, opened-threads, opened_thread, opened_slot}
+use Rattle.co_tests_laws.proofs.Values.{IsCut, written-all, one_move, one_location, write_count_is, value_along, value_begins, value_ends, value_within, value_positive, value_written, next_written, written_up}
 use Rattle.relax_edges.specs.declared.kinds.Dir.TheVariants as dirs
 use Rattle.relax_edges.specs.declared.kinds.Com.TheVariants as coms
 use Rattle.relax_edges.specs.declared.kinds.Kind.TheVariants as kinds
 use Rattle.cycle_events.proofs.Locations as outside
-use Rattle.co_tests_laws.proofs.OnePlace.{Numbered, by_value, source_in, by_values, by_values_source, by_values_place}
-use Rattle.co_tests_laws.proofs.Turning.{Falls, has_cycle}
-use Rattle.co_tests_laws.proofs.Opened.{source_same, external_same, same_at, opened-length, opened-threads, opened_thread, opened_slot}
-use Rattle.co_tests_laws.proofs.Values.{IsCut, written-all, one_move, one_location, write_count_is, value_along, value_begins, value_ends, value_within, value_positive, value_written, next_written, written_up}
 
 -- a cycle over one location that is cut, and that composes and ends with an edge to another of two threads or more
 pub record IsLoop (es : List Edge) : Type 0 where

@@ -1,8 +1,7 @@
 -- What the program and the condition of a coherence test ask for: one candidate execution alone meets the condition, all
 -- edges stand in it, it has a cycle, and so it isn't coherent per location.
 use Rattle.co_tests_laws.proofs.Vocabulary.{◌≡◌, ℕ, suc, ◌-◌, ◌≤◌, List, length, Option, Some, sym, ◌∙◌, ap, subst, arith, length-map, all_append, all_parts, Avoid, Edge, move_count, Meets, IsArch, location_name, number_in, Puts, Access, at_name, Execution, IsExecutionOf, final_value, AllStand, IsNumbering, Program, IsCandidate, IsCoherentIn, accesses_in, accesses-count, ReadsAsAsked, values_read, got_map, map-map, makes_planned, WritesWithin, candidates_are_sc_per_location, cycle_steps, last_terms, load_terms, final_state, FindsRegisters, IsMet, cycle_program, all_end, makes, makes_enough, asked_enough, planned-count, cut_open, writes_in, coherence_steps, coherence_test_of, HasCycle}
-use Rattle.co_tests_laws.proofs.OnePlace.{only_by_values, by_values_execution, by_values_ends}
-use Rattle.co_tests_laws.proofs.{Values.one_move, Stands.all_stand}
+use Rattle.co_tests_laws.proofs.{OnePlace.{only_by_values, by_values_execution, by_values_ends}, Values.one_move, Stands.all_stand}
 use Rattle.co_tests_laws.proofs.Events.{IsLoop, loop_accesses, loop_write, loop_execution, numbered, loop_cycle}
 use Rattle.co_tests_laws.proofs.Asked.{HasLoopCode, loop_codes, are_codes, reads_asked, asked_met, ends_asked, asked_ends}
 

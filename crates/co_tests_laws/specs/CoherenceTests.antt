@@ -2,21 +2,14 @@
 -- observers. It has one place, `x`; where there are two writes its condition names the last value of `x` first, and then it
 -- says what each load reads.
 -- Source: own, after the way diy takes from a cycle to a test.
-use Rattle.std.specs.Prelude.{ℕ, ◌≡◌, ◌≤◌, true, false, List, Some, count_by, slice_get}
-use Rattle.std.specs.List.{list_all, list_any}
+use Rattle.std.specs.{Prelude.{ℕ, ◌≡◌, ◌≤◌, true, false, List, Some, count_by, slice_get}, List.{list_all, list_any}}
 use Rattle.relax_edges.specs.declared.kinds.Dir.TheVariants as dirs
-use Rattle.relax_edges.specs.declared.kinds.ObsMode.TheVariants.{Avoid}
-use Rattle.relax_edges.specs.declared.edge.Edge.{Edge}
-use Rattle.relax_edges.specs.EdgeTable.{source_of, same_dir, is_diff, is_of_arch}
+use Rattle.relax_edges.specs.{declared.kinds.ObsMode.TheVariants.Avoid, declared.edge.Edge.Edge, EdgeTable.{source_of, same_dir, is_diff, is_of_arch}}
 use Rattle.edge_algebra_laws.specs.Composable.{IsCycle}
 use Rattle.cycle_events.specs.Resolution.{ends_outside, external_count}
-use Rattle.arch_trait.specs.declared.step.Step.{Step}
-use Rattle.arch_trait.specs.Threads.{Puts, shape_of}
-use Rattle.arch_trait.specs.SeenTests.{TestSeen}
-use Rattle.program_meaning.specs.Executions.{Execution}
-use Rattle.program_meaning.specs.Intended.{intended}
-use Rattle.tests_force_cycles.specs.CycleSteps.{cycle_steps}
-use Rattle.tests_force_cycles.specs.TestOf.{plain, test_of}
+use Rattle.arch_trait.specs.{declared.step.Step.Step, Threads.{Puts, shape_of}, SeenTests.TestSeen}
+use Rattle.program_meaning.specs.{Executions.Execution, Intended.intended}
+use Rattle.tests_force_cycles.specs.{CycleSteps.cycle_steps, TestOf.{plain, test_of}}
 use Rattle.co_tests_laws.specs.CutResolution.{is_ordering, cut_open}
 
 -- how many writes a cycle has

@@ -3,13 +3,12 @@
 -- there is one location, and its arc begins behind the cut and goes once round. `es` is the list of edges in which the
 -- threads are counted.
 -- Source: own; that a thread's accesses to one location keep their order is the coherence of the literature.
-use Rattle.std.specs.Prelude.{ℕ, Bool, true, false, if◌then◌else◌, List, [], ◌∷◌, Option}
-use Rattle.std.specs.List.{position_from}
-use Rattle.relax_edges.specs.declared.{kinds.Sd.TheVariants.Diff, kinds.Kind.Kind, marked.MarkableKind.MarkableKind, edge.Edge.Edge}
+use Rattle.std.specs.{Prelude.{ℕ, Bool, true, false, if◌then◌else◌, List, [], ◌∷◌, Option}, List.position_from}
+use Rattle.relax_edges.specs.{declared.kinds.Sd.TheVariants.Diff, declared.kinds.Kind.Kind, declared.marked.MarkableKind.MarkableKind, declared.edge.Edge.Edge}
+use Rattle.relax_edges.specs.EdgeTable.{kind_of}
 use Rattle.relax_edges.specs.declared.kinds.Kind.TheVariants as kinds
 use Rattle.relax_edges.specs.declared.marked.MarkableKind.TheVariants as markables
 use Rattle.relax_edges.specs.declared.edge.Edge.TheVariants as edges
-use Rattle.relax_edges.specs.EdgeTable.{kind_of}
 
 -- an edge in one thread that is no communication, by its kind: program order, alone or with a fence or a dependency
 abbrev pub orders_by : Kind → Bool

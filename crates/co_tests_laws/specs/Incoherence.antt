@@ -2,28 +2,18 @@
 -- Source: own; that coherence forbids a cycle in program order at one place, reads-from, coherence order and from-read is
 -- SC per location ('uniproc') of Alglave, Maranget and Tautschnig, 'Herding Cats', 2014.
 use Rattle.std.specs.Prelude.{◌≡◌, ℕ, List, None, Ok}
-use Rattle.relax_edges.specs.declared.kinds.ArchName.{ArchName}
-use Rattle.relax_edges.specs.declared.edge.Edge.{Edge}
-use Rattle.final_cond.specs.declared.cond.Quantifier.TheVariants.{Exists}
-use Rattle.final_cond.specs.States.{Meets}
+use Rattle.relax_edges.specs.{declared.kinds.ArchName.ArchName, declared.edge.Edge.Edge}
+use Rattle.final_cond.specs.{declared.cond.Quantifier.TheVariants.Exists, States.Meets}
 use Rattle.edge_algebra_laws.specs.Composable.{IsCycle}
 use Rattle.cycle_events.specs.Resolution.{turned}
-use Rattle.arch_trait.specs.PlaceNames.{number_in}
-use Rattle.arch_trait.specs.Threads.{Puts}
-use Rattle.arch_trait.specs.Writing.{Writing, name_in}
-use Rattle.litmus_text.specs.Printable.{IsTestName}
-use Rattle.litmus_text.specs.TestReading.{TestRead, test_read}
-use Rattle.litmus_text.specs.TestText.{test_text}
-use Rattle.program_meaning.specs.declared.WriteAt.{WriteAt}
-use Rattle.program_meaning.specs.Accesses.{Access}
-use Rattle.program_meaning.specs.Executions.{Execution}
-use Rattle.program_meaning.specs.Programs.{IsCandidate, IsCoherentIn, accesses_in}
+use Rattle.arch_trait.specs.{PlaceNames.number_in, Threads.Puts, Writing.{Writing, name_in}}
+use Rattle.litmus_text.specs.{Printable.IsTestName, TestReading.{TestRead, test_read}, TestText.test_text}
+use Rattle.program_meaning.specs.{declared.WriteAt.WriteAt, Accesses.Access, Executions.Execution, Programs.{IsCandidate, IsCoherentIn, accesses_in}}
 use Rattle.program_meaning.specs.Standing.{AllStand}
 use Rattle.sc_and_interleavings.specs.Relations.{IsPathOfSteps}
 use Rattle.tests_force_cycles.specs.FinalStates.{final_state}
 use Rattle.bytes_force_cycles.specs.Readings.{program_read}
-use Rattle.co_tests_laws.specs.CoherenceTests.{HasCoherenceTest, coherence_test_of, incoherent_execution}
-use Rattle.co_tests_laws.specs.CoRefusals.{coherence_refusal_of}
+use Rattle.co_tests_laws.specs.{CoherenceTests.{HasCoherenceTest, coherence_test_of, incoherent_execution}, CoRefusals.coherence_refusal_of}
 
 -- a candidate execution of a reading's program whose final state meets the condition, coherent or not
 pub record MeetsReading (w : Writing) (test : TestRead) (x : Execution) : Type 0 where

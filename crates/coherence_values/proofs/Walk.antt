@@ -1,25 +1,20 @@
 -- The steps of a walk along the arcs.
 use Rattle.std.proofs.Common.{◌≡◌, ℕ, zero, suc, ◌+◌, ◌-◌, ◌<◌, ◌≤◌, Bool, true, false, ◌==◌, ◌&&◌, cond, List, [], ◌∷◌, ◌++◌, length, get_or, map, Option, Some, None, refl, sym, ◌∙◌, ap, arith, add-one}
-use Rattle.std.specs.{Prelude.not, Prelude.nat_lt, Prelude.nat_le, Option.option_or}
 use Rattle.std.proofs.lemmas.Bool.{eq-eqb, ne_eqb, cond-true, cond-false, and_from, and_left, and_right, lt-ltb, le-ltb, le-leb, lt-leb}
+use Rattle.std.specs.{Prelude.{not, nat_lt, nat_le}, Option.option_or}
 use Rattle.relax_edges.specs.declared.kinds.Dir.TheVariants as dirs
-use Rattle.relax_edges.specs.declared.edge.Edge.{Edge}
-use Rattle.relax_edges.specs.EdgeTable.{same_dir, is_external, is_diff}
+use Rattle.relax_edges.specs.{declared.edge.Edge.Edge, EdgeTable.{same_dir, is_external, is_diff}}
 use Rattle.list_laws.specs.Numbers.{upto}
-use Rattle.list_laws.proofs.Cases.{by_test, by_less, by_same, by_option}
-use Rattle.list_laws.proofs.Counts.{count_upto_one_more, count_upto_same}
+use Rattle.list_laws.proofs.{Cases.{by_test, by_less, by_same, by_option}, Counts.{count_upto_one_more, count_upto_same}}
 use Rattle.list_laws.proofs.Numbers.{map-upto_more, length-map-upto, get_or-map-upto}
 use Rattle.cycle_events.specs.declared.event.Event.{Event}
 use Rattle.cycle_events.specs.Resolution.{move_count, edge_at, event_of, events_of, event_before, moves_before, location_of, slot_of, IsResolved}
-use Rattle.cycle_events.proofs.{Threads.slot-zero, Threads.slot_in, Threads.slot_out, Arcs.several_locations, Arcs.moved_location, Ways.only_on_way}
-use Rattle.cycle_events.proofs.{Entries.find_more}
-use Rattle.cycle_events.proofs.Locations.{external_keeps, ends_with, moves-zero, moves_on, moves_kept, moves_most, moves_end, location_first, location_wrapped, location_kept}
-use Rattle.coherence_values.specs.declared.valued.Arc.{Arc}
 use Rattle.cycle_events.specs.Values.{edge_into, is_write_at, way_place, value_of, write_count, write_at}
 use Rattle.cycle_events.specs.Entries.{is_later_entry, first_entry, inner_entry, last_entry}
-use Rattle.coherence_values.specs.Arc.{seen_of, writes_before, seen_with, LeadsOn, all_seen}
-use Rattle.cycle_events.proofs.Along.{is_write, value_at_end, value_most, write_count_most}
-use Rattle.cycle_events.proofs.Writes.{write_of, is_write_number, write_at_from, value_from}
+use Rattle.cycle_events.proofs.{Threads.{slot-zero, slot_in, slot_out}, Arcs.{several_locations, moved_location}, Ways.only_on_way, Entries.find_more}
+use Rattle.cycle_events.proofs.Locations.{external_keeps, ends_with, moves-zero, moves_on, moves_kept, moves_most, moves_end, location_first, location_wrapped, location_kept}
+use Rattle.cycle_events.proofs.{Along.{is_write, value_at_end, value_most, write_count_most}, Writes.{write_of, is_write_number, write_at_from, value_from}}
+use Rattle.coherence_values.specs.{declared.valued.Arc.Arc, Arc.{seen_of, writes_before, seen_with, LeadsOn, all_seen}}
 
 -- an arc with one event more
 abbrev pub arc_with : Arc → ℕ → Event → Arc

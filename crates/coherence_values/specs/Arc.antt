@@ -3,11 +3,9 @@
 use Rattle.std.specs.Prelude.{◌≡◌, ℕ, ◌<◌, ◌&&◌, nat_lt, List, length, map, count_by}
 use Rattle.relax_edges.specs.declared.edge.Edge.{Edge}
 use Rattle.list_laws.specs.Numbers.{upto}
-use Rattle.cycle_events.specs.declared.event.Event.{Event}
-use Rattle.cycle_events.specs.Resolution.{event_of, move_count, location_of, IsResolved}
+use Rattle.cycle_events.specs.{declared.event.Event.Event, Resolution.{event_of, move_count, location_of, IsResolved}}
+use Rattle.cycle_events.specs.{Values.{is_write_at, way_place, value_of, write_count}, Entries.{inner_entry, last_entry}}
 use Rattle.coherence_values.specs.declared.valued.Arc.{Arc}
-use Rattle.cycle_events.specs.Values.{is_write_at, way_place, value_of, write_count}
-use Rattle.cycle_events.specs.Entries.{inner_entry, last_entry}
 
 -- what is kept of the first n writes of a location
 abbrev pub seen_of : List Edge → ℕ → ℕ → Arc

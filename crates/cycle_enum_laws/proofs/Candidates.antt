@@ -1,9 +1,8 @@
 -- The lists that a search for listed cycles goes through, and which edges it passes over.
 use Rattle.std.proofs.Common.{◌≡◌, ◌<◌, inl, inr, ℕ, Bool, true, false, List, [], ◌∷◌, ◌++◌, take, ◌&&◌, refl, sym, ap, arith, ◌∙◌, append_assoc}
+use Rattle.std.proofs.{lemmas.Bool.{and_parts, true≢false}, lemmas.List.append-nil}
 use Rattle.std.specs.List.{AllByRecursion}
-use Rattle.std.proofs.lemmas.{Bool.and_parts, Bool.true≢false, List.append-nil}
-use Rattle.relax_edges.specs.declared.edge.Edge.{Edge}
-use Rattle.relax_edges.specs.{Order.rank_of, JoinedEdges.is_joined}
+use Rattle.relax_edges.specs.{declared.edge.Edge.Edge, Order.rank_of, JoinedEdges.is_joined}
 use Rattle.edge_algebra_laws.specs.Composable.{last_joins}
 use Rattle.edge_algebra_laws.proofs.Composing.{joined_prefix, joined_parts}
 use Rattle.cycle_enum_laws.specs.Listing.{IsOneOf, concatenated, IsMadeOf, IsListed}

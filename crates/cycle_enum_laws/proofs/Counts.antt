@@ -1,12 +1,10 @@
 -- The numbers that fall as a walk goes on.
 use Rattle.std.proofs.Common.{◌≡◌, ◌<◌, ◌≤◌, inl, inr, ℕ, zero, suc, ◌+◌, ◌-◌, ◌*◌, Option, Some, None, List, [], ◌∷◌, ◌++◌, length, refl, ◌∙◌, ap, arith, length-append}
 use Rattle.std.proofs.Math.Nat.{mul-le-mul_left}
-use Rattle.relax_edges.specs.declared.{order.TheConstants.EDGES, edge.Edge.Edge}
-use Rattle.relax_edges.specs.Order.{rank_of}
+use Rattle.relax_edges.specs.{declared.order.TheConstants.EDGES, declared.edge.Edge.Edge, Order.rank_of}
 use Rattle.edge_algebra_laws.proofs.RankLaws.{rank_below}
 use Rattle.edge_algebra_laws.specs.CycleOrder.{Above}
-use Rattle.cycle_enum_laws.specs.{Listing.ComesAfter, Counting.lists_within, Counting.lists_after, Counting.later}
-use Rattle.cycle_enum_laws.specs.Search.{StepsOver, over, replaced, IsRaised, IsExtended}
+use Rattle.cycle_enum_laws.specs.{Listing.ComesAfter, Counting.{lists_within, lists_after, later}, Search.{StepsOver, over, replaced, IsRaised, IsExtended}}
 use Rattle.cycle_enum_laws.proofs.Searching.{above_replaced}
 
 -- the equations of the numbers

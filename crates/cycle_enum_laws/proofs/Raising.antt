@@ -1,12 +1,11 @@
 -- A list goes on: the edges that were taken off its end, and the cut of a list.
 use Rattle.std.proofs.Common.{◌≡◌, ◌<◌, ◌≤◌, ◌⊎◌, inl, inr, ℕ, suc, ◌+◌, Some, None, List, [], ◌∷◌, ◌++◌, length, drop, get_or, add-one, refl, sym, ◌∙◌, ap, arith, append_assoc, length-append}
-use Rattle.std.proofs.{lemmas.List.append-nil, lemmas.List.take_all, lemmas.List.take-append-le, lemmas.Bool.cases_lt, Math.Seq.drop-cons}
-use Rattle.relax_edges.specs.declared.{order.TheConstants.EDGES, edge.Edge.Edge}
-use Rattle.relax_edges.specs.Order.{rank_of}
+use Rattle.std.proofs.{lemmas.List.{append-nil, take_all, take-append-le}, lemmas.Bool.cases_lt, Math.Seq.drop-cons}
+use Rattle.relax_edges.specs.{declared.order.TheConstants.EDGES, declared.edge.Edge.Edge, Order.rank_of}
 use Rattle.edge_algebra_laws.proofs.RankLaws.{rank_below}
 use Rattle.cycle_enum_laws.specs.Asked.{KeptBelow, KeptWhole}
-use Rattle.edge_algebra_laws.specs.CycleOrder.{Above}
 use Rattle.cycle_enum_laws.specs.Search.{ReachesList, ToCome, LeadsNowhere, NoneBetween, IsNextEdge, StepsOver, over, replaced, IsRaised, IsExtended, IsCut}
+use Rattle.edge_algebra_laws.specs.CycleOrder.{Above}
 use Rattle.cycle_enum_laws.proofs.Searching.{reaches_cases, reaches_beyond, reaches_with, reaches_to_come}
 
 -- where fewer lists are sought, none of them is left out either

@@ -1,15 +1,11 @@
 -- Reading a list as relaxations decides whether it is a concatenation of them, and which lists are part of none.
 use Rattle.std.proofs.Common.{◌≡◌, ◌<◌, ◌≤◌, ◌⊎◌, inl, inr, ℕ, zero, suc, ◌-◌, Bool, true, false, nat_eq, List, [], ◌∷◌, ◌++◌, length, take, drop, get_or, refl, sym, ◌∙◌, ap, arith, append_assoc, length-append}
+use Rattle.std.proofs.{lemmas.List.{append-nil, take_all}, lemmas.Bool.{or_cases, and_parts, and_from, or_left, or_right, eqb-true, eq-eqb, true≢false}}
 use Rattle.std.specs.List.{AllByRecursion, list_any}
-use Rattle.std.proofs.lemmas.List.{append-nil, take_all}
-use Rattle.std.proofs.lemmas.Bool.{or_cases, and_parts, and_from, or_left, or_right, eqb-true, eq-eqb, true≢false}
-use Rattle.relax_edges.specs.declared.edge.Edge.{Edge}
-use Rattle.relax_edges.specs.Order.{rank_of}
-use Rattle.edge_algebra_laws.proofs.{RankLaws.rank_injective, Rotating.rotation_of_place, Rotating.place_of_rotation, Rotating.before}
-use Rattle.edge_algebra_laws.proofs.{Rotating.remainder, Rotating.cuts}
+use Rattle.relax_edges.specs.{declared.edge.Edge.Edge, Order.rank_of}
+use Rattle.edge_algebra_laws.proofs.{RankLaws.rank_injective, Rotating.{rotation_of_place, place_of_rotation, before, remainder, cuts}}
 use Rattle.edge_algebra_laws.specs.Rotation.{rotated}
-use Rattle.cycle_enum_laws.specs.Search.{LeadsNowhere}
-use Rattle.cycle_enum_laws.specs.Listing.{IsOneOf, concatenated, IsConcatenation, IsMadeOf}
+use Rattle.cycle_enum_laws.specs.{Search.LeadsNowhere, Listing.{IsOneOf, concatenated, IsConcatenation, IsMadeOf}}
 use Rattle.cycle_enum_laws.specs.RelaxationReading.{begins_with_path, leads, suffixes_read, suffix_leads}
 use Rattle.cycle_enum_laws.proofs.Searching.{BeginsWith}
 

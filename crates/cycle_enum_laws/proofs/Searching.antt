@@ -1,11 +1,10 @@
 -- The steps of the search for the first list in order that is sought.
 use Rattle.std.proofs.Common.{◌≡◌, ◌<◌, ◌≤◌, ◌⊎◌, inl, inr, ℕ, suc, ◌+◌, List, [], ◌∷◌, ◌++◌, length, None, refl, ◌∙◌, ap, arith, length-append}
-use Rattle.std.proofs.lemmas.{List.append-nil, List.take_at, List.take-append-le, Bool.cases_lt}
-use Rattle.relax_edges.specs.declared.edge.Edge.{Edge}
-use Rattle.relax_edges.specs.Order.{rank_of}
+use Rattle.std.proofs.{lemmas.List.{append-nil, take_at, take-append-le}, lemmas.Bool.cases_lt}
+use Rattle.relax_edges.specs.{declared.edge.Edge.Edge, Order.rank_of}
 use Rattle.cycle_enum_laws.specs.Asked.{KeptBelow}
-use Rattle.edge_algebra_laws.specs.CycleOrder.{Above}
 use Rattle.cycle_enum_laws.specs.Search.{ReachesList, ToCome, LeadsNowhere, StepsOver, over, replaced, IsRaised, IsExtended, IsFirst, IsFirstFrom}
+use Rattle.edge_algebra_laws.specs.CycleOrder.{Above}
 use Rattle.edge_algebra_laws.proofs.Ordering.{by_rank, above_irreflexive, above_one_way}
 
 -- a list reaches itself

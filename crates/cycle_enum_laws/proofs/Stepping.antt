@@ -1,9 +1,7 @@
 -- The steps of the search for the listed cycles of one length.
-use Rattle.std.proofs.Common.{◌≡◌, ◌<◌, ◌≤◌, inl, inr, ℕ, List, length, arith}
-use Rattle.std.proofs.lemmas.{List.take_all, Bool.cases_lt}
+use Rattle.std.proofs.{Common.{◌≡◌, ◌<◌, ◌≤◌, inl, inr, ℕ, List, length, arith}, lemmas.List.take_all, lemmas.Bool.cases_lt}
 use Rattle.relax_edges.specs.declared.edge.Edge.{Edge}
-use Rattle.cycle_enum_laws.specs.Asked.{KeptBelow, KeptWhole}
-use Rattle.cycle_enum_laws.specs.Search.{LeadsNowhere, OfLength, IsRaised, IsExtended, IsFirstFrom}
+use Rattle.cycle_enum_laws.specs.{Asked.{KeptBelow, KeptWhole}, Search.{LeadsNowhere, OfLength, IsRaised, IsExtended, IsFirstFrom}}
 use Rattle.cycle_enum_laws.proofs.Searching.{Searching, search_begins, search_raised, search_goes_on, search_found, nowhere_whole}
 use Rattle.cycle_enum_laws.proofs.Raising.{raised_within, extended_within}
 

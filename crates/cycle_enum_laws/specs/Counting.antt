@@ -1,8 +1,7 @@
 -- How many lists of edges come after one: numbers that fall as a walk goes on.
 -- Source: own.
 use Rattle.std.specs.Prelude.{ℕ, zero, suc, ◌+◌, ◌-◌, ◌*◌, Option, Some, None, List, [], ◌∷◌, length}
-use Rattle.relax_edges.specs.declared.{order.TheConstants.EDGES, edge.Edge.Edge}
-use Rattle.relax_edges.specs.Order.{rank_of}
+use Rattle.relax_edges.specs.{declared.order.TheConstants.EDGES, declared.edge.Edge.Edge, Order.rank_of}
 
 -- the number of lists of 1 to d edges
 unfoldable pub lists_within : ℕ → ℕ

@@ -1,9 +1,8 @@
 -- The cycles of a listing: which lists of edges they are, and which of them comes next.
 -- Source: relaxations, the diy part of the herdtools manual, option `-relax`; the order, own.
-use Rattle.std.specs.Prelude.{◌≡◌, ◌≤◌, ◌⊎◌, ⊤, ℕ, Bool, true, Option, Some, None, List, [], ◌∷◌, ◌++◌, length}
-use Rattle.std.specs.List.{AllByRecursion}
+use Rattle.std.specs.{Prelude.{◌≡◌, ◌≤◌, ◌⊎◌, ⊤, ℕ, Bool, true, Option, Some, None, List, [], ◌∷◌, ◌++◌, length}, List.AllByRecursion}
 use Rattle.relax_edges.specs.declared.edge.Edge.{Edge}
-use Rattle.edge_algebra_laws.specs.{Composable.IsCycle, Rotation.IsRotation, CycleOrder.Follows, CycleOrder.IsNormal}
+use Rattle.edge_algebra_laws.specs.{Composable.IsCycle, Rotation.IsRotation, CycleOrder.{Follows, IsNormal}}
 
 -- a list of edges is one of some lists
 abbrev pub IsOneOf : List (List Edge) → List Edge → Type 0

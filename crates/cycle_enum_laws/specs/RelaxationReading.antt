@@ -1,9 +1,7 @@
 -- Reading a list of edges as relaxations, one after the other.
 -- Source: own.
-use Rattle.std.specs.Prelude.{◌-◌, Bool, true, false, ◌&&◌, ◌||◌, nat_eq, List, [], ◌∷◌, ◌++◌, length, get_or}
-use Rattle.std.specs.List.{list_any}
-use Rattle.relax_edges.specs.declared.edge.Edge.{Edge}
-use Rattle.relax_edges.specs.Order.{rank_of}
+use Rattle.std.specs.{Prelude.{◌-◌, Bool, true, false, ◌&&◌, ◌||◌, nat_eq, List, [], ◌∷◌, ◌++◌, length, get_or}, List.list_any}
+use Rattle.relax_edges.specs.{declared.edge.Edge.Edge, Order.rank_of}
 
 -- a list begins with a relaxation or, where it may end inside one, is a prefix of it
 abbrev pub begins_with_path : Bool → List Edge → List Edge → Bool

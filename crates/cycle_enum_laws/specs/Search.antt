@@ -1,9 +1,7 @@
 -- The search for the first list of edges in order that is sought: which lists are still to come.
 -- Source: own.
-use Rattle.std.specs.Prelude.{◌≡◌, ◌<◌, ◌≤◌, ◌⊎◌, ⊤, ℕ, true, Option, Some, None, List, [], ◌∷◌, ◌++◌, length}
-use Rattle.std.specs.List.{AllByRecursion}
-use Rattle.relax_edges.specs.declared.{order.TheConstants.EDGES, edge.Edge.Edge}
-use Rattle.relax_edges.specs.{Order.rank_of, JoinedEdges.is_joined}
+use Rattle.std.specs.{Prelude.{◌≡◌, ◌<◌, ◌≤◌, ◌⊎◌, ⊤, ℕ, true, Option, Some, None, List, [], ◌∷◌, ◌++◌, length}, List.AllByRecursion}
+use Rattle.relax_edges.specs.{declared.order.TheConstants.EDGES, declared.edge.Edge.Edge, Order.rank_of, JoinedEdges.is_joined}
 use Rattle.edge_algebra_laws.specs.CycleOrder.{Above, IsNormal}
 use Rattle.cycle_enum_laws.specs.Asked.{KeptBelow}
 

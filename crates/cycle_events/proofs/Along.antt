@@ -1,15 +1,14 @@
 -- Values along the edges: at a write the value grows by one, at a read it stays, and after a `d` edge it begins at 0.
 use Rattle.std.proofs.Common.{◌≡◌, ℕ, ◌+◌, ◌<◌, ◌≤◌, Bool, true, false, ◌==◌, ◌&&◌, cond, List, length, refl, sym, ◌∙◌, arith, eq-eqb}
-use Rattle.std.specs.{List.count_by, Prelude.nat_le}
 use Rattle.std.proofs.lemmas.Bool.{eqb-true, leb-true, le-leb, lt-leb, and_parts, and_from, and_right}
-use Rattle.relax_edges.specs.declared.edge.Edge.{Edge}
-use Rattle.relax_edges.specs.EdgeTable.{is_diff}
+use Rattle.std.specs.{List.count_by, Prelude.nat_le}
+use Rattle.relax_edges.specs.{declared.edge.Edge.Edge, EdgeTable.is_diff}
 use Rattle.list_laws.specs.Numbers.{upto}
 use Rattle.list_laws.proofs.Cases.{by_test, by_same}
 use Rattle.list_laws.proofs.Counts.{count_upto_one_more, count_upto_same, count_upto_none, count_upto_fewer, count_upto_less, count_upto-le}
 use Rattle.cycle_events.specs.Resolution.{edge_at, event_after, event_before, thread_of, location_of, IsResolved}
-use Rattle.cycle_events.proofs.Around.{by_after, after_below, before_below, after_before, moves_within, keeps_location}
 use Rattle.cycle_events.specs.Values.{is_write_at, way_place, value_of, write_count}
+use Rattle.cycle_events.proofs.Around.{by_after, after_below, before_below, after_before, moves_within, keeps_location}
 pub use Rattle.cycle_events.specs.Values.{is_write}
 use Rattle.cycle_events.proofs.Ways.{only_on_way, way_next, first_on_arc, last_on_arc, way_in_thread}
 

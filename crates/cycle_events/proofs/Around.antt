@@ -1,9 +1,7 @@
 -- The way round a cycle: where each edge leads, the last one back to event 0 included.
 use Rattle.std.proofs.Common.{◌≡◌, ℕ, zero, suc, ◌+◌, ◌-◌, ◌<◌, true, false, ◌==◌, cond, List, [], ◌∷◌, ◌++◌, length, get_or, refl, sym, ◌∙◌, ap, arith, length-append}
-use Rattle.std.proofs.lemmas.List.{get_or_append_left, get_or_push}
-use Rattle.std.proofs.lemmas.Bool.{eq-eqb, ne_eqb, and_parts, cond-true, cond-false}
-use Rattle.relax_edges.specs.declared.edge.Edge.{Edge}
-use Rattle.relax_edges.specs.EdgeTable.{source_of, target_of, source_mark, target_mark, joins_to, is_external, is_diff}
+use Rattle.std.proofs.{lemmas.List.{get_or_append_left, get_or_push}, lemmas.Bool.{eq-eqb, ne_eqb, and_parts, cond-true, cond-false}}
+use Rattle.relax_edges.specs.{declared.edge.Edge.Edge, EdgeTable.{source_of, target_of, source_mark, target_mark, joins_to, is_external, is_diff}}
 use Rattle.relax_edges.specs.JoinedEdges.{is_joined}
 use Rattle.edge_algebra_laws.specs.Composable.{IsCycle}
 use Rattle.edge_algebra_laws.proofs.Joining.{joined_dirs, joined_marks}

@@ -1,12 +1,11 @@
 -- How many of the first edges of a list pass a test: one edge further, in all, and up to the edge of a given number.
-use Rattle.std.proofs.Common.{◌≡◌, ℕ, ◌+◌, ◌<◌, ◌≤◌, Bool, true, false, List, length, take, get_or, ◌∙◌, arith}
+use Rattle.std.proofs.{Common.{◌≡◌, ℕ, ◌+◌, ◌<◌, ◌≤◌, Bool, true, false, List, length, take, get_or, ◌∙◌, arith}, lemmas.Bool.{cond-true, cond-false}}
+use Rattle.std.proofs.lemmas.Option.{slice_get-get_or}
 use Rattle.std.specs.List.{count_by, filter}
-use Rattle.std.proofs.lemmas.{Bool.cond-true, Bool.cond-false, Option.slice_get-get_or}
-use Rattle.relax_edges.specs.declared.{kinds.Reach.TheVariants.Internal, kinds.Com.TheVariants.Rf, edge.Edge.Edge}
+use Rattle.relax_edges.specs.{declared.kinds.Reach.TheVariants.Internal, declared.kinds.Com.TheVariants.Rf, declared.edge.Edge.Edge}
 use Rattle.relax_edges.specs.declared.edge.Edge.TheVariants as edges
 use Rattle.list_laws.specs.Numbers.{upto}
-use Rattle.list_laws.proofs.{Counts.count_upto_up, Counts.count_upto-le, Prefixes.count_all, Prefixes.count_take, Prefixes.count_take_more}
-use Rattle.list_laws.proofs.{Ranks.unrank_upto, Ranks.length-filter-upto}
+use Rattle.list_laws.proofs.{Counts.{count_upto_up, count_upto-le}, Prefixes.{count_all, count_take, count_take_more}, Ranks.{unrank_upto, length-filter-upto}}
 use Rattle.cycle_events.specs.Resolution.{edge_at}
 
 -- an edge that passes is counted

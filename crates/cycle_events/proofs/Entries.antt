@@ -1,14 +1,12 @@
 -- The writes that need an observer: the first one of a location, and whether there is one.
 use Rattle.std.proofs.Common.{◌≡◌, ℕ, zero, suc, ◌+◌, ◌-◌, ◌<◌, Bool, true, false, ◌&&◌, List, [], ◌∷◌, ◌++◌, length, Option, Some, None, Ok, Err, refl, sym, ◌∙◌, ap, arith, add-one}
-use Rattle.std.specs.{Prelude.nat_lt, List.find, List.filter_map, List.list_any, Option.option_or, Option.is_some}
 use Rattle.std.proofs.{lemmas.List.Elements.filter_map-append, lemmas.List.Folds.find-append, lemmas.Bool.lt-ltb, Math.Bool.and-true}
-use Rattle.list_laws.proofs.{Elements.option_or-none, Cases.by_test, Finds.any_upto_passing, Finds.any_upto_fails}
-use Rattle.relax_edges.specs.declared.{edge.Edge.Edge, kinds.ObsMode.ObsMode, kinds.ObsMode.TheVariants.Avoid}
-use Rattle.relax_edges.specs.EdgeTable.{is_external}
+use Rattle.std.specs.{Prelude.nat_lt, List.{find, filter_map, list_any}, Option.{option_or, is_some}}
+use Rattle.list_laws.proofs.{Elements.option_or-none, Cases.by_test, Finds.{any_upto_passing, any_upto_fails}}
+use Rattle.relax_edges.specs.{declared.edge.Edge.Edge, declared.kinds.ObsMode.ObsMode, declared.kinds.ObsMode.TheVariants.Avoid, EdgeTable.is_external}
 use Rattle.list_laws.specs.Numbers.{upto}
 use Rattle.cycle_events.specs.Values.{edge_into, is_write_at, value_of, write_count, write_at, is_inner_entry, first_inner_entry, need_at, first_need, observer_need, valuation_of}
-use Rattle.cycle_events.specs.{Resolution.move_count, Entries.is_later_entry, Entries.first_entry, Entries.inner_entry}
-use Rattle.cycle_events.specs.declared.needs.NeedsObserver.{NeedsObserver}
+use Rattle.cycle_events.specs.{Resolution.move_count, Entries.{is_later_entry, first_entry, inner_entry}, declared.needs.NeedsObserver.NeedsObserver}
 use Rattle.cycle_events.proofs.Writes.{Write, write_of, is_write_number}
 
 -- what is found among one number more

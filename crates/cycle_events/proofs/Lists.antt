@@ -1,13 +1,11 @@
 -- Lists: the elements of a filter by their places, and counts along a list on which a number grows.
 use Rattle.std.proofs.Common.{◌≡◌, ℕ, zero, suc, ◌+◌, ◌<◌, ◌≤◌, Bool, true, false, ◌==◌, ◌&&◌, cond, List, [], ◌∷◌, ◌++◌, length, take, get_or, Some, slice_get, refl, sym, ◌∙◌, ap, arith}
-use Rattle.std.specs.Prelude.{nat_lt, nat_le}
-use Rattle.std.specs.List.{All, AllPairs, count_by, filter, flat_map}
-use Rattle.std.proofs.lemmas.{Grind.flat_map-append, List.append-nil, List.Elements.All-append, List.Elements.All-head, List.Elements.All-tail}
-use Rattle.std.proofs.lemmas.{List.Kept.AllPairs-cons, List.Sums.sum_by-cons, Bool.cond-true, Bool.cond-false, Bool.le-ltb, Option.slice_get-get_or}
-use Rattle.std.proofs.lemmas.{Option.slice_get_within, Option.get_or_from_slice_get}
+use Rattle.std.proofs.{lemmas.Grind.flat_map-append, lemmas.List.append-nil, lemmas.List.Elements.{All-append, All-head, All-tail}}
+use Rattle.std.proofs.{lemmas.List.Kept.AllPairs-cons, lemmas.List.Sums.sum_by-cons, lemmas.Bool.{cond-true, cond-false, le-ltb}}
+use Rattle.std.proofs.lemmas.Option.{slice_get-get_or, slice_get_within, get_or_from_slice_get}
+use Rattle.std.specs.{Prelude.{nat_lt, nat_le}, List.{All, AllPairs, count_by, filter, flat_map}}
 use Rattle.list_laws.specs.Numbers.{upto}
-use Rattle.list_laws.proofs.{Cases.by_test, Cases.by_less, Cases.by_same, Prefixes.count_take, Prefixes.count_all, Numbers.length-upto}
-use Rattle.list_laws.proofs.{Numbers.get_or-upto}
+use Rattle.list_laws.proofs.{Cases.{by_test, by_less, by_same}, Prefixes.{count_take, count_all}, Numbers.{length-upto, get_or-upto}}
 use Rattle.list_laws.proofs.Counts.{counted, count_upto_past, count_upto_same, count_upto_stays}
 
 -- one element more at the head

@@ -1,18 +1,16 @@
 -- Locations: how they change along an edge, which events are at one location, and that an arc meets a thread in one run.
 use Rattle.std.proofs.Common.{◌≡◌, ℕ, zero, suc, ◌+◌, ◌%◌, ◌<◌, ◌≤◌, true, false, ◌==◌, ◌&&◌, cond, List, [], ◌∷◌, length, take, refl, ◌∙◌, ap, arith, add-one, eq-eqb}
-use Rattle.std.specs.List.{count_by}
-use Rattle.std.proofs.lemmas.List.{take_all}
-use Rattle.std.proofs.lemmas.Bool.{eqb-false, ne_eqb, cond-true, cond-false, and_parts, and_right}
+use Rattle.std.proofs.{lemmas.List.take_all, lemmas.Bool.{eqb-false, ne_eqb, cond-true, cond-false, and_parts, and_right}}
 use Rattle.std.proofs.Math.Nat.{mod-eq_of_lt, mod_self, mod-le, zero-mod}
-use Rattle.relax_edges.specs.declared.{kinds.Reach.TheVariants.Internal, kinds.Com.TheVariants.Rf, kinds.Kind.Kind, edge.Edge.Edge}
-use Rattle.relax_edges.specs.declared.edge.Edge.TheVariants as edges
+use Rattle.std.specs.List.{count_by}
+use Rattle.relax_edges.specs.{declared.kinds.Reach.TheVariants.Internal, declared.kinds.Com.TheVariants.Rf, declared.kinds.Kind.Kind, declared.edge.Edge.Edge}
 use Rattle.relax_edges.specs.EdgeTable.{kind_of, is_external, is_diff}
+use Rattle.relax_edges.specs.declared.edge.Edge.TheVariants as edges
 use Rattle.list_laws.specs.Numbers.{upto}
-use Rattle.list_laws.proofs.{Cases.by_less, Prefixes.count_take_more, Prefixes.count_all, Finds.any_upto_fails}
+use Rattle.list_laws.proofs.{Cases.by_less, Prefixes.{count_take_more, count_all}, Finds.any_upto_fails}
 use Rattle.list_laws.proofs.Counts.{count_upto-le, count_upto_more, count_upto_fewer, count_upto_none, count_upto_stays}
 use Rattle.cycle_events.specs.Resolution.{external_count, move_count, edge_at, ends_outside, thread_of, moves_before, location_of, moves_in, is_coherence_only, IsResolved}
-use Rattle.cycle_events.proofs.EdgeCounts.{counted_on, counted_kept, counted_up, counted_most}
-use Rattle.cycle_events.proofs.Threads.{thread_up, thread_out}
+use Rattle.cycle_events.proofs.{EdgeCounts.{counted_on, counted_kept, counted_up, counted_most}, Threads.{thread_up, thread_out}}
 
 -- what leads to another thread keeps the location, by the kind of the edge
 keeps_by_kind : (k : Kind) (e : Edge) → kind_of e ≡ k → is_external e ≡ true → is_diff e ≡ false

@@ -1,16 +1,15 @@
 -- The turn after which the last edge is external: which one it is, and that it is a rotation.
 use Rattle.std.proofs.Common.{◌≡◌, ℕ, zero, suc, ◌+◌, ◌<◌, ◌≤◌, Bool, true, false, List, [], ◌∷◌, ◌++◌, length, take, drop, map, Some, None, Ok, nat_lt, refl, sym, ◌∙◌, ap, arith, add-one, append_assoc}
-use Rattle.std.specs.{List.find, List.position, Option.option_map}
-use Rattle.std.proofs.lemmas.{List.append-nil, List.take_more, List.take-append-drop, List.Quantifiers.position-Some, List.Sums.fails_before_first}
-use Rattle.std.proofs.lemmas.{Bool.ltb-false}
-use Rattle.relax_edges.specs.declared.{kinds.Reach.TheVariants.Internal, kinds.Com.TheVariants.Rf, edge.Edge.Edge}
-use Rattle.relax_edges.specs.declared.edge.Edge.TheVariants as edges
+use Rattle.std.proofs.{lemmas.List.{append-nil, take_more, take-append-drop}, lemmas.List.Quantifiers.position-Some, lemmas.List.Sums.fails_before_first}
+use Rattle.std.proofs.lemmas.Bool.{ltb-false}
+use Rattle.std.specs.{List.{find, position}, Option.option_map}
+use Rattle.relax_edges.specs.{declared.kinds.Reach.TheVariants.Internal, declared.kinds.Com.TheVariants.Rf, declared.edge.Edge.Edge}
 use Rattle.relax_edges.specs.EdgeTable.{is_external, is_diff}
+use Rattle.relax_edges.specs.declared.edge.Edge.TheVariants as edges
 use Rattle.edge_algebra_laws.specs.{Composable.IsCycle, Rotation.rotated}
 use Rattle.edge_algebra_laws.proofs.Composing.{rotated_cycle}
 use Rattle.list_laws.specs.Numbers.{upto}
-use Rattle.list_laws.proofs.{Cases.by_test, Cases.by_less, Cases.by_option, Prefixes.count_exchanged, Prefixes.count_all, Counts.Passing}
-use Rattle.list_laws.proofs.{Counts.counted}
+use Rattle.list_laws.proofs.{Cases.{by_test, by_less, by_option}, Prefixes.{count_exchanged, count_all}, Counts.{Passing, counted}}
 use Rattle.list_laws.proofs.Finds.{find-map, find_upto_first, find_upto_none, find_upto, none_before}
 use Rattle.cycle_events.specs.Resolution.{external_count, move_count, edge_at, ends_outside, turned, is_coherence_only, resolution_of, IsResolved}
 use Rattle.cycle_events.proofs.Locations.{ends_with}

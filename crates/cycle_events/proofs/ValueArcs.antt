@@ -1,18 +1,15 @@
 -- The arcs as lists: which events they have, the place on the way along them, and the values and writes on them.
 use Rattle.std.proofs.Common.{◌≡◌, ℕ, ◌+◌, ◌<◌, ◌≤◌, Bool, true, false, not, ◌==◌, ◌&&◌, cond, List, length, take, Some, slice_get, refl, sym, ◌∙◌, ap, arith, eq-eqb}
-use Rattle.std.specs.Prelude.{nat_lt}
-use Rattle.std.specs.List.{All, AllPairs, count_by, filter, flat_map}
-use Rattle.std.proofs.lemmas.{List.Elements.All-filter, List.Elements.All-append, List.Elements.filter_passes, List.Filters.sum_by-filter_both}
-use Rattle.std.proofs.lemmas.{List.Kept.AllPairs-filter, List.Sums.sum_by-append, List.Sums.count_by_more_yes, Option.slice_get_within}
-use Rattle.std.proofs.lemmas.{Option.get_or_from_slice_get}
+use Rattle.std.proofs.{lemmas.List.Elements.{All-filter, All-append, filter_passes}, lemmas.List.Filters.sum_by-filter_both, lemmas.List.Kept.AllPairs-filter}
+use Rattle.std.proofs.{lemmas.List.Sums.{sum_by-append, count_by_more_yes}, lemmas.Option.{slice_get_within, get_or_from_slice_get}}
 use Rattle.std.proofs.lemmas.Bool.{eqb-true, ne_eqb, and_parts, and_from, and_left, and_right, lt-ltb, le-ltb, ltb-true}
+use Rattle.std.specs.{Prelude.nat_lt, List.{All, AllPairs, count_by, filter, flat_map}}
 use Rattle.relax_edges.specs.declared.edge.Edge.{Edge}
 use Rattle.list_laws.specs.Numbers.{upto}
-use Rattle.list_laws.proofs.{Cases.by_test, Cases.by_less, Cases.by_option, Counts.count_upto_same, Counts.count_upto_one_more}
-use Rattle.list_laws.proofs.{Counts.count_upto_none, Numbers.length-upto, Numbers.get_or-upto}
-use Rattle.cycle_events.specs.Resolution.{move_count, location_of, IsResolved}
+use Rattle.list_laws.proofs.{Cases.{by_test, by_less, by_option}, Counts.{count_upto_same, count_upto_one_more, count_upto_none}}
+use Rattle.list_laws.proofs.Numbers.{length-upto, get_or-upto}
+use Rattle.cycle_events.specs.{Resolution.{move_count, location_of, IsResolved}, Values.{is_write, is_after_moves, way, arc, way_place, value_of, write_at}}
 use Rattle.cycle_events.proofs.{Locations.moves_up, Arcs.location_below, Ways.by_way}
-use Rattle.cycle_events.specs.Values.{is_write, is_after_moves, way, arc, way_place, value_of, write_at}
 use Rattle.cycle_events.proofs.Lists.{count_filter, found_counted, counted_found, rank_filter, unrank_filter, pairs_append, pairs_change, upto_grows, count_along, filter_everything, classes_follow}
 use Rattle.cycle_events.proofs.Writes.{write_of, write_at_parts, write_at_from, is_write_number}
 

@@ -1,12 +1,10 @@
 -- What values say of communications, of reads, and of the locations that have no observer.
-use Rattle.std.proofs.Common.{◌≡◌, ℕ, ◌+◌, ◌≤◌, true, List, length, arith}
+use Rattle.std.proofs.{Common.{◌≡◌, ℕ, ◌+◌, ◌≤◌, true, List, length, arith}, lemmas.Bool.leb-true}
 use Rattle.std.specs.List.{count_by}
-use Rattle.std.proofs.lemmas.Bool.{leb-true}
-use Rattle.relax_edges.specs.declared.{kinds.ObsMode.ObsMode, kinds.ObsMode.TheVariants.Accept, kinds.ObsMode.TheVariants.Avoid}
-use Rattle.relax_edges.specs.declared.{kinds.ObsMode.TheVariants.Force, edge.Edge.Edge}
+use Rattle.relax_edges.specs.{declared.kinds.ObsMode.ObsMode, declared.kinds.ObsMode.TheVariants.{Accept, Avoid, Force}, declared.edge.Edge.Edge}
 use Rattle.list_laws.specs.Numbers.{upto}
 use Rattle.list_laws.proofs.{Counts.count_upto-le, Finds.any_upto_passing}
-use Rattle.cycle_events.specs.{Resolution.external_count, Resolution.move_count, Values.write_count, Values.is_inner_entry, Values.is_observed}
+use Rattle.cycle_events.specs.{Resolution.{external_count, move_count}, Values.{write_count, is_inner_entry, is_observed}}
 use Rattle.cycle_events.proofs.{Sizes.external_and_moves, Entries.inner_parts}
 
 -- an observed location has at least two writes

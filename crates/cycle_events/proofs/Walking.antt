@@ -1,8 +1,7 @@
 -- The steps of a walk over the edges that counts threads, slots, locations and the moves of a thread.
 use Rattle.std.proofs.Common.{◌≡◌, ℕ, ◌+◌, ◌<◌, ◌≤◌, true, false, ◌==◌, List, length, refl, sym, ◌∙◌, arith}
 use Rattle.std.proofs.lemmas.Bool.{eq-eqb, ne_eqb, cond-true, cond-false}
-use Rattle.relax_edges.specs.declared.edge.Edge.{Edge}
-use Rattle.relax_edges.specs.EdgeTable.{is_external, is_diff}
+use Rattle.relax_edges.specs.{declared.edge.Edge.Edge, EdgeTable.{is_external, is_diff}}
 use Rattle.list_laws.proofs.Finds.{any_upto, any_upto_none}
 use Rattle.cycle_events.specs.Resolution.{external_count, move_count, edge_at, thread_of, slot_of, location_of, moves_in, is_coherence_only}
 use Rattle.cycle_events.proofs.Threads.{thread-zero, thread_most, slot-zero, slot_most, thread_out, thread_in, thread_up, thread_end, slot_in, slot_out}

@@ -1,13 +1,9 @@
 -- The way round a cycle that begins after the last edge to another location: its places, and which event is at each.
-use Rattle.std.proofs.Common.{◌≡◌, ℕ, ◌+◌, ◌<◌, ◌≤◌, true, false, ◌==◌, List, length, arith, eq-eqb}
-use Rattle.std.proofs.lemmas.Bool.{ne_eqb, cond-true, cond-false}
-use Rattle.relax_edges.specs.declared.edge.Edge.{Edge}
-use Rattle.relax_edges.specs.EdgeTable.{is_diff}
-use Rattle.cycle_events.specs.Resolution.{move_count, edge_at, event_after, thread_of, moves_before, location_of, IsResolved}
+use Rattle.std.proofs.{Common.{◌≡◌, ℕ, ◌+◌, ◌<◌, ◌≤◌, true, false, ◌==◌, List, length, arith, eq-eqb}, lemmas.Bool.{ne_eqb, cond-true, cond-false}}
+use Rattle.relax_edges.specs.{declared.edge.Edge.Edge, EdgeTable.is_diff}
+use Rattle.cycle_events.specs.{Resolution.{move_count, edge_at, event_after, thread_of, moves_before, location_of, IsResolved}, Values.way_place}
 use Rattle.cycle_events.proofs.Locations.{moves-zero, moves_on, moves_kept, moves_up, moves_most}
-use Rattle.cycle_events.proofs.Arcs.{several_locations, moves_last, location_cases, one_location}
-use Rattle.cycle_events.proofs.Around.{by_after, moves_within}
-use Rattle.cycle_events.specs.Values.{way_place}
+use Rattle.cycle_events.proofs.{Arcs.{several_locations, moves_last, location_cases, one_location}, Around.{by_after, moves_within}}
 
 -- after the last move the way begins
 pub way_after : (es : List Edge) (i : ℕ) → moves_before es i ≡ move_count es → way_place es i ≡ i

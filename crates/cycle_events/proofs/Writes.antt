@@ -1,14 +1,12 @@
 -- The writes of a location: they have the values 1, 2, .., each once, and a value names its write.
 use Rattle.std.proofs.Common.{◌≡◌, ℕ, zero, suc, ◌+◌, ◌<◌, ◌≤◌, true, false, ◌==◌, ◌&&◌, cond, List, length, Some, refl, ◌∙◌, arith, eq-eqb}
 use Rattle.std.proofs.lemmas.Bool.{eqb-true, and_parts, and_from}
-use Rattle.relax_edges.specs.declared.edge.Edge.{Edge}
-use Rattle.relax_edges.specs.EdgeTable.{is_diff}
-use Rattle.list_laws.proofs.{Cases.by_test, Cases.by_same, Counts.counted, Finds.find_upto, Finds.find_upto_only}
+use Rattle.relax_edges.specs.{declared.edge.Edge.Edge, EdgeTable.is_diff}
+use Rattle.list_laws.proofs.{Cases.{by_test, by_same}, Counts.counted, Finds.{find_upto, find_upto_only}}
 use Rattle.cycle_events.specs.Resolution.{move_count, edge_at, event_before, location_of, IsResolved}
-use Rattle.cycle_events.proofs.{Locations.location_first, Arcs.leaving, Arcs.location_below, Around.before_below, Around.after_before}
-use Rattle.cycle_events.proofs.{Around.keeps_location, Ways.only_on_way, Ways.way_next}
 use Rattle.cycle_events.specs.Values.{is_write_at, way_place, value_of, write_count, write_at}
-use Rattle.cycle_events.proofs.Along.{is_write, value_after, value_at_end, values_grow}
+use Rattle.cycle_events.proofs.{Locations.location_first, Arcs.{leaving, location_below}, Around.{before_below, after_before, keeps_location}}
+use Rattle.cycle_events.proofs.{Ways.{only_on_way, way_next}, Along.{is_write, value_after, value_at_end, values_grow}}
 
 -- a write at a location is a write, and is at that location
 pub write_at_parts : (es : List Edge) (l i : ℕ) → is_write_at es l i ≡ true → (is_write es i ≡ true) × (location_of es i ≡ l)

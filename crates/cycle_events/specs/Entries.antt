@@ -1,8 +1,6 @@
 -- The writes of a location that need an observer, among the first few along its arc.
-use Rattle.std.specs.Prelude.{ℕ, ◌-◌, Bool, ◌&&◌, nat_lt, List, [], ◌∷◌, Option}
-use Rattle.std.specs.List.{find, filter_map}
-use Rattle.relax_edges.specs.declared.edge.Edge.{Edge}
-use Rattle.relax_edges.specs.EdgeTable.{is_external}
+use Rattle.std.specs.{Prelude.{ℕ, ◌-◌, Bool, ◌&&◌, nat_lt, List, [], ◌∷◌, Option}, List.{find, filter_map}}
+use Rattle.relax_edges.specs.{declared.edge.Edge.Edge, EdgeTable.is_external}
 use Rattle.list_laws.specs.Numbers.{upto}
 use Rattle.cycle_events.specs.Values.{edge_into, value_of, write_at}
 

@@ -1,11 +1,8 @@
 -- The name of a cycle.
 -- Source: own, after the names of litmus tests in the diy part of the herdtools manual.
-use Rattle.std.specs.Prelude.{ℕ, Bool, true, cond, Option, Some, None, List, [], ◌∷◌, ◌++◌, codes}
-use Rattle.std.specs.{List.list_all, List.flat_map, List.join_by, Str.bytes_eq}
-use Rattle.relax_edges.specs.declared.edge.Edge.{Edge}
-use Rattle.relax_edges.specs.WordParts.{word_of}
-use Rattle.cycle_names.specs.declared.family.Family.{Family}
-use Rattle.cycle_names.specs.{Families.family_word, LinkWords.link_words, Rotations.found_family, Rotations.named_rotation}
+use Rattle.std.specs.{Prelude.{ℕ, Bool, true, cond, Option, Some, None, List, [], ◌∷◌, ◌++◌, codes}, List.{list_all, flat_map, join_by}, Str.bytes_eq}
+use Rattle.relax_edges.specs.{declared.edge.Edge.Edge, WordParts.word_of}
+use Rattle.cycle_names.specs.{declared.family.Family.Family, Families.family_word, LinkWords.link_words, Rotations.{found_family, named_rotation}}
 
 -- a `+` and a word
 abbrev pub after_plus : List ℕ → List ℕ

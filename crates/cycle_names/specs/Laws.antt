@@ -1,11 +1,9 @@
 -- The cycle of a name, and the laws of names, as statements.
-use Rattle.std.specs.Prelude.{◌≡◌, ◌<◌, ◌≤◌, ◌↔◌, ℕ, Bool, true, List, length}
-use Rattle.std.specs.List.{list_all}
-use Rattle.relax_edges.specs.declared.{kinds.ArchName.ArchName, edge.Edge.Edge}
-use Rattle.relax_edges.specs.EdgeTable.{is_of_arch}
+use Rattle.std.specs.{Prelude.{◌≡◌, ◌<◌, ◌≤◌, ◌↔◌, ℕ, Bool, true, List, length}, List.list_all}
+use Rattle.relax_edges.specs.{declared.kinds.ArchName.ArchName, declared.edge.Edge.Edge, EdgeTable.is_of_arch}
 use Rattle.edge_algebra_laws.specs.{Composable.IsCycle, Rotation.IsRotation}
-use Rattle.cycle_names.specs.declared.{name.TheConstants.MAX_CYCLE_NAME, family.Family.Family}
-use Rattle.cycle_names.specs.{Rotations.is_of_family, Rotations.named_rotation, CycleNames.name_of}
+use Rattle.cycle_names.specs.{declared.name.TheConstants.MAX_CYCLE_NAME, declared.family.Family.Family, Rotations.{is_of_family, named_rotation}}
+use Rattle.cycle_names.specs.CycleNames.{name_of}
 use Rattle.text_parts_laws.specs.Names.{is_name_byte}
 
 -- all edges of a cycle are of an architecture

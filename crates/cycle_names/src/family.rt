@@ -1,8 +1,5 @@
-ghost use Rattle.std.specs.Prelude.{◌≡◌, map};
-ghost use Rattle.std.specs.List.{find};
-ghost use Rattle.std.specs.Str.{bytes_eq};
-ghost use Rattle.cycle_names.specs.Families.{family_word, family_edges, all_families};
-ghost use Rattle.cycle_names.specs.Fitting.{slot_edge};
+ghost use Rattle.std.specs.{Prelude.{◌≡◌, map}, List.{find}, Str.{bytes_eq}};
+ghost use Rattle.cycle_names.specs.{Families.{family_word, family_edges, all_families}, Fitting.{slot_edge}};
 
 use crate::slot::Slot;
 

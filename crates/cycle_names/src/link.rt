@@ -1,7 +1,5 @@
-ghost use Rattle.std.specs.Prelude.{◌≡◌, ◌≤◌, ◌+◌, ◌++◌, [], true, length};
-ghost use Rattle.std.specs.Str.{bytes_eq};
-ghost use Rattle.relax_edges.specs.EdgeTable.{is_diff, source_mark, target_mark};
-ghost use Rattle.relax_edges.specs.Order.{pick_rank};
+ghost use Rattle.std.specs.{Prelude.{◌≡◌, ◌≤◌, ◌+◌, ◌++◌, [], true, length}, Str.{bytes_eq}};
+ghost use Rattle.relax_edges.specs.{EdgeTable.{is_diff, source_mark, target_mark}, Order.{pick_rank}};
 ghost use Rattle.cycle_names.specs.LinkWords.{link_word, fence_link, dependency_link, mark_letters, kind_link_text};
 ghost use Rattle.cycle_names.specs.Fitting.{letters_rank, fence_word_rank, dependency_word_rank, kind_word_rank, word_rank, link_text};
 

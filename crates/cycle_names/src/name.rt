@@ -1,11 +1,6 @@
-ghost use Rattle.std.specs.Prelude.{◌≡◌, ◌<◌, ◌≤◌, ◌++◌, List, [], None, codes, length};
-ghost use Rattle.std.specs.List.{join_by};
-ghost use Rattle.relax_edges.specs.WordParts.{word_of};
-ghost use Rattle.cycle_names.specs.Rotations.{family_of, found_family, named_rotation};
-ghost use Rattle.relax_edges.specs.declared.edge.Edge.{Edge};
-ghost use Rattle.cycle_names.specs.CycleNames.{name_of};
-ghost use Rattle.cycle_names.specs.Fitting.{IsFitOf};
-ghost use Rattle.cycle_names.specs.Laws.{IsName};
+ghost use Rattle.std.specs.{Prelude.{◌≡◌, ◌<◌, ◌≤◌, ◌++◌, List, [], None, codes, length}, List.{join_by}};
+ghost use Rattle.relax_edges.specs.{WordParts.{word_of}, declared.edge.Edge.{Edge}};
+ghost use Rattle.cycle_names.specs.{Rotations.{family_of, found_family, named_rotation}, CycleNames.{name_of}, Fitting.{IsFitOf}, Laws.{IsName}};
 
 use crate::family::Family;
 use crate::fit::{Fit, named_fit};

@@ -1,9 +1,6 @@
-ghost use Rattle.std.specs.Prelude.{◌≡◌, ◌+◌, ◌-◌, ◌≤◌, ◌&&◌, ◌==◌, [], codes, length, take, drop, MatchResult, cond};
-ghost use Rattle.std.specs.List.{position_or_len, slice_split};
-ghost use Rattle.std.specs.Str.{bytes_eq};
-ghost use Rattle.std.specs.Result.{result_ok};
-ghost use Rattle.cycle_names.specs.Families.{family_edges};
-ghost use Rattle.cycle_names.specs.CycleNames.{name_of};
+ghost use Rattle.std.specs.{Prelude.{◌≡◌, ◌+◌, ◌-◌, ◌≤◌, ◌&&◌, ◌==◌, [], codes, length, take, drop, MatchResult, cond}, List.{position_or_len, slice_split}};
+ghost use Rattle.std.specs.{Str.{bytes_eq}, Result.{result_ok}};
+ghost use Rattle.cycle_names.specs.{Families.{family_edges}, CycleNames.{name_of}};
 ghost use Rattle.cycle_names.specs.NameReading.{begins_with_word, named_family, is_link, link_with, first_mark, last_mark, marked_between, marked_along, marked_around, slot_with, first_name_word, after_word, without_last_byte, filled_alike, filled_each, slots_filled, is_dash, edges_of_words, words_read, edges_read, AddsEdges};
 ghost use Rattle.cycle_names.specs.Laws.{are_of_arch, IsNamed, NamesNone};
 

@@ -1,14 +1,12 @@
 -- What is made of edges, by whether each joins the next.
 use Rattle.std.proofs.Common.{◌≡◌, ◌≤◌, true, false, nat_lt, List, [], ◌∷◌, ◌++◌, length, Option, Some, None, Ok, Err, refl, sym, ap, ◌∙◌}
 use Rattle.std.specs.Prelude.{ℕ, slice_get}
-use Rattle.relax_edges.specs.declared.{TheConstants.MAX_EDGES, kinds.ArchName.ArchName, edge.Edge.Edge}
-use Rattle.relax_edges.specs.JoinedEdges.{is_joined}
+use Rattle.relax_edges.specs.{declared.TheConstants.MAX_EDGES, declared.kinds.ArchName.ArchName, declared.edge.Edge.Edge, JoinedEdges.is_joined}
 use Rattle.edge_algebra_laws.specs.Composable.{IsCycle, first_break}
 use Rattle.edge_algebra_laws.proofs.Composing.{joined_unbroken, unbroken_joined, unbroken_cycle}
 use Rattle.edge_algebra.specs.Compose.{unbroken}
 use Rattle.cycle_names.specs.Laws.{are_of_arch}
-use Rattle.cycles_from_lines.specs.declared.errors.LineKind.TheVariants.{DoesNotCompose}
-use Rattle.cycles_from_lines.specs.Cycles.{cycle_made, composed_or}
+use Rattle.cycles_from_lines.specs.{declared.errors.LineKind.TheVariants.DoesNotCompose, Cycles.{cycle_made, composed_or}}
 
 -- edges of which each joins the next, and the last the first, make a cycle
 pub joined_cycle : (u : List Edge) (e : Edge) → slice_get u 0 ≡ Some e → length u ≤ MAX_EDGES → is_joined (u ++ e ∷ []) ≡ true → IsCycle u

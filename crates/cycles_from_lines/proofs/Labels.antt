@@ -1,12 +1,11 @@
 -- A text whose words all spell edges has no label.
-use Rattle.std.proofs.Common.{◌≡◌, ◌==◌, ℕ, Bool, true, not, List, [], ◌∷◌, Option, Some, None, Ok, refl, sym, ap, ◌∙◌}
+use Rattle.std.proofs.{Common.{◌≡◌, ◌==◌, ℕ, Bool, true, not, List, [], ◌∷◌, Option, Some, None, Ok, refl, sym, ap, ◌∙◌}, lemmas.Bool.eqb-true}
 use Rattle.std.specs.List.{slice_split, list_all}
-use Rattle.std.proofs.lemmas.Bool.{eqb-true}
 use Rattle.list_laws.proofs.Cases.{by_test}
 use Rattle.text_parts_laws.specs.{Blanks.is_blank, Cuts.is_without}
 use Rattle.text_parts_laws.proofs.PieceLaws.{first_piece}
-use Rattle.relax_edges.specs.declared.{kinds.ArchName.ArchName, edge.Edge.Edge}
-use Rattle.relax_edges.specs.{AllEdges.edges_in_order, Spelling.edge_of, Spelling.spellings_of, ReadEdges.before_edges}
+use Rattle.relax_edges.specs.{declared.kinds.ArchName.ArchName, declared.edge.Edge.Edge, AllEdges.edges_in_order, Spelling.{edge_of, spellings_of}}
+use Rattle.relax_edges.specs.ReadEdges.{before_edges}
 use Rattle.edge_algebra_laws.proofs.SpellingLaws.{each_spelling}
 use Rattle.edges_from_text.specs.Spelled.{edges_spelled, text_edges}
 use Rattle.cycles_from_lines.specs.Cycles.{spelled_made, without_label}

@@ -1,14 +1,13 @@
 -- Names that are kept in byte order, of which some are known.
-use Rattle.std.proofs.Common.{◌≡◌, ℕ, Bool, true, false, List, [], ◌∷◌, refl, sym, ap, ◌∙◌}
-use Rattle.std.specs.Prelude.{map, not, ◌||◌, String, Result, Ok, Err, OnOk, OnErr, IfOk}
-use Rattle.std.specs.{Bool.MatchBool, List.list_any, List.AllByRecursion, List.Sorted.IsPermutation, List.Sorted.IsStrictlySortedBy, Ordering.nat_cmp}
-use Rattle.std.specs.{Ordering.match_ordering, Cmp.Lexicographic.slice_cmp, Str.bytes_eq, String.string_bytes, BTreeSet.BTreeSet, BTreeSet.insert_key}
-use Rattle.std.proofs.lemmas.{List.Sorted.list_any-IsPermutation, Slice.Eq.bytes_eq-Decides}
-use Rattle.std.specs.declared.{cmp.Ordering.Ordering, cmp.Ordering.TheVariants.Less, cmp.Ordering.TheVariants.Equal, cmp.Ordering.TheVariants.Greater}
-use Rattle.std.specs.declared.{alloc.Global.Global}
+use Rattle.std.proofs.{Common.{◌≡◌, ℕ, Bool, true, false, List, [], ◌∷◌, refl, sym, ap, ◌∙◌}, lemmas.List.Sorted.list_any-IsPermutation}
+use Rattle.std.proofs.lemmas.Slice.Eq.{bytes_eq-Decides}
+use Rattle.std.specs.{Prelude.{map, not, ◌||◌, String, Result, Ok, Err, OnOk, OnErr, IfOk}, Bool.MatchBool, List.{list_any, AllByRecursion}}
+use Rattle.std.specs.{List.Sorted.{IsPermutation, IsStrictlySortedBy}, Ordering.{nat_cmp, match_ordering}, Cmp.Lexicographic.slice_cmp, Str.bytes_eq}
+use Rattle.std.specs.{String.string_bytes, BTreeSet.{BTreeSet, insert_key}, declared.cmp.Ordering.Ordering}
+use Rattle.std.specs.{declared.cmp.Ordering.TheVariants.{Less, Equal, Greater}, declared.alloc.Global.Global}
 use Rattle.list_laws.proofs.Cases.{by_test}
 use Rattle.text_parts_laws.proofs.OrderLaws.{Above, Ascends, above_all, not_equal, none_above, any_insert, bytes_same}
-use Rattle.cycles_from_lines.specs.{Classified.with_cycle_name, KeptNames.names_in_set, KeptNames.is_absent, KeptNames.AreAmong}
+use Rattle.cycles_from_lines.specs.{Classified.with_cycle_name, KeptNames.{names_in_set, is_absent, AreAmong}}
 
 -- where a text that is there is put in order, nothing changes
 pub present_same : (k : List ℕ) (xs : List (List ℕ)) → Ascends xs → list_any (bytes_eq k) xs ≡ true → with_cycle_name xs k ≡ xs

@@ -1,18 +1,15 @@
 -- How the lines of cycles are written one after another.
 use Rattle.std.proofs.Common.{◌≡◌, ◌==◌, ◌≤◌, ◌<◌, ℕ, true, List, [], ◌∷◌, ◌++◌, length, Option, Some, None, Ok, Err, refl, sym, ap, ◌∙◌, subst, arith, append-nil, length-append}
-use Rattle.std.specs.{Prelude.codes, Prelude.Result, List.join_by}
-use Rattle.std.proofs.lemmas.{Bool.Decides.nat_tests, Grind.flat_map-append}
-use Rattle.diy_io.specs.declared.page.TheConstants.{SPILL, LINE_ROOM}
-use Rattle.diy_io.specs.{Page.page_after, Page.SentAll, Page.Sends, Taken.SourceSeen, Wrote.SinkSeen, Wrote.WroteAll, Wrote.WrotePart}
-use Rattle.diy_io.specs.{WroteLaws.all_then_all, WroteLaws.all_then_part, WroteLaws.part_more}
+use Rattle.std.proofs.{lemmas.Bool.Decides.nat_tests, lemmas.Grind.flat_map-append}
+use Rattle.std.specs.{Prelude.{codes, Result}, List.join_by}
+use Rattle.diy_io.specs.{declared.page.TheConstants.{SPILL, LINE_ROOM}, Page.{page_after, SentAll, Sends}, Taken.SourceSeen}
+use Rattle.diy_io.specs.{Wrote.{SinkSeen, WroteAll, WrotePart}, WroteLaws.{all_then_all, all_then_part, part_more}}
 use Rattle.diy_io.specs.PageLaws.{sent_nothing, sent_same, sent_both, sent_part, sent_line}
-use Rattle.relax_edges.specs.declared.{kinds.ArchName.ArchName, edge.Edge.Edge}
-use Rattle.relax_edges.specs.WordParts.{word_of}
+use Rattle.relax_edges.specs.{declared.kinds.ArchName.ArchName, declared.edge.Edge.Edge, WordParts.word_of}
 use Rattle.cycle_names.specs.{CycleNames.name_of, Rotations.named_rotation}
-use Rattle.cycles_from_lines.specs.declared.errors.{LineKind.LineKind, LinesError.LinesError, LinesError.TheVariants.Wrong, NormError.NormError}
-use Rattle.cycles_from_lines.specs.declared.errors.{NormError.TheVariants.Lines, NormError.TheVariants.OutFault}
-use Rattle.cycles_from_lines.specs.LineReading.{ReadAll, ReadUpTo}
-use Rattle.cycles_from_lines.specs.Normed.{name_line, name_lines, last_lines, WritesLast, NormedUpTo, NormedPart, Norms}
+use Rattle.cycles_from_lines.specs.{declared.errors.LineKind.LineKind, declared.errors.LinesError.LinesError, declared.errors.LinesError.TheVariants.Wrong}
+use Rattle.cycles_from_lines.specs.{declared.errors.NormError.NormError, declared.errors.NormError.TheVariants.{Lines, OutFault}}
+use Rattle.cycles_from_lines.specs.{LineReading.{ReadAll, ReadUpTo}, Normed.{name_line, name_lines, last_lines, WritesLast, NormedUpTo, NormedPart, Norms}}
 use Rattle.cycles_from_lines.specs.LineSteps.{ReaderSeen, HasRead, GivesLine, last_cycle}
 use Rattle.cycles_from_lines.proofs.ReadLaws.{Before, nothing_read, line_given, fault_given, no_cycles, given_before, all_before}
 

@@ -1,19 +1,17 @@
 -- How what was read of a source goes on.
 use Rattle.std.proofs.Common.{◌≡◌, ◌==◌, ℕ, zero, suc, ◌+◌, ◌-◌, ◌<◌, ◌≤◌, List, [], ◌∷◌, ◌++◌, length, take, drop, Option, Some, None, Result, Ok, Err, true, false, refl, sym, ap, inl, inr, ◌∙◌, subst, arith, append-nil, append_assoc, length-append}
-use Rattle.std.specs.{Prelude.unwrap_or, Prelude.MatchOption, Result.result_err, List.take_while, Io.KnownBytes.Consumes, Io.KnownBytes.IsAtEnd}
-use Rattle.std.specs.{Io.KnownBytes.Keeps}
-use Rattle.std.proofs.{lemmas.List.drop-drop, lemmas.List.length-drop, lemmas.List.length-take-le, lemmas.List.Folds.list_all-append}
-use Rattle.std.proofs.{lemmas.List.Sums.take_while-cons, lemmas.Grind.flat_map-append, Math.Seq.take-add}
+use Rattle.std.proofs.{lemmas.List.{drop-drop, length-drop, length-take-le}, lemmas.List.Folds.list_all-append, lemmas.List.Sums.take_while-cons}
+use Rattle.std.proofs.{lemmas.Grind.flat_map-append, Math.Seq.take-add}
+use Rattle.std.specs.{Prelude.{unwrap_or, MatchOption}, Result.result_err, List.take_while, Io.KnownBytes.{Consumes, IsAtEnd, Keeps}}
 use Rattle.list_laws.proofs.Cases.{by_test}
-use Rattle.diy_io.specs.declared.source.TheConstants.{MAX_INPUT}
-use Rattle.diy_io.specs.{Count.Rose, Count.count_of, Count.last_count, Sink.line_feed_count, Taken.SourceSeen, Taken.Took}
-use Rattle.relax_edges.specs.declared.{kinds.ArchName.ArchName, edge.Edge.Edge}
-use Rattle.cycles_from_lines.specs.declared.{errors.LineKind.LineKind, errors.LineKind.TheVariants.LineTooLong, errors.LinesError.LinesError}
-use Rattle.cycles_from_lines.specs.declared.{reader.Found.Found, reader.Found.TheVariants.Next, reader.Found.TheVariants.Last, reader.Line.Line}
-use Rattle.text_parts_laws.specs.Lines.{without_return, ended_lines, unended, last_line, lines_of}
+use Rattle.diy_io.specs.{declared.source.TheConstants.MAX_INPUT, Count.{Rose, count_of, last_count}, Sink.line_feed_count, Taken.{SourceSeen, Took}}
+use Rattle.relax_edges.specs.{declared.kinds.ArchName.ArchName, declared.edge.Edge.Edge}
+use Rattle.cycles_from_lines.specs.{declared.errors.LineKind.LineKind, declared.errors.LineKind.TheVariants.LineTooLong, declared.errors.LinesError.LinesError}
+use Rattle.cycles_from_lines.specs.{declared.reader.Found.Found, declared.reader.Found.TheVariants.{Next, Last}, declared.reader.Line.Line}
 use Rattle.cycles_from_lines.specs.Cycles.{line_said, line_fault, is_sound, are_sound, cycle_said, cycles_of, is_long_line}
 use Rattle.cycles_from_lines.specs.LineReading.{TookUpTo, Untouched, ReadAll, ReadToFault, ReadToLimit, ReadToStop, ReadSome, whole_of, cycles_before}
 use Rattle.cycles_from_lines.specs.LineSteps.{Without, CutsAtSign, ReaderSeen, HasRead, GivesLine, GivesNext, line_said_by, Fills, FillsBuffer, Ended, Stops, Ends, LessToDo, Continues, last_cycle}
+use Rattle.text_parts_laws.specs.Lines.{without_return, ended_lines, unended, last_line, lines_of}
 use Rattle.cycles_from_lines.proofs.LineLaws.{ended_after, unended_after, lines_after, ended_none, unended_all, ended_nil, unended_nil, short_pending, long_first, ended_count}
 use Rattle.text_parts_laws.proofs.LineLaws.{ended_cut, unended_cut, lines_cut}
 

@@ -1,20 +1,18 @@
 -- The names of cycles by their families, as they are kept and written.
 use Rattle.std.proofs.Common.{◌≡◌, ◌≤◌, ◌<◌, ◌+◌, ℕ, zero, suc, List, [], ◌∷◌, ◌++◌, length, take, get_or, Option, None, Ok, Err, true, false, refl, sym, ap, inl, ◌∙◌, subst, arith, append-nil, append_assoc}
-use Rattle.std.specs.Prelude.{cond, map, filter, fold, codes, Result, OnOk, String, IsTrue, ◌↔◌, slice_set}
-use Rattle.std.specs.{List.flat_map, Result.IsErrAnd, BTreeSet.BTreeSet, BTreeSet.btree_set_len, Borrow.Bor, String.string_bytes}
-use Rattle.std.specs.declared.alloc.Global.{Global}
-use Rattle.std.proofs.lemmas.{List.Elements.filter-append, List.Sums.fold-append, List.Folds.flat_map-map, Grind.flat_map-append, List.length-map}
-use Rattle.std.proofs.lemmas.{List.map_push}
+use Rattle.std.proofs.{lemmas.List.Elements.filter-append, lemmas.List.Sums.fold-append, lemmas.List.Folds.flat_map-map, lemmas.Grind.flat_map-append}
+use Rattle.std.proofs.lemmas.List.{length-map, map_push}
+use Rattle.std.specs.{Prelude.{cond, map, filter, fold, codes, Result, OnOk, String, IsTrue, ◌↔◌, slice_set}, List.flat_map, Result.IsErrAnd}
+use Rattle.std.specs.{BTreeSet.{BTreeSet, btree_set_len}, Borrow.Bor, String.string_bytes, declared.alloc.Global.Global}
 use Rattle.list_laws.proofs.Cases.{by_test}
-use Rattle.diy_io.specs.declared.{source.TheConstants.MAX_INPUT, errors.Failed.Failed}
-use Rattle.diy_io.specs.{Page.SentAll, Page.Sends, Taken.SourceSeen, Wrote.SinkSeen, Wrote.WroteAll, Wrote.WrotePart}
+use Rattle.diy_io.specs.{declared.source.TheConstants.MAX_INPUT, declared.errors.Failed.Failed, Page.{SentAll, Sends}, Taken.SourceSeen}
+use Rattle.diy_io.specs.Wrote.{SinkSeen, WroteAll, WrotePart}
 use Rattle.diy_io.specs.PageLaws.{sent_nothing, sent_same, sent_both, sent_part, sent_part_more, each_sent, each_unsent}
-use Rattle.relax_edges.specs.declared.{kinds.ArchName.ArchName, edge.Edge.Edge}
-use Rattle.cycle_names.specs.declared.family.Family.{Family}
+use Rattle.relax_edges.specs.{declared.kinds.ArchName.ArchName, declared.edge.Edge.Edge}
+use Rattle.cycle_names.specs.{declared.family.Family.Family, Families.{all_families, family_word}, CycleNames.name_of, Rotations.family_of}
 use Rattle.cycle_names.specs.declared.family.Family.TheVariants as families
-use Rattle.cycle_names.specs.{Families.all_families, Families.family_word, CycleNames.name_of, Rotations.family_of}
-use Rattle.cycles_from_lines.specs.declared.names.FamilyNames.{FamilyNames}
-use Rattle.cycles_from_lines.specs.{LineReading.ReadAll, KeptNames.names_in_set, LineSteps.ReaderSeen, LineSteps.HasRead, LineSteps.last_cycle}
+use Rattle.cycles_from_lines.specs.{declared.names.FamilyNames.FamilyNames, LineReading.ReadAll, KeptNames.names_in_set}
+use Rattle.cycles_from_lines.specs.LineSteps.{ReaderSeen, HasRead, last_cycle}
 use Rattle.cycles_from_lines.specs.Classified.{families_in_order, is_family, with_cycle_name, family_names, name_entry, family_text, families_text, ReadsPart, ClassifiedAll, ClassifiedPart}
 use Rattle.cycles_from_lines.specs.FamilyTables.{place_of_family, FamilyEntry, family_view, entry_text, family_table, HoldsCycles, entry_with, name_entered, AddsCycle, AddsLast, GatheredFamilies}
 use Rattle.cycles_from_lines.proofs.ReadLaws.{nothing_read}

@@ -1,15 +1,13 @@
 -- What is written of cycles by their families.
 -- Source: own; the lines are those of classify7 of the herdtools suite.
-use Rattle.std.specs.Prelude.{◌≡◌, ◌≤◌, ℕ, Bool, List, [], ◌∷◌, ◌++◌, codes, length, map, filter, fold, Result, Ok, Err}
-use Rattle.std.specs.{List.flat_map, Ordering.nat_cmp, Cmp.Lexicographic.slice_cmp, BTreeSet.insert_key, Str.bytes_eq}
-use Rattle.diy_io.specs.declared.source.TheConstants.{MAX_INPUT}
-use Rattle.diy_io.specs.{Taken.SourceSeen, Wrote.SinkSeen, Wrote.WroteAll, Wrote.WrotePart}
-use Rattle.relax_edges.specs.declared.{kinds.ArchName.ArchName, edge.Edge.Edge}
-use Rattle.cycle_names.specs.declared.family.{Family.Family, Family.TheVariants.Other}
-use Rattle.cycle_names.specs.{Families.all_families, Families.family_word, CycleNames.name_of, Rotations.family_of}
-use Rattle.cycles_from_lines.specs.declared.errors.{LinesError.LinesError, ClassifyError.ClassifyError, ClassifyError.TheVariants.Lines}
-use Rattle.cycles_from_lines.specs.declared.errors.{ClassifyError.TheVariants.OutFault, ClassifyError.TheVariants.NoMemory}
-use Rattle.cycles_from_lines.specs.LineReading.{ReadAll, ReadUpTo, TookUpTo}
+use Rattle.std.specs.{Prelude.{◌≡◌, ◌≤◌, ℕ, Bool, List, [], ◌∷◌, ◌++◌, codes, length, map, filter, fold, Result, Ok, Err}, List.flat_map, Ordering.nat_cmp}
+use Rattle.std.specs.{Cmp.Lexicographic.slice_cmp, BTreeSet.insert_key, Str.bytes_eq}
+use Rattle.diy_io.specs.{declared.source.TheConstants.MAX_INPUT, Taken.SourceSeen, Wrote.{SinkSeen, WroteAll, WrotePart}}
+use Rattle.relax_edges.specs.{declared.kinds.ArchName.ArchName, declared.edge.Edge.Edge}
+use Rattle.cycle_names.specs.{declared.family.Family.Family, declared.family.Family.TheVariants.Other, Families.{all_families, family_word}, CycleNames.name_of}
+use Rattle.cycle_names.specs.Rotations.{family_of}
+use Rattle.cycles_from_lines.specs.{declared.errors.LinesError.LinesError, declared.errors.ClassifyError.ClassifyError}
+use Rattle.cycles_from_lines.specs.{declared.errors.ClassifyError.TheVariants.{Lines, OutFault, NoMemory}, LineReading.{ReadAll, ReadUpTo, TookUpTo}}
 
 -- the families of the table, and that of the cycles of none
 abbrev pub families_in_order : List Family

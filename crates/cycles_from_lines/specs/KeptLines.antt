@@ -1,10 +1,9 @@
 -- What is made of a line, and of its edges as they are kept.
 use Rattle.std.specs.Prelude.{List, Option, Result, Ok, Err}
-use Rattle.relax_edges.specs.declared.{kinds.ArchName.ArchName, edge.Edge.Edge}
-use Rattle.edges_from_text.specs.declared.list.{EdgeList.EdgeList, EdgeList.TheVariants.Whole, EdgeList.TheVariants.TooLong}
-use Rattle.cycles_from_lines.specs.declared.errors.LineKind.{LineKind}
+use Rattle.relax_edges.specs.{declared.kinds.ArchName.ArchName, declared.edge.Edge.Edge}
+use Rattle.edges_from_text.specs.{declared.list.EdgeList.EdgeList, declared.list.EdgeList.TheVariants.{Whole, TooLong}}
+use Rattle.cycles_from_lines.specs.{declared.errors.LineKind.LineKind, Cycles.cycle_made}
 use Rattle.cycles_from_lines.specs.declared.errors.LineKind.TheVariants as kinds
-use Rattle.cycles_from_lines.specs.Cycles.{cycle_made}
 
 -- what a line says, or its fault
 abbrev pub said_with : Result (Unit {0}) LineKind → Option (List Edge) → Result (Option (List Edge)) LineKind

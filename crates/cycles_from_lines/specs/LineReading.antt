@@ -1,13 +1,12 @@
 -- What was read of a source, line by line.
-use Rattle.std.specs.Prelude.{◌≡◌, ◌≤◌, ◌<◌, ◌⊎◌, ℕ, ◌+◌, true, false, List, [], ◌++◌, length, take, unwrap_or}
-use Rattle.std.specs.{List.take_while, Io.KnownBytes.IsAtEnd, Io.KnownBytes.Keeps}
-use Rattle.diy_io.specs.declared.source.TheConstants.{MAX_INPUT}
-use Rattle.diy_io.specs.{Count.Rose, Sink.line_feed_count, Taken.SourceSeen, Taken.Took}
-use Rattle.relax_edges.specs.declared.{kinds.ArchName.ArchName, edge.Edge.Edge}
-use Rattle.cycles_from_lines.specs.declared.errors.{LineKind.LineKind, LinesError.LinesError, LinesError.TheVariants.Wrong}
-use Rattle.cycles_from_lines.specs.declared.errors.{LinesError.TheVariants.TooMuch, LinesError.TheVariants.InputFault}
-use Rattle.text_parts_laws.specs.Lines.{without_return, ended_lines, unended, lines_of}
+use Rattle.std.specs.{Prelude.{◌≡◌, ◌≤◌, ◌<◌, ◌⊎◌, ℕ, ◌+◌, true, false, List, [], ◌++◌, length, take, unwrap_or}, List.take_while}
+use Rattle.std.specs.Io.KnownBytes.{IsAtEnd, Keeps}
+use Rattle.diy_io.specs.{declared.source.TheConstants.MAX_INPUT, Count.Rose, Sink.line_feed_count, Taken.{SourceSeen, Took}}
+use Rattle.relax_edges.specs.{declared.kinds.ArchName.ArchName, declared.edge.Edge.Edge}
+use Rattle.cycles_from_lines.specs.{declared.errors.LineKind.LineKind, declared.errors.LinesError.LinesError}
+use Rattle.cycles_from_lines.specs.declared.errors.LinesError.TheVariants.{Wrong, TooMuch, InputFault}
 use Rattle.cycles_from_lines.specs.Cycles.{FirstFault, are_sound, cycles_of, is_sound, is_long_line}
+use Rattle.text_parts_laws.specs.Lines.{without_return, ended_lines, unended, lines_of}
 
 -- what was taken of a source and, where its text is known, what is left of it: then all that it had
 abbrev pub whole_of : List ℕ → SourceSeen → List ℕ

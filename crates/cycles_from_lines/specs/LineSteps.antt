@@ -1,15 +1,13 @@
 -- What a reader of lines represents, and how it goes on.
 use Rattle.std.specs.Prelude.{◌≡◌, ◌≤◌, ◌<◌, ◌==◌, ℕ, ◌+◌, ◌-◌, ◌*◌, true, false, List, [], ◌∷◌, ◌++◌, length, take, drop, Option, Some, None, Result, Ok, Err, All, MatchOption}
 use Rattle.std.specs.Io.KnownBytes.{IsAtEnd}
-use Rattle.diy_io.specs.declared.source.TheConstants.{MAX_INPUT}
-use Rattle.diy_io.specs.{Count.Rose, Count.last_count, Taken.SourceSeen, Taken.Took}
-use Rattle.relax_edges.specs.declared.{kinds.ArchName.ArchName, edge.Edge.Edge}
-use Rattle.cycles_from_lines.specs.declared.{errors.LineKind.LineKind, errors.LinesError.LinesError, reader.Line.Line, reader.Found.Found}
-use Rattle.cycles_from_lines.specs.declared.{reader.Found.TheVariants.Next, reader.Found.TheVariants.Last}
+use Rattle.diy_io.specs.{declared.source.TheConstants.MAX_INPUT, Count.{Rose, last_count}, Taken.{SourceSeen, Took}}
+use Rattle.relax_edges.specs.{declared.kinds.ArchName.ArchName, declared.edge.Edge.Edge}
+use Rattle.cycles_from_lines.specs.{declared.errors.LineKind.LineKind, declared.errors.LinesError.LinesError, declared.reader.Line.Line}
+use Rattle.cycles_from_lines.specs.{declared.reader.Found.Found, declared.reader.Found.TheVariants.{Next, Last}, Cycles.{line_said, are_sound, cycles_of}}
+use Rattle.cycles_from_lines.specs.LineReading.{ReadAll, ReadUpTo, TookUpTo, Untouched}
 use Rattle.cycles_from_lines.specs.declared.reader.Line.TheVariants as lines
 use Rattle.text_parts_laws.specs.Lines.{without_return, ended_lines, unended}
-use Rattle.cycles_from_lines.specs.Cycles.{line_said, are_sound, cycles_of}
-use Rattle.cycles_from_lines.specs.LineReading.{ReadAll, ReadUpTo, TookUpTo, Untouched}
 
 -- a text holds no such byte
 abbrev pub Without : ℕ → List ℕ → Type 0

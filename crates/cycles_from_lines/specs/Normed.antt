@@ -1,14 +1,11 @@
 -- What is written of the names of cycles.
 -- Source: own; the lines are those of norm7 of the herdtools suite.
-use Rattle.std.specs.Prelude.{ℕ, List, [], ◌++◌, codes, Option, Some, None, Result, Ok, Err}
-use Rattle.std.specs.List.{join_by, flat_map}
-use Rattle.diy_io.specs.{Taken.SourceSeen, Wrote.SinkSeen, Wrote.WroteAll, Wrote.WrotePart}
-use Rattle.relax_edges.specs.declared.{kinds.ArchName.ArchName, edge.Edge.Edge}
-use Rattle.relax_edges.specs.WordParts.{word_of}
+use Rattle.std.specs.{Prelude.{ℕ, List, [], ◌++◌, codes, Option, Some, None, Result, Ok, Err}, List.{join_by, flat_map}}
+use Rattle.diy_io.specs.{Taken.SourceSeen, Wrote.{SinkSeen, WroteAll, WrotePart}}
+use Rattle.relax_edges.specs.{declared.kinds.ArchName.ArchName, declared.edge.Edge.Edge, WordParts.word_of}
 use Rattle.cycle_names.specs.{CycleNames.name_of, Rotations.named_rotation}
-use Rattle.cycles_from_lines.specs.declared.errors.{LinesError.LinesError, NormError.NormError, NormError.TheVariants.Lines}
-use Rattle.cycles_from_lines.specs.declared.errors.{NormError.TheVariants.OutFault}
-use Rattle.cycles_from_lines.specs.LineReading.{ReadAll, ReadUpTo, ReadSome, cycles_before, whole_of}
+use Rattle.cycles_from_lines.specs.{declared.errors.LinesError.LinesError, declared.errors.NormError.NormError}
+use Rattle.cycles_from_lines.specs.{declared.errors.NormError.TheVariants.{Lines, OutFault}, LineReading.{ReadAll, ReadUpTo, ReadSome, cycles_before, whole_of}}
 
 -- the line of a cycle: its name, and its edges in the rotation that it is named from
 unfoldable pub name_line : List Edge → List ℕ

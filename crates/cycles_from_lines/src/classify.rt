@@ -1,6 +1,5 @@
-ghost use Rattle.cycles_from_lines.specs.Classified.{Classifies};
+ghost use Rattle.cycles_from_lines.specs.{Classified.{Classifies}, FamilyTables.{Gathers, AddsLast}};
 ghost use Rattle.std.specs.Prelude.{OnOk};
-ghost use Rattle.cycles_from_lines.specs.FamilyTables.{Gathers, AddsLast};
 
 use crate::errors::ClassifyError;
 use crate::families::Families;

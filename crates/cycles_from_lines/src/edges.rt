@@ -1,12 +1,9 @@
 ghost use Rattle.std.specs.Prelude.{◌≡◌, [], ◌∷◌, ◌++◌, Some, option_map};
-ghost use Rattle.relax_edges.specs.declared.edge.Edge.{Edge};
-ghost use Rattle.relax_edges.specs.EdgeTable.{source_of, target_of, source_mark, target_mark};
-ghost use Rattle.relax_edges.specs.JoinedEdges.{is_joined};
+ghost use Rattle.relax_edges.specs.{declared.edge.Edge.{Edge}, EdgeTable.{source_of, target_of, source_mark, target_mark}, JoinedEdges.{is_joined}};
 ghost use Rattle.edge_algebra_laws.specs.Composable.{IsCycle};
 ghost use Rattle.cycle_names.specs.Laws.{are_of_arch};
 ghost use Rattle.edges_from_text.specs.Spelled.{text_edges};
-ghost use Rattle.cycles_from_lines.specs.Cycles.{spelled_made, cycle_made, cycle_spelled, quoted_cycle};
-ghost use Rattle.cycles_from_lines.specs.KeptLines.{made_kept, said_with};
+ghost use Rattle.cycles_from_lines.specs.{Cycles.{spelled_made, cycle_made, cycle_spelled, quoted_cycle}, KeptLines.{made_kept, said_with}};
 
 use crate::errors::LineKind;
 use edge_algebra::Cycle;

@@ -1,8 +1,7 @@
 ghost use Rattle.std.specs.Prelude.{ℕ, List, [], ◌∷◌, ◌++◌, IfOk, OnOk};
 ghost use Rattle.diy_io.specs.Wrote.{Wrote};
 ghost use Rattle.relax_edges.specs.declared.edge.Edge.{Edge};
-ghost use Rattle.cycles_from_lines.specs.Classified.{families_text};
-ghost use Rattle.cycles_from_lines.specs.FamilyTables.{HoldsCycles};
+ghost use Rattle.cycles_from_lines.specs.{Classified.{families_text}, FamilyTables.{HoldsCycles}};
 
 use crate::names::FamilyNames;
 use crate::table::{no_names, put_cycle, write_families};

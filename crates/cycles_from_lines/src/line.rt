@@ -1,8 +1,6 @@
-ghost use Rattle.std.specs.Prelude.{◌≡◌};
-ghost use Rattle.std.specs.List.{list_all};
+ghost use Rattle.std.specs.{Prelude.{◌≡◌}, List.{list_all}};
 ghost use Rattle.edges_from_text.specs.Spelled.{separates};
-ghost use Rattle.cycles_from_lines.specs.Cycles.{line_said, without_label};
-ghost use Rattle.cycles_from_lines.specs.KeptLines.{said_with};
+ghost use Rattle.cycles_from_lines.specs.{Cycles.{line_said, without_label}, KeptLines.{said_with}};
 
 use crate::MAX_CYCLE_LINE;
 use crate::edges::read_cycle;

@@ -1,8 +1,5 @@
-ghost use Rattle.std.specs.Prelude.{◌≡◌, [], true, OnOk};
-ghost use Rattle.std.specs.List.{list_any};
-ghost use Rattle.std.specs.Str.{bytes_eq};
-ghost use Rattle.cycles_from_lines.specs.Classified.{with_cycle_name};
-ghost use Rattle.cycles_from_lines.specs.KeptNames.{names_in_set, AreAmong};
+ghost use Rattle.std.specs.{Prelude.{◌≡◌, [], true, OnOk}, List.{list_any}, Str.{bytes_eq}};
+ghost use Rattle.cycles_from_lines.specs.{Classified.{with_cycle_name}, KeptNames.{names_in_set, AreAmong}};
 
 use cycle_names::Family;
 use diy_io::NoMemory;

@@ -1,9 +1,8 @@
 ghost use Rattle.std.specs.Prelude.{◌≡◌, ◌≤◌, ◌<◌, ℕ, ◌+◌, ◌-◌, List, [], false, length, take, drop, Option, Some, IfOk, OnErr};
 ghost use Rattle.relax_edges.specs.declared.edge.Edge.{Edge};
-ghost use Rattle.cycles_from_lines.specs.Cycles.{is_long_line};
-ghost use Rattle.cycles_from_lines.specs.KeptLines.{said_with};
-ghost use Rattle.text_parts_laws.specs.Lines.{without_return};
+ghost use Rattle.cycles_from_lines.specs.{Cycles.{is_long_line}, KeptLines.{said_with}};
 ghost use Rattle.cycles_from_lines.specs.LineSteps.{ReaderSeen, Without, GivesNext, line_said_by, Fills, FillsBuffer, Stops, ReadsOn, Refills, LessToDo, FindsLast, ReadsLast, Ends, work};
+ghost use Rattle.text_parts_laws.specs.Lines.{without_return};
 
 use crate::MAX_CYCLE_LINE;
 use crate::errors::{LineKind, LinesError};
@@ -61,8 +60,7 @@ pub(crate) struct LineReader {
 impl Model for LineReader {
     ghost use Rattle.std.specs.Prelude.{◌+◌, ◌-◌, ◌≤◌, take, drop};
     ghost use Rattle.diy_io.specs.declared.source.TheConstants.{MAX_INPUT};
-    ghost use Rattle.cycles_from_lines.specs.declared.reader.TheConstants.{BUFFER};
-    ghost use Rattle.cycles_from_lines.specs.LineSteps.{ReaderSeen};
+    ghost use Rattle.cycles_from_lines.specs.{declared.reader.TheConstants.{BUFFER}, LineSteps.{ReaderSeen}};
 
     ghost Value = { ReaderSeen };
 

@@ -1,10 +1,7 @@
-ghost use Rattle.std.specs.Prelude.{◌≡◌, ◌<◌, [], ◌++◌, codes, length, map, IfOk, OnOk};
-ghost use Rattle.std.specs.List.{flat_map};
-ghost use Rattle.diy_io.specs.Page.{Sends};
-ghost use Rattle.diy_io.specs.Wrote.{Wrote};
+ghost use Rattle.std.specs.{Prelude.{◌≡◌, ◌<◌, [], ◌++◌, codes, length, map, IfOk, OnOk}, List.{flat_map}};
+ghost use Rattle.diy_io.specs.{Page.{Sends}, Wrote.{Wrote}};
 ghost use Rattle.cycle_names.specs.Families.{family_word};
-ghost use Rattle.cycles_from_lines.specs.Classified.{name_entry};
-ghost use Rattle.cycles_from_lines.specs.KeptNames.{names_in_set};
+ghost use Rattle.cycles_from_lines.specs.{Classified.{name_entry}, KeptNames.{names_in_set}};
 ghost use Rattle.cycles_from_lines.specs.FamilyTables.{place_of_family, family_view, entry_text, HoldsCycles, AddsCycle, name_entered};
 
 use crate::names::FamilyNames;

@@ -1,16 +1,13 @@
 -- The cycle that the edges of `-after` make.
 use Rattle.std.proofs.Common.{◌≡◌, ℕ, Bool, true, false, List, [], ◌∷◌, ◌++◌, length, Option, Some, None, Result, Ok, Err, refl, sym, ap, ◌∙◌, lit≤, nat_lt, nat_le, arith}
-use Rattle.std.specs.{Prelude.cond, Option.option_map, Result.result_ok}
 use Rattle.std.proofs.lemmas.Bool.Decides.{nat_tests}
-use Rattle.relax_edges.specs.declared.{TheConstants.MAX_EDGES, edge.Edge.Edge}
-use Rattle.edge_algebra.specs.declared.errors.CycleError.{CycleError}
+use Rattle.std.specs.{Prelude.cond, Option.option_map, Result.result_ok}
+use Rattle.relax_edges.specs.{declared.TheConstants.MAX_EDGES, declared.edge.Edge.Edge}
+use Rattle.edge_algebra.specs.{declared.errors.CycleError.CycleError, Compose.{composed, unbroken}}
 use Rattle.edge_algebra.specs.declared.errors.CycleError.TheVariants as errors
-use Rattle.edge_algebra.specs.{Compose.composed, Compose.unbroken}
-use Rattle.edges_from_text.specs.declared.list.EdgeList.{EdgeList}
-use Rattle.edges_from_text.specs.{KeptEdges.kept_edges, KeptEdges.edges_added, KeptLaws.added_whole}
-use Rattle.diy_words.specs.{CodeNotes.notes_after, CodeNotes.cycle_kept, Notes.Notes, Notes.with_saying, Sayings.SaysAfter, Sayings.after_said}
-use Rattle.diy_words.specs.{Sayings.cycle_word_said}
-use Rattle.diy_words.specs.declared.usage.{Usage.Usage, UsageKind.TheVariants.BadAfter}
+use Rattle.edges_from_text.specs.{declared.list.EdgeList.EdgeList, KeptEdges.{kept_edges, edges_added}, KeptLaws.added_whole}
+use Rattle.diy_words.specs.{CodeNotes.{notes_after, cycle_kept}, Notes.{Notes, with_saying}, Sayings.{SaysAfter, after_said, cycle_word_said}}
+use Rattle.diy_words.specs.{declared.usage.Usage.Usage, declared.usage.UsageKind.TheVariants.BadAfter}
 use Rattle.edge_algebra_laws.specs.Composable.{first_break}
 
 long_none : (es : List Edge) → nat_le (length es) MAX_EDGES ≡ false → result_ok (composed es) ≡ None

@@ -1,9 +1,8 @@
 -- Numbers that are parsed.
-use Rattle.std.proofs.Common.{◌≡◌, ◌≤◌, ◌<◌, ◌^◌, ℕ, Bool, true, false, List, length, Some, None, Err, refl, arith, nat_lt, nat_le}
-use Rattle.std.specs.{Prelude.◌&&◌, Prelude.if◌then◌else◌, Prelude.Result, Char.is_ascii_digit, List.list_all, Result.OkIff, Str.Parse.digits_value}
-use Rattle.std.specs.{Str.Parse.ParsesUnsigned}
-use Rattle.std.proofs.lemmas.{Bool.and_parts, Bool.Decides.nat_tests, Str.Parse.parse_plain}
-use Rattle.list_laws.proofs.{Digits.digits_model, Digits.digits_no_plus, Cases.by_test}
+use Rattle.std.proofs.{Common.{◌≡◌, ◌≤◌, ◌<◌, ◌^◌, ℕ, Bool, true, false, List, length, Some, None, Err, refl, arith, nat_lt, nat_le}, lemmas.Bool.and_parts}
+use Rattle.std.proofs.{lemmas.Bool.Decides.nat_tests, lemmas.Str.Parse.parse_plain}
+use Rattle.std.specs.{Prelude.{◌&&◌, if◌then◌else◌, Result}, Char.is_ascii_digit, List.list_all, Result.OkIff, Str.Parse.{digits_value, ParsesUnsigned}}
+use Rattle.list_laws.proofs.{Digits.{digits_model, digits_no_plus}, Cases.by_test}
 use Rattle.diy_words.specs.NumberWords.{is_number, number_to}
 
 -- what isn't parsed is too large

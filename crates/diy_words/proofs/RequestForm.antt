@@ -1,31 +1,28 @@
 -- What a request has of its own form: the name of a test, the size of a listing, a folder, and the files of mcheck7.
 use Rattle.std.proofs.Common.{◌≡◌, ◌≤◌, ◌<◌, ◌+◌, ℕ, ap, arith, lit≤, nat_lt, nat_le, Bool, true, false, List, [], ◌∷◌, ◌++◌, Option, Some, None, Result, Ok, Err, refl, sym, subst, length}
-use Rattle.std.specs.Prelude.{if◌then◌else◌, IfOk, IfSome, ◌&&◌, ◌||◌, ◌==◌, codes}
-use Rattle.std.specs.{Str.bytes_eq, Str.Parse.digits_value, List.AllByRecursion, Borrow.Bor}
 use Rattle.std.proofs.lemmas.Bool.Decides.{nat_tests}
+use Rattle.std.specs.{Prelude.{if◌then◌else◌, IfOk, IfSome, ◌&&◌, ◌||◌, ◌==◌, codes}, Str.bytes_eq, Str.Parse.digits_value, List.AllByRecursion, Borrow.Bor}
 use Rattle.std.specs.Option.{option_map, option_or, unwrap_or, ForSome}
-use Rattle.relax_edges.specs.declared.{edge.Edge.Edge, TheConstants.MAX_EDGES, relax_error.RelaxError.RelaxError, kinds.ArchName.ArchName}
-use Rattle.relax_edges.specs.declared.{kinds.ObsMode.ObsMode}
-use Rattle.relax_edges.specs.{Relaxations.relaxes_of, Architectures.arch_of}
-use Rattle.edge_algebra.specs.declared.errors.CycleError.{CycleError}
-use Rattle.edge_algebra.specs.Compose.{composed}
-use Rattle.edges_from_text.specs.declared.read.Separators.TheVariants.{BlanksAndCommas}
-use Rattle.edges_from_text.specs.{Spelled.edges_of, Spelled.text_edges}
-use Rattle.diy_words.specs.declared.{request.TheConstants.MAX_CHOICES, request.TheConstants.MAX_TESTS, request.Check.Check, request.Demo.Demo, request.CheckForm.CheckForm, request.CheckForm.TheVariants.Verdict, request.CheckForm.TheVariants.Graph}
-use Rattle.diy_words.specs.declared.{request.Diy.Diy, request.Request.Request, usage.Usage.Usage, options.Tool.Tool, options.OptionName.OptionName}
-use Rattle.diy_io.specs.declared.shelf.TheConstants.{MAX_FOLDER}
-use Rattle.diy_words.specs.declared.request.Request.TheVariants as requests
+use Rattle.relax_edges.specs.{declared.edge.Edge.Edge, declared.TheConstants.MAX_EDGES, declared.relax_error.RelaxError.RelaxError}
+use Rattle.relax_edges.specs.{declared.kinds.ArchName.ArchName, declared.kinds.ObsMode.ObsMode, Relaxations.relaxes_of, Architectures.arch_of}
+use Rattle.edge_algebra.specs.{declared.errors.CycleError.CycleError, Compose.composed}
+use Rattle.edges_from_text.specs.{declared.read.Separators.TheVariants.BlanksAndCommas, Spelled.{edges_of, text_edges}}
+use Rattle.diy_words.specs.{declared.request.TheConstants.{MAX_CHOICES, MAX_TESTS}, declared.request.Check.Check, declared.request.Demo.Demo}
+use Rattle.diy_words.specs.{declared.request.CheckForm.CheckForm, declared.request.CheckForm.TheVariants.{Verdict, Graph}, declared.request.Diy.Diy}
+use Rattle.diy_words.specs.{declared.request.Request.Request, declared.usage.Usage.Usage, declared.options.Tool.Tool, declared.options.OptionName.OptionName}
 use Rattle.diy_words.specs.declared.usage.UsageKind.TheVariants.{UnknownOption, BadName, BadFolder, StrayWord, ExcludedOption, TooManyChoices}
-use Rattle.diy_words.specs.declared.options.Tool.TheVariants as tools
-use Rattle.diy_words.specs.declared.options.OptionName.TheVariants as opts
-use Rattle.diy_words.specs.{TestNames.is_name, NumberWords.is_number, NumberWords.number_to}
+use Rattle.diy_words.specs.{TestNames.is_name, NumberWords.{is_number, number_to}}
 use Rattle.diy_words.specs.Parts.{Part, Alone, Valued, Unvalued, waiting_at, alone_before, parts_from, parts_of, option_named, tool_named, mode_named}
 use Rattle.diy_words.specs.Sayings.{Saying, SaysName, SaysRelaxes, SaysPlace, SaysSize, SaysExact, SaysWhy, SaysCo, SaysExec, SaysLines, SaysGraph, SaysThreads, SaysAccesses, SaysFolder, SaysCount, SaysTest, SaysExecution, Before, usage_fault, why_said, co_said, exec_said, lines_said, folder_said, dashed_said, operand_said, relaxes_said, number_said, after_said, cycle_word_said, said_by, arch_said, mode_said, edges_said, begins_option}
 use Rattle.diy_words.specs.Gathered.{Gathered, gathered_of, last_given, name_of_saying, size_of_saying, folder_of_saying, count_of_saying, test_of_saying, execution_of_saying}
 use Rattle.diy_words.specs.SaidInOrder.{before_of, said_in, sayings, said_first, said_all}
 use Rattle.diy_words.specs.Requests.{Task, AsksTest, AsksWhy, AsksCoherence, AsksName, AsksList, AsksFamilies, AsksCross, AsksDemo, AsksCheck, AsksExecution, AsksCoherenceExecution, AsksLines, NameTask, ListTask, FamiliesTask, list_with, families_with, cross_with, demo_with, check_with, choice_count, mode_or_accept, asks, test_with, why_with, coherence_with, why_asked, coherence_asked, test_asked, test_or_execution, coherence_or_execution, one_asked, diyone_asked, diy_asked, asked_for, norm_asked, tool_asked, said_asked, asked_of}
-use Rattle.arrayvec.specs.ArrayString.{ArrayString}
 use Rattle.diy_words.specs.Given.{GivesTask, HasForm, WithinWords, list_kept}
+use Rattle.diy_io.specs.declared.shelf.TheConstants.{MAX_FOLDER}
+use Rattle.diy_words.specs.declared.request.Request.TheVariants as requests
+use Rattle.diy_words.specs.declared.options.Tool.TheVariants as tools
+use Rattle.diy_words.specs.declared.options.OptionName.TheVariants as opts
+use Rattle.arrayvec.specs.ArrayString.{ArrayString}
 
 -- a name and a folder that are given have their forms, a size is one that cycles can have, so many tests can be made, and a file
 -- of mcheck7 is one of so many words

@@ -1,16 +1,12 @@
 -- For private functions of the code alone: how what they note is one of `Notes`, and what each call leaves of them.
-use Rattle.std.specs.Prelude.{ℕ, ◌≡◌, ◌<◌, nat_lt, List, [], ◌∷◌, drop, slice_get, Option, Some, None, Result, Ok, Err}
-use Rattle.std.specs.{Option.option_map, Result.result_ok}
+use Rattle.std.specs.{Prelude.{ℕ, ◌≡◌, ◌<◌, nat_lt, List, [], ◌∷◌, drop, slice_get, Option, Some, None, Result, Ok, Err}, Option.option_map, Result.result_ok}
 use Rattle.relax_edges.specs.declared.edge.Edge.{Edge}
-use Rattle.edges_from_text.specs.declared.list.{EdgeList.EdgeList, EdgeList.TheVariants.Whole, EdgeList.TheVariants.TooLong}
-use Rattle.edges_from_text.specs.KeptEdges.{kept_edges}
+use Rattle.edges_from_text.specs.{declared.list.EdgeList.EdgeList, declared.list.EdgeList.TheVariants.{Whole, TooLong}, KeptEdges.kept_edges}
 use Rattle.edge_algebra.specs.Compose.{composed}
 use Rattle.diy_words.specs.declared.notes.Notes as code
-use Rattle.diy_words.specs.declared.{options.OptionName.OptionName, options.Tool.Tool, request.Request.Request, request.TheConstants.MAX_CHOICES}
-use Rattle.diy_words.specs.declared.{usage.Usage.Usage}
-use Rattle.diy_words.specs.Parts.{Alone, Valued, parts_of, option_named}
-use Rattle.diy_words.specs.{Sayings.Saying, Sayings.dashed_said, Sayings.said_by, Gathered.Gathered, Requests.Task, Requests.choice_count}
-use Rattle.diy_words.specs.{Requests.tool_asked, Given.GivesTask}
+use Rattle.diy_words.specs.{declared.options.OptionName.OptionName, declared.options.Tool.Tool, declared.request.Request.Request}
+use Rattle.diy_words.specs.{declared.request.TheConstants.MAX_CHOICES, declared.usage.Usage.Usage, Parts.{Alone, Valued, parts_of, option_named}}
+use Rattle.diy_words.specs.{Sayings.{Saying, dashed_said, said_by}, Gathered.Gathered, Requests.{Task, choice_count, tool_asked}, Given.GivesTask}
 use Rattle.diy_words.specs.Notes.{Notes, with_saying, before_noted, gathered_noted, said_noted}
 
 -- what the code notes

@@ -1,16 +1,13 @@
 -- How a request holds what words ask for.
-use Rattle.std.specs.Prelude.{ℕ, ◌≡◌, ◌<◌, ◌≤◌, true, IfSome, length, Result, Ok, Err}
-use Rattle.std.specs.Option.{option_map, ForSome}
+use Rattle.std.specs.{Prelude.{ℕ, ◌≡◌, ◌<◌, ◌≤◌, true, IfSome, length, Result, Ok, Err}, Option.{option_map, ForSome}}
 use Rattle.relax_edges.specs.declared.TheConstants.{MAX_EDGES}
 use Rattle.edges_from_text.specs.KeptEdges.{kept_edges}
-use Rattle.diy_words.specs.declared.{request.Diy.Diy, request.TheConstants.MAX_TESTS, request.Request.Request, request.Sought.Sought}
-use Rattle.diy_words.specs.declared.{usage.Usage.Usage}
+use Rattle.diy_words.specs.{declared.request.Diy.Diy, declared.request.TheConstants.MAX_TESTS, declared.request.Request.Request, declared.request.Sought.Sought}
+use Rattle.diy_words.specs.{declared.usage.Usage.Usage, declared.request.DiyOne.DiyOne, declared.request.Coherence.Coherence, TestNames.is_name}
+use Rattle.diy_words.specs.Requests.{Task, AsksTest, AsksWhy, AsksCoherence, AsksName, AsksList, AsksFamilies, AsksSum, AsksCross, AsksDemo, AsksCheck, AsksExecution, AsksCoherenceExecution, AsksLines, TestTask, CoherenceTask, ListTask, OfEdges, OfName, OfLines}
 use Rattle.diy_io.specs.declared.shelf.TheConstants.{MAX_FOLDER}
 use Rattle.diy_words.specs.declared.request.Request.TheVariants as requests
-use Rattle.diy_words.specs.declared.{request.DiyOne.DiyOne, request.Coherence.Coherence}
 use Rattle.diy_words.specs.declared.request.Sought.TheVariants as sought
-use Rattle.diy_words.specs.TestNames.{is_name}
-use Rattle.diy_words.specs.Requests.{Task, AsksTest, AsksWhy, AsksCoherence, AsksName, AsksList, AsksFamilies, AsksSum, AsksCross, AsksDemo, AsksCheck, AsksExecution, AsksCoherenceExecution, AsksLines, TestTask, CoherenceTask, ListTask, OfEdges, OfName, OfLines}
 use Rattle.diy_words.specs.Requests as req
 
 -- the request holds the cycle that is sought

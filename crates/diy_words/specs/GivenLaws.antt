@@ -1,10 +1,9 @@
 -- What a request of diycross7 or classify7 says of the words that make it.
 use Rattle.std.specs.Prelude.{Result, Ok}
-use Rattle.diy_words.specs.declared.{request.Cross.Cross, usage.Usage.Usage}
-use Rattle.diy_words.specs.declared.request.Request.TheVariants as requests
-use Rattle.diy_words.specs.Given.{GivesTask}
-use Rattle.relax_edges.specs.declared.kinds.ArchName.{ArchName}
+use Rattle.diy_words.specs.{declared.request.Cross.Cross, declared.usage.Usage.Usage, Given.GivesTask}
 use Rattle.diy_words.specs.Requests.{Task, AsksCross, AsksFamilies, IsCrossing, IsClassifying}
+use Rattle.diy_words.specs.declared.request.Request.TheVariants as requests
+use Rattle.relax_edges.specs.declared.kinds.ArchName.{ArchName}
 
 -- words that give such a request ask for something of the tool
 pub gives_crossing : (request : Cross) (asked : Result Task Usage) → GivesTask (Ok (requests.Cross request)) asked → IsCrossing asked

@@ -1,12 +1,10 @@
 -- For private functions of the code alone: what they note of the words so far, word by word, and how it holds what the
 -- words said. What words ask for is defined without it.
-use Rattle.std.specs.Prelude.{ℕ, ◌+◌, ◌*◌, true, min, List, [], ◌∷◌, length, Some, is_some, Result, Ok, Err}
-use Rattle.std.specs.Option.{option_or}
+use Rattle.std.specs.{Prelude.{ℕ, ◌+◌, ◌*◌, true, min, List, [], ◌∷◌, length, Some, is_some, Result, Ok, Err}, Option.option_or}
 use Rattle.relax_edges.specs.declared.edge.Edge.{Edge}
-use Rattle.edges_from_text.specs.declared.list.EdgeList.{EdgeList}
-use Rattle.edges_from_text.specs.KeptEdges.{kept_edges, edges_added}
-use Rattle.diy_words.specs.declared.{options.Tool.Tool, request.TheConstants.MAX_CHOICES, usage.Usage.Usage}
-use Rattle.diy_words.specs.{Parts.Part, Gathered.Gathered, Gathered.gathered_of}
+use Rattle.edges_from_text.specs.{declared.list.EdgeList.EdgeList, KeptEdges.{kept_edges, edges_added}}
+use Rattle.diy_words.specs.{declared.options.Tool.Tool, declared.request.TheConstants.MAX_CHOICES, declared.usage.Usage.Usage, Parts.Part}
+use Rattle.diy_words.specs.Gathered.{Gathered, gathered_of}
 use Rattle.diy_words.specs.Sayings.{Saying, SaysArch, SaysName, SaysMode, SaysFrom, SaysEdges, SaysRelaxes, SaysSize, SaysExact, SaysWhy, SaysCo, SaysExec, SaysLines, SaysGraph, SaysThreads, SaysAccesses, SaysAfter, SaysFolder, SaysLog, SaysFile, SaysTest, SaysExecution, SaysPlace, SaysCount, Before, said_by}
 
 -- what is gathered so far, but for edges, places and files, of which nothing is gathered here; the edges, as many as a list holds; in

@@ -1,14 +1,13 @@
 -- The request that words make, or the first fault among them. Words are judged from left to right, an option with its
 -- value; then all of them. Source: own, after the command lines of the diy tools.
-use Rattle.std.specs.Prelude.{ℕ, ◌*◌, Bool, nat_lt, if◌then◌else◌, List, [], ◌∷◌, length, Option, Some, None, Result, Ok, Err}
-use Rattle.std.specs.Option.{unwrap_or}
-use Rattle.relax_edges.specs.declared.{kinds.ArchName.ArchName, kinds.ObsMode.ObsMode, kinds.ObsMode.TheVariants.Accept, edge.Edge.Edge}
-use Rattle.diy_words.specs.declared.{request.CheckForm.CheckForm, request.CheckForm.TheVariants.Verdict, request.CheckForm.TheVariants.Graph}
-use Rattle.diy_words.specs.declared.{usage.Usage.Usage, request.Check.Check, request.Demo.Demo, request.TheConstants.MAX_CHOICES, options.Tool.Tool}
+use Rattle.std.specs.{Prelude.{ℕ, ◌*◌, Bool, nat_lt, if◌then◌else◌, List, [], ◌∷◌, length, Option, Some, None, Result, Ok, Err}, Option.unwrap_or}
+use Rattle.relax_edges.specs.{declared.kinds.ArchName.ArchName, declared.kinds.ObsMode.ObsMode, declared.kinds.ObsMode.TheVariants.Accept}
+use Rattle.relax_edges.specs.declared.edge.Edge.{Edge}
+use Rattle.diy_words.specs.{declared.request.CheckForm.CheckForm, declared.request.CheckForm.TheVariants.{Verdict, Graph}, declared.usage.Usage.Usage}
+use Rattle.diy_words.specs.{declared.request.Check.Check, declared.request.Demo.Demo, declared.request.TheConstants.MAX_CHOICES, declared.options.Tool.Tool}
 use Rattle.diy_words.specs.declared.usage.UsageKind.TheVariants.{UnknownTool, StrayWord, MissingArch, MissingEdges, MissingNumber, MissingFile, MissingWhy, TooManyChoices}
+use Rattle.diy_words.specs.{Parts.{parts_of, tool_named}, Sayings.Saying, Gathered.{Gathered, gathered_of}, SaidInOrder.{sayings, said_all}}
 use Rattle.diy_words.specs.declared.options.Tool.TheVariants as tools
-use Rattle.diy_words.specs.{Parts.parts_of, Parts.tool_named, Sayings.Saying, Gathered.Gathered, Gathered.gathered_of, SaidInOrder.sayings}
-use Rattle.diy_words.specs.{SaidInOrder.said_all}
 
 -- what diyone7 is asked for without `-why` and `-co`: a test, or its execution, under a name that is given or that of its cycle
 pub record TestTask : Type 0 where

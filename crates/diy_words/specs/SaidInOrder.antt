@@ -1,8 +1,6 @@
 -- What the words say one after another, each judged by what those before it said, or the first fault among them.
-use Rattle.std.specs.Prelude.{Bool, true, false, List, [], ◌∷◌, ◌++◌, length, filter, is_some, Result, Ok, Err}
-use Rattle.std.specs.List.{list_any}
-use Rattle.diy_words.specs.declared.{usage.Usage.Usage, options.Tool.Tool}
-use Rattle.diy_words.specs.Parts.{Part}
+use Rattle.std.specs.{Prelude.{Bool, true, false, List, [], ◌∷◌, ◌++◌, length, filter, is_some, Result, Ok, Err}, List.list_any}
+use Rattle.diy_words.specs.{declared.usage.Usage.Usage, declared.options.Tool.Tool, Parts.Part}
 use Rattle.diy_words.specs.Sayings.{Saying, SaysCount, SaysTest, SaysExecution, Before, said_by}
 use Rattle.diy_words.specs.Gathered.{mode_of_saying, folder_of_saying, is_why, is_co, is_exec, is_lines, last_given}
 

@@ -2,21 +2,18 @@
 -- the command lines of the diy tools.
 use Rattle.std.specs.Prelude.{ℕ, ◌+◌, ◌==◌, ◌&&◌, ◌||◌, Bool, false, nat_lt, nat_le, if◌then◌else◌, List, [], ◌∷◌, length, Option, Some, None, Result, Ok, Err, codes}
 use Rattle.std.specs.Str.{bytes_eq}
-use Rattle.relax_edges.specs.declared.{TheConstants.MAX_EDGES, relax_error.RelaxKind.RelaxKind, relax_error.RelaxError.RelaxError}
-use Rattle.relax_edges.specs.declared.{kinds.ArchName.ArchName, kinds.ObsMode.ObsMode, edge.Edge.Edge}
+use Rattle.relax_edges.specs.{declared.TheConstants.MAX_EDGES, declared.relax_error.RelaxKind.RelaxKind, declared.relax_error.RelaxError.RelaxError}
+use Rattle.relax_edges.specs.{declared.kinds.ArchName.ArchName, declared.kinds.ObsMode.ObsMode, declared.edge.Edge.Edge, Relaxations.relaxes_of}
+use Rattle.relax_edges.specs.Architectures.{arch_of}
 use Rattle.relax_edges.specs.declared.relax_error.RelaxKind.TheVariants as relaxing
-use Rattle.relax_edges.specs.{Relaxations.relaxes_of, Architectures.arch_of}
-use Rattle.edge_algebra.specs.declared.errors.CycleError.{CycleError}
-use Rattle.edge_algebra.specs.Compose.{composed}
-use Rattle.edges_from_text.specs.declared.read.Separators.TheVariants.{BlanksAndCommas}
-use Rattle.edges_from_text.specs.{Spelled.edges_of, Spelled.text_edges}
-use Rattle.diy_words.specs.declared.{usage.Usage.Usage, usage.UsageKind.UsageKind, request.TheConstants.MAX_TESTS, options.Tool.Tool}
+use Rattle.edge_algebra.specs.{declared.errors.CycleError.CycleError, Compose.composed}
+use Rattle.edges_from_text.specs.{declared.read.Separators.TheVariants.BlanksAndCommas, Spelled.{edges_of, text_edges}}
+use Rattle.diy_words.specs.{declared.usage.Usage.Usage, declared.usage.UsageKind.UsageKind, declared.request.TheConstants.MAX_TESTS, declared.options.Tool.Tool}
 use Rattle.diy_words.specs.declared.usage.UsageKind.TheVariants.{UnknownOption, MissingValue, BadNumber, UnknownArch, BadMode, BadName, BadFolder, UnknownEdge, BadBracket, RelaxTooLong, DoesNotJoin, TooManyRelaxes, BadAfter, StrayWord, ExcludedOption}
+use Rattle.diy_words.specs.{TestNames.is_name, NumberWords.number_to, Parts.{Part, Alone, Valued, Unvalued, mode_named}}
 use Rattle.diy_io.specs.declared.shelf.TheConstants.{MAX_FOLDER}
 use Rattle.diy_words.specs.declared.options.Tool.TheVariants as tools
 use Rattle.diy_words.specs.declared.options.OptionName.TheVariants as opts
-use Rattle.diy_words.specs.{TestNames.is_name, NumberWords.number_to}
-use Rattle.diy_words.specs.Parts.{Part, Alone, Valued, Unvalued, mode_named}
 
 -- what a word says, an option with its value; the value of `-from` and an operand of edges with their places; an operand of
 -- diycross7, the relaxations of a place of its cycles; the operand of demo, a number; an operand of classify7, which names a

@@ -1,10 +1,8 @@
 -- Rotations are compared rank by rank, and the least is found among those from each place.
 use Rattle.std.proofs.Common.{◌≡◌, ◌<◌, ℕ, zero, suc, ◌+◌, ◌%◌, ◌&&◌, ◌||◌, nat_lt, nat_eq, true, false, Some, List, [], ◌∷◌, ◌++◌, length, slice_get, get_or, take, drop, map, refl, sym, ◌∙◌, ap, arith, below_more}
-use Rattle.std.proofs.{Math.Nat.mod-eq_of_lt, lemmas.Option.slice_get-get_or}
-use Rattle.std.proofs.lemmas.List.{append-nil, map-append, drop-map, take-map}
-use Rattle.relax_edges.specs.declared.edge.Edge.{Edge}
-use Rattle.relax_edges.specs.Order.{rank_of}
-use Rattle.edge_algebra_laws.specs.{Rotation.rotated, CycleOrder.Above, CycleOrder.IsNormal, CycleOrder.ranks_below}
+use Rattle.std.proofs.{Math.Nat.mod-eq_of_lt, lemmas.Option.slice_get-get_or, lemmas.List.{append-nil, map-append, drop-map, take-map}}
+use Rattle.relax_edges.specs.{declared.edge.Edge.Edge, Order.rank_of}
+use Rattle.edge_algebra_laws.specs.{Rotation.rotated, CycleOrder.{Above, IsNormal, ranks_below}}
 use Rattle.edge_algebra_laws.proofs.{Rotating.rotation_of_place, Places.rotated_at}
 use Rattle.edge_algebra_laws.proofs.Ordering.{above_irreflexive, above_transitive, above_of_ranks, ranks_of_above}
 

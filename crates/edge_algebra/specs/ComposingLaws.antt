@@ -1,12 +1,11 @@
 -- What a list of edges makes, by the answer: each comes exactly where it is due.
 use Rattle.std.proofs.Common.{◌≡◌, ◌<◌, ◌≤◌, inl, inr, ℕ, List, [], ◌∷◌, ◌++◌, length, Option, Some, None, Ok, Err, refl, ◌∙◌, ap, arith, length-append}
 use Rattle.std.proofs.lemmas.Bool.{lt-ltb, le-ltb, cases_order, cases_lt}
-use Rattle.relax_edges.specs.declared.{TheConstants.MAX_EDGES, edge.Edge.Edge}
+use Rattle.relax_edges.specs.{declared.TheConstants.MAX_EDGES, declared.edge.Edge.Edge}
 use Rattle.edge_algebra_laws.specs.Composable.{IsCycle, first_break}
-use Rattle.edge_algebra_laws.proofs.Composing.{joined_unbroken, break_within}
-use Rattle.edge_algebra_laws.proofs.Neighbours.{closed_at_place, break_is, break_is_first}
-use Rattle.edge_algebra.specs.declared.errors.CycleError.TheVariants.{Empty, TooLong, DoesNotCompose}
-use Rattle.edge_algebra.specs.{Compose.composed, Compose.unbroken, Laws.IsFirstBreak, Laws.ComposesExactly}
+use Rattle.edge_algebra_laws.proofs.{Composing.{joined_unbroken, break_within}, Neighbours.{closed_at_place, break_is, break_is_first}}
+use Rattle.edge_algebra.specs.{declared.errors.CycleError.TheVariants.{Empty, TooLong, DoesNotCompose}, Compose.{composed, unbroken}}
+use Rattle.edge_algebra.specs.Laws.{IsFirstBreak, ComposesExactly}
 
 -- what makes each answer
 data Answer (u : List Edge) : Type 0 where

@@ -1,9 +1,8 @@
 -- The laws of composing edges, as statements.
 use Rattle.std.specs.Prelude.{◌≡◌, ◌<◌, ◌≤◌, ◌↔◌, ℕ, List, length, Ok, Err}
-use Rattle.relax_edges.specs.declared.{TheConstants.MAX_EDGES, edge.Edge.Edge}
+use Rattle.relax_edges.specs.{declared.TheConstants.MAX_EDGES, declared.edge.Edge.Edge}
 use Rattle.edge_algebra_laws.specs.Composable.{IsPath, IsCycle, JoinsNext}
-use Rattle.edge_algebra.specs.declared.errors.CycleError.TheVariants.{Empty, TooLong, DoesNotCompose}
-use Rattle.edge_algebra.specs.Compose.{composed, joined}
+use Rattle.edge_algebra.specs.{declared.errors.CycleError.TheVariants.{Empty, TooLong, DoesNotCompose}, Compose.{composed, joined}}
 
 -- the edge at this place, the first such, doesn't join the next one, cyclically
 pub record IsFirstBreak (u : List Edge) (at_place : ℕ) : Type 0 where

@@ -1,11 +1,8 @@
-ghost use Rattle.std.specs.Prelude.{◌≡◌, ◌+◌, ◌<◌, ◌≤◌, ◌↔◌, ◌==◌, ◌++◌, length, Some, slice_get, IsTrue};
+ghost use Rattle.std.specs.{Prelude.{◌≡◌, ◌+◌, ◌<◌, ◌≤◌, ◌↔◌, ◌==◌, ◌++◌, length, Some, slice_get, IsTrue}, Cmp.Rules.{comparing}};
+ghost use Rattle.std.specs.{Cmp.Lexicographic.{pointwise}, Ordering.{on}};
 ghost use Rattle.std.proofs.Common.{rules};
-ghost use Rattle.std.specs.Cmp.Rules.{comparing};
-ghost use Rattle.std.specs.Cmp.Lexicographic.{pointwise};
-ghost use Rattle.std.specs.Ordering.{on};
 ghost use Rattle.relax_edges.specs.Order.{rank_of};
-ghost use Rattle.edge_algebra_laws.specs.Composable.{IsCycle};
-ghost use Rattle.edge_algebra_laws.specs.Rotation.{rotated};
+ghost use Rattle.edge_algebra_laws.specs.{Composable.{IsCycle}, Rotation.{rotated}};
 
 use arrayvec::ArrayVec;
 use relax_edges::{Edge, MAX_EDGES};

@@ -1,10 +1,8 @@
 -- Laws of composable lists: parts, rotations, the first break.
 use Rattle.std.proofs.Common.{◌≡◌, ℕ, suc, ◌-◌, ◌+◌, ◌<◌, ◌≤◌, true, false, ◌&&◌, cond, List, [], ◌∷◌, ◌++◌, length, take, drop, Option, Some, None, refl, ◌∙◌, arith, length-append, slice_get, get_or}
-use Rattle.std.proofs.{lemmas.List.take-append-drop, lemmas.Bool.and_parts, lemmas.Bool.and_from, Math.Bool.and-true, Math.Bool.and_assoc}
-use Rattle.relax_edges.specs.declared.{TheConstants.MAX_EDGES, edge.Edge.Edge}
-use Rattle.relax_edges.specs.{EdgeTable.joins_to, JoinedEdges.joins_first, JoinedEdges.is_joined}
-use Rattle.edge_algebra_laws.specs.Composable.{is_closed, IsPath, IsCycle, first_break, one_later, last_joins}
-use Rattle.edge_algebra_laws.specs.Rotation.{rotated}
+use Rattle.std.proofs.{lemmas.List.take-append-drop, lemmas.Bool.{and_parts, and_from}, Math.Bool.{and-true, and_assoc}}
+use Rattle.relax_edges.specs.{declared.TheConstants.MAX_EDGES, declared.edge.Edge.Edge, EdgeTable.joins_to, JoinedEdges.{joins_first, is_joined}}
+use Rattle.edge_algebra_laws.specs.{Composable.{is_closed, IsPath, IsCycle, first_break, one_later, last_joins}, Rotation.rotated}
 use Rattle.edge_algebra_laws.proofs.Turning.{IsStepwise, stepwise_turned}
 
 joins_first_prefix : (e m : Edge) (a b : List Edge) → joins_first e (a ++ m ∷ b) ≡ joins_first e (a ++ m ∷ [])

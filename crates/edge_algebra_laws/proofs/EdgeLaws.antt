@@ -1,11 +1,10 @@
 -- The laws of the words and the marks of edges, each from its lemmas.
 use Rattle.std.proofs.Common.{arith}
 use Rattle.std.specs.Prelude.{◌≡◌, Some}
-use Rattle.relax_edges.specs.declared.{kinds.Kind.Kind, kinds.Mark.Mark, edge.Edge.Edge}
-use Rattle.relax_edges.specs.EdgeTable.{marked_edge}
+use Rattle.relax_edges.specs.{declared.kinds.Kind.Kind, declared.kinds.Mark.Mark, declared.edge.Edge.Edge, EdgeTable.marked_edge}
 use Rattle.edge_algebra_laws.proofs.SpellingLaws.{edge_of-word_of, edge_of-spelling, edge_of-sound, word_injective}
-use Rattle.edge_algebra_laws.specs.EdgeLaws.{WordsDecide, HasParts, PartsDecide}
 use Rattle.edge_algebra_laws.proofs.Marks.{marked_edge_is, marked_edge_of, source_mark_fits, target_mark_fits}
+use Rattle.edge_algebra_laws.specs.EdgeLaws.{WordsDecide, HasParts, PartsDecide}
 
 -- a word and its edge determine each other
 pub words_decide : WordsDecide

@@ -3,8 +3,7 @@ use Rattle.std.proofs.Common.{List}
 use Rattle.relax_edges.specs.declared.edge.Edge.{Edge}
 use Rattle.edge_algebra_laws.specs.{Composable.IsCycle, Rotation.IsRotation}
 use Rattle.edge_algebra_laws.specs.Laws.{SameCycleIsEquivalence, RotationsArePlaces, EdgesTurn, RotationsAdd, CyclesTurn, ClosesByPlace, OrderIsStrict, CyclesInOrder, NormalFormsDecide}
-use Rattle.edge_algebra_laws.proofs.{Composing.turned_cycle, Neighbours.closed_at_place, Neighbours.closed_of_places, Places.rotated_at}
-use Rattle.edge_algebra_laws.proofs.{Places.rotations_add}
+use Rattle.edge_algebra_laws.proofs.{Composing.turned_cycle, Neighbours.{closed_at_place, closed_of_places}, Places.{rotated_at, rotations_add}}
 use Rattle.edge_algebra_laws.proofs.Ordering.{above_irreflexive, above_transitive, above_or_same, follows_irreflexive, follows_transitive, follows_or_same}
 use Rattle.edge_algebra_laws.proofs.Rotating.{rotation_same, rotation_back, rotation_on, rotation_of_place, place_of_rotation, least_same, same_least}
 

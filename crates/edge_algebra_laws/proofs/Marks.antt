@@ -1,14 +1,11 @@
 -- The marks of an edge: they fit what its accesses do, are of each architecture that the edge is of, and together with
 -- its kind they determine the edge.
-use Rattle.std.specs.Prelude.{◌≡◌, ◌==◌, ◌&&◌, Bool, true, false, Option, Some, None}
-use Rattle.std.specs.List.{list_all}
-use Rattle.std.proofs.Common.{refl, ap, subst, sym, ◌∙◌, arith}
-use Rattle.std.proofs.lemmas.Bool.{and_parts, eqb-true}
-use Rattle.relax_edges.specs.declared.{kinds.Kind.Kind, kinds.Mark.Mark, edge.Edge.Edge}
+use Rattle.std.specs.{Prelude.{◌≡◌, ◌==◌, ◌&&◌, Bool, true, false, Option, Some, None}, List.list_all}
+use Rattle.std.proofs.{Common.{refl, ap, subst, sym, ◌∙◌, arith}, lemmas.Bool.{and_parts, eqb-true}}
+use Rattle.relax_edges.specs.{declared.kinds.Kind.Kind, declared.kinds.Mark.Mark, declared.edge.Edge.Edge}
 use Rattle.relax_edges.specs.EdgeTable.{kind_of, source_of, target_of, source_mark, target_mark, mark_fits, same_mark, unmarked, marked_of, marked_edge}
 use Rattle.relax_edges.specs.{Order.rank_of, AllEdges.edges_in_order, WordReading.marks_read}
-use Rattle.edge_algebra_laws.proofs.{RankLaws.each_edge, RankLaws.rank_injective, SpellingLaws.each_mark, SpellingLaws.each_kind}
-use Rattle.edge_algebra_laws.proofs.{SpellingLaws.kind_of_unmarked, Joining.same_mark_is}
+use Rattle.edge_algebra_laws.proofs.{RankLaws.{each_edge, rank_injective}, SpellingLaws.{each_mark, each_kind, kind_of_unmarked}, Joining.same_mark_is}
 
 -- a read that an edge leaves is plain or acquire, a write plain or release
 pub source_mark_fits : (edge : Edge) → mark_fits (source_of edge) (source_mark edge) ≡ true

@@ -1,9 +1,7 @@
 -- A list closes where each of its edges joins the next one, cyclically, and a break is the first place that doesn't.
 use Rattle.std.proofs.Common.{◌≡◌, ◌<◌, inl, inr, ℕ, zero, suc, ◌+◌, ◌%◌, true, false, cond, List, [], ◌∷◌, ◌++◌, length, take, refl, sym, ◌∙◌, ap, arith, length-append, length-take, slice_get, Option, Some}
-use Rattle.std.proofs.{lemmas.Bool.and_parts, lemmas.Bool.and_from, lemmas.Bool.cases_lt, lemmas.Option.slice_get_within, Math.Nat.mod-eq_of_lt}
-use Rattle.std.proofs.{Math.Nat.mod-lt}
-use Rattle.relax_edges.specs.declared.edge.Edge.{Edge}
-use Rattle.relax_edges.specs.{EdgeTable.joins_to, JoinedEdges.is_joined}
+use Rattle.std.proofs.{lemmas.Bool.{and_parts, and_from, cases_lt}, lemmas.Option.slice_get_within, Math.Nat.{mod-eq_of_lt, mod-lt}}
+use Rattle.relax_edges.specs.{declared.edge.Edge.Edge, EdgeTable.joins_to, JoinedEdges.is_joined}
 use Rattle.edge_algebra_laws.specs.Composable.{is_closed, first_break, one_later, JoinsNext}
 use Rattle.edge_algebra_laws.proofs.Places.{get_in_prefix, get_after, past_once}
 

@@ -1,8 +1,7 @@
 -- The order on lists of edges: strict, and total on lists of one length.
 use Rattle.std.proofs.Common.{◌≡◌, ◌<◌, ◌⊎◌, inl, inr, true, ◌&&◌, nat_lt, nat_eq, List, [], ◌∷◌, ◌++◌, length, refl, sym, ◌∙◌, ap, arith, map}
 use Rattle.std.proofs.lemmas.Bool.{cases_order, or_cases, and_parts, or_left, or_right, ltb-true, lt-ltb, eqb-true, eq-eqb}
-use Rattle.relax_edges.specs.declared.edge.Edge.{Edge}
-use Rattle.relax_edges.specs.Order.{rank_of}
+use Rattle.relax_edges.specs.{declared.edge.Edge.Edge, Order.rank_of}
 use Rattle.edge_algebra_laws.proofs.RankLaws.{rank_injective}
 use Rattle.edge_algebra_laws.specs.CycleOrder.{Above, ranks_below, Follows}
 

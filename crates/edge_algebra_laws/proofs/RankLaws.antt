@@ -1,8 +1,6 @@
 -- Laws of the ranks of edges, for the crates above.
-use Rattle.std.specs.Prelude.{◌≡◌, ◌==◌, ◌↔◌, IsTrue, ◌<◌, Bool, true, length, slice_get, Some}
-use Rattle.relax_edges.specs.declared.{edge.Edge.Edge, order.TheConstants.EDGES}
-use Rattle.relax_edges.specs.{Order.rank_of, AllEdges.edges_in_order}
-use Rattle.std.specs.List.{list_all}
+use Rattle.std.specs.{Prelude.{◌≡◌, ◌==◌, ◌↔◌, IsTrue, ◌<◌, Bool, true, length, slice_get, Some}, List.list_all}
+use Rattle.relax_edges.specs.{declared.edge.Edge.Edge, declared.order.TheConstants.EDGES, Order.rank_of, AllEdges.edges_in_order}
 use Rattle.relax_edges.proofs.Ranks as proved
 
 -- no two edges have one rank

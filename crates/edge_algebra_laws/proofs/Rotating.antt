@@ -1,9 +1,8 @@
 -- Rotations: an equivalence, the same as those by a place, and of them one is least.
 use Rattle.std.proofs.Common.{◌≡◌, ◌<◌, ◌≤◌, inl, inr, ℕ, List, [], ◌∷◌, ◌++◌, length, take, drop, refl, sym, ◌∙◌, ap, arith, append_assoc, length-append}
-use Rattle.std.proofs.lemmas.List.{append-nil, take-append-drop, take_at, drop_at}
-use Rattle.std.proofs.lemmas.Bool.{cases_lt}
+use Rattle.std.proofs.{lemmas.List.{append-nil, take-append-drop, take_at, drop_at}, lemmas.Bool.cases_lt}
 use Rattle.relax_edges.specs.declared.edge.Edge.{Edge}
-use Rattle.edge_algebra_laws.specs.{Rotation.IsRotation, Rotation.rotated, Laws.Place, CycleOrder.Above, CycleOrder.IsNormal, CycleOrder.IsLeast}
+use Rattle.edge_algebra_laws.specs.{Rotation.{IsRotation, rotated}, Laws.Place, CycleOrder.{Above, IsNormal, IsLeast}}
 use Rattle.edge_algebra_laws.proofs.Ordering.{same_if_not_above}
 
 -- a list is a rotation of itself

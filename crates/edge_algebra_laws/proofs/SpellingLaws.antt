@@ -1,11 +1,8 @@
 -- Laws of the words and spellings of edges, for the crates above.
-use Rattle.std.specs.Prelude.{◌≡◌, Some, ℕ, true, List, Bool, ◌≤◌, length}
-use Rattle.relax_edges.specs.declared.{edge.Edge.Edge, kinds.Mark.Mark, kinds.Kind.Kind}
-use Rattle.relax_edges.specs.{WordParts.word_of, Spelling.edge_of, Spelling.is_spelling, Spelling.spellings_of, WordReading.marks_read}
-use Rattle.relax_edges.specs.{EdgeTable.kind_of, EdgeTable.unmarked, AllEdges.edges_in_order}
-use Rattle.std.specs.{List.list_all, Str.bytes_eq}
-use Rattle.std.proofs.{Common.subst, Common.sym, Common.◌∙◌, lemmas.List.Folds.Any-from_list_any, lemmas.List.Sums.AllPass-from_list_all}
-use Rattle.std.proofs.{lemmas.Slice.Eq.bytes_eq-Decides}
+use Rattle.std.specs.{Prelude.{◌≡◌, Some, ℕ, true, List, Bool, ◌≤◌, length}, List.list_all, Str.bytes_eq}
+use Rattle.relax_edges.specs.{declared.edge.Edge.Edge, declared.kinds.Mark.Mark, declared.kinds.Kind.Kind, WordParts.word_of}
+use Rattle.relax_edges.specs.{Spelling.{edge_of, is_spelling, spellings_of}, WordReading.marks_read, EdgeTable.{kind_of, unmarked}, AllEdges.edges_in_order}
+use Rattle.std.proofs.{Common.{subst, sym, ◌∙◌}, lemmas.List.Folds.Any-from_list_any, lemmas.List.Sums.AllPass-from_list_all, lemmas.Slice.Eq.bytes_eq-Decides}
 use Rattle.relax_edges.proofs.Spellings as spellings
 use Rattle.relax_edges.proofs.KindSpellings as kind_spellings
 use Rattle.relax_edges.proofs.WordBounds as word_bounds

@@ -1,7 +1,6 @@
 -- Tests of lists that look at each element and the one after it: what they say of two parts, and of the same parts exchanged.
 use Rattle.std.specs.Prelude.{◌≡◌, ◌&&◌, Bool, true, List, [], ◌∷◌, ◌++◌}
-use Rattle.std.proofs.Common.{sym, ◌∙◌, ap, append_assoc, arith}
-use Rattle.std.proofs.{lemmas.List.append-nil, Math.Bool.and_comm}
+use Rattle.std.proofs.{Common.{sym, ◌∙◌, ap, append_assoc, arith}, lemmas.List.append-nil, Math.Bool.and_comm}
 
 -- `every` says yes where `next` does of each element with those after it, `next` looks at the first of these alone, and `closed` asks `every` of
 -- the list with its first element after its last one

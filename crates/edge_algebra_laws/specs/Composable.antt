@@ -1,8 +1,7 @@
 -- When edges compose, as a path and as a cycle.
 -- Source: the diy part of the herdtools manual, "Candidate relaxations".
 use Rattle.std.specs.Prelude.{◌≡◌, ℕ, ◌+◌, ◌<◌, ◌≤◌, Bool, true, cond, List, [], ◌∷◌, ◌++◌, length, take, Option, Some, None, slice_get, ◌%◌}
-use Rattle.relax_edges.specs.declared.{TheConstants.MAX_EDGES, edge.Edge.Edge}
-use Rattle.relax_edges.specs.{EdgeTable.joins_to, JoinedEdges.joins_first, JoinedEdges.is_joined}
+use Rattle.relax_edges.specs.{declared.TheConstants.MAX_EDGES, declared.edge.Edge.Edge, EdgeTable.joins_to, JoinedEdges.{joins_first, is_joined}}
 
 -- each edge of a list joins the next one, and the last one the first
 abbrev pub is_closed : List Edge → Bool

@@ -1,8 +1,7 @@
 -- The order on lists of edges, by the byte order of their printed words, and the normal form of a cycle.
 -- Source: own.
 use Rattle.std.specs.Prelude.{◌≡◌, ◌<◌, ◌⊎◌, ℕ, Bool, false, ◌&&◌, ◌||◌, nat_lt, nat_eq, List, [], ◌∷◌, length}
-use Rattle.relax_edges.specs.declared.edge.Edge.{Edge}
-use Rattle.relax_edges.specs.Order.{rank_of}
+use Rattle.relax_edges.specs.{declared.edge.Edge.Edge, Order.rank_of}
 use Rattle.edge_algebra_laws.specs.Rotation.{IsRotation}
 
 -- v is above u: at the first place where they differ, which both have, the edge of v has the greater word

@@ -1,8 +1,7 @@
 -- The laws of rotations, of the order and of the normal form, as statements.
 use Rattle.std.specs.Prelude.{◌≡◌, ◌<◌, ◌⊎◌, ◌↔◌, ℕ, ◌+◌, ◌%◌, true, List, length, slice_get}
 use Rattle.relax_edges.specs.declared.edge.Edge.{Edge}
-use Rattle.edge_algebra_laws.specs.{Composable.is_closed, Composable.IsCycle, Composable.JoinsNext, Rotation.IsRotation, Rotation.rotated}
-use Rattle.edge_algebra_laws.specs.{CycleOrder.Above, CycleOrder.Follows, CycleOrder.IsLeast}
+use Rattle.edge_algebra_laws.specs.{Composable.{is_closed, IsCycle, JoinsNext}, Rotation.{IsRotation, rotated}, CycleOrder.{Above, Follows, IsLeast}}
 
 -- being the same cycle is an equivalence
 pub record SameCycleIsEquivalence : Type 0 where

@@ -1,11 +1,9 @@
 -- How a text is read word by word.
 use Rattle.std.proofs.Common.{◌≡◌, ℕ, ◌+◌, ◌<◌, List, [], ◌∷◌, ◌++◌, length, take, drop, get_or, zero, suc, map, Bor, Option, Some, None, Result, Ok, Err, is_ok, if◌then◌else◌, refl, sym, ap, ◌∙◌, arith}
-use Rattle.std.specs.{Option.option_map, Result.IsErr}
 use Rattle.std.proofs.lemmas.List.{take-append-drop}
-use Rattle.relax_edges.specs.declared.edge.Edge.{Edge}
-use Rattle.relax_edges.specs.{Spelling.edge_of, ReadEdges.before_edges}
-use Rattle.edges_from_text.specs.declared.list.EdgeList.{EdgeList}
-use Rattle.edges_from_text.specs.{Spelled.edges_spelled, KeptEdges.edges_added, KeptEdges.pushed}
+use Rattle.std.specs.{Option.option_map, Result.IsErr}
+use Rattle.relax_edges.specs.{declared.edge.Edge.Edge, Spelling.edge_of, ReadEdges.before_edges}
+use Rattle.edges_from_text.specs.{declared.list.EdgeList.EdgeList, Spelled.edges_spelled, KeptEdges.{edges_added, pushed}}
 
 -- the edges kept once a text's words are read after those that were kept before; none where a word is no edge
 abbrev pub spelled : EdgeList → List (List ℕ) → Option EdgeList

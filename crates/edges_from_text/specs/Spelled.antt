@@ -1,11 +1,9 @@
 -- The edges that a text spells, with separators between them.
 -- Source: own.
-use Rattle.std.specs.Prelude.{ℕ, Bool, ◌==◌, ◌||◌, List, [], ◌∷◌, Option, Some}
-use Rattle.std.specs.List.{slice_split}
+use Rattle.std.specs.{Prelude.{ℕ, Bool, ◌==◌, ◌||◌, List, [], ◌∷◌, Option, Some}, List.slice_split}
 use Rattle.text_parts_laws.specs.Blanks.{is_blank}
-use Rattle.relax_edges.specs.declared.edge.Edge.{Edge}
-use Rattle.relax_edges.specs.{Spelling.edge_of, ReadEdges.before_edges}
-use Rattle.edges_from_text.specs.declared.read.{Separators.Separators, Separators.TheVariants.Blanks, Separators.TheVariants.BlanksAndCommas}
+use Rattle.relax_edges.specs.{declared.edge.Edge.Edge, Spelling.edge_of, ReadEdges.before_edges}
+use Rattle.edges_from_text.specs.{declared.read.Separators.Separators, declared.read.Separators.TheVariants.{Blanks, BlanksAndCommas}}
 
 -- a byte separates edges: it is a space or a tab, or a comma where commas separate too
 abbrev pub separates : Separators → ℕ → Bool

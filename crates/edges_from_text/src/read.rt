@@ -1,7 +1,5 @@
-ghost use Rattle.std.specs.Prelude.{◌≡◌, [], ◌∷◌, Some, None, is_ok, if◌then◌else◌};
-ghost use Rattle.std.specs.Option.{option_map};
-ghost use Rattle.edges_from_text.specs.Spelled.{separates, edges_spelled, edges_of};
-ghost use Rattle.edges_from_text.specs.KeptEdges.{edges_added};
+ghost use Rattle.std.specs.{Prelude.{◌≡◌, [], ◌∷◌, Some, None, is_ok, if◌then◌else◌}, Option.{option_map}};
+ghost use Rattle.edges_from_text.specs.{Spelled.{separates, edges_spelled, edges_of}, KeptEdges.{edges_added}};
 
 use crate::list::EdgeList;
 use relax_edges::{UnknownEdge, read_edge_bytes};

@@ -1,13 +1,11 @@
 -- Texts and what the definition reads in them, worked out by hand from the rules.
 use Rattle.std.proofs.Common.{◌≡◌, ℕ, List, [], ◌∷◌, ◌++◌, refl}
-use Rattle.std.specs.Prelude.{codes, Result, Ok, Err, map, replicate}
-use Rattle.std.specs.{Fmt.digits, List.concat}
-use Rattle.final_cond.specs.declared.{cond.Quantifier.TheVariants.Exists, cond.Quantifier.TheVariants.NotExists, cond.Quantifier.TheVariants.Forall}
-use Rattle.final_cond.specs.declared.{errors.CondKind.CondKind, errors.CondError.CondError}
-use Rattle.final_cond.specs.declared.errors.CondKind.TheVariants.{BadQuantifier, BadTerm, BadValue, BadEnd}
-use Rattle.text_parts_laws.specs.{Names.is_place_name, Names.is_register_name, NumberTexts.number_of, LeadingRuns.leading_run, LeadingRuns.after_run}
+use Rattle.std.specs.{Prelude.{codes, Result, Ok, Err, map, replicate}, Fmt.digits, List.concat}
+use Rattle.final_cond.specs.{declared.cond.Quantifier.TheVariants.{Exists, NotExists, Forall}, declared.errors.CondKind.CondKind}
+use Rattle.final_cond.specs.{declared.errors.CondError.CondError, declared.errors.CondKind.TheVariants.{BadQuantifier, BadTerm, BadValue, BadEnd}}
 use Rattle.final_cond.specs.Conditions.{InRegister, AtPlace, TermSeen, CondSeen}
 use Rattle.final_cond.specs.ConditionReading.{sign_read, opening_read, left_at_start, left_read, value_read, right_read, term_read, follow_read, terms_read, parts_read, cond_read}
+use Rattle.text_parts_laws.specs.{Names.{is_place_name, is_register_name}, NumberTexts.number_of, LeadingRuns.{leading_run, after_run}}
 
 abbrev place_is : List ℕ → ℕ → TermSeen
 place_is name value = record { left = AtPlace name; value = value }

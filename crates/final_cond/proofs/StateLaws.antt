@@ -1,11 +1,8 @@
 -- Walks over the pairs of a state and over the terms of a condition.
-use Rattle.std.proofs.Common.{◌≡◌, ℕ, suc, ◌+◌, ◌<◌, List, ◌∷◌, length, get_or, drop, refl, sym, ap, subst, ◌∙◌, add-one}
-use Rattle.std.specs.Prelude.{◌↔◌, true, false, map, Option, Some}
-use Rattle.std.specs.List.{AllByRecursion}
-use Rattle.std.proofs.Math.Seq.{drop-cons}
-use Rattle.relax_edges.specs.declared.kinds.{Value.Value, Value.TheVariants.Num}
-use Rattle.final_cond.specs.declared.cond.{Left.Left, Term.Term}
-use Rattle.final_cond.specs.Conditions.{LeftSeen, left_view, term_view}
+use Rattle.std.proofs.{Common.{◌≡◌, ℕ, suc, ◌+◌, ◌<◌, List, ◌∷◌, length, get_or, drop, refl, sym, ap, subst, ◌∙◌, add-one}, Math.Seq.drop-cons}
+use Rattle.std.specs.{Prelude.{◌↔◌, true, false, map, Option, Some}, List.AllByRecursion}
+use Rattle.relax_edges.specs.{declared.kinds.Value.Value, declared.kinds.Value.TheVariants.Num}
+use Rattle.final_cond.specs.{declared.cond.Left.Left, declared.cond.Term.Term, Conditions.{LeftSeen, left_view, term_view}}
 use Rattle.final_cond.specs.States.{same_left_seen, value_in_state, pair_view}
 
 -- the value of a left side is that of the first pair with it

@@ -1,11 +1,10 @@
 -- A walk over the terms of a text: those read so far, before what the definition reads in the rest.
 use Rattle.std.proofs.Common.{◌≡◌, ℕ, zero, suc, ◌+◌, ◌<◌, List, [], ◌∷◌, ◌++◌, refl, sym, ap, ◌∙◌, arith, append_assoc}
 use Rattle.std.specs.Prelude.{Bool, Ok, Err}
-use Rattle.final_cond.specs.declared.{errors.CondKind.TheVariants.BadEnd, read.Follow.Follow}
-use Rattle.final_cond.specs.declared.read.Follow.TheVariants as follows
-use Rattle.final_cond.specs.Conditions.{LeftSeen, TermSeen}
-use Rattle.text_parts_laws.specs.{Blanks.unblanked, ReadingSteps.◌>>=◌}
+use Rattle.final_cond.specs.{declared.errors.CondKind.TheVariants.BadEnd, declared.read.Follow.Follow, Conditions.{LeftSeen, TermSeen}}
 use Rattle.final_cond.specs.ConditionReading.{Fault, ConditionRead, cond_fault, term_read, follow_read, terms_read, before_terms}
+use Rattle.final_cond.specs.declared.read.Follow.TheVariants as follows
+use Rattle.text_parts_laws.specs.{Blanks.unblanked, ReadingSteps.◌>>=◌}
 
 -- terms, and those that are read after them
 abbrev pub remainder : List TermSeen → ConditionRead (List TermSeen) → ConditionRead (List TermSeen)

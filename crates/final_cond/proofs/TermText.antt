@@ -1,11 +1,10 @@
 -- The text of a term: when it is written in one piece, and how long it is.
 use Rattle.std.proofs.Common.{◌≡◌, ◌≤◌, ◌<◌, ◌+◌, ◌^◌, ℕ, List, [], ◌∷◌, ◌++◌, length, get_or, sym, ap, ◌∙◌, arith, length-append}
-use Rattle.std.specs.{Prelude.codes, Fmt.decimal}
 use Rattle.std.proofs.lemmas.Fmt.{decimal_digit, length-decimal-le}
+use Rattle.std.specs.{Prelude.codes, Fmt.decimal}
 use Rattle.diy_io.specs.Page.{page_after}
 use Rattle.list_laws.proofs.Digits.{three_digits}
-use Rattle.final_cond.specs.{Conditions.InRegister, Conditions.AtPlace, CondText.left_text, CondText.term_text, CondText.further_term_text}
-use Rattle.final_cond.specs.declared.print.TheConstants.{TERM_ROOM}
+use Rattle.final_cond.specs.{Conditions.{InRegister, AtPlace}, CondText.{left_text, term_text, further_term_text}, declared.print.TheConstants.TERM_ROOM}
 
 -- a term of a thread and a value below 10, on a register of two letters, is six bytes
 pub short_register_term : (thread value : ℕ) (name page new : List ℕ) → thread < 10 → value < 10 → length name ≡ 2

@@ -1,9 +1,7 @@
 -- The text of a condition.
 -- Source: the litmus format of the herdtools manual.
-use Rattle.std.specs.Prelude.{ℕ, List, [], ◌∷◌, ◌++◌, codes}
-use Rattle.std.specs.{Fmt.decimal, List.flat_map}
-use Rattle.final_cond.specs.declared.cond.Quantifier.{Quantifier}
-use Rattle.final_cond.specs.declared.cond.Quantifier.TheVariants.{Exists, NotExists, Forall}
+use Rattle.std.specs.{Prelude.{ℕ, List, [], ◌∷◌, ◌++◌, codes}, Fmt.decimal, List.flat_map}
+use Rattle.final_cond.specs.{declared.cond.Quantifier.Quantifier, declared.cond.Quantifier.TheVariants.{Exists, NotExists, Forall}}
 use Rattle.final_cond.specs.Conditions.{LeftSeen, InRegister, AtPlace, TermSeen, CondSeen}
 
 -- the word of a quantifier

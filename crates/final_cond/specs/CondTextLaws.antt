@@ -1,11 +1,10 @@
 -- The text of formed terms passes each test of bytes that the bytes of places' names and the signs of such a text pass.
 use Rattle.std.proofs.Common.{◌≡◌, ℕ, ◌<◌, List, [], ◌∷◌, ◌++◌, refl, arith}
-use Rattle.std.specs.{Prelude.Bool, Prelude.true, Prelude.codes, Fmt.decimal, List.AllByRecursion, List.list_all, List.flat_map}
+use Rattle.std.specs.{Prelude.{Bool, true, codes}, Fmt.decimal, List.{AllByRecursion, list_all, flat_map}}
 use Rattle.text_parts_laws.specs.Names.{is_place_byte}
-use Rattle.text_parts_laws.proofs.{NameLaws.place_passes, NameLaws.letters_pass, NameLaws.decimal_passes, CutLaws.all_both}
-use Rattle.final_cond.specs.Conditions.{LeftSeen, InRegister, AtPlace, TermSeen}
-use Rattle.final_cond.specs.CondText.{left_text, term_text, further_term_text, terms_text}
-use Rattle.final_cond.specs.{ConditionReadBack.IsFormedTerm, ConditionReading.has_form, FormLaws.FormNamed, FormLaws.form_named}
+use Rattle.text_parts_laws.proofs.{NameLaws.{place_passes, letters_pass, decimal_passes}, CutLaws.all_both}
+use Rattle.final_cond.specs.{Conditions.{LeftSeen, InRegister, AtPlace, TermSeen}, CondText.{left_text, term_text, further_term_text, terms_text}}
+use Rattle.final_cond.specs.{ConditionReadBack.IsFormedTerm, ConditionReading.has_form, FormLaws.{FormNamed, form_named}}
 
 -- each byte of places' names passes a test, and so do the signs in the text of a left side
 pub record PassLeft (test : ℕ → Bool) : Type 0 where

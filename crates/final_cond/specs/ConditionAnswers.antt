@@ -1,9 +1,7 @@
 -- What code that reads a text answers, as the definitions see it.
-use Rattle.std.specs.Prelude.{◌≡◌, ℕ, List, Result, Ok, Err}
-use Rattle.std.specs.Borrow.{Bor}
-use Rattle.final_cond.specs.declared.{cond.Left.Left, cond.Term.Term, errors.CondFault.CondFault}
-use Rattle.final_cond.specs.Conditions.{LeftSeen, TermSeen, left_view, term_view}
-use Rattle.final_cond.specs.ConditionReading.{Fault}
+use Rattle.std.specs.{Prelude.{◌≡◌, ℕ, List, Result, Ok, Err}, Borrow.Bor}
+use Rattle.final_cond.specs.{declared.cond.Left.Left, declared.cond.Term.Term, declared.errors.CondFault.CondFault}
+use Rattle.final_cond.specs.{Conditions.{LeftSeen, TermSeen, left_view, term_view}, ConditionReading.Fault}
 
 -- a fault, with the text from there on as bytes
 abbrev pub fault_view : CondFault → Fault

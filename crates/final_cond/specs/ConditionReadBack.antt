@@ -1,8 +1,6 @@
 -- The conditions whose text reads back.
-use Rattle.std.specs.Prelude.{◌≡◌, ◌^◌, ◌<◌, ◌≤◌, true, length}
-use Rattle.std.specs.List.{AllByRecursion}
-use Rattle.final_cond.specs.declared.cond.TheConstants.{MAX_TERMS}
-use Rattle.final_cond.specs.{Conditions.TermSeen, Conditions.CondSeen, ConditionReading.has_form}
+use Rattle.std.specs.{Prelude.{◌≡◌, ◌^◌, ◌<◌, ◌≤◌, true, length}, List.AllByRecursion}
+use Rattle.final_cond.specs.{declared.cond.TheConstants.MAX_TERMS, Conditions.{TermSeen, CondSeen}, ConditionReading.has_form}
 
 -- a term of a register of a thread below 64 or of a place, by names of their forms, and a value of 32 bits
 pub record IsFormedTerm (term : TermSeen) : Type 0 where

@@ -1,10 +1,9 @@
 -- Laws of the forms of the left sides of terms.
-use Rattle.std.proofs.Common.{◌≡◌, ℕ, ◌<◌, List}
-use Rattle.std.specs.{Prelude.true, Prelude.nat_lt, Char.is_ascii_alphanumeric, List.list_all}
-use Rattle.std.proofs.lemmas.Bool.{and_parts, ltb-true}
+use Rattle.std.proofs.{Common.{◌≡◌, ℕ, ◌<◌, List}, lemmas.Bool.{and_parts, ltb-true}}
+use Rattle.std.specs.{Prelude.{true, nat_lt}, Char.is_ascii_alphanumeric, List.list_all}
 use Rattle.text_parts_laws.specs.Names.{is_place_byte, is_register_name}
 use Rattle.text_parts_laws.proofs.NameLaws.{place_name_bytes, register_name_bytes}
-use Rattle.final_cond.specs.{Conditions.InRegister, Conditions.AtPlace, ConditionReading.has_form}
+use Rattle.final_cond.specs.{Conditions.{InRegister, AtPlace}, ConditionReading.has_form}
 
 -- what the form of a register says
 pub record FormNamed (thread : ℕ) (name : List ℕ) : Type 0 where

@@ -1,10 +1,8 @@
 -- Final states, and when one meets a condition.
 -- Source: own, as the litmus format reads the terms of a condition.
-use Rattle.std.specs.Prelude.{◌≡◌, Bool, false, ◌&&◌, ◌==◌, cond, List, [], ◌∷◌, Option, Some, None}
-use Rattle.std.specs.{List.AllByRecursion, Str.bytes_eq}
-use Rattle.relax_edges.specs.declared.kinds.{Value.Value, Value.TheVariants.Num}
-use Rattle.final_cond.specs.declared.cond.Left.{Left}
-use Rattle.final_cond.specs.Conditions.{LeftSeen, InRegister, AtPlace, CondSeen, left_view}
+use Rattle.std.specs.{Prelude.{◌≡◌, Bool, false, ◌&&◌, ◌==◌, cond, List, [], ◌∷◌, Option, Some, None}, List.AllByRecursion, Str.bytes_eq}
+use Rattle.relax_edges.specs.{declared.kinds.Value.Value, declared.kinds.Value.TheVariants.Num}
+use Rattle.final_cond.specs.{declared.cond.Left.Left, Conditions.{LeftSeen, InRegister, AtPlace, CondSeen, left_view}}
 
 -- two left sides are the same
 abbrev pub same_left_seen : LeftSeen → LeftSeen → Bool

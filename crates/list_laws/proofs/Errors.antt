@@ -1,6 +1,5 @@
 -- Elements judged by those before them, in a list that is made of two.
-use Rattle.std.proofs.Common.{◌≡◌, List, [], ◌∷◌, ◌++◌, sym, ap, ◌∙◌, append_assoc}
-use Rattle.std.proofs.lemmas.List.{append-nil}
+use Rattle.std.proofs.{Common.{◌≡◌, List, [], ◌∷◌, ◌++◌, sym, ap, ◌∙◌, append_assoc}, lemmas.List.append-nil}
 use Rattle.list_laws.specs.Errors.{with_before}
 
 -- the elements of a second list come after all of the first

@@ -1,8 +1,7 @@
 -- The numbers below m + n: those below m, and then n more.
 use Rattle.std.proofs.Common.{add-zero, ◌≡◌, ℕ, zero, suc, ◌+◌, ◌<◌, ◌≤◌, Bool, false, ◌||◌, List, [], ◌∷◌, ◌++◌, length, take, drop, refl, sym, ◌∙◌, ap, arith, append_assoc, length-append}
+use Rattle.std.proofs.{lemmas.List.{take_at, take-append-drop, length-take-le}, lemmas.List.Folds.list_any-append, Math.Bool.{or-false, or_assoc}}
 use Rattle.std.specs.List.{count_by, list_any}
-use Rattle.std.proofs.{lemmas.List.take_at, lemmas.List.take-append-drop, lemmas.List.length-take-le, lemmas.List.Folds.list_any-append}
-use Rattle.std.proofs.{Math.Bool.or-false, Math.Bool.or_assoc}
 use Rattle.list_laws.specs.Numbers.{upto}
 use Rattle.list_laws.proofs.Counts.{count_upto-suc}
 

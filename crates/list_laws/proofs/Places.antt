@@ -1,9 +1,7 @@
 -- The first element of a list that passes a test: its place, and what is before it.
-use Rattle.std.specs.Prelude.{ℕ, ◌≡◌, ◌+◌, Bool, false, List, ◌∷◌}
-use Rattle.std.proofs.Common.{suc, arith, refl, true, not, cond, [], Some, None, sym, ap, ◌∙◌}
-use Rattle.std.specs.List.{before_first, position_or_len, list_all, position_from, AllByRecursion}
+use Rattle.std.specs.{Prelude.{ℕ, ◌≡◌, ◌+◌, Bool, false, List, ◌∷◌}, List.{before_first, position_or_len, list_all, position_from, AllByRecursion}}
+use Rattle.std.proofs.{Common.{suc, arith, refl, true, not, cond, [], Some, None, sym, ap, ◌∙◌}, lemmas.Bool.and_parts}
 use Rattle.list_laws.proofs.Cases.{by_test}
-use Rattle.std.proofs.lemmas.Bool.{and_parts}
 
 one_more : (n : ℕ) → 1 + n ≡ suc n
 one_more n = omega arith

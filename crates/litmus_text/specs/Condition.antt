@@ -1,19 +1,17 @@
 -- The condition of a test, at the end of its text. Its lines are read as one text, and an error of its form stands at the line where it begins.
 -- In what follows `n` is the number of a line, `here` the setting of the condition, and `w` says how the architecture names its registers.
 -- Source: the litmus format of the herdtools manual; what is a fault, and where, is own.
-use Rattle.std.specs.Prelude.{ℕ, zero, suc, ◌-◌, ◌==◌, Bool, true, cond, ◌&&◌, nat_lt, List, [], ◌∷◌, ◌++◌, Option, Some, None, Result, Ok, Err}
-use Rattle.std.specs.{Prelude.length, Prelude.is_some, Prelude.not, List.filter, List.flat_map}
+use Rattle.std.specs.Prelude.{ℕ, zero, suc, ◌-◌, ◌==◌, Bool, true, cond, ◌&&◌, nat_lt, List, [], ◌∷◌, ◌++◌, Option, Some, None, Result, Ok, Err, length, is_some, not}
+use Rattle.std.specs.List.{filter, flat_map}
 use Rattle.list_laws.specs.Errors.{with_before, unless}
-use Rattle.final_cond.specs.declared.{cond.TheConstants.MAX_TERMS, cond.Quantifier.Quantifier, read.Follow.Follow}
-use Rattle.final_cond.specs.declared.read.Follow.TheVariants as follows
-use Rattle.text_parts_laws.specs.{Blanks.unblanked, ReadingSteps.◌>>=◌}
+use Rattle.final_cond.specs.{declared.cond.TheConstants.MAX_TERMS, declared.cond.Quantifier.Quantifier, declared.read.Follow.Follow}
 use Rattle.final_cond.specs.Conditions.{LeftSeen, InRegister, AtPlace, TermSeen, CondSeen}
 use Rattle.final_cond.specs.ConditionReading.{Fault, opening_read, left_read, right_read, follow_read, end_at_start, has_form}
-use Rattle.arch_trait.specs.{PlaceNames.number_in, PlaceNames.number_added, Writing.Writing}
-use Rattle.litmus_text.specs.declared.errors.{TestKind.TestKind, TestKind.TheVariants.BadCondition, TestKind.TheVariants.TooLarge}
-use Rattle.litmus_text.specs.declared.errors.{TestKind.TheVariants.EndMissing, TextError.TextError}
-use Rattle.litmus_text.specs.TextLines.{Lines, ends, line, bad}
-use Rattle.litmus_text.specs.TestTable.{with_names}
+use Rattle.final_cond.specs.declared.read.Follow.TheVariants as follows
+use Rattle.text_parts_laws.specs.{Blanks.unblanked, ReadingSteps.◌>>=◌}
+use Rattle.arch_trait.specs.{PlaceNames.{number_in, number_added}, Writing.Writing}
+use Rattle.litmus_text.specs.{declared.errors.TestKind.TestKind, declared.errors.TestKind.TheVariants.{BadCondition, TooLarge, EndMissing}}
+use Rattle.litmus_text.specs.{declared.errors.TextError.TextError, TextLines.{Lines, ends, line, bad}, TestTable.with_names}
 use Rattle.litmus_text.specs.Joined.{Joined, no_text, with_text, all_joined, line_at}
 
 -- the setting of a condition: how many threads the table has, the number of the line where the condition begins, and its text

@@ -1,14 +1,12 @@
 -- The condition as the code reads it, term by term, for the clauses of private functions: `Condition` says what it is.
 -- Source: own.
 use Rattle.std.specs.Prelude.{ℕ, zero, suc, ◌==◌, cond, ◌&&◌, nat_lt, List, [], ◌∷◌, Option, Some, None, Result, Ok, is_some}
-use Rattle.final_cond.specs.declared.{cond.TheConstants.MAX_TERMS, read.Follow.Follow}
+use Rattle.final_cond.specs.{declared.cond.TheConstants.MAX_TERMS, declared.read.Follow.Follow, Conditions.{LeftSeen, InRegister, AtPlace, TermSeen}}
+use Rattle.final_cond.specs.ConditionReading.{opening_read, left_read, right_read, follow_read, end_at_start, has_form}
 use Rattle.final_cond.specs.declared.read.Follow.TheVariants as follows
 use Rattle.text_parts_laws.specs.{Blanks.unblanked, ReadingSteps.◌>>=◌}
-use Rattle.final_cond.specs.Conditions.{LeftSeen, InRegister, AtPlace, TermSeen}
-use Rattle.final_cond.specs.ConditionReading.{opening_read, left_read, right_read, follow_read, end_at_start, has_form}
-use Rattle.arch_trait.specs.{PlaceNames.number_in, PlaceNames.number_added, PlaceNames.names_added, Writing.Writing}
-use Rattle.litmus_text.specs.declared.errors.{TestKind.TheVariants.BadCondition, TestKind.TheVariants.TooLarge, TextError.TextError}
-use Rattle.litmus_text.specs.TextLines.{bad}
+use Rattle.arch_trait.specs.{PlaceNames.{number_in, number_added, names_added}, Writing.Writing}
+use Rattle.litmus_text.specs.{declared.errors.TestKind.TheVariants.{BadCondition, TooLarge}, declared.errors.TextError.TextError, TextLines.bad}
 use Rattle.litmus_text.specs.Condition.{Setting, CondRead, at_begin, line_of_rest}
 
 -- the names of places, and the line of the first place that was one too many, after the line where the condition begins

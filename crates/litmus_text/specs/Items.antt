@@ -1,13 +1,11 @@
 -- The items of the initial state of a printed test.
 -- Source: own.
-use Rattle.std.specs.Prelude.{◌≡◌, ◌<◌, ℕ, ◌==◌, Bool, true, not, ◌&&◌, is_some, List, [], ◌∷◌, ◌++◌, map, length}
-use Rattle.std.specs.List.{list_any, flat_map, enumerate_from}
+use Rattle.std.specs.{Prelude.{◌≡◌, ◌<◌, ℕ, ◌==◌, Bool, true, not, ◌&&◌, is_some, List, [], ◌∷◌, ◌++◌, map, length}, List.{list_any, flat_map, enumerate_from}}
 use Rattle.relax_edges.specs.declared.kinds.Value.{Value}
 use Rattle.relax_edges.specs.declared.kinds.Value.TheVariants as values
 use Rattle.text_parts_laws.specs.Names.{is_place_name}
-use Rattle.arch_trait.specs.{Threads.ThreadCode, PlaceNames.number_in, PlaceNames.names_added, Writing.Writing}
-use Rattle.litmus_text.specs.declared.limits.TheConstants.{MAX_THREADS}
-use Rattle.litmus_text.specs.Placing.{place_in}
+use Rattle.arch_trait.specs.{Threads.ThreadCode, PlaceNames.{number_in, names_added}, Writing.Writing}
+use Rattle.litmus_text.specs.{declared.limits.TheConstants.MAX_THREADS, Placing.place_in}
 
 -- an address register of a thread, and its place
 abbrev pub Link : Type 0

@@ -1,11 +1,8 @@
 -- What is kept of a table that is printed.
 -- Source: own.
-use Rattle.std.specs.Prelude.{◌≡◌, ◌<◌, ◌≤◌, ◌+◌, ℕ, List, [], ◌∷◌, ◌++◌, length, map, take, slice_index_or}
-use Rattle.std.specs.List.{All}
-use Rattle.arch_trait.specs.{Writing.Writing, SeenTests.TestSeen}
-use Rattle.arch_trait.specs.declared.arch.TheConstants.{MAX_INSTRUCTION_TEXT}
-use Rattle.litmus_text.specs.TestText.{columns_of, width_of, row_count}
-use Rattle.litmus_text.specs.declared.column.TheConstants.{KEPT_CELLS}
+use Rattle.std.specs.{Prelude.{◌≡◌, ◌<◌, ◌≤◌, ◌+◌, ℕ, List, [], ◌∷◌, ◌++◌, length, map, take, slice_index_or}, List.All}
+use Rattle.arch_trait.specs.{Writing.Writing, SeenTests.TestSeen, declared.arch.TheConstants.MAX_INSTRUCTION_TEXT}
+use Rattle.litmus_text.specs.{TestText.{columns_of, width_of, row_count}, declared.column.TheConstants.KEPT_CELLS}
 
 -- the texts of all columns, one column after the other
 abbrev pub all_texts : List (List (List ℕ)) → List (List ℕ)

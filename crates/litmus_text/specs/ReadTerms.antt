@@ -1,9 +1,8 @@
 -- The terms of a printed condition.
 -- Source: own.
 use Rattle.std.specs.Prelude.{◌≡◌, ℕ, Bool, true, ◌&&◌, nat_lt, is_some, List, [], ◌∷◌}
-use Rattle.final_cond.specs.Conditions.{LeftSeen, InRegister, AtPlace, TermSeen}
-use Rattle.final_cond.specs.ConditionReadBack.{IsFormedTerm}
-use Rattle.arch_trait.specs.{PlaceNames.number_in, PlaceNames.names_added, Writing.Writing}
+use Rattle.final_cond.specs.{Conditions.{LeftSeen, InRegister, AtPlace, TermSeen}, ConditionReadBack.IsFormedTerm}
+use Rattle.arch_trait.specs.{PlaceNames.{number_in, names_added}, Writing.Writing}
 
 -- the table after a term's place was mentioned
 abbrev pub left_mention : List (List ℕ) → LeftSeen → List (List ℕ)

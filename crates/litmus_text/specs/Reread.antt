@@ -1,17 +1,13 @@
 -- What the text of a test is read as, and for which tests.
 -- Source: own.
-use Rattle.std.specs.Prelude.{◌≡◌, ◌<◌, ◌≤◌, ℕ, true, List, [], Some, map, length, codes}
-use Rattle.std.specs.List.{join_by, AllByRecursion}
-use Rattle.relax_edges.specs.declared.kinds.ArchName.{ArchName}
+use Rattle.std.specs.{Prelude.{◌≡◌, ◌<◌, ◌≤◌, ℕ, true, List, [], Some, map, length, codes}, List.{join_by, AllByRecursion}}
+use Rattle.relax_edges.specs.{declared.kinds.ArchName.ArchName, WordParts.word_of}
 use Rattle.relax_edges.specs.declared.kinds.Value.TheVariants as values
-use Rattle.relax_edges.specs.WordParts.{word_of}
 use Rattle.final_cond.specs.declared.cond.TheConstants.{MAX_TERMS}
-use Rattle.arch_trait.specs.declared.places.TheConstants.{MAX_PLACES}
-use Rattle.arch_trait.specs.{Threads.Puts, Threads.ThreadCode, Writing.Writing, Writing.name_in, SeenTests.TestSeen}
-use Rattle.litmus_text.specs.declared.limits.TheConstants.{MAX_TEST_TEXT, MAX_THREADS, MAX_ROWS}
-use Rattle.litmus_text.specs.{TestText.test_text, TestReading.ThreadRead, TestReading.TestRead, Placing.place_in, Placing.op_renumbered}
-use Rattle.litmus_text.specs.{Printable.IsTestName, Progress.CodeFits, Progress.code_lands, Items.links_of, Items.links_once, Items.LinkFits}
-use Rattle.litmus_text.specs.{ReadTerms.TermFits}
+use Rattle.arch_trait.specs.{declared.places.TheConstants.MAX_PLACES, Threads.{Puts, ThreadCode}, Writing.{Writing, name_in}, SeenTests.TestSeen}
+use Rattle.litmus_text.specs.{declared.limits.TheConstants.{MAX_TEST_TEXT, MAX_THREADS, MAX_ROWS}, TestText.test_text, TestReading.{ThreadRead, TestRead}}
+use Rattle.litmus_text.specs.{Placing.{place_in, op_renumbered}, Printable.IsTestName, Progress.{CodeFits, code_lands}, Items.{links_of, links_once, LinkFits}}
+use Rattle.litmus_text.specs.ReadTerms.{TermFits}
 
 -- a thread with its places numbered by a table
 abbrev pub thread_reread : List (List ℕ) → (ℕ → List ℕ) → ThreadCode → ThreadRead

@@ -1,12 +1,9 @@
 -- Threads that can be run.
 -- Source: own.
-use Rattle.std.specs.Prelude.{ℕ, ◌<◌, ◌≤◌, ◌^◌, ◌≡◌, true, List, All, length, map, count_by}
-use Rattle.std.specs.List.{AllByRecursion}
+use Rattle.std.specs.{Prelude.{ℕ, ◌<◌, ◌≤◌, ◌^◌, ◌≡◌, true, List, All, length, map, count_by}, List.AllByRecursion}
 use Rattle.relax_edges.specs.declared.kinds.Value.{Value}
-use Rattle.micro_ops.specs.declared.operation.Micro.{Micro}
-use Rattle.micro_ops.specs.{Machines.InRange, Running.is_load, Running.lands}
-use Rattle.litmus_text.specs.declared.reading.table.Placed.{Placed}
-use Rattle.litmus_text.specs.TestTable.{Column}
+use Rattle.micro_ops.specs.{declared.operation.Micro.Micro, Machines.InRange, Running.{is_load, lands}}
+use Rattle.litmus_text.specs.{declared.reading.table.Placed.Placed, TestTable.Column}
 
 -- code that can be run: its registers are the machine's, the label of each branch comes later, and there are at most 64
 -- loads and fewer than 2^32 operations

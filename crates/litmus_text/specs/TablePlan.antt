@@ -1,11 +1,9 @@
 -- The columns that the rows of a printed table are read as, row by row.
 -- Source: own.
-use Rattle.std.specs.Prelude.{ℕ, ◌+◌, List, [], ◌∷◌, map}
-use Rattle.std.specs.List.{range_with_len}
+use Rattle.std.specs.{Prelude.{ℕ, ◌+◌, List, [], ◌∷◌, map}, List.range_with_len}
 use Rattle.micro_ops.specs.declared.operation.Micro.{Micro}
 use Rattle.arch_trait.specs.{LabelOrder.labels_in, Writing.label_name}
-use Rattle.litmus_text.specs.declared.reading.table.Placed.{Placed}
-use Rattle.litmus_text.specs.{TestTable.Column, Placing.op_renumbered}
+use Rattle.litmus_text.specs.{declared.reading.table.Placed.Placed, TestTable.Column, Placing.op_renumbered}
 
 -- operations with their lines, from a line on
 abbrev pub placed_from : List (List ℕ) → (ℕ → List ℕ) → ℕ → List Micro → List Placed

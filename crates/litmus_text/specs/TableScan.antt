@@ -1,13 +1,11 @@
 -- The rows of a table as the code reads them, cell by cell, for the clauses of private functions: `TestTable` says what they are.
 -- Source: own.
 use Rattle.std.specs.Prelude.{ℕ, ◌+◌, Bool, cond, nat_lt, List, [], ◌∷◌, ◌++◌, Option, Some, None, Result, Ok, Err, codes}
-use Rattle.arch_trait.specs.{Cells.ends_rows, InstructionReading.ReadInstr, InstructionReading.instr_read, Writing.Writing}
-use Rattle.arch_trait.specs.declared.reading.InstrError.{InstrError}
+use Rattle.arch_trait.specs.{Cells.ends_rows, InstructionReading.{ReadInstr, instr_read}, Writing.Writing, declared.reading.InstrError.InstrError}
 use Rattle.arch_trait.specs.declared.reading.InstrError.TheVariants as instrs
 use Rattle.text_parts_laws.specs.{Blanks.trim_blanks, ReadingSteps.◌>>=◌, Words.is_nil, Cuts.cut_at}
-use Rattle.litmus_text.specs.declared.errors.TestKind.TheVariants.{BadTable, BadInstruction, TooLarge, EndMissing}
-use Rattle.litmus_text.specs.declared.{errors.TextError.TextError, limits.TheConstants.MAX_ROWS}
-use Rattle.litmus_text.specs.TextLines.{Lines, ends, line, TextRead, bad}
+use Rattle.litmus_text.specs.{declared.errors.TestKind.TheVariants.{BadTable, BadInstruction, TooLarge, EndMissing}, declared.errors.TextError.TextError}
+use Rattle.litmus_text.specs.{declared.limits.TheConstants.MAX_ROWS, TextLines.{Lines, ends, line, TextRead, bad}}
 use Rattle.litmus_text.specs.TestTable.{cells_of, Column, WithPlaces, with_places, fits_in_column}
 
 -- a column with an operation more

@@ -1,12 +1,11 @@
 -- A printed test is read back as the test, its places numbered by a table of names that has the places which the test uses.
 -- Source: own.
-use Rattle.std.specs.Prelude.{◌≡◌, ℕ, Bool, true, is_some, List, Ok}
-use Rattle.std.specs.{List.AllByRecursion, List.IsDistinct, Str.bytes_eq}
+use Rattle.std.specs.{Prelude.{◌≡◌, ℕ, Bool, true, is_some, List, Ok}, List.{AllByRecursion, IsDistinct}, Str.bytes_eq}
 use Rattle.relax_edges.specs.declared.kinds.ArchName.{ArchName}
 use Rattle.micro_ops.specs.declared.operation.Micro.{Micro}
 use Rattle.micro_ops.specs.declared.operation.Micro.TheVariants as ops
 use Rattle.final_cond.specs.Conditions.{LeftSeen, InRegister, AtPlace}
-use Rattle.arch_trait.specs.{PlaceNames.number_in, Writing.Writing, Writing.name_in, SeenTests.TestSeen}
+use Rattle.arch_trait.specs.{PlaceNames.number_in, Writing.{Writing, name_in}, SeenTests.TestSeen}
 use Rattle.litmus_text.specs.{TestText.test_text, TestReading.test_read, Items.links_of, Reread.reread}
 
 -- a name is in a table of names

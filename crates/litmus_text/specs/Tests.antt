@@ -1,10 +1,8 @@
 -- A test as a value of the program, and when it can be printed.
 -- Source: own.
-use Rattle.std.specs.Prelude.{◌≡◌, ℕ, Bool, true, map, nat_lt}
-use Rattle.std.specs.List.{list_all}
+use Rattle.std.specs.{Prelude.{◌≡◌, ℕ, Bool, true, map, nat_lt}, List.list_all}
 use Rattle.micro_ops.specs.declared.operation.Micro.{Micro}
-use Rattle.arch_trait.specs.{Codes.thread_code_of, Writing.place_below, Writing.label_below, SeenTests.TestSeen}
-use Rattle.arch_trait.specs.declared.code.Code.{Code}
+use Rattle.arch_trait.specs.{Codes.thread_code_of, Writing.{place_below, label_below}, SeenTests.TestSeen, declared.code.Code.Code}
 use Rattle.final_cond.specs.Conditions.{cond_view}
 use Rattle.litmus_text.specs.declared.test.Test.{Test}
 

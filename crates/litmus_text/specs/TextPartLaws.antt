@@ -3,8 +3,7 @@ use Rattle.std.proofs.Common.{◌≡◌, ℕ, List, ◌++◌, refl}
 use Rattle.std.specs.Prelude.{Some}
 use Rattle.relax_edges.specs.declared.kinds.ArchName.{ArchName}
 use Rattle.arch_trait.specs.{Writing.Writing, SeenTests.TestSeen}
-use Rattle.litmus_text.specs.declared.parts.TextPart.TheVariants.{Edges}
-use Rattle.litmus_text.specs.TestText.{header_line, with_line_feed, test_lines, test_text}
+use Rattle.litmus_text.specs.{declared.parts.TextPart.TheVariants.Edges, TestText.{header_line, with_line_feed, test_lines, test_text}}
 use Rattle.litmus_text.specs.TextParts.{rows_from, part_lines, text_from}
 
 -- the text of a test is its header, and then that from the edges on

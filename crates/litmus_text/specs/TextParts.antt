@@ -1,12 +1,10 @@
 -- The text of a test after its header, part by part.
 -- Source: own.
-use Rattle.std.specs.Prelude.{◌≡◌, ◌≤◌, ◌<◌, ◌+◌, ◌-◌, ℕ, List, [], ◌∷◌, ◌++◌, Option, Some, None, codes, length, drop}
-use Rattle.std.specs.List.{flat_map, enumerate_from}
-use Rattle.diy_io.specs.declared.page.TheConstants.{LINE_ROOM}
-use Rattle.diy_io.specs.Page.{page_after}
+use Rattle.std.specs.{Prelude.{◌≡◌, ◌≤◌, ◌<◌, ◌+◌, ◌-◌, ℕ, List, [], ◌∷◌, ◌++◌, Option, Some, None, codes, length, drop}, List.{flat_map, enumerate_from}}
+use Rattle.diy_io.specs.{declared.page.TheConstants.LINE_ROOM, Page.page_after}
 use Rattle.arch_trait.specs.{Writing.Writing, SeenTests.TestSeen}
 use Rattle.final_cond.specs.CondText.{cond_text}
-use Rattle.litmus_text.specs.declared.parts.{TextPart.TextPart, TextPart.TheVariants.Edges, TextPart.TheVariants.Items, TextPart.TheVariants.Row}
+use Rattle.litmus_text.specs.{declared.parts.TextPart.TextPart, declared.parts.TextPart.TheVariants.{Edges, Items, Row}}
 use Rattle.litmus_text.specs.TestText.{edges_line, items_lines, initial_lines, columns_of, row_count, table_lines, with_line_feed}
 
 -- the rows of the table from one on, and the condition

@@ -1,10 +1,9 @@
 -- The values of the code that reads, as the definitions see them.
 -- Source: own.
-use Rattle.std.specs.Prelude.{◌≡◌, ◌<◌, ℕ, length, Bool, true, List, [], ◌∷◌, Option, Some, None, option_map, Result, Ok, map}
-use Rattle.std.specs.Borrow.{Bor}
-use Rattle.final_cond.specs.declared.cond.{Cond.Cond, Term.Term, TheConstants.MAX_TERMS}
-use Rattle.text_parts_laws.specs.{Names.is_place_name, ReadingSteps.◌>>=◌}
+use Rattle.std.specs.{Prelude.{◌≡◌, ◌<◌, ℕ, length, Bool, true, List, [], ◌∷◌, Option, Some, None, option_map, Result, Ok, map}, Borrow.Bor}
+use Rattle.final_cond.specs.{declared.cond.Cond.Cond, declared.cond.Term.Term, declared.cond.TheConstants.MAX_TERMS}
 use Rattle.final_cond.specs.Conditions.{TermSeen, term_view, cond_view}
+use Rattle.text_parts_laws.specs.{Names.is_place_name, ReadingSteps.◌>>=◌}
 use Rattle.litmus_text.specs.declared.{reading.cuts.Pieces.Pieces, reading.text.Text.Text, reading.lines.Lines.Lines as Left}
 use Rattle.litmus_text.specs.declared.{reading.joined.Joined.Joined as JoinedText, reading.items.Worth.Worth as TextWorth}
 use Rattle.litmus_text.specs.declared.{reading.items.Item.Item as TextItem, reading.initial.Begun.Begun as State}
@@ -15,14 +14,13 @@ use Rattle.litmus_text.specs.declared.reading.lines.Lines.TheVariants as lefts
 use Rattle.litmus_text.specs.declared.reading.items.Worth.TheVariants as worths
 use Rattle.litmus_text.specs.declared.reading.items.Item.TheVariants as items
 use Rattle.litmus_text.specs.declared.reading.initial.Braced.TheVariants as ends_of
-use Rattle.litmus_text.specs.{TextCuts.pieces, ReadingAnswers.GivesTest, Joined.Joined, TableScan.row_read, Condition.Setting, Condition.CondRead}
-use Rattle.litmus_text.specs.{Condition.condition_read, TestReading.TestRead, TestReading.threads_of}
-use Rattle.litmus_text.specs.TextLines.{Lines, ends, line, lines_from}
-use Rattle.arch_trait.specs.Writing.{Writing}
-use Rattle.relax_edges.specs.declared.kinds.Value.{Value}
+use Rattle.litmus_text.specs.{TextCuts.pieces, ReadingAnswers.GivesTest, Joined.Joined, TableScan.row_read, Condition.{Setting, CondRead, condition_read}}
+use Rattle.litmus_text.specs.{TestReading.{TestRead, threads_of}, TextLines.{Lines, ends, line, lines_from}}
 use Rattle.litmus_text.specs.InitialState.{Worth, a_number, a_place, InitialItem, empty, gives, zero_at, Begun, items_read, initial_read, Braced, closed, open_to}
 use Rattle.litmus_text.specs.TestTable.{Cells, Column, WithPlaces, with_places, rows_read, head_read, all_labels_judged, after_locations}
 use Rattle.litmus_text.specs.ConditionScan.{Mentioned, TermRead, TermsRead, terms_here}
+use Rattle.arch_trait.specs.Writing.{Writing}
+use Rattle.relax_edges.specs.declared.kinds.Value.{Value}
 
 -- what the code sees of the two texts of a cut
 abbrev pub cut_seen : Option (Bor (List ℕ) × Bor (List ℕ)) → Option (List ℕ × List ℕ)

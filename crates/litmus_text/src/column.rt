@@ -1,9 +1,5 @@
-ghost use Rattle.std.specs.Prelude.{◌≡◌, ◌≤◌, ◌+◌, ◌*◌, ◌∷◌, ◌++◌, [], map, length, max, slice_index_or, take, IfSome, ◌<◌};
-ghost use Rattle.std.specs.Fmt.{decimal};
-ghost use Rattle.std.specs.List.{All, fold};
-ghost use Rattle.litmus_text.specs.TestText.{column_of, columns_of, width_of};
-ghost use Rattle.litmus_text.specs.Tests.{IsPrintable};
-ghost use Rattle.litmus_text.specs.KeptCells.{all_texts, HoldsColumn};
+ghost use Rattle.std.specs.{Prelude.{◌≡◌, ◌≤◌, ◌+◌, ◌*◌, ◌∷◌, ◌++◌, [], map, length, max, slice_index_or, take, IfSome, ◌<◌}, Fmt.{decimal}, List.{All, fold}};
+ghost use Rattle.litmus_text.specs.{TestText.{column_of, columns_of, width_of}, Tests.{IsPrintable}, KeptCells.{all_texts, HoldsColumn}};
 ghost use Rattle.litmus_text.specs.PaddedCells.{text_in, PutsCell};
 ghost use Rattle.arch_trait.specs.Codes.{thread_code_of};
 
@@ -63,8 +59,7 @@ pub(crate) struct KeptCells {
 
 impl Model for KeptCells {
     ghost use Rattle.std.specs.Prelude.{◌≤◌, ℕ, List, map, take};
-    ghost use Rattle.litmus_text.specs.declared.column.TheConstants.{KEPT_CELLS};
-    ghost use Rattle.litmus_text.specs.PaddedCells.{text_in};
+    ghost use Rattle.litmus_text.specs.{declared.column.TheConstants.{KEPT_CELLS}, PaddedCells.{text_in}};
 
     ghost Value = { List (List ℕ) };
 

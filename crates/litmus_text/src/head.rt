@@ -1,9 +1,7 @@
-ghost use Rattle.std.specs.Prelude.{◌≡◌, ◌≤◌, ◌*◌, ◌++◌, codes, length};
-ghost use Rattle.std.specs.List.{join_by};
+ghost use Rattle.std.specs.{Prelude.{◌≡◌, ◌≤◌, ◌*◌, ◌++◌, codes, length}, List.{join_by}};
 ghost use Rattle.relax_edges.specs.WordParts.{word_of};
 ghost use Rattle.diy_io.specs.Page.{page_after, Sends};
-ghost use Rattle.litmus_text.specs.TestText.{header_line, edges_line, with_line_feed};
-ghost use Rattle.litmus_text.specs.Separators.{separator_at};
+ghost use Rattle.litmus_text.specs.{TestText.{header_line, edges_line, with_line_feed}, Separators.{separator_at}};
 
 use crate::limits::MAX_TEST_NAME;
 use crate::separators::put_separator;

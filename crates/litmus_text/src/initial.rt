@@ -1,11 +1,8 @@
-ghost use Rattle.std.specs.Prelude.{◌<◌, ◌≤◌, ◌≡◌, ◌*◌, ◌++◌, List, map, length, codes, true, nat_lt};
-ghost use Rattle.std.specs.Fmt.{decimal};
+ghost use Rattle.std.specs.{Prelude.{◌<◌, ◌≤◌, ◌≡◌, ◌*◌, ◌++◌, List, map, length, codes, true, nat_lt}, Fmt.{decimal}};
 ghost use Rattle.std.specs.List.{All, list_all, flat_map, join_by, enumerate_from};
 ghost use Rattle.diy_io.specs.Page.{page_after, Sends};
 ghost use Rattle.arch_trait.specs.Codes.{thread_code_of};
-ghost use Rattle.litmus_text.specs.TestText.{item_text, items_lines, initial_lines, with_line_feed};
-ghost use Rattle.litmus_text.specs.Tests.{IsPrintable};
-ghost use Rattle.litmus_text.specs.Separators.{separator_at};
+ghost use Rattle.litmus_text.specs.{TestText.{item_text, items_lines, initial_lines, with_line_feed}, Tests.{IsPrintable}, Separators.{separator_at}};
 
 use crate::separators::put_separator;
 use arch_trait::{Arch, Code, MAX_STEPS, Places};

@@ -1,7 +1,5 @@
-ghost use Rattle.std.specs.Prelude.{length};
-ghost use Rattle.std.specs.List.{All};
-ghost use Rattle.litmus_text.specs.KeptCells.{HoldsTable};
-ghost use Rattle.litmus_text.specs.Tests.{IsPrintable, test_seen};
+ghost use Rattle.std.specs.{Prelude.{length}, List.{All}};
+ghost use Rattle.litmus_text.specs.{KeptCells.{HoldsTable}, Tests.{IsPrintable, test_seen}};
 
 use crate::column::{KeptCells, row_count, set_widths};
 use crate::test::Test;

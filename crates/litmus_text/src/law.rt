@@ -1,7 +1,6 @@
 ghost use Rattle.std.specs.Prelude.{ℕ, List};
 ghost use Rattle.arch_trait.specs.SeenTests.{TestSeen};
-ghost use Rattle.litmus_text.specs.Reread.{IsReadable};
-ghost use Rattle.litmus_text.specs.TestReadsBack.{TestReadsBack};
+ghost use Rattle.litmus_text.specs.{Reread.{IsReadable}, TestReadsBack.{TestReadsBack}};
 
 use arch_trait::Arch;
 

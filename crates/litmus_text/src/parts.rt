@@ -1,9 +1,5 @@
-ghost use Rattle.std.specs.Prelude.{◌≤◌, ◌<◌, length};
-ghost use Rattle.std.specs.List.{All};
-ghost use Rattle.std.specs.Prelude.{Some};
-ghost use Rattle.litmus_text.specs.KeptCells.{HoldsTable};
-ghost use Rattle.litmus_text.specs.Tests.{IsPrintable, test_seen};
-ghost use Rattle.litmus_text.specs.TextParts.{PutsPart};
+ghost use Rattle.std.specs.{Prelude.{◌≤◌, ◌<◌, length, Some}, List.{All}};
+ghost use Rattle.litmus_text.specs.{KeptCells.{HoldsTable}, Tests.{IsPrintable, test_seen}, TextParts.{PutsPart}};
 ghost use Rattle.litmus_text.specs.declared.parts.TextPart.TheVariants as parts;
 
 use crate::cell::CELL_ROOM;

@@ -1,13 +1,7 @@
-ghost use Rattle.std.specs.Prelude.{◌≡◌, ◌≤◌, [], length, OnOk, Some};
-ghost use Rattle.std.specs.List.{All};
-ghost use Rattle.diy_io.specs.Page.{page_after, Sends};
-ghost use Rattle.diy_io.specs.Wrote.{Wrote};
-ghost use Rattle.final_cond.specs.Conditions.{cond_view};
-ghost use Rattle.final_cond.specs.CondText.{cond_text};
-ghost use Rattle.litmus_text.specs.KeptCells.{HoldsTable};
-ghost use Rattle.litmus_text.specs.TestText.{test_text, with_line_feed};
-ghost use Rattle.litmus_text.specs.Tests.{IsPrintable, test_seen};
-ghost use Rattle.litmus_text.specs.TextParts.{text_from};
+ghost use Rattle.std.specs.{Prelude.{◌≡◌, ◌≤◌, [], length, OnOk, Some}, List.{All}};
+ghost use Rattle.diy_io.specs.{Page.{page_after, Sends}, Wrote.{Wrote}};
+ghost use Rattle.final_cond.specs.{Conditions.{cond_view}, CondText.{cond_text}};
+ghost use Rattle.litmus_text.specs.{KeptCells.{HoldsTable}, TestText.{test_text, with_line_feed}, Tests.{IsPrintable, test_seen}, TextParts.{text_from}};
 ghost use Rattle.litmus_text.specs.declared.parts.TextPart.TheVariants as parts;
 
 use crate::head::send_header;

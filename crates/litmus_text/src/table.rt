@@ -1,11 +1,8 @@
-ghost use Rattle.std.specs.Prelude.{◌≡◌, ◌≤◌, ◌+◌, ◌-◌, ◌*◌, ◌++◌, map, length, codes, take};
-ghost use Rattle.litmus_text.specs.KeptCells.{all_texts};
-ghost use Rattle.litmus_text.specs.declared.column.TheConstants.{KEPT_CELLS};
-ghost use Rattle.std.specs.List.{All, flat_map, join_by};
+ghost use Rattle.std.specs.{Prelude.{◌≡◌, ◌≤◌, ◌+◌, ◌-◌, ◌*◌, ◌++◌, map, length, codes, take}, List.{All, flat_map, join_by}};
+ghost use Rattle.litmus_text.specs.{KeptCells.{all_texts}, declared.column.TheConstants.{KEPT_CELLS}};
+ghost use Rattle.litmus_text.specs.{TestText.{columns_of, width_of, cell_text, row_line, table_lines, with_line_feed}, Tests.{IsPrintable}};
 ghost use Rattle.diy_io.specs.Page.{page_after, Sends};
 ghost use Rattle.arch_trait.specs.Codes.{thread_code_of};
-ghost use Rattle.litmus_text.specs.TestText.{columns_of, width_of, cell_text, row_line, table_lines, with_line_feed};
-ghost use Rattle.litmus_text.specs.Tests.{IsPrintable};
 
 use crate::cell::CELL_ROOM;
 use crate::column::{CellSpot, KeptCells, put_cell};

@@ -1,6 +1,5 @@
 ghost use Rattle.std.specs.Prelude.{◌≡◌, []};
-ghost use Rattle.final_cond.specs.declared.cond.Quantifier.TheVariants.{Exists};
-ghost use Rattle.final_cond.specs.Conditions.{cond_view};
+ghost use Rattle.final_cond.specs.{declared.cond.Quantifier.TheVariants.{Exists}, Conditions.{cond_view}};
 
 use arch_trait::{Places, ThreadCodes};
 use arrayvec::ArrayVec;

@@ -1,8 +1,7 @@
 -- What a test of each element with its number means, and of each access with its name.
-use Rattle.std.proofs.Common.{◌≡◌, ℕ, zero, suc, ◌+◌, Bool, true, List, [], ◌∷◌, Some, slice_get, refl, subst, arith}
-use Rattle.std.proofs.lemmas.{Bool.and_parts, Bool.and_from, Option.same_Some}
-use Rattle.program_meaning.specs.declared.WriteAt.{WriteAt}
-use Rattle.program_meaning.specs.{Accesses.at_name, Deciding.every, Deciding.name}
+use Rattle.std.proofs.{Common.{◌≡◌, ℕ, zero, suc, ◌+◌, Bool, true, List, [], ◌∷◌, Some, slice_get, refl, subst, arith}, lemmas.Bool.{and_parts, and_from}}
+use Rattle.std.proofs.lemmas.Option.{same_Some}
+use Rattle.program_meaning.specs.{declared.WriteAt.WriteAt, Accesses.at_name, Deciding.{every, name}}
 use Rattle.program_meaning.proofs.Names.{in_thread, at_name_of}
 
 -- where every element passes with its number, so does each one

@@ -1,8 +1,6 @@
 -- What names name: one write has one name, and what is found under a name is in the name's thread.
-use Rattle.std.proofs.Common.{◌≡◌, ℕ, ◌==◌, true, List, Option, Some, None, slice_get, refl, ap, ◌∙◌}
-use Rattle.std.proofs.lemmas.Bool.{and_parts, and_from, eqb-true, eq-eqb}
-use Rattle.program_meaning.specs.declared.WriteAt.{WriteAt}
-use Rattle.program_meaning.specs.{Accesses.got_from, Accesses.at_name, Executions.same_write, Deciding.name}
+use Rattle.std.proofs.{Common.{◌≡◌, ℕ, ◌==◌, true, List, Option, Some, None, slice_get, refl, ap, ◌∙◌}, lemmas.Bool.{and_parts, and_from, eqb-true, eq-eqb}}
+use Rattle.program_meaning.specs.{declared.WriteAt.WriteAt, Accesses.{got_from, at_name}, Executions.same_write, Deciding.name}
 
 -- a write has the name of itself
 pub same_write-refl : (w : WriteAt) → same_write w w ≡ true

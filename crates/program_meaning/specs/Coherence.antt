@@ -1,12 +1,10 @@
 -- Coherence per location: program order at one place agrees with the coherence order. These are the absent shapes CoWW,
 -- CoWR, CoRW and CoRR of the literature.
 -- Source: the literature on coherence.
-use Rattle.std.specs.Prelude.{ℕ, ◌≡◌, ◌+◌, ◌-◌, ◌<◌, ◌≤◌, List, [], length, Option, Some, None, slice_get, unwrap_or}
-use Rattle.std.specs.{List.position, Option.option_and_then}
+use Rattle.std.specs.{Prelude.{ℕ, ◌≡◌, ◌+◌, ◌-◌, ◌<◌, ◌≤◌, List, [], length, Option, Some, None, slice_get, unwrap_or}, List.position, Option.option_and_then}
 use Rattle.relax_edges.specs.declared.kinds.Dir.{Dir}
 use Rattle.relax_edges.specs.declared.kinds.Dir.TheVariants as dirs
-use Rattle.program_meaning.specs.declared.WriteAt.{WriteAt}
-use Rattle.program_meaning.specs.{Accesses.Access, Accesses.at_name, Accesses.reads_before, Executions.Execution, Executions.same_write}
+use Rattle.program_meaning.specs.{declared.WriteAt.WriteAt, Accesses.{Access, at_name, reads_before}, Executions.{Execution, same_write}}
 
 -- a place in a list, counted from 1; 0 where there is none
 abbrev pub from_one : Option ℕ → ℕ

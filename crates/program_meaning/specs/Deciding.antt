@@ -6,9 +6,8 @@ use Rattle.std.specs.List.{list_all, list_any}
 use Rattle.relax_edges.specs.declared.kinds.Dir.{Dir}
 use Rattle.relax_edges.specs.declared.kinds.Dir.TheVariants as dirs
 use Rattle.micro_ops.specs.Running.{Outcome, Ended, ReadsLeft, ReadsShort, NoRule}
-use Rattle.program_meaning.specs.declared.WriteAt.{WriteAt}
-use Rattle.program_meaning.specs.{Accesses.Access, Accesses.is_read, Accesses.at_name, Executions.Execution, Executions.same_write}
-use Rattle.program_meaning.specs.{Coherence.coherence_place, Programs.Program, Programs.runs_of, Programs.accesses_in}
+use Rattle.program_meaning.specs.{declared.WriteAt.WriteAt, Accesses.{Access, is_read, at_name}, Executions.{Execution, same_write}, Coherence.coherence_place}
+use Rattle.program_meaning.specs.Programs.{Program, runs_of, accesses_in}
 pub use Rattle.program_meaning.specs.Interleavings.{writes_by, writes_to, writes_there}
 
 -- each element passes with its number, counted from this one

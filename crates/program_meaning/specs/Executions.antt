@@ -1,8 +1,7 @@
 -- Executions: what each read reads, and in which order the writes of each place come.
 -- Source: the usual candidate executions of axiomatic memory models (reads-from and coherence order as relations given).
 use Rattle.std.specs.Prelude.{ℕ, ◌≡◌, ◌==◌, ◌&&◌, Bool, List, [], ◌∷◌, length, filter, Option, Some, None, slice_get}
-use Rattle.program_meaning.specs.declared.WriteAt.{WriteAt}
-use Rattle.program_meaning.specs.Accesses.{Access, write, is_read, at_name}
+use Rattle.program_meaning.specs.{declared.WriteAt.WriteAt, Accesses.{Access, write, is_read, at_name}}
 
 -- an execution: for each thread its reads in program order, each a value and the write read, none for the initial
 -- value; for each place its writes in coherence order

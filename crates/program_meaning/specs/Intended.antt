@@ -1,15 +1,11 @@
 -- The accesses that the test of a cycle makes, and its intended execution. `es` is the list of edges in which threads,
 -- locations and values are counted, and `number` gives the number of each location's place.
 -- Source: own, after the way diy takes from a cycle to a test.
-use Rattle.std.specs.Prelude.{ℕ, zero, suc, ◌≡◌, ◌<◌, ◌+◌, ◌==◌, List, ◌++◌, filter, map, unwrap_or, Option, None}
-use Rattle.std.specs.{List.find, List.filter_map, Option.option_map}
-use Rattle.relax_edges.specs.declared.{kinds.ObsMode.ObsMode, edge.Edge.Edge}
-use Rattle.relax_edges.specs.EdgeTable.{source_of}
+use Rattle.std.specs.{Prelude.{ℕ, zero, suc, ◌≡◌, ◌<◌, ◌+◌, ◌==◌, List, ◌++◌, filter, map, unwrap_or, Option, None}, List.{find, filter_map}, Option.option_map}
+use Rattle.relax_edges.specs.{declared.kinds.ObsMode.ObsMode, declared.edge.Edge.Edge, EdgeTable.source_of}
 use Rattle.list_laws.specs.Numbers.{upto}
-use Rattle.cycle_events.specs.Resolution.{edge_at, external_count, move_count, location_of, events_in}
-use Rattle.cycle_events.specs.Values.{is_observed, value_of, write_at, write_count}
-use Rattle.program_meaning.specs.declared.WriteAt.{WriteAt}
-use Rattle.program_meaning.specs.{Accesses.Access, Accesses.read, Accesses.is_read, Executions.Execution, Standing.AccessAt, Standing.event_name}
+use Rattle.cycle_events.specs.{Resolution.{edge_at, external_count, move_count, location_of, events_in}, Values.{is_observed, value_of, write_at, write_count}}
+use Rattle.program_meaning.specs.{declared.WriteAt.WriteAt, Accesses.{Access, read, is_read}, Executions.Execution, Standing.{AccessAt, event_name}}
 
 -- the locations that have an observer, in order
 abbrev pub observed_locations : List Edge → ObsMode → List ℕ

@@ -1,14 +1,11 @@
 -- Interleavings: a machine that makes the accesses of all threads one at a time, each thread's in its own order, on one memory.
 -- Source: sequential consistency, of Lamport, 'How to Make a Multiprocessor Computer That Correctly Executes Multiprocess
 -- Programs', 1979.
-use Rattle.std.specs.Prelude.{ℕ, ◌≡◌, ◌<◌, ◌==◌, Bool, false, List, [], ◌∷◌, map, take, filter, Option, Some, None, slice_get}
-use Rattle.std.specs.Option.{option_and_then}
-use Rattle.relax_edges.specs.declared.kinds.{Dir.Dir, Value.Value}
+use Rattle.std.specs.{Prelude.{ℕ, ◌≡◌, ◌<◌, ◌==◌, Bool, false, List, [], ◌∷◌, map, take, filter, Option, Some, None, slice_get}, Option.option_and_then}
+use Rattle.relax_edges.specs.{declared.kinds.Dir.Dir, declared.kinds.Value.Value}
 use Rattle.relax_edges.specs.declared.kinds.Dir.TheVariants as dirs
 use Rattle.micro_ops.specs.Running.{Outcome, runs}
-use Rattle.program_meaning.specs.declared.WriteAt.{WriteAt}
-use Rattle.program_meaning.specs.Accesses.{Access, read, at_name, visits_of, accesses_of}
-use Rattle.program_meaning.specs.Coherence.{last_write, value_of_access}
+use Rattle.program_meaning.specs.{declared.WriteAt.WriteAt, Accesses.{Access, read, at_name, visits_of, accesses_of}, Coherence.{last_write, value_of_access}}
 use Rattle.program_meaning.specs.Programs.{Thread, Program, HasEnded, made_in, held_at_last}
 
 -- an access of this direction and place writes to a place

@@ -1,23 +1,20 @@
 -- When the edges of a cycle stand between the accesses of a program in an execution. `es` is the list of edges in which
 -- threads and slots are counted. Source: the diy part of the herdtools manual (what each edge means).
-use Rattle.std.specs.Prelude.{ℕ, ◌≡◌, ◌≢◌, ◌+◌, ◌<◌, ◌≤◌, ◌^◌, ◌==◌, ◌&&◌, Bool, true, false, List, [], ◌∷◌, length, map, Some, slice_get}
-use Rattle.std.specs.Int.{bit_at}
+use Rattle.std.specs.{Prelude.{ℕ, ◌≡◌, ◌≢◌, ◌+◌, ◌<◌, ◌≤◌, ◌^◌, ◌==◌, ◌&&◌, Bool, true, false, List, [], ◌∷◌, length, map, Some, slice_get}, Int.bit_at}
 use Rattle.relax_edges.specs.declared.kinds.Dir.TheVariants as dirs
-use Rattle.relax_edges.specs.declared.{kinds.Sd.Sd, kinds.Sd.TheVariants.Same, kinds.Sd.TheVariants.Diff, kinds.Reach.Reach}
-use Rattle.relax_edges.specs.declared.{kinds.Reach.TheVariants.Internal, kinds.Reach.TheVariants.External, kinds.Com.Com, kinds.DepKind.DepKind}
-use Rattle.relax_edges.specs.declared.{kinds.Kind.Kind, kinds.Mark.TheVariants.Plain, edge.Edge.Edge}
+use Rattle.relax_edges.specs.{declared.kinds.Sd.Sd, declared.kinds.Sd.TheVariants.{Same, Diff}, declared.kinds.Reach.Reach}
+use Rattle.relax_edges.specs.{declared.kinds.Reach.TheVariants.{Internal, External}, declared.kinds.Com.Com, declared.kinds.DepKind.DepKind}
+use Rattle.relax_edges.specs.{declared.kinds.Kind.Kind, declared.kinds.Mark.TheVariants.Plain, declared.edge.Edge.Edge}
+use Rattle.relax_edges.specs.EdgeTable.{source_of, target_of, reach_of, sd_of, kind_of, source_mark, target_mark}
 use Rattle.relax_edges.specs.declared.kinds.Com.TheVariants as coms
 use Rattle.relax_edges.specs.declared.kinds.FenceKind.TheVariants as fences
 use Rattle.relax_edges.specs.declared.kinds.DepKind.TheVariants as deps
 use Rattle.relax_edges.specs.declared.kinds.Kind.TheVariants as edges
-use Rattle.relax_edges.specs.EdgeTable.{source_of, target_of, reach_of, sd_of, kind_of, source_mark, target_mark}
-use Rattle.micro_ops.specs.declared.operation.{Barrier.Barrier, Item.Item}
+use Rattle.micro_ops.specs.{declared.operation.Barrier.Barrier, declared.operation.Item.Item}
 use Rattle.micro_ops.specs.declared.operation.Barrier.TheVariants as kinds
 use Rattle.cycle_events.specs.Resolution.{edge_at, external_count, thread_of, slot_of, events_in, event_after}
-use Rattle.program_meaning.specs.declared.WriteAt.{WriteAt}
-use Rattle.program_meaning.specs.Accesses.{Access, Barred, Visit, at_name, barriers_after, is_read, reads_before}
-use Rattle.program_meaning.specs.{Executions.Execution, Coherence.coherence_place, Coherence.source_at}
-use Rattle.program_meaning.specs.Programs.{Program, accesses_in, items_in, visits_in}
+use Rattle.program_meaning.specs.{declared.WriteAt.WriteAt, Accesses.{Access, Barred, Visit, at_name, barriers_after, is_read, reads_before}}
+use Rattle.program_meaning.specs.{Executions.Execution, Coherence.{coherence_place, source_at}, Programs.{Program, accesses_in, items_in, visits_in}}
 
 -- an access of an execution, by its name
 pub record AccessAt : Type 0 where

@@ -1,7 +1,6 @@
 -- The fences that a text of a given length may name.
-use Rattle.std.specs.Prelude.{ℕ, ◌≡◌, ◌∷◌, [], Some, None, cond, codes}
-use Rattle.std.specs.Str.{bytes_eq}
-use Rattle.std.proofs.{Math.Bool.and-false}
+use Rattle.std.specs.{Prelude.{ℕ, ◌≡◌, ◌∷◌, [], Some, None, cond, codes}, Str.bytes_eq}
+use Rattle.std.proofs.Math.Bool.{and-false}
 use Rattle.list_laws.proofs.Elements.{option_or-none}
 use Rattle.relax_edges.specs.declared.kinds.FenceKind.TheVariants as fences
 use Rattle.relax_edges.specs.WordReading.{fence_named}

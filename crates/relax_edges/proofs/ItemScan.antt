@@ -1,13 +1,11 @@
 -- The items of a text are found in one pass over it, an item's bytes passed over once its first one is read.
-use Rattle.std.specs.Prelude.{ℕ, ◌≡◌, ◌+◌, ◌==◌, ◌||◌, Bool, true, false, cond, Option, None, Result, Ok, Err, List, [], ◌∷◌, ◌++◌, length}
-use Rattle.std.specs.List.{before_first}
-use Rattle.std.proofs.Common.{zero, suc, refl, arith, ap, sym, ◌∙◌, length-append}
-use Rattle.std.proofs.lemmas.{Bool.eqb-true, Bool.false≢true, List.append-nil, List.Elements.filter-append}
+use Rattle.std.specs.{Prelude.{ℕ, ◌≡◌, ◌+◌, ◌==◌, ◌||◌, Bool, true, false, cond, Option, None, Result, Ok, Err, List, [], ◌∷◌, ◌++◌, length}, List.before_first}
+use Rattle.std.proofs.{Common.{zero, suc, refl, arith, ap, sym, ◌∙◌, length-append}, lemmas.Bool.{eqb-true, false≢true}, lemmas.List.append-nil}
+use Rattle.std.proofs.lemmas.List.Elements.{filter-append}
 use Rattle.list_laws.proofs.Places.{before_first-no}
-use Rattle.relax_edges.specs.declared.{edge.Edge.Edge, relax_error.RelaxKind.RelaxKind}
-use Rattle.relax_edges.specs.RelaxText.{is_separator, is_bracket, ends_word, inside, has_closed_bracket, RelaxItem, words_from, last_byte, is_open}
-use Rattle.relax_edges.specs.RelaxText.{stands_apart, begins_item, items_after, items_of}
-use Rattle.relax_edges.specs.{RelaxPrefix.bytes_after, RelaxPrefix.ends_here, Relaxations.item_errors, RelaxKept.kept_item, RelaxKept.kept_items}
+use Rattle.relax_edges.specs.{declared.edge.Edge.Edge, declared.relax_error.RelaxKind.RelaxKind}
+use Rattle.relax_edges.specs.RelaxText.{is_separator, is_bracket, ends_word, inside, has_closed_bracket, RelaxItem, words_from, last_byte, is_open, stands_apart, begins_item, items_after, items_of}
+use Rattle.relax_edges.specs.{RelaxPrefix.{bytes_after, ends_here}, Relaxations.item_errors, RelaxKept.{kept_item, kept_items}}
 
 -- the item that begins with a byte, or none at a separator
 abbrev pub item_from : ℕ → ℕ → List ℕ → List RelaxItem

@@ -1,17 +1,15 @@
 -- Items are kept one after another.
 use Rattle.std.specs.Prelude.{ℕ, ◌≡◌, ◌<◌, ◌≤◌, ◌+◌, ◌-◌, Bool, true, false, Some, Result, Ok, Err, List, [], ◌∷◌, ◌++◌, length, map, take, drop}
 use Rattle.std.specs.List.{list_any}
-use Rattle.std.proofs.Common.{suc, refl, arith}
-use Rattle.std.proofs.{Math.ListN.drop_of_length-le, lemmas.List.drop-drop, lemmas.Bool.lt-ltb, lemmas.Bool.le-ltb}
+use Rattle.std.proofs.{Common.{suc, refl, arith}, Math.ListN.drop_of_length-le, lemmas.List.drop-drop, lemmas.Bool.{lt-ltb, le-ltb}}
 use Rattle.list_laws.specs.Errors.{unless}
 use Rattle.list_laws.proofs.Elements.{rest_from}
-use Rattle.relax_edges.specs.declared.{edge.Edge.Edge, relax_error.RelaxKind.RelaxKind, relax_error.RelaxKind.TheVariants.UnknownEdge}
-use Rattle.relax_edges.specs.declared.{relax_error.RelaxKind.TheVariants.RelaxTooLong, relax_error.RelaxKind.TheVariants.DoesNotJoin}
-use Rattle.relax_edges.specs.RelaxText.{is_separator, is_empty, words_from}
-use Rattle.relax_edges.specs.Relaxations.{word_edges, error_if, item_errors, too_many}
-use Rattle.relax_edges.specs.RelaxKept.{keep_all, at_most_64, kept_item, kept_items}
-use Rattle.relax_edges.specs.{RelaxSearch.paths_after, RelaxSearch.KeepsPaths, RelaxPrefix.first_word_len, RelaxPrefix.kept_prefix}
-use Rattle.relax_edges.proofs.{ItemScan.items_from, ItemScan.kept_one, Paths.paths_after-nil, Paths.at_most_64-ok}
+use Rattle.relax_edges.specs.{declared.edge.Edge.Edge, declared.relax_error.RelaxKind.RelaxKind}
+use Rattle.relax_edges.specs.declared.relax_error.RelaxKind.TheVariants.{UnknownEdge, RelaxTooLong, DoesNotJoin}
+use Rattle.relax_edges.specs.{RelaxText.{is_separator, is_empty, words_from}, Relaxations.{word_edges, error_if, item_errors, too_many}}
+use Rattle.relax_edges.specs.{RelaxKept.{keep_all, at_most_64, kept_item, kept_items}, RelaxSearch.{paths_after, KeepsPaths}}
+use Rattle.relax_edges.specs.RelaxPrefix.{first_word_len, kept_prefix}
+use Rattle.relax_edges.proofs.{ItemScan.{items_from, kept_one}, Paths.{paths_after-nil, at_most_64-ok}}
 
 -- words of which one names no edge are refused
 pub kept_words_unknown : (kept : List (List Edge)) (words : List (List ℕ)) → list_any (λ word. is_empty (word_edges word)) words ≡ true

@@ -1,10 +1,9 @@
 -- A relaxation is kept at its first place, while there is room.
-use Rattle.std.specs.Prelude.{◌≡◌, ◌<◌, ◌≤◌, true, false, Ok, Err, List, [], ◌∷◌, ◌++◌, length}
-use Rattle.std.specs.{List.list_any, Cmp.both_ways}
-use Rattle.std.proofs.Common.{◌↔◌, IsTrue, refl, arith, sym}
-use Rattle.std.proofs.lemmas.{Bool.lt-ltb, Bool.false≢true, List.length-append, List.Folds.list_any-append, Slice.Eq.slice_eq-Decides}
-use Rattle.relax_edges.specs.declared.{edge.Edge.Edge, relax_error.RelaxKind.TheVariants.TooManyRelaxes}
-use Rattle.relax_edges.specs.{Relaxations.is_same, Relaxations.are_distinct_paths, Relaxations.IsRelaxes, RelaxKept.keep_path, RelaxKept.at_most_64}
+use Rattle.std.specs.{Prelude.{◌≡◌, ◌<◌, ◌≤◌, true, false, Ok, Err, List, [], ◌∷◌, ◌++◌, length}, List.list_any, Cmp.both_ways}
+use Rattle.std.proofs.{Common.{◌↔◌, IsTrue, refl, arith, sym}, lemmas.Bool.{lt-ltb, false≢true}, lemmas.List.length-append, lemmas.List.Folds.list_any-append}
+use Rattle.std.proofs.lemmas.Slice.Eq.{slice_eq-Decides}
+use Rattle.relax_edges.specs.{declared.edge.Edge.Edge, declared.relax_error.RelaxKind.TheVariants.TooManyRelaxes}
+use Rattle.relax_edges.specs.{Relaxations.{is_same, are_distinct_paths, IsRelaxes}, RelaxKept.{keep_path, at_most_64}}
 use Rattle.relax_edges.proofs.{Paths.at_most_64-ok, Ranks.rank_decides}
 
 -- a relaxation that is in the list already leaves it as it is

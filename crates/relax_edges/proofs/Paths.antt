@@ -1,13 +1,10 @@
 -- How paths grow edge by edge, and how relaxations are kept one after another.
-use Rattle.std.specs.Prelude.{◌≡◌, ◌≤◌, true, false, nat_lt, Ok, Err, List, [], ◌∷◌, ◌++◌, length, filter, map}
-use Rattle.std.specs.List.{flat_map}
-use Rattle.std.proofs.Common.{refl, arith, ap, append_assoc}
-use Rattle.std.proofs.{lemmas.Bool.ltb-true, lemmas.Bool.lt-ltb, lemmas.Bool.false≢true, lemmas.List.map-append, lemmas.List.append-nil}
-use Rattle.std.proofs.{lemmas.List.length-append, lemmas.List.Elements.filter-append, Math.Bool.and-true}
+use Rattle.std.specs.{Prelude.{◌≡◌, ◌≤◌, true, false, nat_lt, Ok, Err, List, [], ◌∷◌, ◌++◌, length, filter, map}, List.flat_map}
+use Rattle.std.proofs.{Common.{refl, arith, ap, append_assoc}, lemmas.Bool.{ltb-true, lt-ltb, false≢true}, lemmas.List.{map-append, append-nil, length-append}}
+use Rattle.std.proofs.{lemmas.List.Elements.filter-append, Math.Bool.and-true}
 use Rattle.list_laws.proofs.Cases.{by_test}
-use Rattle.relax_edges.specs.declared.{edge.Edge.Edge, relax_error.RelaxKind.RelaxKind}
-use Rattle.relax_edges.specs.{EdgeTable.joins_to, JoinedEdges.is_joined, RelaxSearch.paths_after}
-use Rattle.relax_edges.specs.{Relaxations.path_choices, RelaxKept.keep_path, RelaxKept.keep_all, RelaxKept.at_most_64}
+use Rattle.relax_edges.specs.{declared.edge.Edge.Edge, declared.relax_error.RelaxKind.RelaxKind, EdgeTable.joins_to, JoinedEdges.is_joined}
+use Rattle.relax_edges.specs.{RelaxSearch.paths_after, Relaxations.path_choices, RelaxKept.{keep_path, keep_all, at_most_64}}
 
 -- to go on with an edge and then others is to go on after one edge more
 moved : (prefix : List Edge) (edge : Edge) (paths : List (List Edge))

@@ -1,12 +1,10 @@
 -- The item that a text begins with, by the places of brackets and of the ends of words.
 use Rattle.std.specs.Prelude.{ℕ, ◌≡◌, ◌<◌, ◌≤◌, ◌+◌, ◌==◌, ◌||◌, Bool, true, false, not, Some, None, Ok, Err, List, [], ◌∷◌, length, take}
 use Rattle.std.specs.List.{before_first, position_or_len}
-use Rattle.std.proofs.Common.{get_or, refl, arith, ap, sym}
-use Rattle.std.proofs.{lemmas.Bool.eqb-true, lemmas.Bool.false≢true, lemmas.List.length-take, lemmas.List.Folds.length-prefix_len}
-use Rattle.std.proofs.{Math.ListN.get_or-eq_default}
+use Rattle.std.proofs.{Common.{get_or, refl, arith, ap, sym}, lemmas.Bool.{eqb-true, false≢true}, lemmas.List.length-take, lemmas.List.Folds.length-prefix_len}
+use Rattle.std.proofs.Math.ListN.{get_or-eq_default}
 use Rattle.relax_edges.specs.RelaxText.{is_separator, is_bracket, ends_word, words_of, inside, has_closed_bracket, bracket_words, words_from}
-use Rattle.relax_edges.specs.declared.{edge.Edge.Edge, relax_error.RelaxKind.TheVariants.BadBracket}
-use Rattle.relax_edges.specs.{Relaxations.item_errors, RelaxKept.kept_item}
+use Rattle.relax_edges.specs.{declared.edge.Edge.Edge, declared.relax_error.RelaxKind.TheVariants.BadBracket, Relaxations.item_errors, RelaxKept.kept_item}
 use Rattle.relax_edges.specs.RelaxPrefix.{bytes_after, kept_prefix, first_words, first_word_len, ends_here, IsInside, IsFirstWord}
 use Rattle.relax_edges.proofs.RelaxWords.{words_of_run}
 use Rattle.list_laws.proofs.Places.{before_first-no}

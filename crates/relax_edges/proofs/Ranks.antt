@@ -1,16 +1,15 @@
 -- The rank orders edges as the byte order of lists orders their printed words.
-use Rattle.std.specs.Prelude.{◌≡◌, ◌<◌, ◌==◌, ◌↔◌, IsTrue, Bool, true, length, slice_get, Some}
-use Rattle.std.specs.{Ordering.nat_cmp, Ordering.ordering_index, Cmp.Lexicographic.slice_cmp, List.list_all}
-use Rattle.std.proofs.{Common.refl, Common.ap, Common.subst, lemmas.Bool.eqb-true, lemmas.Bool.eq-eqb, lemmas.List.Elements.All-get_or}
-use Rattle.std.proofs.{lemmas.List.Sums.AllPass-from_list_all, lemmas.Option.slice_get_within, lemmas.Option.get_or_from_slice_get}
-use Rattle.relax_edges.specs.declared.{kinds.Dir.Dir, kinds.Sd.Sd, kinds.Sd.TheVariants.Same, kinds.Sd.TheVariants.Diff, kinds.Reach.Reach}
-use Rattle.relax_edges.specs.declared.{kinds.Reach.TheVariants.Internal, kinds.Reach.TheVariants.External, kinds.Com.Com, kinds.FenceKind.FenceKind}
-use Rattle.relax_edges.specs.declared.{kinds.DepKind.DepKind, order.TheConstants.EDGES, marked.Dmb.Dmb, marked.Dmb.TheVariants.Sy}
-use Rattle.relax_edges.specs.declared.{marked.Dmb.TheVariants.Ld, marked.Dmb.TheVariants.St, marked.MarkableDep.MarkableDep}
-use Rattle.relax_edges.specs.declared.{marked.MarkableDep.TheVariants.Addr, marked.MarkableDep.TheVariants.Ctrl}
-use Rattle.relax_edges.specs.declared.{marked.MarkableDep.TheVariants.CtrlIsb, marked.MarkableKind.MarkableKind, marked.MarkedEnds.MarkedEnds}
-use Rattle.relax_edges.specs.declared.{marked.MarkedEnds.TheVariants.Both, marked.MarkedEnds.TheVariants.Source, marked.MarkedEnds.TheVariants.Target}
-use Rattle.relax_edges.specs.declared.{edge.Edge.Edge}
+use Rattle.std.specs.{Prelude.{◌≡◌, ◌<◌, ◌==◌, ◌↔◌, IsTrue, Bool, true, length, slice_get, Some}, Ordering.{nat_cmp, ordering_index}}
+use Rattle.std.specs.{Cmp.Lexicographic.slice_cmp, List.list_all}
+use Rattle.std.proofs.{Common.{refl, ap, subst}, lemmas.Bool.{eqb-true, eq-eqb}, lemmas.List.Elements.All-get_or, lemmas.List.Sums.AllPass-from_list_all}
+use Rattle.std.proofs.lemmas.Option.{slice_get_within, get_or_from_slice_get}
+use Rattle.relax_edges.specs.{declared.kinds.Dir.Dir, declared.kinds.Sd.Sd, declared.kinds.Sd.TheVariants.{Same, Diff}, declared.kinds.Reach.Reach}
+use Rattle.relax_edges.specs.{declared.kinds.Reach.TheVariants.{Internal, External}, declared.kinds.Com.Com, declared.kinds.FenceKind.FenceKind}
+use Rattle.relax_edges.specs.{declared.kinds.DepKind.DepKind, declared.order.TheConstants.EDGES, declared.marked.Dmb.Dmb}
+use Rattle.relax_edges.specs.{declared.marked.Dmb.TheVariants.{Sy, Ld, St}, declared.marked.MarkableDep.MarkableDep}
+use Rattle.relax_edges.specs.{declared.marked.MarkableDep.TheVariants.{Addr, Ctrl, CtrlIsb}, declared.marked.MarkableKind.MarkableKind}
+use Rattle.relax_edges.specs.{declared.marked.MarkedEnds.MarkedEnds, declared.marked.MarkedEnds.TheVariants.{Both, Source, Target}, declared.edge.Edge.Edge}
+use Rattle.relax_edges.specs.{Order.rank_of, WordParts.word_of, AllEdges.edges_in_order}
 use Rattle.relax_edges.specs.declared.kinds.Dir.TheVariants as dirs
 use Rattle.relax_edges.specs.declared.kinds.Com.TheVariants as coms
 use Rattle.relax_edges.specs.declared.kinds.Pick.TheVariants as picks
@@ -18,7 +17,6 @@ use Rattle.relax_edges.specs.declared.kinds.FenceKind.TheVariants as fences
 use Rattle.relax_edges.specs.declared.kinds.DepKind.TheVariants as deps
 use Rattle.relax_edges.specs.declared.marked.MarkableKind.TheVariants as markables
 use Rattle.relax_edges.specs.declared.edge.Edge.TheVariants as edges
-use Rattle.relax_edges.specs.{Order.rank_of, WordParts.word_of, AllEdges.edges_in_order}
 use Rattle.list_laws.proofs.Cases.{same_index}
 
 -- a fact about place and directions, from its eight cases

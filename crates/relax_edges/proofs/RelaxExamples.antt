@@ -3,12 +3,11 @@ use Rattle.std.specs.Prelude.{◌≡◌, Ok, Err, [], ◌∷◌, codes}
 use Rattle.std.proofs.Common.{refl}
 use Rattle.relax_edges.specs.declared.kinds.Dir.TheVariants as dirs
 use Rattle.relax_edges.specs.declared.kinds.Sd.TheVariants.{Diff}
+use Rattle.relax_edges.specs.{declared.relax_error.RelaxKind.TheVariants.{UnknownEdge, BadBracket, RelaxTooLong, DoesNotJoin}, NamedEdges.{fre, rfe, wse}}
+use Rattle.relax_edges.specs.{Order.rank_of, AllEdges.edges_in_order, Spelling.edge_of, RelaxText.items_of}
+use Rattle.relax_edges.specs.Relaxations.{word_edges, distinct, item_errors, relaxes_of}
 use Rattle.relax_edges.specs.declared.kinds.DepKind.TheVariants as deps
 use Rattle.relax_edges.specs.declared.edge.Edge.TheVariants as edges
-use Rattle.relax_edges.specs.declared.relax_error.RelaxKind.TheVariants.{UnknownEdge, BadBracket, RelaxTooLong, DoesNotJoin}
-use Rattle.relax_edges.specs.{NamedEdges.fre, NamedEdges.rfe, NamedEdges.wse, Order.rank_of, AllEdges.edges_in_order, Spelling.edge_of}
-use Rattle.relax_edges.specs.{RelaxText.items_of}
-use Rattle.relax_edges.specs.Relaxations.{word_edges, distinct, item_errors, relaxes_of}
 
 empty_list : relaxes_of (codes " ,, ") ≡ Ok []
 unfolding rank_of edges_in_order edge_of word_edges distinct item_errors items_of relaxes_of

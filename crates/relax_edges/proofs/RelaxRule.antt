@@ -1,14 +1,13 @@
 -- The relaxations of a text are those that are kept item by item.
-use Rattle.std.specs.Prelude.{ℕ, ◌≡◌, ◌||◌, Ok, List, [], ◌∷◌, ◌++◌, map}
-use Rattle.std.specs.List.{list_any, flat_map}
-use Rattle.std.proofs.Common.{refl, arith, ap, sym, ◌∙◌, append_assoc}
-use Rattle.std.proofs.lemmas.{List.append-nil, List.Folds.list_any-append, Grind.flat_map-append}
+use Rattle.std.specs.{Prelude.{ℕ, ◌≡◌, ◌||◌, Ok, List, [], ◌∷◌, ◌++◌, map}, List.{list_any, flat_map}}
+use Rattle.std.proofs.{Common.{refl, arith, ap, sym, ◌∙◌, append_assoc}, lemmas.List.append-nil, lemmas.List.Folds.list_any-append}
+use Rattle.std.proofs.lemmas.Grind.{flat_map-append}
 use Rattle.list_laws.specs.Errors.{with_before, unless}
-use Rattle.list_laws.proofs.{Errors.before_append}
-use Rattle.relax_edges.specs.declared.{edge.Edge.Edge, relax_error.RelaxKind.RelaxKind, relax_error.RelaxError.RelaxError}
-use Rattle.relax_edges.specs.{RelaxText.RelaxItem, RelaxText.items_of, RelaxKept.keep_path, RelaxKept.keep_all, RelaxKept.kept_item, RelaxKept.kept_items}
+use Rattle.list_laws.proofs.Errors.{before_append}
+use Rattle.relax_edges.specs.{declared.edge.Edge.Edge, declared.relax_error.RelaxKind.RelaxKind, declared.relax_error.RelaxError.RelaxError}
+use Rattle.relax_edges.specs.{RelaxText.{RelaxItem, items_of}, RelaxKept.{keep_path, keep_all, kept_item, kept_items}}
 use Rattle.relax_edges.specs.Relaxations.{is_same, if_new, distinct, item_paths, relaxes_in, item_errors, too_many, errors_of, relaxes_of}
-use Rattle.relax_edges.proofs.{Search.flat_map-end, Kept.same_decides, ItemScan.kept_one, ItemScan.refused_one}
+use Rattle.relax_edges.proofs.{Search.flat_map-end, Kept.same_decides, ItemScan.{kept_one, refused_one}}
 
 -- a path is among some paths exactly where it is among those of them that are new
 any_new : (path : List Edge) (before paths : List (List Edge))

@@ -1,10 +1,8 @@
 -- The first word of a text without brackets, and a text that is one word.
 use Rattle.std.specs.Prelude.{ℕ, ◌≡◌, ◌<◌, Bool, true, false, not, List, [], ◌∷◌, length, filter, drop}
-use Rattle.std.specs.List.{before_first, position, position_or_len, slice_split, onto_first, list_all}
-use Rattle.std.specs.Option.{unwrap_or}
-use Rattle.std.proofs.lemmas.{Bool.ltb-false, List.Sums.prefix_len-le-length}
-use Rattle.std.proofs.Common.{nat_lt, refl, arith, ap, sym}
-use Rattle.list_laws.proofs.{Cases.by_test, Places.before_first-no, Places.position_or_len-no}
+use Rattle.std.specs.{List.{before_first, position, position_or_len, slice_split, onto_first, list_all}, Option.unwrap_or}
+use Rattle.std.proofs.{lemmas.Bool.ltb-false, lemmas.List.Sums.prefix_len-le-length, Common.{nat_lt, refl, arith, ap, sym}}
+use Rattle.list_laws.proofs.{Cases.by_test, Places.{before_first-no, position_or_len-no}}
 use Rattle.relax_edges.specs.RelaxText.{is_separator, ends_word, is_empty, words_of}
 use Rattle.relax_edges.proofs.ItemScan.{before_first-yes}
 

@@ -1,13 +1,9 @@
 -- How paths are kept, list by list and edge by edge.
-use Rattle.std.specs.Prelude.{ℕ, ◌≡◌, ◌<◌, ◌≤◌, ◌+◌, ◌-◌, ◌||◌, Bool, true, false, not, Ok, Err, List, [], ◌∷◌, ◌++◌, length, map, take, drop}
-use Rattle.std.specs.List.{flat_map}
-use Rattle.std.proofs.Common.{suc, get_or, refl, arith, ap, subst, sym, ◌∙◌}
-use Rattle.std.proofs.{Math.Seq.drop-cons, Math.Seq.take-suc, Math.Seq.take-length, lemmas.Grind.flat_map-append, lemmas.List.append-nil}
-use Rattle.std.proofs.{lemmas.List.take-append-drop}
-use Rattle.relax_edges.specs.declared.{edge.Edge.Edge, relax_error.RelaxKind.RelaxKind}
-use Rattle.relax_edges.specs.{EdgeTable.joins_to, RelaxText.is_empty, JoinedEdges.is_joined, RelaxSearch.paths_after, RelaxSearch.paths_by}
-use Rattle.relax_edges.specs.{RelaxSearch.KeepsPaths}
-use Rattle.relax_edges.specs.{Relaxations.word_edges, RelaxKept.keep_path, RelaxKept.keep_all, RelaxKept.at_most_64}
+use Rattle.std.specs.{Prelude.{ℕ, ◌≡◌, ◌<◌, ◌≤◌, ◌+◌, ◌-◌, ◌||◌, Bool, true, false, not, Ok, Err, List, [], ◌∷◌, ◌++◌, length, map, take, drop}, List.flat_map}
+use Rattle.std.proofs.{Common.{suc, get_or, refl, arith, ap, subst, sym, ◌∙◌}, Math.Seq.{drop-cons, take-suc, take-length}, lemmas.Grind.flat_map-append}
+use Rattle.std.proofs.lemmas.List.{append-nil, take-append-drop}
+use Rattle.relax_edges.specs.{declared.edge.Edge.Edge, declared.relax_error.RelaxKind.RelaxKind, EdgeTable.joins_to, RelaxText.is_empty, JoinedEdges.is_joined}
+use Rattle.relax_edges.specs.{RelaxSearch.{paths_after, paths_by, KeepsPaths}, Relaxations.word_edges, RelaxKept.{keep_path, keep_all, at_most_64}}
 use Rattle.relax_edges.proofs.Paths.{is_joined-end, paths_after-cons, paths_after-end, paths_after-none, keep_all-append, at_most_64-ok, at_most_64-is, at_most_64-err}
 
 -- the paths that begin with some edges, by the edges of the first list

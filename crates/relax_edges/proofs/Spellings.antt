@@ -1,17 +1,14 @@
 -- A text is read as the edge that it spells, and as none where it spells none.
 use Rattle.std.specs.Prelude.{ℕ, ◌≡◌, ◌<◌, ◌==◌, ◌++◌, ◌∷◌, [], Bool, true, false, not, List, length, Option, Some, None, reverse}
-use Rattle.std.specs.{List.list_all, List.list_any, List.find, Option.option_map, Str.bytes_eq}
-use Rattle.std.proofs.Common.{refl, arith, ap, subst, sym, ◌∙◌}
-use Rattle.std.proofs.lemmas.{Bool.eqb-true, Bool.false≢true, Grind.reverse_onto, List.reverse-reverse, List.reverse-append}
-use Rattle.std.proofs.lemmas.{Slice.Eq.bytes_eq-Decides}
+use Rattle.std.specs.{List.{list_all, list_any, find}, Option.option_map, Str.bytes_eq}
+use Rattle.std.proofs.{Common.{refl, arith, ap, subst, sym, ◌∙◌}, lemmas.Bool.{eqb-true, false≢true}, lemmas.Grind.reverse_onto}
+use Rattle.std.proofs.{lemmas.List.{reverse-reverse, reverse-append}, lemmas.Slice.Eq.bytes_eq-Decides}
 use Rattle.list_laws.proofs.Cases.{by_test}
-use Rattle.relax_edges.specs.declared.{kinds.Kind.Kind, kinds.Mark.Mark, edge.Edge.Edge}
-use Rattle.relax_edges.specs.EdgeTable.{kind_of, unmarked, marked_of, marked_edge}
-use Rattle.relax_edges.specs.{Order.rank_of, WordParts.word_of, WordParts.mark_word, AllEdges.edges_in_order}
+use Rattle.relax_edges.specs.{declared.kinds.Kind.Kind, declared.kinds.Mark.Mark, declared.edge.Edge.Edge}
+use Rattle.relax_edges.specs.{EdgeTable.{kind_of, unmarked, marked_of, marked_edge}, Order.rank_of, WordParts.{word_of, mark_word}, AllEdges.edges_in_order}
 use Rattle.relax_edges.specs.Spelling.{kind_spellings, spellings_of, is_spelling, edge_of}
 use Rattle.relax_edges.specs.WordReading.{marks_read, mark_named, communication_of, two_sided_of, one_sided_of, kind_read, edge_spelled, spelled_by, read_by_marks, read_back, read_of}
-use Rattle.relax_edges.proofs.Ranks.{each_edge, rank_injective}
-use Rattle.relax_edges.proofs.KindSpellings.{find_passes, named_is, each_kind, is_kind_spelling, kind_sound}
+use Rattle.relax_edges.proofs.{Ranks.{each_edge, rank_injective}, KindSpellings.{find_passes, named_is, each_kind, is_kind_spelling, kind_sound}}
 
 -- where `find` finds none, all fail the test
 all_fail : {A : Type 0} (test : A → Bool) (xs : List A) → find test xs ≡ None → list_all (λ x. not (test x)) xs ≡ true

@@ -1,13 +1,11 @@
 -- A word names the edges that its last two bytes choose.
 use Rattle.std.specs.Prelude.{ℕ, ◌≡◌, ◌<◌, ◌≤◌, ◌-◌, ◌==◌, ◌&&◌, true, cond, take, Option, Some, None, List, [], ◌∷◌, ◌++◌, length, map, codes}
-use Rattle.std.specs.{List.flat_map, List.filter_map, List.cons_option, Option.option_to_list}
-use Rattle.std.proofs.Common.{suc, get_or, refl, arith, ap, sym, ◌∙◌}
-use Rattle.std.proofs.{lemmas.Bool.le-ltb, Math.Seq.drop-cons, Math.ListN.drop_of_length-le, lemmas.List.Elements.filter_map-append}
-use Rattle.std.proofs.{Math.Bool.and-false, Math.Bool.and-true}
+use Rattle.std.specs.{List.{flat_map, filter_map, cons_option}, Option.option_to_list}
+use Rattle.std.proofs.{Common.{suc, get_or, refl, arith, ap, sym, ◌∙◌}, lemmas.Bool.le-ltb, Math.Seq.drop-cons, Math.ListN.drop_of_length-le}
+use Rattle.std.proofs.{lemmas.List.Elements.filter_map-append, Math.Bool.{and-false, and-true}}
 use Rattle.std.proofs.lemmas.List.{take-append-drop, map-append, length-append, append-nil}
-use Rattle.relax_edges.specs.declared.edge.Edge.{Edge}
-use Rattle.relax_edges.specs.{Spelling.edge_of, Relaxations.byte_choices, Relaxations.expansions, Relaxations.word_edges, Stars.star_choices}
-use Rattle.relax_edges.specs.{Stars.edges_by_last, Stars.edges_by_end}
+use Rattle.relax_edges.specs.{declared.edge.Edge.Edge, Spelling.edge_of, Relaxations.{byte_choices, expansions, word_edges}}
+use Rattle.relax_edges.specs.Stars.{star_choices, edges_by_last, edges_by_end}
 use Rattle.relax_edges.proofs.Spellings.{edge_of_short}
 
 -- the words with a given beginning, by their last two bytes

@@ -1,10 +1,8 @@
 -- A printed word is ASCII, of 3 to 14 bytes.
-use Rattle.std.specs.Prelude.{ℕ, ◌≡◌, ◌≤◌, ◌<◌, Bool, true, List, length}
-use Rattle.std.specs.{List.All, List.list_all, Str.IsAscii}
-use Rattle.std.proofs.Common.{refl, get_or, nat_le, nat_lt}
-use Rattle.std.proofs.lemmas.{Bool.leb-true, Bool.ltb-true, List.Sums.AllPass-from_list_all, Str.Ascii.IsAscii-from_all}
-use Rattle.relax_edges.specs.declared.edge.Edge.{Edge}
-use Rattle.relax_edges.specs.{WordParts.word_of, AllEdges.edges_in_order}
+use Rattle.std.specs.{Prelude.{ℕ, ◌≡◌, ◌≤◌, ◌<◌, Bool, true, List, length}, List.{All, list_all}, Str.IsAscii}
+use Rattle.std.proofs.{Common.{refl, get_or, nat_le, nat_lt}, lemmas.Bool.{leb-true, ltb-true}, lemmas.List.Sums.AllPass-from_list_all}
+use Rattle.std.proofs.lemmas.Str.Ascii.{IsAscii-from_all}
+use Rattle.relax_edges.specs.{declared.edge.Edge.Edge, WordParts.word_of, AllEdges.edges_in_order}
 use Rattle.relax_edges.proofs.Ranks.{each_edge}
 
 has_three : Edge → Bool

@@ -1,9 +1,7 @@
 -- The word of each edge in a table of the words of all edges, in order.
 use Rattle.std.specs.Prelude.{ℕ, ◌≡◌, ◌<◌, List, [], length, map}
-use Rattle.std.proofs.{Common.get_or, Common.arith, lemmas.List.length-map, lemmas.List.get_or-map, lemmas.Option.slice_get_within}
-use Rattle.std.proofs.{lemmas.Option.get_or_from_slice_get}
-use Rattle.relax_edges.specs.declared.edge.Edge.{Edge}
-use Rattle.relax_edges.specs.{Order.rank_of, WordParts.word_of, AllEdges.edges_in_order}
+use Rattle.std.proofs.{Common.{get_or, arith}, lemmas.List.{length-map, get_or-map}, lemmas.Option.{slice_get_within, get_or_from_slice_get}}
+use Rattle.relax_edges.specs.{declared.edge.Edge.Edge, Order.rank_of, WordParts.word_of, AllEdges.edges_in_order}
 use Rattle.relax_edges.proofs.Ranks.{placed}
 
 edge_within : (edge : Edge) → rank_of edge < length edges_in_order

@@ -1,14 +1,12 @@
 -- All edges, in the byte order of their printed words.
 -- Source: the diy part of the herdtools manual, "Candidate relaxations"; the order is own.
-use Rattle.std.specs.Prelude.{List, [], ◌∷◌, ◌++◌}
-use Rattle.std.specs.List.{flat_map}
-use Rattle.relax_edges.specs.declared.{kinds.Dir.Dir, kinds.Sd.Sd, kinds.Sd.TheVariants.Same, kinds.Sd.TheVariants.Diff}
-use Rattle.relax_edges.specs.declared.{kinds.Reach.TheVariants.Internal, kinds.Reach.TheVariants.External, kinds.Com.Com, kinds.Pick.Pick}
-use Rattle.relax_edges.specs.declared.{kinds.FenceKind.FenceKind, marked.Dmb.Dmb, marked.Dmb.TheVariants.Sy, marked.Dmb.TheVariants.Ld}
-use Rattle.relax_edges.specs.declared.{marked.Dmb.TheVariants.St, marked.MarkableDep.MarkableDep, marked.MarkableDep.TheVariants.Addr}
-use Rattle.relax_edges.specs.declared.{marked.MarkableDep.TheVariants.Ctrl, marked.MarkableDep.TheVariants.CtrlIsb, marked.MarkableKind.MarkableKind}
-use Rattle.relax_edges.specs.declared.{marked.MarkedEnds.TheVariants.Both, marked.MarkedEnds.TheVariants.Source, marked.MarkedEnds.TheVariants.Target}
-use Rattle.relax_edges.specs.declared.{edge.Edge.Edge}
+use Rattle.std.specs.{Prelude.{List, [], ◌∷◌, ◌++◌}, List.flat_map}
+use Rattle.relax_edges.specs.{declared.kinds.Dir.Dir, declared.kinds.Sd.Sd, declared.kinds.Sd.TheVariants.{Same, Diff}}
+use Rattle.relax_edges.specs.{declared.kinds.Reach.TheVariants.{Internal, External}, declared.kinds.Com.Com, declared.kinds.Pick.Pick}
+use Rattle.relax_edges.specs.{declared.kinds.FenceKind.FenceKind, declared.marked.Dmb.Dmb, declared.marked.Dmb.TheVariants.{Sy, Ld, St}}
+use Rattle.relax_edges.specs.{declared.marked.MarkableDep.MarkableDep, declared.marked.MarkableDep.TheVariants.{Addr, Ctrl, CtrlIsb}}
+use Rattle.relax_edges.specs.{declared.marked.MarkableKind.MarkableKind, declared.marked.MarkedEnds.TheVariants.{Both, Source, Target}, declared.edge.Edge.Edge}
+use Rattle.relax_edges.specs.{Marks.markable_kind, EdgeTable.unmarked}
 use Rattle.relax_edges.specs.declared.kinds.Dir.TheVariants as dirs
 use Rattle.relax_edges.specs.declared.kinds.Com.TheVariants as coms
 use Rattle.relax_edges.specs.declared.kinds.Pick.TheVariants as picks
@@ -16,7 +14,6 @@ use Rattle.relax_edges.specs.declared.kinds.FenceKind.TheVariants as fences
 use Rattle.relax_edges.specs.declared.kinds.DepKind.TheVariants as deps
 use Rattle.relax_edges.specs.declared.marked.MarkableKind.TheVariants as markables
 use Rattle.relax_edges.specs.declared.edge.Edge.TheVariants as edges
-use Rattle.relax_edges.specs.{Marks.markable_kind, EdgeTable.unmarked}
 
 -- an edge without marks, and the edges of its kind with them, in the order of the letters
 abbrev pub with_marks : MarkableKind → List Edge

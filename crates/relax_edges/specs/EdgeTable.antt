@@ -1,19 +1,18 @@
 -- The edge table: what each edge joins, how far it reaches, and on which architectures it is.
 -- Source: the diy part of the herdtools manual, "Candidate relaxations".
-use Rattle.std.specs.Prelude.{Bool, true, false, ◌&&◌, cond, Option, Some, None}
-use Rattle.std.specs.Option.{option_map}
-use Rattle.relax_edges.specs.declared.{kinds.Dir.Dir, kinds.Sd.Sd, kinds.Sd.TheVariants.Same, kinds.Sd.TheVariants.Diff, kinds.Reach.Reach}
-use Rattle.relax_edges.specs.declared.{kinds.Reach.TheVariants.Internal, kinds.Reach.TheVariants.External, kinds.ArchName.ArchName, kinds.Com.Com}
-use Rattle.relax_edges.specs.declared.{kinds.FenceKind.FenceKind, kinds.DepKind.DepKind, kinds.Kind.Kind, kinds.Mark.Mark}
-use Rattle.relax_edges.specs.declared.{kinds.Mark.TheVariants.Plain, kinds.Mark.TheVariants.Acquire, kinds.Mark.TheVariants.Release}
-use Rattle.relax_edges.specs.declared.{marked.MarkableKind.MarkableKind, marked.MarkedEnds.MarkedEnds, marked.MarkedEdge.MarkedEdge, edge.Edge.Edge}
-use Rattle.relax_edges.specs.declared.kinds.Dir.TheVariants as dirs
+use Rattle.std.specs.{Prelude.{Bool, true, false, ◌&&◌, cond, Option, Some, None}, Option.option_map}
+use Rattle.relax_edges.specs.{declared.kinds.Dir.Dir, declared.kinds.Sd.Sd, declared.kinds.Sd.TheVariants.{Same, Diff}, declared.kinds.Reach.Reach}
+use Rattle.relax_edges.specs.{declared.kinds.Reach.TheVariants.{Internal, External}, declared.kinds.ArchName.ArchName, declared.kinds.Com.Com}
+use Rattle.relax_edges.specs.{declared.kinds.FenceKind.FenceKind, declared.kinds.DepKind.DepKind, declared.kinds.Kind.Kind, declared.kinds.Mark.Mark}
+use Rattle.relax_edges.specs.{declared.kinds.Mark.TheVariants.{Plain, Acquire, Release}, declared.marked.MarkableKind.MarkableKind}
+use Rattle.relax_edges.specs.{declared.marked.MarkedEnds.MarkedEnds, declared.marked.MarkedEdge.MarkedEdge, declared.edge.Edge.Edge}
 use Rattle.relax_edges.specs.declared.kinds.ArchName.TheVariants.{X86, PPC, AArch64, RISCV, ARM}
+use Rattle.relax_edges.specs.Marks.{markable_kind, as_markable, marks_source, marks_target, mark_of, ends_marked}
+use Rattle.relax_edges.specs.declared.kinds.Dir.TheVariants as dirs
 use Rattle.relax_edges.specs.declared.kinds.Com.TheVariants as coms
 use Rattle.relax_edges.specs.declared.kinds.FenceKind.TheVariants as fences
 use Rattle.relax_edges.specs.declared.kinds.DepKind.TheVariants as deps
 use Rattle.relax_edges.specs.declared.kinds.Kind.TheVariants as kinds
-use Rattle.relax_edges.specs.Marks.{markable_kind, as_markable, marks_source, marks_target, mark_of, ends_marked}
 use Rattle.relax_edges.specs.declared.edge.Edge.TheVariants as edges
 
 -- an edge without its marks

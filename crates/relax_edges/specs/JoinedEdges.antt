@@ -1,8 +1,7 @@
 -- Lists of edges of which each joins the next.
 -- Source: the diy part of the herdtools manual, "Candidate relaxations".
 use Rattle.std.specs.Prelude.{Bool, true, ◌&&◌, List, [], ◌∷◌}
-use Rattle.relax_edges.specs.declared.edge.Edge.{Edge}
-use Rattle.relax_edges.specs.EdgeTable.{joins_to}
+use Rattle.relax_edges.specs.{declared.edge.Edge.Edge, EdgeTable.joins_to}
 
 -- an edge joins the first of a list, if there is one
 abbrev pub joins_first : Edge → List Edge → Bool

@@ -1,12 +1,11 @@
 -- The edges that may have marks, and which of their accesses have one.
 -- Source: the diy part of the herdtools manual (annotated relaxations of AArch64).
 use Rattle.std.specs.Prelude.{Bool, true, false, Option, Some, None}
-use Rattle.relax_edges.specs.declared.{kinds.Dir.Dir, kinds.Sd.Sd, kinds.FenceKind.FenceKind, kinds.DepKind.DepKind, kinds.Kind.Kind, kinds.Mark.Mark}
-use Rattle.relax_edges.specs.declared.{kinds.Mark.TheVariants.Plain, kinds.Mark.TheVariants.Acquire, kinds.Mark.TheVariants.Release, marked.Dmb.Dmb}
-use Rattle.relax_edges.specs.declared.{marked.Dmb.TheVariants.Sy, marked.Dmb.TheVariants.Ld, marked.Dmb.TheVariants.St}
-use Rattle.relax_edges.specs.declared.{marked.MarkableDep.MarkableDep, marked.MarkableDep.TheVariants.Addr, marked.MarkableDep.TheVariants.Ctrl}
-use Rattle.relax_edges.specs.declared.{marked.MarkableDep.TheVariants.CtrlIsb, marked.MarkableKind.MarkableKind, marked.MarkedEnds.MarkedEnds}
-use Rattle.relax_edges.specs.declared.{marked.MarkedEnds.TheVariants.Both, marked.MarkedEnds.TheVariants.Source, marked.MarkedEnds.TheVariants.Target}
+use Rattle.relax_edges.specs.{declared.kinds.Dir.Dir, declared.kinds.Sd.Sd, declared.kinds.FenceKind.FenceKind, declared.kinds.DepKind.DepKind}
+use Rattle.relax_edges.specs.{declared.kinds.Kind.Kind, declared.kinds.Mark.Mark, declared.kinds.Mark.TheVariants.{Plain, Acquire, Release}}
+use Rattle.relax_edges.specs.{declared.marked.Dmb.Dmb, declared.marked.Dmb.TheVariants.{Sy, Ld, St}, declared.marked.MarkableDep.MarkableDep}
+use Rattle.relax_edges.specs.{declared.marked.MarkableDep.TheVariants.{Addr, Ctrl, CtrlIsb}, declared.marked.MarkableKind.MarkableKind}
+use Rattle.relax_edges.specs.{declared.marked.MarkedEnds.MarkedEnds, declared.marked.MarkedEnds.TheVariants.{Both, Source, Target}}
 use Rattle.relax_edges.specs.declared.kinds.Dir.TheVariants as dirs
 use Rattle.relax_edges.specs.declared.kinds.FenceKind.TheVariants as fences
 use Rattle.relax_edges.specs.declared.kinds.DepKind.TheVariants as deps

@@ -1,8 +1,7 @@
 -- The edges of which most tests are made, by their names.
 -- Source: the names of edges in the diy part of the herdtools manual.
-use Rattle.relax_edges.specs.declared.{kinds.Dir.Dir, kinds.Sd.TheVariants.Diff, kinds.Reach.TheVariants.Internal, kinds.Reach.TheVariants.External}
-use Rattle.relax_edges.specs.declared.{kinds.Com.TheVariants.Rf, kinds.Com.TheVariants.Fr, kinds.Com.TheVariants.Ws, edge.Edge.Edge}
-use Rattle.relax_edges.specs.declared.{edge.Edge.TheVariants.Com, edge.Edge.TheVariants.Po}
+use Rattle.relax_edges.specs.{declared.kinds.Dir.Dir, declared.kinds.Sd.TheVariants.Diff, declared.kinds.Reach.TheVariants.{Internal, External}}
+use Rattle.relax_edges.specs.{declared.kinds.Com.TheVariants.{Rf, Fr, Ws}, declared.edge.Edge.Edge, declared.edge.Edge.TheVariants.{Com, Po}}
 
 -- program order to another location
 abbrev pub pod : Dir → Dir → Edge

@@ -1,18 +1,17 @@
 -- The order of edges is the byte order of their printed words. The rank of an edge is its place in that order, from 0.
 -- Source: own.
 use Rattle.std.specs.Prelude.{ℕ, ◌+◌, ◌*◌}
-use Rattle.relax_edges.specs.declared.{kinds.Dir.Dir, kinds.Sd.Sd, kinds.Sd.TheVariants.Same, kinds.Sd.TheVariants.Diff, kinds.Reach.Reach}
-use Rattle.relax_edges.specs.declared.{kinds.Reach.TheVariants.Internal, kinds.Reach.TheVariants.External, kinds.Com.Com, kinds.Pick.Pick}
-use Rattle.relax_edges.specs.declared.{kinds.FenceKind.FenceKind, kinds.DepKind.DepKind, kinds.Kind.Kind, marked.MarkedEnds.MarkedEnds}
-use Rattle.relax_edges.specs.declared.{marked.MarkedEnds.TheVariants.Both, marked.MarkedEnds.TheVariants.Source, marked.MarkedEnds.TheVariants.Target}
-use Rattle.relax_edges.specs.declared.{edge.Edge.Edge}
+use Rattle.relax_edges.specs.{declared.kinds.Dir.Dir, declared.kinds.Sd.Sd, declared.kinds.Sd.TheVariants.{Same, Diff}, declared.kinds.Reach.Reach}
+use Rattle.relax_edges.specs.{declared.kinds.Reach.TheVariants.{Internal, External}, declared.kinds.Com.Com, declared.kinds.Pick.Pick}
+use Rattle.relax_edges.specs.{declared.kinds.FenceKind.FenceKind, declared.kinds.DepKind.DepKind, declared.kinds.Kind.Kind}
+use Rattle.relax_edges.specs.{declared.marked.MarkedEnds.MarkedEnds, declared.marked.MarkedEnds.TheVariants.{Both, Source, Target}, declared.edge.Edge.Edge}
+use Rattle.relax_edges.specs.Marks.{markable_kind}
 use Rattle.relax_edges.specs.declared.kinds.Dir.TheVariants as dirs
 use Rattle.relax_edges.specs.declared.kinds.Com.TheVariants as coms
 use Rattle.relax_edges.specs.declared.kinds.Pick.TheVariants as picks
 use Rattle.relax_edges.specs.declared.kinds.FenceKind.TheVariants as fences
 use Rattle.relax_edges.specs.declared.kinds.DepKind.TheVariants as deps
 use Rattle.relax_edges.specs.declared.kinds.Kind.TheVariants as kinds
-use Rattle.relax_edges.specs.Marks.{markable_kind}
 use Rattle.relax_edges.specs.declared.edge.Edge.TheVariants as edges
 
 -- the rank of a direction: `R` before `W`

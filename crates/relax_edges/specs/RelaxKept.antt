@@ -1,9 +1,8 @@
 -- How relaxations are kept item by item, for the clauses of private functions: `Relaxations` says which relaxations a text has.
-use Rattle.std.specs.Prelude.{ℕ, cond, Option, Result, Ok, Err, List, [], ◌∷◌, ◌++◌}
-use Rattle.std.specs.List.{list_any}
+use Rattle.std.specs.{Prelude.{ℕ, cond, Option, Result, Ok, Err, List, [], ◌∷◌, ◌++◌}, List.list_any}
 use Rattle.list_laws.specs.Errors.{unless}
-use Rattle.relax_edges.specs.declared.{edge.Edge.Edge, relax_error.RelaxKind.RelaxKind, relax_error.RelaxError.RelaxError}
-use Rattle.relax_edges.specs.{RelaxText.RelaxItem, Relaxations.is_same, Relaxations.item_paths, Relaxations.item_errors, Relaxations.too_many}
+use Rattle.relax_edges.specs.{declared.edge.Edge.Edge, declared.relax_error.RelaxKind.RelaxKind, declared.relax_error.RelaxError.RelaxError}
+use Rattle.relax_edges.specs.{RelaxText.RelaxItem, Relaxations.{is_same, item_paths, item_errors, too_many}}
 
 -- the list with one relaxation more at its end, unless the list has it already
 abbrev pub keep_path : List (List Edge) → List Edge → List (List Edge)

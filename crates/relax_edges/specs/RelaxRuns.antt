@@ -1,8 +1,7 @@
 -- What ends a run of bytes in the text of relaxations.
 use Rattle.std.specs.Prelude.{ℕ, Bool}
-use Rattle.relax_edges.specs.declared.relax_runs.RunEnd.{RunEnd}
+use Rattle.relax_edges.specs.{declared.relax_runs.RunEnd.RunEnd, RelaxText.{is_separator, is_bracket, ends_word}}
 use Rattle.relax_edges.specs.declared.relax_runs.RunEnd.TheVariants as ends
-use Rattle.relax_edges.specs.RelaxText.{is_separator, is_bracket, ends_word}
 
 -- whether a byte ends a run
 abbrev pub end_test : RunEnd → ℕ → Bool

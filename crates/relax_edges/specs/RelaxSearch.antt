@@ -1,8 +1,6 @@
 -- The paths that begin with some edges and go on with one of each of some lists, and how they are kept.
-use Rattle.std.specs.Prelude.{◌≡◌, Bool, not, Result, Ok, Err, MatchResult, List, [], ◌∷◌, ◌++◌, filter, map}
-use Rattle.std.specs.List.{flat_map}
-use Rattle.relax_edges.specs.declared.edge.Edge.{Edge}
-use Rattle.relax_edges.specs.{RelaxText.is_empty, JoinedEdges.is_joined, Relaxations.path_choices, RelaxKept.keep_all, RelaxKept.at_most_64}
+use Rattle.std.specs.{Prelude.{◌≡◌, Bool, not, Result, Ok, Err, MatchResult, List, [], ◌∷◌, ◌++◌, filter, map}, List.flat_map}
+use Rattle.relax_edges.specs.{declared.edge.Edge.Edge, RelaxText.is_empty, JoinedEdges.is_joined, Relaxations.path_choices, RelaxKept.{keep_all, at_most_64}}
 
 -- the paths that begin with some edges and go on with one edge of each list
 unfoldable pub paths_after : List Edge → List (List Edge) → List (List Edge)

@@ -1,12 +1,11 @@
 -- The relaxations of a text: the edges that its words name, the choices that join, each once, and the errors.
 -- Source: the diy part of the herdtools manual, option `-relax`.
-use Rattle.std.specs.Prelude.{ℕ, ◌≡◌, ◌<◌, ◌≤◌, ◌==◌, ◌&&◌, Bool, true, not, cond, nat_lt, Option, Some, None, Result, List, [], ◌∷◌, ◌++◌, length, filter}
-use Rattle.std.specs.Prelude.{map, codes}
-use Rattle.std.specs.{List.flat_map, List.filter_map, List.list_any, Cmp.Lexicographic.pointwise}
+use Rattle.std.specs.Prelude.{ℕ, ◌≡◌, ◌<◌, ◌≤◌, ◌==◌, ◌&&◌, Bool, true, not, cond, nat_lt, Option, Some, None, Result, List, [], ◌∷◌, ◌++◌, length, filter, map, codes}
+use Rattle.std.specs.{List.{flat_map, filter_map, list_any}, Cmp.Lexicographic.pointwise}
 use Rattle.list_laws.specs.Errors.{with_before, unless}
-use Rattle.relax_edges.specs.declared.{edge.Edge.Edge, relax_error.RelaxKind.RelaxKind, relax_error.RelaxError.RelaxError}
+use Rattle.relax_edges.specs.{declared.edge.Edge.Edge, declared.relax_error.RelaxKind.RelaxKind, declared.relax_error.RelaxError.RelaxError}
 use Rattle.relax_edges.specs.declared.relax_error.RelaxKind.TheVariants.{UnknownEdge, BadBracket, RelaxTooLong, DoesNotJoin, TooManyRelaxes}
-use Rattle.relax_edges.specs.{JoinedEdges.is_joined, Order.rank_of, Spelling.edge_of, RelaxText.RelaxItem, RelaxText.is_empty, RelaxText.items_of}
+use Rattle.relax_edges.specs.{JoinedEdges.is_joined, Order.rank_of, Spelling.edge_of, RelaxText.{RelaxItem, is_empty, items_of}}
 
 -- the bytes that a byte of a word means: a `*` among the last two means `R` and `W`, any other byte itself
 abbrev pub byte_choices : ℕ → ℕ → List ℕ

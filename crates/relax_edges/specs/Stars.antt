@@ -1,8 +1,6 @@
 -- The edges that a word names, by its last two bytes.
-use Rattle.std.specs.Prelude.{ℕ, ◌==◌, cond, List, [], ◌∷◌, ◌++◌, codes}
-use Rattle.std.specs.List.{flat_map, filter_map}
-use Rattle.relax_edges.specs.declared.edge.Edge.{Edge}
-use Rattle.relax_edges.specs.Spelling.{edge_of}
+use Rattle.std.specs.{Prelude.{ℕ, ◌==◌, cond, List, [], ◌∷◌, ◌++◌, codes}, List.{flat_map, filter_map}}
+use Rattle.relax_edges.specs.{declared.edge.Edge.Edge, Spelling.edge_of}
 
 -- a star means `R` and `W`, any other byte itself
 abbrev pub star_choices : ℕ → List ℕ

@@ -1,18 +1,17 @@
 -- The printed word of each edge, as bytes.
 -- Source: the diy part of the herdtools manual, "Candidate relaxations"; the words of `DpCtrlIsb`, `ISync` and `Fence.p.s` are own.
 use Rattle.std.specs.Prelude.{ℕ, List, ◌++◌, codes}
-use Rattle.relax_edges.specs.declared.{kinds.Dir.Dir, kinds.Sd.Sd, kinds.Sd.TheVariants.Same, kinds.Sd.TheVariants.Diff, kinds.Reach.Reach}
-use Rattle.relax_edges.specs.declared.{kinds.Reach.TheVariants.Internal, kinds.Reach.TheVariants.External, kinds.Com.Com, kinds.Pick.Pick}
-use Rattle.relax_edges.specs.declared.{kinds.FenceKind.FenceKind, kinds.DepKind.DepKind, kinds.Kind.Kind, kinds.Mark.Mark}
-use Rattle.relax_edges.specs.declared.{kinds.Mark.TheVariants.Plain, kinds.Mark.TheVariants.Acquire, kinds.Mark.TheVariants.Release}
-use Rattle.relax_edges.specs.declared.{marked.MarkedEdge.MarkedEdge, edge.Edge.Edge}
+use Rattle.relax_edges.specs.{declared.kinds.Dir.Dir, declared.kinds.Sd.Sd, declared.kinds.Sd.TheVariants.{Same, Diff}, declared.kinds.Reach.Reach}
+use Rattle.relax_edges.specs.{declared.kinds.Reach.TheVariants.{Internal, External}, declared.kinds.Com.Com, declared.kinds.Pick.Pick}
+use Rattle.relax_edges.specs.{declared.kinds.FenceKind.FenceKind, declared.kinds.DepKind.DepKind, declared.kinds.Kind.Kind, declared.kinds.Mark.Mark}
+use Rattle.relax_edges.specs.{declared.kinds.Mark.TheVariants.{Plain, Acquire, Release}, declared.marked.MarkedEdge.MarkedEdge, declared.edge.Edge.Edge}
+use Rattle.relax_edges.specs.{Marks.markable_kind, EdgeTable.{source_mark, target_mark}}
 use Rattle.relax_edges.specs.declared.kinds.Dir.TheVariants as dirs
 use Rattle.relax_edges.specs.declared.kinds.Com.TheVariants as coms
 use Rattle.relax_edges.specs.declared.kinds.Pick.TheVariants as picks
 use Rattle.relax_edges.specs.declared.kinds.FenceKind.TheVariants as fences
 use Rattle.relax_edges.specs.declared.kinds.DepKind.TheVariants as deps
 use Rattle.relax_edges.specs.declared.kinds.Kind.TheVariants as kinds
-use Rattle.relax_edges.specs.{Marks.markable_kind, EdgeTable.source_mark, EdgeTable.target_mark}
 use Rattle.relax_edges.specs.declared.edge.Edge.TheVariants as edges
 
 -- the letter of a direction: `R` or `W`

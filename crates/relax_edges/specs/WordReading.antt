@@ -1,19 +1,18 @@
 -- How a spelling is read from its end: what its last bytes name, and what the text before them names.
 -- Source: own; that it reads what the table spells is a lemma.
-use Rattle.std.specs.Prelude.{ℕ, Bool, true, false, cond, Option, Some, None, List, [], ◌∷◌, reverse, codes}
-use Rattle.std.specs.{List.find, Option.option_or, Option.option_map, Str.bytes_eq}
-use Rattle.relax_edges.specs.declared.{kinds.Dir.Dir, kinds.Sd.Sd, kinds.Sd.TheVariants.Same, kinds.Sd.TheVariants.Diff, kinds.Reach.Reach}
-use Rattle.relax_edges.specs.declared.{kinds.Reach.TheVariants.Internal, kinds.Reach.TheVariants.External, kinds.Com.Com, kinds.FenceKind.FenceKind}
-use Rattle.relax_edges.specs.declared.{kinds.DepKind.DepKind, kinds.ArchName.TheVariants.AArch64, kinds.Kind.Kind, kinds.Mark.Mark}
-use Rattle.relax_edges.specs.declared.{kinds.Mark.TheVariants.Plain, kinds.Mark.TheVariants.Acquire, kinds.Mark.TheVariants.Release, edge.Edge.Edge}
+use Rattle.std.specs.{Prelude.{ℕ, Bool, true, false, cond, Option, Some, None, List, [], ◌∷◌, reverse, codes}, List.find, Option.{option_or, option_map}}
+use Rattle.std.specs.Str.{bytes_eq}
+use Rattle.relax_edges.specs.{declared.kinds.Dir.Dir, declared.kinds.Sd.Sd, declared.kinds.Sd.TheVariants.{Same, Diff}, declared.kinds.Reach.Reach}
+use Rattle.relax_edges.specs.{declared.kinds.Reach.TheVariants.{Internal, External}, declared.kinds.Com.Com, declared.kinds.FenceKind.FenceKind}
+use Rattle.relax_edges.specs.{declared.kinds.DepKind.DepKind, declared.kinds.ArchName.TheVariants.AArch64, declared.kinds.Kind.Kind, declared.kinds.Mark.Mark}
+use Rattle.relax_edges.specs.{declared.kinds.Mark.TheVariants.{Plain, Acquire, Release}, declared.edge.Edge.Edge, EdgeTable.{kind_is_of, unmarked, marked_edge}}
+use Rattle.relax_edges.specs.WordParts.{dir_word, sd_word, reach_word, com_word, fence_word, dependency_word, mark_word}
 use Rattle.relax_edges.specs.declared.kinds.Dir.TheVariants as dirs
 use Rattle.relax_edges.specs.declared.kinds.Com.TheVariants as coms
 use Rattle.relax_edges.specs.declared.kinds.Pick.TheVariants as picks
 use Rattle.relax_edges.specs.declared.kinds.FenceKind.TheVariants as fences
 use Rattle.relax_edges.specs.declared.kinds.DepKind.TheVariants as deps
 use Rattle.relax_edges.specs.declared.kinds.Kind.TheVariants as kinds
-use Rattle.relax_edges.specs.EdgeTable.{kind_is_of, unmarked, marked_edge}
-use Rattle.relax_edges.specs.WordParts.{dir_word, sd_word, reach_word, com_word, fence_word, dependency_word, mark_word}
 
 -- the first of some kinds whose word is a text
 abbrev pub kind_named_by : {K : Type 0} → (K → List ℕ) → List K → List ℕ → Option K

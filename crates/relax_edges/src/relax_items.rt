@@ -1,7 +1,6 @@
 ghost use Rattle.std.specs.Prelude.{◌≡◌, ◌<◌, ◌≤◌, ◌+◌, ◌∷◌, false, length, Some, None, OnOk, IfOk, MatchOption};
-ghost use Rattle.relax_edges.specs.RelaxText.{is_separator, words_of, bracket_words};
+ghost use Rattle.relax_edges.specs.{RelaxText.{is_separator, words_of, bracket_words}, RelaxKept.{kept_item}};
 ghost use Rattle.relax_edges.specs.{RelaxPrefix.{first_word_len, kept_prefix, ends_here, IsInside, IsFirstWord}, RelaxSearch.{KeepsRelaxations}};
-ghost use Rattle.relax_edges.specs.RelaxKept.{kept_item};
 
 use crate::relax::Relaxes;
 use crate::relax_error::RelaxKind;

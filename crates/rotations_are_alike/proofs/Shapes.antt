@@ -1,9 +1,7 @@
 -- Threads with the same accesses, at places that are equal in the same cases, have the same shape.
-use Rattle.std.proofs.Common.{◌≡◌, ℕ, ◌+◌, Bool, ◌==◌, ◌||◌, cond, List, [], ◌∷◌, map, refl, ◌∙◌, ap, arith}
+use Rattle.std.proofs.{Common.{◌≡◌, ℕ, ◌+◌, Bool, ◌==◌, ◌||◌, cond, List, [], ◌∷◌, map, refl, ◌∙◌, ap, arith}, lemmas.List.Sums.sum_by-cons}
 use Rattle.std.specs.List.{AllByRecursion, count_by}
-use Rattle.std.proofs.lemmas.List.Sums.{sum_by-cons}
-use Rattle.arch_trait.specs.declared.step.{Shape.Shape, Step.Step}
-use Rattle.arch_trait.specs.Links.{is_addr}
+use Rattle.arch_trait.specs.{declared.step.Shape.Shape, declared.step.Step.Step, Links.is_addr}
 use Rattle.arch_trait.specs.Threads.{is_load_dir, is_store_dir, loads_in, places_in, shape_of, visits}
 
 -- two ways to make accesses of numbers: the accesses do the same, and their places are equal in the same cases

@@ -1,19 +1,16 @@
 -- Each thread of the test of a turned cycle has the shape of a thread of the cycle's test.
 use Rattle.std.proofs.Common.{◌≡◌, ℕ, ◌+◌, ◌<◌, true, ◌==◌, List, length, map, Some, slice_get, refl, sym, ◌∙◌, ap, subst, eq-eqb}
 use Rattle.std.specs.{List.count_by, Prelude.if◌then◌else◌}
-use Rattle.relax_edges.specs.declared.{kinds.ObsMode.ObsMode, edge.Edge.Edge}
-use Rattle.relax_edges.specs.EdgeTable.{source_of}
+use Rattle.relax_edges.specs.{declared.kinds.ObsMode.ObsMode, declared.edge.Edge.Edge, EdgeTable.source_of}
 use Rattle.list_laws.specs.Numbers.{upto}
 use Rattle.list_laws.proofs.Ranks.{rank_upto}
 use Rattle.cycle_events.specs.Resolution.{external_count, edge_at, event_before, events_in, move_count, slot_of, IsResolved}
 use Rattle.cycle_events.specs.Values.{is_observed, write_count}
-use Rattle.arch_trait.specs.declared.{link.Link.TheVariants.Plain, step.Step.Step}
-use Rattle.arch_trait.specs.{Links.edge_link, Threads.shape_of}
+use Rattle.arch_trait.specs.{declared.link.Link.TheVariants.Plain, declared.step.Step.Step, Links.edge_link, Threads.shape_of}
 use Rattle.accesses_force_cycles.proofs.Lists.{map-map}
-use Rattle.tests_force_cycles.specs.CycleSteps.{cycle_steps, event_link, event_step, observer_steps, observing, thread_steps}
-use Rattle.tests_force_cycles.specs.TestOf.{plain}
-use Rattle.tests_force_cycles.proofs.{Everywhere.all_from, StepsAt.by_steps, StepsAt.observer_steps_at, StepsAt.thread_steps_at}
-use Rattle.rotations_are_alike.proofs.{Alike.Alike, Alike.ThreadFrom, Parts.events_below, Shapes.StepAlike, Shapes.shape_alike}
+use Rattle.tests_force_cycles.specs.{CycleSteps.{cycle_steps, event_link, event_step, observer_steps, observing, thread_steps}, TestOf.plain}
+use Rattle.tests_force_cycles.proofs.{Everywhere.all_from, StepsAt.{by_steps, observer_steps_at, thread_steps_at}}
+use Rattle.rotations_are_alike.proofs.{Alike.{Alike, ThreadFrom}, Parts.events_below, Shapes.{StepAlike, shape_alike}}
 use Rattle.rotations_are_alike.proofs.Values.{entered_alike, located_alike, observed_alike, spot_from}
 
 -- the events of the two lists make accesses alike

@@ -1,19 +1,18 @@
 -- Cycles with the same events have the same values, writes and observers.
 use Rattle.std.proofs.Common.{◌≡◌, ℕ, zero, suc, ◌+◌, ◌-◌, ◌<◌, ◌≤◌, true, false, ◌==◌, ◌&&◌, cond, List, length, Option, Some, None, nat_lt, refl, sym, ◌∙◌, ap, arith, add-one, subst}
-use Rattle.std.specs.{Prelude.nat_le, Option.is_some}
 use Rattle.std.proofs.lemmas.Bool.{eq-eqb, ne_eqb}
+use Rattle.std.specs.{Prelude.nat_le, Option.is_some}
 use Rattle.relax_edges.specs.declared.kinds.Dir.TheVariants as dirs
-use Rattle.relax_edges.specs.declared.{kinds.ObsMode.ObsMode, kinds.ObsMode.TheVariants.Accept, kinds.ObsMode.TheVariants.Avoid}
-use Rattle.relax_edges.specs.declared.{kinds.ObsMode.TheVariants.Force, edge.Edge.Edge}
+use Rattle.relax_edges.specs.{declared.kinds.ObsMode.ObsMode, declared.kinds.ObsMode.TheVariants.{Accept, Avoid, Force}, declared.edge.Edge.Edge}
 use Rattle.relax_edges.specs.EdgeTable.{source_of, same_dir, is_external, is_diff}
 use Rattle.list_laws.specs.Numbers.{upto}
-use Rattle.list_laws.proofs.{Cases.by_test, Cases.by_same, Finds.any_upto, Finds.any_upto_none, Finds.any_upto_passing}
+use Rattle.list_laws.proofs.{Cases.{by_test, by_same}, Finds.{any_upto, any_upto_none, any_upto_passing}}
 use Rattle.cycle_events.specs.Resolution.{move_count, edge_at, event_before, event_after, location_of, IsResolved}
-use Rattle.cycle_events.proofs.{Locations.location_first, Arcs.leaving, Arcs.location_below, Arcs.several_locations, Along.is_write}
-use Rattle.cycle_events.proofs.{Along.value_after, Along.value_at_end, Entries.inner_found, Entries.no_inner_entry, Entries.no_need_more}
-use Rattle.cycle_events.proofs.Around.{by_after, after_below, after_before, before_after, before_below, moves_within}
 use Rattle.cycle_events.specs.Values.{edge_into, is_write_at, value_of, write_count, is_inner_entry, is_observed, first_need, observer_need}
 use Rattle.cycle_events.specs.Entries.{inner_entry}
+use Rattle.cycle_events.proofs.{Locations.location_first, Arcs.{leaving, location_below, several_locations}, Along.{is_write, value_after, value_at_end}}
+use Rattle.cycle_events.proofs.Entries.{inner_found, no_inner_entry, no_need_more}
+use Rattle.cycle_events.proofs.Around.{by_after, after_below, after_before, before_after, before_below, moves_within}
 use Rattle.rotations_are_alike.proofs.Alike.{Alike}
 
 -- from a number up to another below n

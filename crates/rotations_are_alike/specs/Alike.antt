@@ -1,19 +1,14 @@
 -- What rotations of a cycle have in common: whether they are accepted, and where they begin alike, the text of their test.
 -- Source: own.
-use Rattle.std.specs.Prelude.{◌≡◌, ◌↔◌, ◌⊎◌, ℕ, ◌+◌, ◌<◌, true, List, length, None}
-use Rattle.std.specs.Option.{option_map}
-use Rattle.relax_edges.specs.declared.kinds.ObsMode.{ObsMode}
-use Rattle.relax_edges.specs.declared.edge.Edge.{Edge}
-use Rattle.edge_algebra_laws.specs.Composable.{IsCycle}
-use Rattle.edge_algebra_laws.specs.Rotation.{IsRotation, rotated}
+use Rattle.std.specs.{Prelude.{◌≡◌, ◌↔◌, ◌⊎◌, ℕ, ◌+◌, ◌<◌, true, List, length, None}, Option.option_map}
+use Rattle.relax_edges.specs.{declared.kinds.ObsMode.ObsMode, declared.edge.Edge.Edge}
+use Rattle.edge_algebra_laws.specs.{Composable.IsCycle, Rotation.{IsRotation, rotated}}
 use Rattle.cycle_events.specs.Resolution.{ends_outside, external_count, slot_of, thread_of, turned}
-use Rattle.arch_trait.specs.Threads.{Puts}
-use Rattle.arch_trait.specs.Writing.{Writing, name_in}
+use Rattle.arch_trait.specs.{Threads.Puts, Writing.{Writing, name_in}}
 use Rattle.litmus_text.specs.TestText.{test_text}
 use Rattle.tests_force_cycles.specs.TestOf.{test_of}
-use Rattle.test_maker.specs.declared.refusal.Refusal.{Refusal}
+use Rattle.test_maker.specs.{declared.refusal.Refusal.Refusal, Refusals.refusal_of}
 use Rattle.test_maker.specs.declared.refusal.Refusal.TheVariants as refusals
-use Rattle.test_maker.specs.Refusals.{refusal_of}
 
 -- a cycle is accepted exactly where each rotation of it is
 abbrev pub AcceptedAlike : Puts → Type 0

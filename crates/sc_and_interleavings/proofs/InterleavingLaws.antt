@@ -1,7 +1,6 @@
 -- The laws of this crate.
 use Rattle.sc_and_interleavings.proofs.Vocabulary.{◌<◌, List, length, arith, count_by-le-length, Edge, is_external, IsResolved, accesses_in, SequentialIsCoherent, StandingIsNotSequential}
-use Rattle.sc_and_interleavings.proofs.{Places.held, CoherenceLaws.candidates_are_sc_per_location, Sequential.sequential_per_location}
-use Rattle.sc_and_interleavings.proofs.{Around.all_stand_cycle}
+use Rattle.sc_and_interleavings.proofs.{Places.held, CoherenceLaws.candidates_are_sc_per_location, Sequential.sequential_per_location, Around.all_stand_cycle}
 
 -- a sequentially consistent candidate is coherent per location
 pub sequential_is_coherent : SequentialIsCoherent

@@ -1,11 +1,10 @@
 -- Where all edges of a cycle stand in a coherent execution of a program that makes the accesses of the cycle's test, the coherence
 -- place of each event is its value.
 use Rattle.sc_and_interleavings.proofs.Vocabulary.{◌≡◌, ℕ, zero, suc, ◌+◌, ◌<◌, ◌≤◌, true, List, length, Option, Some, None, refl, sym, ◌∙◌, ap, subst, arith, slice_get_within, Dir, Sd, Same, Diff, Internal, External, Kind, Edge, kind_of, source_of, target_of, sd_of, is_diff, kind_source, kind_target, kind_reach, IsResolved, edge_at, event_after, event_before, thread_of, slot_of, location_of, move_count, leaving, after_below, after_before, before_below, value_at_end, value_of, write_count, WriteAt, Access, read, write, at_name, Execution, CanRead, IsNumbering, ordered_write, location_order, IsCoherent, MayFollow, order_place, order_at, source_at, placed_by, coherence_place, AreAt, CommunicatesBy, Reaches, Joins, event_name, gives_writes, place_of_value, length-filter_map-upto, FromBefore, from_before, Holds, order_by_steps, IsWrite, Resolves, written_by, moves, NthWrite, nth_write, ordered_write-is, rank_below, more_than, IsWriteTo}
+use Rattle.sc_and_interleavings.proofs.{Places.{Held, place_in, level, level_is, level_write}, Distances.{distance, distance_next, distance_below}}
 use Rattle.relax_edges.specs.declared.kinds.Dir.TheVariants as dirs
 use Rattle.relax_edges.specs.declared.kinds.Com.TheVariants as coms
 use Rattle.relax_edges.specs.declared.kinds.Kind.TheVariants as kinds
-use Rattle.sc_and_interleavings.proofs.Places.{Held, place_in, level, level_is, level_write}
-use Rattle.sc_and_interleavings.proofs.Distances.{distance, distance_next, distance_below}
 
 -- an event of a program that makes the accesses of the cycle's test, with whatever value it reads
 pub record Made (es : List Edge) (number : ℕ → ℕ) (threads : List (List Access)) (i : ℕ) : Type 0 where

@@ -1,7 +1,6 @@
 -- Where a cycle's test has no observers, a coherent candidate in which all edges stand reads and ends as the condition asks.
 use Rattle.sc_and_interleavings.proofs.Vocabulary.{◌≡◌, ℕ, zero, suc, ◌-◌, ◌<◌, ◌≤◌, List, [], ◌∷◌, length, map, Option, Some, slice_get, refl, sym, ◌∙◌, ap, subst, arith, filter, option_and_then, slice_get_within, slice_get_past, ObsMode, Edge, by_less, IsResolved, edge_at, event_after, events_in, external_count, thread_of, slot_of, after_below, write_count, WriteAt, Access, write, is_read, got_from, at_name, Execution, AreReadsOf, Joins, AllStand, event_name, last_write, order_at, value_of_access, final_value, Program, IsCandidate, IsCoherentIn, accesses_in, visits_in, IsNumbering, event_access, cycle_accesses, observed_locations, got_from_list, accesses-count, MakesAccesses, EndsAsAsked, ReadsAsAsked, accesses_filled, values_left, values_read, thread_accesses, observer_thread, access_of_visit, resolves, last_of_order, Resolves, nth_write, got_below, got_map, image_of, same_by_gets, StandingIsOutcome}
-use Rattle.sc_and_interleavings.proofs.{SequentialMade.filled_from, SequentialMade.writes_to_own, Places.held}
-use Rattle.sc_and_interleavings.proofs.Levels.{Made, Standing, event_writes, order_is, value_made}
+use Rattle.sc_and_interleavings.proofs.{SequentialMade.{filled_from, writes_to_own}, Places.held, Levels.{Made, Standing, event_writes, order_is, value_made}}
 
 filled-count : (planned : List Access) (values : List ℕ) → length (accesses_filled planned values) ≡ length planned
 filled-count [] values = refl

@@ -1,9 +1,8 @@
 -- The law of this crate, over the accesses of threads and over programs.
 use Rattle.std.specs.Prelude.{ℕ, ◌<◌, ◌↔◌, List}
-use Rattle.relax_edges.specs.declared.{kinds.ObsMode.ObsMode, edge.Edge.Edge}
+use Rattle.relax_edges.specs.{declared.kinds.ObsMode.ObsMode, declared.edge.Edge.Edge}
 use Rattle.cycle_events.specs.Resolution.{IsResolved}
-use Rattle.program_meaning.specs.declared.WriteAt.{WriteAt}
-use Rattle.program_meaning.specs.{Accesses.Access, Executions.Execution, Executions.IsExecutionOf, Coherence.IsCoherent, Intended.IsNumbering}
+use Rattle.program_meaning.specs.{declared.WriteAt.WriteAt, Accesses.Access, Executions.{Execution, IsExecutionOf}, Coherence.IsCoherent, Intended.IsNumbering}
 use Rattle.program_meaning.specs.Programs.{Program, IsCandidate, IsCoherentIn, accesses_in}
 use Rattle.accesses_force_cycles.specs.Joining.{MakesAccesses}
 use Rattle.sc_and_interleavings.specs.Relations.{IsWriteTo, IsScPerLocation}

@@ -2,10 +2,9 @@
 use Rattle.std.specs.Prelude.{ℕ, List}
 use Rattle.relax_edges.specs.declared.edge.Edge.{Edge}
 use Rattle.cycle_events.specs.Resolution.{IsResolved}
-use Rattle.program_meaning.specs.declared.WriteAt.{WriteAt}
-use Rattle.program_meaning.specs.{Executions.Execution, Standing.AllStand, Interleavings.IsInterleavingOf, Interleavings.accesses_on}
+use Rattle.program_meaning.specs.{declared.WriteAt.WriteAt, Executions.Execution, Standing.AllStand, Interleavings.{IsInterleavingOf, accesses_on}}
 use Rattle.program_meaning.specs.Programs.{Program, IsCandidate, IsCoherentIn, accesses_in}
-use Rattle.sc_and_interleavings.specs.{CoherenceLaws.WritesWithin, Sequential.IsSequential, Made.made_by, Made.IsOfInterleaving}
+use Rattle.sc_and_interleavings.specs.{CoherenceLaws.WritesWithin, Sequential.IsSequential, Made.{made_by, IsOfInterleaving}}
 
 -- each interleaving of a program makes an execution of it that is sequentially consistent, with the same runs and the same ends
 abbrev pub InterleavingsMakeExecutions : Type 0

@@ -1,18 +1,12 @@
 -- The laws of this crate, over the accesses of a cycle's test and over programs that make them.
 use Rattle.std.specs.Prelude.{◌≡◌, ℕ, ◌<◌, List, [], length}
-use Rattle.relax_edges.specs.declared.kinds.ObsMode.{ObsMode}
-use Rattle.relax_edges.specs.declared.kinds.Reach.TheVariants.{Internal}
-use Rattle.relax_edges.specs.declared.kinds.Sd.TheVariants.{Diff}
-use Rattle.relax_edges.specs.declared.edge.Edge.{Edge}
-use Rattle.relax_edges.specs.EdgeTable.{reach_of, sd_of}
+use Rattle.relax_edges.specs.{declared.kinds.ObsMode.ObsMode, declared.kinds.Reach.TheVariants.Internal, declared.kinds.Sd.TheVariants.Diff}
+use Rattle.relax_edges.specs.{declared.edge.Edge.Edge, EdgeTable.{reach_of, sd_of}}
 use Rattle.cycle_events.specs.Resolution.{IsResolved, edge_at}
-use Rattle.program_meaning.specs.Executions.{Execution}
-use Rattle.program_meaning.specs.Programs.{Program, IsCandidate, IsCoherentIn}
-use Rattle.program_meaning.specs.Standing.{AllStand, event_name}
+use Rattle.program_meaning.specs.{Executions.Execution, Programs.{Program, IsCandidate, IsCoherentIn}, Standing.{AllStand, event_name}}
 use Rattle.program_meaning.specs.Intended.{IsNumbering, cycle_accesses, intended, observed_locations}
 use Rattle.accesses_force_cycles.specs.Joining.{IsOutcome, MakesAccesses}
-use Rattle.sc_and_interleavings.specs.Sequential.{HasNoCycle}
-use Rattle.sc_and_interleavings.specs.Links.{PrecedesBut}
+use Rattle.sc_and_interleavings.specs.{Sequential.HasNoCycle, Links.PrecedesBut}
 
 -- an internal edge of a cycle to another location: a link that a machine may not keep
 pub record IsLink (es : List Edge) (i : ℕ) : Type 0 where

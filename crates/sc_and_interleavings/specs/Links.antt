@@ -1,8 +1,7 @@
 -- Program order without one of its links.
 -- Source: own.
 use Rattle.std.specs.Prelude.{◌≡◌, ◌<◌, ◌≤◌, List}
-use Rattle.program_meaning.specs.declared.WriteAt.{WriteAt}
-use Rattle.program_meaning.specs.Accesses.{Access}
+use Rattle.program_meaning.specs.{declared.WriteAt.WriteAt, Accesses.Access}
 use Rattle.sc_and_interleavings.specs.Sequential.{Precedes}
 
 -- program order without the pairs that lie across a link, which leaves this access: those whose first is this access or before

@@ -1,15 +1,10 @@
 -- The execution that an interleaving makes: each read reads the last write to its place before it, and the writes of each place
 -- come in the order of the interleaving.
 -- Source: own.
-use Rattle.std.specs.Prelude.{ℕ, ◌+◌, ◌≡◌, ◌<◌, cond, List, [], ◌∷◌, map, take, Option}
-use Rattle.std.specs.List.{position_or_len}
+use Rattle.std.specs.{Prelude.{ℕ, ◌+◌, ◌≡◌, ◌<◌, cond, List, [], ◌∷◌, map, take, Option}, List.position_or_len}
 use Rattle.list_laws.specs.Numbers.{upto}
-use Rattle.program_meaning.specs.declared.WriteAt.{WriteAt}
-use Rattle.program_meaning.specs.Accesses.{Access, is_read}
-use Rattle.program_meaning.specs.Executions.{Execution, same_write}
-use Rattle.program_meaning.specs.Coherence.{final_value}
-use Rattle.program_meaning.specs.Programs.{Program, IsCandidate, accesses_in, runs_of}
-use Rattle.program_meaning.specs.Interleavings.{writes_in, latest, value_after, runs_on, accesses_on}
+use Rattle.program_meaning.specs.{declared.WriteAt.WriteAt, Accesses.{Access, is_read}, Executions.{Execution, same_write}, Coherence.final_value}
+use Rattle.program_meaning.specs.{Programs.{Program, IsCandidate, accesses_in, runs_of}, Interleavings.{writes_in, latest, value_after, runs_on, accesses_on}}
 use Rattle.sc_and_interleavings.specs.Sequential.{IsSequential}
 
 -- the accesses before one of an interleaving

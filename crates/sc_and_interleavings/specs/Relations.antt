@@ -3,9 +3,7 @@
 -- reads-from, coherence order and from-read together have no cycle. It is said there that this forbids the five shapes CoWW,
 -- CoRW1, CoRW2, CoWR and CoRR.
 use Rattle.std.specs.Prelude.{ℕ, ◌≡◌, ◌<◌, List, [], ◌∷◌, Option, Some, None, slice_get}
-use Rattle.program_meaning.specs.declared.WriteAt.{WriteAt}
-use Rattle.program_meaning.specs.Accesses.{Access, read, write, at_name}
-use Rattle.program_meaning.specs.{Executions.Execution, Coherence.order_at, Coherence.source_at}
+use Rattle.program_meaning.specs.{declared.WriteAt.WriteAt, Accesses.{Access, read, write, at_name}, Executions.Execution, Coherence.{order_at, source_at}}
 
 -- a write to a place, by its name
 abbrev pub IsWriteTo : List (List Access) → ℕ → WriteAt → Type 0

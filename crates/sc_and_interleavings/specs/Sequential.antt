@@ -3,8 +3,7 @@
 -- Source: Shasha and Snir, 'Efficient and Correct Execution of Parallel Programs that Share Memory', 1988; in this form Alglave,
 -- Maranget and Tautschnig, 'Herding Cats', 2014.
 use Rattle.std.specs.Prelude.{ℕ, ◌≡◌, ◌<◌, List, [], ◌∷◌, Some}
-use Rattle.program_meaning.specs.declared.WriteAt.{WriteAt}
-use Rattle.program_meaning.specs.{Accesses.Access, Accesses.at_name, Executions.Execution}
+use Rattle.program_meaning.specs.{declared.WriteAt.WriteAt, Accesses.{Access, at_name}, Executions.Execution}
 use Rattle.sc_and_interleavings.specs.Relations.{ReadsFrom, CoherenceOrder, FromRead}
 
 -- program order (po): e comes before f in one thread

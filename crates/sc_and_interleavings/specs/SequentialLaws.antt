@@ -1,8 +1,7 @@
 -- The laws of this crate: a candidate is sequentially consistent exactly where it goes along an interleaving of its program.
 use Rattle.std.specs.Prelude.{List}
-use Rattle.program_meaning.specs.declared.WriteAt.{WriteAt}
-use Rattle.program_meaning.specs.{Executions.Execution, Programs.Program, Programs.IsCandidate, Programs.accesses_in, Interleavings.IsInterleavingOf}
-use Rattle.sc_and_interleavings.specs.{CoherenceLaws.WritesWithin, Sequential.IsSequential, Along.values_in, Along.IsAlong}
+use Rattle.program_meaning.specs.{declared.WriteAt.WriteAt, Executions.Execution, Programs.{Program, IsCandidate, accesses_in}, Interleavings.IsInterleavingOf}
+use Rattle.sc_and_interleavings.specs.{CoherenceLaws.WritesWithin, Sequential.IsSequential, Along.{values_in, IsAlong}}
 
 -- a candidate goes along an interleaving of the program, whose reads take the same values
 pub record GoesAlong (p : Program) (x : Execution) (line : List WriteAt) : Type 0 where

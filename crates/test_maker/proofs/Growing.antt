@@ -1,21 +1,17 @@
 -- How a test grows thread by thread.
 use Rattle.std.proofs.Common.{◌≡◌, ℕ, zero, suc, ◌+◌, ◌<◌, ◌≤◌, cond, true, false, List, [], ◌∷◌, ◌++◌, length, take, drop, map, Option, Some, Ok, Err, sym, ◌∙◌, ap, arith, slice_get, append_assoc, length-take}
+use Rattle.std.proofs.{lemmas.Option.get_or_from_slice_get, lemmas.List.{length-map, map-append, take_more}}
 use Rattle.std.specs.{List.position_from, Option.option_map}
-use Rattle.std.proofs.lemmas.{Option.get_or_from_slice_get, List.length-map, List.map-append, List.take_more}
 use Rattle.list_laws.proofs.Elements.{drop_given}
 use Rattle.arrayvec.specs.ArrayVec.{ArrayVec}
-use Rattle.relax_edges.specs.declared.{TheConstants.MAX_EDGES, kinds.ObsMode.ObsMode, edge.Edge.Edge}
+use Rattle.relax_edges.specs.{declared.TheConstants.MAX_EDGES, declared.kinds.ObsMode.ObsMode, declared.edge.Edge.Edge}
 use Rattle.cycle_events.specs.Resolution.{IsResolved}
-use Rattle.final_cond.specs.declared.cond.{Cond.Cond, TheConstants.MAX_TERMS}
-use Rattle.final_cond.specs.Conditions.{term_view}
-use Rattle.arch_trait.specs.declared.{code.Code.Code, step.Step.Step}
-use Rattle.arch_trait.specs.{Codes.thread_code_of, Threads.Puts, Threads.compiled}
-use Rattle.tests_force_cycles.specs.CycleSteps.{cycle_steps, numbers_read}
-use Rattle.tests_force_cycles.specs.TestOf.{plain, last_terms, load_terms, thread_terms}
-use Rattle.tests_force_cycles.proofs.StepsAt.{steps_few}
-use Rattle.tests_force_cycles.proofs.Terms.{load_terms_more, reads-count, terms_room, thread_terms-count}
-use Rattle.test_maker.specs.declared.refusal.{Refusal.Refusal, Refusal.TheVariants.TooManyRegisters}
-use Rattle.test_maker.specs.{Refusals.crowded_thread, Refusals.is_crowded, ConditionTerms.PutsThread}
+use Rattle.final_cond.specs.{declared.cond.Cond.Cond, declared.cond.TheConstants.MAX_TERMS, Conditions.term_view}
+use Rattle.arch_trait.specs.{declared.code.Code.Code, declared.step.Step.Step, Codes.thread_code_of, Threads.{Puts, compiled}}
+use Rattle.tests_force_cycles.specs.{CycleSteps.{cycle_steps, numbers_read}, TestOf.{plain, last_terms, load_terms, thread_terms}}
+use Rattle.tests_force_cycles.proofs.{StepsAt.steps_few, Terms.{load_terms_more, reads-count, terms_room, thread_terms-count}}
+use Rattle.test_maker.specs.{declared.refusal.Refusal.Refusal, declared.refusal.Refusal.TheVariants.TooManyRegisters, Refusals.{crowded_thread, is_crowded}}
+use Rattle.test_maker.specs.ConditionTerms.{PutsThread}
 
 -- the number of the first thread that needs too many registers
 abbrev pub crowded : Puts → List Edge → ObsMode → Option ℕ

@@ -1,25 +1,20 @@
 -- A cycle that isn't refused has a test.
 use Rattle.std.proofs.Common.{◌≡◌, ℕ, not, List, Option, Some, None, Result, Ok, Err, refl, sym, subst, arith}
-use Rattle.std.specs.{Prelude.OnOk, List.position_from, Option.option_map, Option.option_or}
+use Rattle.std.specs.{Prelude.OnOk, List.position_from, Option.{option_map, option_or}}
 use Rattle.edge_algebra_laws.specs.Composable.{IsCycle}
-use Rattle.relax_edges.specs.declared.{kinds.ObsMode.ObsMode, edge.Edge.Edge}
+use Rattle.relax_edges.specs.{declared.kinds.ObsMode.ObsMode, declared.edge.Edge.Edge, EdgeTable.is_of_arch}
 use Rattle.relax_edges.specs.declared.kinds.ObsMode.TheVariants as modes
-use Rattle.relax_edges.specs.EdgeTable.{is_of_arch}
-use Rattle.cycle_events.specs.declared.errors.ResolveError.{ResolveError}
-use Rattle.cycle_events.specs.{Resolution.IsResolved, Resolution.resolution_of, Resolution.turned, Values.observer_need, Values.valuation_of}
+use Rattle.cycle_events.specs.{declared.errors.ResolveError.ResolveError, Resolution.{IsResolved, resolution_of, turned}, Values.{observer_need, valuation_of}}
 use Rattle.cycle_events.proofs.{Turning.resolution_resolved, Entries.avoid_allowed}
 use Rattle.arrayvec.specs.ArrayVec.{ArrayVec}
 use Rattle.final_cond.specs.declared.cond.Cond.{Cond}
-use Rattle.arch_trait.specs.declared.code.Code.{Code}
-use Rattle.arch_trait.specs.{Threads.Puts, SeenTests.TestSeen}
-use Rattle.tests_force_cycles.specs.{TestHeadline.HasCode, TestHeadline.HasTest, CycleSteps.cycle_steps, TestOf.plain}
+use Rattle.arch_trait.specs.{declared.code.Code.Code, Threads.Puts, SeenTests.TestSeen}
+use Rattle.tests_force_cycles.specs.{TestHeadline.{HasCode, HasTest}, CycleSteps.cycle_steps, TestOf.plain}
 use Rattle.tests_force_cycles.proofs.Headline.{room_left}
-use Rattle.test_maker.specs.declared.refusal.Refusal.{Refusal}
-use Rattle.test_maker.specs.declared.refusal.Refusal.TheVariants as refusals
-use Rattle.test_maker.specs.Made.{AreOfArch, MakesSeenTest}
-use Rattle.test_maker.specs.ConditionTerms.{PutsThreads}
+use Rattle.test_maker.specs.{declared.refusal.Refusal.Refusal, Made.{AreOfArch, MakesSeenTest}, ConditionTerms.PutsThreads}
 use Rattle.test_maker.specs.Refusals.{foreign_edge, need_refusal, unobserved_need, crowded_thread, resolved_refusal, refusal_of}
-use Rattle.test_maker.proofs.{OfArch.resolved_turned, OfArch.turned_of_arch, Printing.uncrowded}
+use Rattle.test_maker.specs.declared.refusal.Refusal.TheVariants as refusals
+use Rattle.test_maker.proofs.{OfArch.{resolved_turned, turned_of_arch}, Printing.uncrowded}
 use Rattle.list_laws.proofs.Places.{none_foreign}
 
 -- where neither of two reasons holds

@@ -1,14 +1,13 @@
 -- The terms of the locations whose last value is named.
-use Rattle.std.proofs.Common.{◌≡◌, true, ℕ, ◌+◌, ◌<◌, List, [], ◌∷◌, ◌++◌, length, map, sym, ap, ◌∙◌, arith, slice_index_or}
+use Rattle.std.proofs.{Common.{◌≡◌, true, ℕ, ◌+◌, ◌<◌, List, [], ◌∷◌, ◌++◌, length, map, sym, ap, ◌∙◌, arith, slice_index_or}, lemmas.List.length-map}
+use Rattle.std.proofs.lemmas.List.FromFn.{get_or-map-range_with_len}
 use Rattle.std.specs.List.{filter}
-use Rattle.std.proofs.lemmas.{List.length-map, List.FromFn.get_or-map-range_with_len}
-use Rattle.relax_edges.specs.declared.{kinds.ObsMode.ObsMode, edge.Edge.Edge}
+use Rattle.relax_edges.specs.{declared.kinds.ObsMode.ObsMode, declared.edge.Edge.Edge}
 use Rattle.list_laws.specs.Numbers.{upto}
 use Rattle.list_laws.proofs.{Counts.count_upto-le, Ranks.length-filter-upto}
-use Rattle.cycle_events.specs.{Resolution.IsResolved, Resolution.move_count, Values.write_count}
+use Rattle.cycle_events.specs.{Resolution.{IsResolved, move_count}, Values.write_count}
 use Rattle.cycle_events.proofs.Sizes.{external_and_moves}
-use Rattle.final_cond.specs.declared.cond.Term.{Term}
-use Rattle.final_cond.specs.Conditions.{AtPlace, term_view}
+use Rattle.final_cond.specs.{declared.cond.Term.Term, Conditions.{AtPlace, term_view}}
 use Rattle.arch_trait.specs.PlaceNames.{letters, location_name}
 use Rattle.tests_force_cycles.specs.TestOf.{is_named_location, last_term}
 use Rattle.test_maker.proofs.Filling.{found_more}

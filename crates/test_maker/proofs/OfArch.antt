@@ -1,14 +1,12 @@
 -- The edges of a cycle that are of an architecture stay so where it is turned.
 use Rattle.std.proofs.Common.{◌≡◌, ℕ, ◌<◌, Bool, true, false, List, ◌++◌, take, drop, Result, Ok, Err, sym, ap, ◌∙◌, arith, nat_lt, subst}
-use Rattle.std.specs.{List.list_all, Prelude.if◌then◌else◌}
 use Rattle.std.proofs.{lemmas.List.take-append-drop, lemmas.List.Folds.list_all-append, lemmas.Bool.Decides.nat_tests, Math.Bool.and_comm}
-use Rattle.cycle_events.specs.declared.errors.ResolveError.TheVariants.{TooFewThreads, CoherenceOnly}
-use Rattle.cycle_events.proofs.Turning.{turn_of}
-use Rattle.relax_edges.specs.declared.edge.Edge.{Edge}
-use Rattle.relax_edges.specs.EdgeTable.{is_of_arch}
-use Rattle.list_laws.proofs.Cases.{by_test}
-use Rattle.cycle_events.specs.declared.errors.ResolveError.{ResolveError}
+use Rattle.std.specs.{List.list_all, Prelude.if◌then◌else◌}
+use Rattle.cycle_events.specs.{declared.errors.ResolveError.TheVariants.{TooFewThreads, CoherenceOnly}, declared.errors.ResolveError.ResolveError}
 use Rattle.cycle_events.specs.Resolution.{external_count, is_coherence_only, resolution_of, turned}
+use Rattle.cycle_events.proofs.Turning.{turn_of}
+use Rattle.relax_edges.specs.{declared.edge.Edge.Edge, EdgeTable.is_of_arch}
+use Rattle.list_laws.proofs.Cases.{by_test}
 use Rattle.arch_trait.specs.Threads.{Puts}
 use Rattle.test_maker.specs.Made.{AreOfArch}
 

@@ -1,26 +1,21 @@
 -- The code of the threads of a test can be printed.
 use Rattle.std.proofs.Common.{◌≡◌, ℕ, zero, suc, ◌+◌, ◌<◌, ◌≤◌, ◌==◌, Bool, true, false, cond, ◌||◌, List, [], ◌∷◌, length, get_or, map, Option, Some, None, Result, Ok, Err, refl, sym, ap, ◌∙◌, arith, nat_lt, slice_get, subst}
-use Rattle.std.specs.List.{All, list_all, position_from, range_with_len}
-use Rattle.std.specs.{Prelude.OnOk, Option.option_map}
-use Rattle.std.proofs.lemmas.Bool.{and_parts, and_from, lt-ltb, eqb-true}
-use Rattle.std.proofs.lemmas.{Bool.Decides.nat_tests, List.length-map, List.get_or-map, List.Sums.count_by-le-length, Option.slice_get-get_or}
+use Rattle.std.proofs.{lemmas.Bool.{and_parts, and_from, lt-ltb, eqb-true}, lemmas.Bool.Decides.nat_tests, lemmas.List.{length-map, get_or-map}}
+use Rattle.std.proofs.{lemmas.List.Sums.count_by-le-length, lemmas.Option.slice_get-get_or}
+use Rattle.std.specs.{List.{All, list_all, position_from, range_with_len}, Prelude.OnOk, Option.option_map}
 use Rattle.list_laws.proofs.Cases.{by_test}
-use Rattle.relax_edges.specs.declared.{kinds.ObsMode.ObsMode, edge.Edge.Edge}
+use Rattle.relax_edges.specs.{declared.kinds.ObsMode.ObsMode, declared.edge.Edge.Edge}
 use Rattle.cycle_events.specs.Resolution.{IsResolved, move_count}
-use Rattle.micro_ops.specs.declared.operation.Micro.{Micro}
+use Rattle.micro_ops.specs.{declared.operation.Micro.Micro, Running.{labels_of, lands, occurs}}
 use Rattle.micro_ops.specs.declared.operation.Micro.TheVariants as ops
-use Rattle.micro_ops.specs.Running.{labels_of, lands, occurs}
-use Rattle.arch_trait.specs.declared.{code.Code.Code, step.Step.Step}
-use Rattle.arch_trait.specs.{Codes.IsFormedCode, Codes.is_within, Codes.thread_code_of, Laws.InOrder, Laws.IsArch, Links.branches}
-use Rattle.arch_trait.specs.{Writing.label_below, Writing.place_below, PlaceNames.letters}
-use Rattle.arch_trait.specs.Threads.{Puts, branches_in, compiled, shape_of, visits}
+use Rattle.arch_trait.specs.{declared.code.Code.Code, declared.step.Step.Step, Codes.{IsFormedCode, is_within, thread_code_of}, Laws.{InOrder, IsArch}}
+use Rattle.arch_trait.specs.{Links.branches, Writing.{label_below, place_below}, PlaceNames.letters, Threads.{Puts, branches_in, compiled, shape_of, visits}}
 use Rattle.arch_trait_laws.proofs.{CodeLaws.is_formed, TakingLaws.in_order_le, NameLaws.length-letters}
-use Rattle.litmus_text.specs.Tests.{IsPrintable}
+use Rattle.litmus_text.specs.{Tests.IsPrintable, declared.test.Test.Test}
 use Rattle.tests_force_cycles.specs.{CycleSteps.cycle_steps, TestOf.plain}
 use Rattle.tests_force_cycles.proofs.StepsFit.{steps_fit, steps_placed}
-use Rattle.test_maker.specs.declared.refusal.{Refusal.TheVariants.TooManyRegisters, Refusal.Refusal}
-use Rattle.test_maker.specs.{Refusals.crowded_thread, Refusals.is_crowded, Made.AreOfArch, Made.CanPrint, ConditionTerms.PutsThreads}
-use Rattle.litmus_text.specs.declared.test.Test.{Test}
+use Rattle.test_maker.specs.{declared.refusal.Refusal.TheVariants.TooManyRegisters, declared.refusal.Refusal.Refusal, Refusals.{crowded_thread, is_crowded}}
+use Rattle.test_maker.specs.{Made.{AreOfArch, CanPrint}, ConditionTerms.PutsThreads}
 use Rattle.final_cond.specs.declared.cond.Cond.{Cond}
 
 -- the accesses are at places below a number

@@ -1,16 +1,11 @@
 -- How a test grows thread by thread.
-use Rattle.std.specs.Prelude.{ℕ, ◌≡◌, true, false, List, [], ◌∷◌, ◌++◌, map, slice_index_or, Some, None, Result, Ok, Err}
-use Rattle.std.specs.List.{zip}
+use Rattle.std.specs.{Prelude.{ℕ, ◌≡◌, true, false, List, [], ◌∷◌, ◌++◌, map, slice_index_or, Some, None, Result, Ok, Err}, List.zip}
 use Rattle.arrayvec.specs.ArrayVec.{ArrayVec}
-use Rattle.relax_edges.specs.declared.{kinds.ObsMode.ObsMode, edge.Edge.Edge}
-use Rattle.final_cond.specs.declared.cond.Cond.{Cond}
-use Rattle.final_cond.specs.Conditions.{TermSeen, AtPlace, term_view}
-use Rattle.arch_trait.specs.declared.{code.Code.Code, step.Step.Step}
-use Rattle.arch_trait.specs.{Codes.thread_code_of, Threads.Puts, Threads.compiled}
-use Rattle.tests_force_cycles.specs.CycleSteps.{cycle_steps, numbers_read}
-use Rattle.tests_force_cycles.specs.TestOf.{plain, load_term, load_terms, thread_terms}
-use Rattle.test_maker.specs.declared.refusal.{Refusal.Refusal, Refusal.TheVariants.TooManyRegisters}
-use Rattle.test_maker.specs.Refusals.{crowded_thread, is_crowded}
+use Rattle.relax_edges.specs.{declared.kinds.ObsMode.ObsMode, declared.edge.Edge.Edge}
+use Rattle.final_cond.specs.{declared.cond.Cond.Cond, Conditions.{TermSeen, AtPlace, term_view}}
+use Rattle.arch_trait.specs.{declared.code.Code.Code, declared.step.Step.Step, Codes.thread_code_of, Threads.{Puts, compiled}}
+use Rattle.tests_force_cycles.specs.{CycleSteps.{cycle_steps, numbers_read}, TestOf.{plain, load_term, load_terms, thread_terms}}
+use Rattle.test_maker.specs.{declared.refusal.Refusal.Refusal, declared.refusal.Refusal.TheVariants.TooManyRegisters, Refusals.{crowded_thread, is_crowded}}
 
 -- a location ends with a value, where places have these names
 abbrev pub place_term : List (List ℕ) → ℕ → ℕ → TermSeen

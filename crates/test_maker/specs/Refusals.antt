@@ -1,17 +1,14 @@
 -- Why a cycle has no test: the first reason that holds.
 -- Source: own, after the refusals of diy.
-use Rattle.std.specs.Prelude.{Bool, not, nat_lt, List, Option, Some, None, Result, Ok, Err}
-use Rattle.std.specs.{List.position_from, Option.option_map, Option.option_or}
-use Rattle.relax_edges.specs.declared.{kinds.ArchName.ArchName, kinds.ObsMode.ObsMode, kinds.ObsMode.TheVariants.Accept}
-use Rattle.relax_edges.specs.declared.{kinds.ObsMode.TheVariants.Avoid, kinds.ObsMode.TheVariants.Force, edge.Edge.Edge}
-use Rattle.relax_edges.specs.EdgeTable.{is_of_arch}
+use Rattle.std.specs.{Prelude.{Bool, not, nat_lt, List, Option, Some, None, Result, Ok, Err}, List.position_from, Option.{option_map, option_or}}
+use Rattle.relax_edges.specs.{declared.kinds.ArchName.ArchName, declared.kinds.ObsMode.ObsMode, declared.kinds.ObsMode.TheVariants.{Accept, Avoid, Force}}
+use Rattle.relax_edges.specs.{declared.edge.Edge.Edge, EdgeTable.is_of_arch}
 use Rattle.edge_algebra.specs.declared.errors.CycleError.{CycleError}
 use Rattle.edge_algebra.specs.declared.errors.CycleError.TheVariants as composing
-use Rattle.cycle_events.specs.declared.{errors.ResolveError.ResolveError, needs.NeedsObserver.NeedsObserver}
+use Rattle.cycle_events.specs.{declared.errors.ResolveError.ResolveError, declared.needs.NeedsObserver.NeedsObserver, Resolution.resolution_of}
+use Rattle.cycle_events.specs.Values.{observer_need}
 use Rattle.cycle_events.specs.declared.errors.ResolveError.TheVariants as resolving
-use Rattle.cycle_events.specs.{Resolution.resolution_of, Values.observer_need}
-use Rattle.arch_trait.specs.declared.step.Step.{Step}
-use Rattle.arch_trait.specs.Threads.{Puts, shape_of}
+use Rattle.arch_trait.specs.{declared.step.Step.Step, Threads.{Puts, shape_of}}
 use Rattle.test_maker.specs.declared.refusal.Refusal.{Refusal}
 use Rattle.test_maker.specs.declared.refusal.Refusal.TheVariants as refusals
 use Rattle.tests_force_cycles.specs.{CycleSteps.cycle_steps, TestOf.plain}

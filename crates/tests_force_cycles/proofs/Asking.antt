@@ -1,27 +1,22 @@
 -- The executions that a cycle's test asks for are the outcomes of its program.
 use Rattle.std.proofs.Common.{◌≡◌, ℕ, ◌<◌, true, not, List, length, map, Option, Some, slice_get, sym, ◌∙◌, ap, subst, arith}
-use Rattle.std.specs.{Prelude.nat_le, List.AllByRecursion, List.count_by, List.filter}
-use Rattle.std.proofs.lemmas.Bool.{and_from, and_parts, leb-true, le-leb, not-true}
-use Rattle.std.proofs.lemmas.Option.{slice_get_within}
-use Rattle.relax_edges.specs.declared.{kinds.Value.Value, kinds.Value.TheVariants.Num, kinds.ObsMode.ObsMode, edge.Edge.Edge}
+use Rattle.std.proofs.{lemmas.Bool.{and_from, and_parts, leb-true, le-leb, not-true}, lemmas.Option.slice_get_within}
+use Rattle.std.specs.{Prelude.nat_le, List.{AllByRecursion, count_by, filter}}
+use Rattle.relax_edges.specs.{declared.kinds.Value.Value, declared.kinds.Value.TheVariants.Num, declared.kinds.ObsMode.ObsMode, declared.edge.Edge.Edge}
 use Rattle.list_laws.specs.Numbers.{upto}
 use Rattle.list_laws.proofs.Ranks.{rank_upto, unrank_upto}
-use Rattle.cycle_events.specs.{Resolution.move_count, Values.is_observed, Values.write_count}
+use Rattle.cycle_events.specs.{Resolution.move_count, Values.{is_observed, write_count}}
 use Rattle.final_cond.specs.Conditions.{LeftSeen, AtPlace}
-use Rattle.arch_trait.specs.declared.step.Step.{Step}
-use Rattle.arch_trait.specs.Threads.{Puts, ThreadCode, compiled, HoldNumbers}
-use Rattle.arch_trait.specs.{Laws.IsArch, PlaceNames.location_name, PlaceRenumbering.step_at, PlaceRenumbering.renumbered, Codes.AllBelow}
-use Rattle.program_meaning.specs.declared.WriteAt.{WriteAt}
-use Rattle.program_meaning.specs.{Accesses.Access, Accesses.is_read, Executions.Execution, Coherence.final_value, Programs.IsCandidate}
-use Rattle.program_meaning.specs.{Programs.accesses_in, Intended.IsNumbering, Intended.cycle_accesses}
+use Rattle.arch_trait.specs.{declared.step.Step.Step, Threads.{Puts, ThreadCode, compiled, HoldNumbers}, Laws.IsArch, PlaceNames.location_name}
+use Rattle.arch_trait.specs.{PlaceRenumbering.{step_at, renumbered}, Codes.AllBelow}
+use Rattle.program_meaning.specs.{declared.WriteAt.WriteAt, Accesses.{Access, is_read}, Executions.Execution, Coherence.final_value}
+use Rattle.program_meaning.specs.{Programs.{IsCandidate, accesses_in}, Intended.{IsNumbering, cycle_accesses}}
 use Rattle.accesses_force_cycles.specs.Joining.{ReadsAsAsked, EndsAsAsked, values_read}
 use Rattle.accesses_force_cycles.proofs.Lists.{got_below, got_map, image_of}
-use Rattle.tests_force_cycles.specs.{CycleSteps.cycle_steps, CycleSteps.numbers_read, FinalStates.final_state, TestHeadline.HasCode}
-use Rattle.tests_force_cycles.specs.{TestHeadline.FindsRegisters}
+use Rattle.tests_force_cycles.specs.{CycleSteps.{cycle_steps, numbers_read}, FinalStates.final_state, TestHeadline.{HasCode, FindsRegisters}}
 use Rattle.tests_force_cycles.specs.TestOf.{plain, is_named_location, last_term, last_terms, thread_terms, load_terms}
-use Rattle.tests_force_cycles.proofs.{Terms.reads-count, Visits.step_access, ThreadRuns.DidThread, ThreadRuns.did_thread, Everywhere.all_gets}
-use Rattle.tests_force_cycles.proofs.{Everywhere.all_from, PlaceNames.AreNamed, PlaceNames.place_found}
-use Rattle.tests_force_cycles.proofs.Making.{planned_at, planned-count, planned_reads, candidate_enough, candidate_lists}
+use Rattle.tests_force_cycles.proofs.{Terms.reads-count, Visits.step_access, ThreadRuns.{DidThread, did_thread}, Everywhere.{all_gets, all_from}}
+use Rattle.tests_force_cycles.proofs.{PlaceNames.{AreNamed, place_found}, Making.{planned_at, planned-count, planned_reads, candidate_enough, candidate_lists}}
 use Rattle.tests_force_cycles.proofs.TestCodes.{cycle_codes, cycle_program, steps_numbered, Origin, origin_of, are_codes, loads_below, numbers_kept}
 use Rattle.tests_force_cycles.proofs.Meeting.{IsMet, ShowsRegisters, terms_of_thread, terms_from_threads, terms_read, read_terms}
 

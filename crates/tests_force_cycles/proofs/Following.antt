@@ -1,16 +1,13 @@
 -- An access that follows another in its thread, by the link between them.
 use Rattle.std.proofs.Common.{◌≡◌, ℕ, suc, ◌+◌, ◌-◌, ◌<◌, ◌^◌, true, false, List, take, Some, slice_get, sym, ◌∙◌, ap, subst, arith, zero-add}
+use Rattle.std.proofs.{lemmas.Bool.cond-true, lemmas.Option.slice_get_within}
 use Rattle.std.specs.List.{count_by}
-use Rattle.std.proofs.lemmas.{Bool.cond-true, Option.slice_get_within}
-use Rattle.relax_edges.specs.declared.kinds.{Dir.Dir, ArchName.ArchName, Kind.Kind}
+use Rattle.relax_edges.specs.{declared.kinds.Dir.Dir, declared.kinds.ArchName.ArchName, declared.kinds.Kind.Kind, EdgeTable.kind_source}
 use Rattle.relax_edges.specs.declared.kinds.Dir.TheVariants as dirs
-use Rattle.relax_edges.specs.EdgeTable.{kind_source}
-use Rattle.arch_trait.specs.declared.step.Step.{Step}
-use Rattle.arch_trait.specs.Links.{kind_link, is_addr, is_data, mask_if, link_control}
+use Rattle.arch_trait.specs.{declared.step.Step.Step, Links.{kind_link, is_addr, is_data, mask_if, link_control}}
 use Rattle.arch_trait.specs.Threads.{FitSteps, is_load_dir, loads_in, control_after}
-use Rattle.program_meaning.specs.Accesses.{Access, Visit, accesses_of, is_read, reads_by, reads_before}
-use Rattle.program_meaning.specs.Standing.{NamedAccess}
-use Rattle.tests_force_cycles.proofs.{Visits.link_barred, Visits.data_met, Visits.thread_visits, Ties.Follows}
+use Rattle.program_meaning.specs.{Accesses.{Access, Visit, accesses_of, is_read, reads_by, reads_before}, Standing.NamedAccess}
+use Rattle.tests_force_cycles.proofs.{Visits.{link_barred, data_met, thread_visits}, Ties.Follows}
 use Rattle.tests_force_cycles.proofs.VisitsAt.{IsVisit, visit_at, reads_same, reads_taken, loads_more, control_later}
 
 -- the data mask of an access is that of its link, whatever it does

@@ -1,27 +1,23 @@
 -- The test of a cycle forces the cycle.
-use Rattle.std.proofs.Common.{◌≡◌, ℕ, ◌<◌, ◌≤◌, List, [], ◌∷◌, map, Option, Some, None, slice_get, refl, sym, ◌∙◌, ap, subst, arith}
-use Rattle.std.specs.{Prelude.◌↔◌, Prelude.nat_lt, List.position_from}
-use Rattle.std.proofs.lemmas.{Bool.ltb-false, Option.slice_get_within, Slice.Eq.bytes_eq-Decides}
+use Rattle.std.proofs.{Common.{◌≡◌, ℕ, ◌<◌, ◌≤◌, List, [], ◌∷◌, map, Option, Some, None, slice_get, refl, sym, ◌∙◌, ap, subst, arith}, lemmas.Bool.ltb-false}
+use Rattle.std.proofs.{lemmas.Option.slice_get_within, lemmas.Slice.Eq.bytes_eq-Decides}
+use Rattle.std.specs.{Prelude.{◌↔◌, nat_lt}, List.position_from}
 use Rattle.list_laws.proofs.Elements.{all_append, all_parts}
-use Rattle.relax_edges.specs.declared.{TheConstants.MAX_EDGES, kinds.ObsMode.ObsMode, edge.Edge.Edge}
+use Rattle.relax_edges.specs.{declared.TheConstants.MAX_EDGES, declared.kinds.ObsMode.ObsMode, declared.edge.Edge.Edge}
 use Rattle.cycle_events.specs.Resolution.{move_count}
 use Rattle.final_cond.specs.{Conditions.CondSeen, States.Meets}
-use Rattle.arch_trait.specs.declared.step.Step.{Step}
-use Rattle.arch_trait.specs.{Threads.Puts, Threads.ThreadCode, Threads.shape_of, PlaceRenumbering.renumbered, Laws.IsArch, PlaceNames.location_name}
-use Rattle.arch_trait.specs.{SeenTests.TestSeen}
+use Rattle.arch_trait.specs.{declared.step.Step.Step, Threads.{Puts, ThreadCode, shape_of}, PlaceRenumbering.renumbered, Laws.IsArch, PlaceNames.location_name}
+use Rattle.arch_trait.specs.SeenTests.{TestSeen}
 use Rattle.arch_trait_laws.proofs.{NameLaws.length-letters, Renumbered.renumbered_same}
-use Rattle.program_meaning.specs.{Executions.Execution, Programs.Program, Programs.IsCandidate, Programs.IsCoherentIn, Standing.AllStand}
-use Rattle.program_meaning.specs.{Intended.IsNumbering, Intended.intended}
+use Rattle.program_meaning.specs.{Executions.Execution, Programs.{Program, IsCandidate, IsCoherentIn}, Standing.AllStand, Intended.{IsNumbering, intended}}
 use Rattle.accesses_force_cycles.specs.Joining.{IsOutcome}
-use Rattle.accesses_force_cycles.proofs.{Needs.served_if_valued, Laws.all_edges_stand_law, Laws.one_outcome_law, Laws.an_outcome_law}
-use Rattle.tests_force_cycles.specs.{CycleSteps.cycle_steps, TestPrograms.test_program, FinalStates.final_state, FinalStates.IsAskedFor}
+use Rattle.accesses_force_cycles.proofs.{Needs.served_if_valued, Laws.{all_edges_stand_law, one_outcome_law, an_outcome_law}}
+use Rattle.tests_force_cycles.specs.{CycleSteps.cycle_steps, TestPrograms.test_program, FinalStates.{final_state, IsAskedFor}}
 use Rattle.tests_force_cycles.specs.TestOf.{plain, last_terms, load_terms, test_of}
 use Rattle.tests_force_cycles.specs.TestHeadline.{HasCode, HasTest, FindsRegisters, IsRenumbered, TestsForce, RenumberedForce, TestsAsk}
-use Rattle.tests_force_cycles.proofs.{Everywhere.position_none, TestCodes.cycle_codes, TestCodes.cycle_program, TestCodes.are_codes, Tying.tied_up}
-use Rattle.tests_force_cycles.proofs.{Meeting.IsMet}
+use Rattle.tests_force_cycles.proofs.{Everywhere.position_none, TestCodes.{cycle_codes, cycle_program, are_codes}, Tying.tied_up, Meeting.IsMet}
 use Rattle.tests_force_cycles.proofs.PlaceNames.{AreNamed, letter_at, names_differ, locations_few}
-use Rattle.tests_force_cycles.proofs.Making.{makes, makes_enough, intended_enough, intended_ends}
-use Rattle.tests_force_cycles.proofs.Asking.{reads_asked, asked_met, ends_asked, asked_ends}
+use Rattle.tests_force_cycles.proofs.{Making.{makes, makes_enough, intended_enough, intended_ends}, Asking.{reads_asked, asked_met, ends_asked, asked_ends}}
 
 -- an execution of the program of a cycle's test that the test asks for
 pub record IsAsked (a : Puts) (register_name : ℕ → List ℕ) (es : List Edge) (mode : ObsMode) (number : ℕ → ℕ) (names : List (List ℕ)) (register_number : List ℕ → Option ℕ) (x : Execution) : Type 0 where

@@ -1,18 +1,15 @@
 -- The program of a cycle's test makes the accesses of the test, in each execution in which its runs come to their ends.
-use Rattle.std.proofs.Common.{◌≡◌, ℕ, ◌<◌, List, [], ◌∷◌, length, map, Some, slice_get, refl, sym, ◌∙◌, ap, arith}
+use Rattle.std.proofs.{Common.{◌≡◌, ℕ, ◌<◌, List, [], ◌∷◌, length, map, Some, slice_get, refl, sym, ◌∙◌, ap, arith}, lemmas.List.{length-map, map-append}}
+use Rattle.std.proofs.lemmas.Option.{slice_get_within}
 use Rattle.std.specs.List.{filter}
-use Rattle.std.proofs.lemmas.{List.length-map, List.map-append, Option.slice_get_within}
-use Rattle.relax_edges.specs.declared.{kinds.ObsMode.ObsMode, edge.Edge.Edge}
+use Rattle.relax_edges.specs.{declared.kinds.ObsMode.ObsMode, declared.edge.Edge.Edge}
 use Rattle.cycle_events.specs.Resolution.{IsResolved, move_count}
-use Rattle.arch_trait.specs.declared.step.Step.{Step}
-use Rattle.arch_trait.specs.Threads.{ThreadCode}
-use Rattle.program_meaning.specs.{Accesses.Access, Accesses.is_read, Executions.Execution, Programs.IsCandidate, Intended.IsNumbering}
-use Rattle.program_meaning.specs.{Intended.cycle_accesses, Intended.intended}
+use Rattle.arch_trait.specs.{declared.step.Step.Step, Threads.ThreadCode}
+use Rattle.program_meaning.specs.{Accesses.{Access, is_read}, Executions.Execution, Programs.IsCandidate, Intended.{IsNumbering, cycle_accesses, intended}}
 use Rattle.program_meaning.proofs.Runs.{accesses-count}
 use Rattle.accesses_force_cycles.specs.Joining.{accesses_filled, values_read, MakesAccesses, ReadsAsAsked}
-use Rattle.accesses_force_cycles.proofs.Lists.{got_below, got_map, map_same, map-map}
-use Rattle.accesses_force_cycles.proofs.{Bridge.resolves, IntendedReads.reads-count, Programs.intended_asked}
-use Rattle.tests_force_cycles.specs.{CycleSteps.cycle_steps, CycleSteps.numbers_read, TestPrograms.thread_from, TestPrograms.program_of}
+use Rattle.accesses_force_cycles.proofs.{Lists.{got_below, got_map, map_same, map-map}, Bridge.resolves, IntendedReads.reads-count, Programs.intended_asked}
+use Rattle.tests_force_cycles.specs.{CycleSteps.{cycle_steps, numbers_read}, TestPrograms.{thread_from, program_of}}
 use Rattle.tests_force_cycles.proofs.{Terms.reads-count as numbers-count, Visits.step_access}
 use Rattle.tests_force_cycles.proofs.ThreadRuns.{AreCodesOf, AreEnough, AllEnd, did_thread, enough, all_end}
 

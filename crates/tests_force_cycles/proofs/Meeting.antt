@@ -3,11 +3,10 @@
 use Rattle.std.proofs.Common.{◌≡◌, ℕ, zero, suc, ◌+◌, ◌<◌, List, [], ◌∷◌, length, map, Option, Some, slice_get, refl, ◌∙◌, ap, subst, arith}
 use Rattle.std.specs.List.{AllByRecursion, zip}
 use Rattle.list_laws.proofs.Elements.{all_append, all_parts}
-use Rattle.relax_edges.specs.declared.kinds.{Value.Value, Value.TheVariants.Num}
+use Rattle.relax_edges.specs.{declared.kinds.Value.Value, declared.kinds.Value.TheVariants.Num}
 use Rattle.final_cond.specs.Conditions.{LeftSeen, TermSeen, InRegister}
-use Rattle.arch_trait.specs.declared.step.Step.{Step}
-use Rattle.arch_trait.specs.{Threads.Puts, Threads.compiled, Threads.HoldNumbers, Codes.AllBelow}
-use Rattle.tests_force_cycles.specs.{CycleSteps.numbers_read, TestOf.load_term, TestOf.thread_terms, TestOf.load_terms}
+use Rattle.arch_trait.specs.{declared.step.Step.Step, Threads.{Puts, compiled, HoldNumbers}, Codes.AllBelow}
+use Rattle.tests_force_cycles.specs.{CycleSteps.numbers_read, TestOf.{load_term, thread_terms, load_terms}}
 use Rattle.tests_force_cycles.proofs.Terms.{loads-count}
 
 -- a term is met in a final state

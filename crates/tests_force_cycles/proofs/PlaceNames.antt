@@ -1,9 +1,8 @@
 -- The names of locations differ, so the place of a location is found by its name.
-use Rattle.std.proofs.Common.{◌≡◌, ℕ, ◌<◌, true, false, List, [], Some, slice_get, refl, sym, ◌∙◌, ap, arith}
+use Rattle.std.proofs.{Common.{◌≡◌, ℕ, ◌<◌, true, false, List, [], Some, slice_get, refl, sym, ◌∙◌, ap, arith}, lemmas.Slice.Eq.bytes_eq-Decides}
+use Rattle.std.proofs.{lemmas.Option.slice_get-get_or, lemmas.List.FromFn.{get_or-map-range_with_len, length-map-range_with_len}}
 use Rattle.std.specs.Str.{bytes_eq}
-use Rattle.std.proofs.lemmas.{Slice.Eq.bytes_eq-Decides, Option.slice_get-get_or, List.FromFn.get_or-map-range_with_len}
-use Rattle.std.proofs.lemmas.{List.FromFn.length-map-range_with_len}
-use Rattle.relax_edges.specs.declared.{TheConstants.MAX_EDGES, edge.Edge.Edge}
+use Rattle.relax_edges.specs.{declared.TheConstants.MAX_EDGES, declared.edge.Edge.Edge}
 use Rattle.list_laws.proofs.Cases.{by_test}
 use Rattle.cycle_events.specs.Resolution.{IsResolved, move_count}
 use Rattle.cycle_events.proofs.Sizes.{external_and_moves}

@@ -1,8 +1,7 @@
 -- Each register is found by its name.
-use Rattle.std.proofs.Common.{◌≡◌, ℕ, zero, suc, ◌+◌, ◌<◌, false, cond, List, [], ◌∷◌, length, get_or, Some, ap, ◌∙◌, arith}
-use Rattle.std.specs.{List.position_from, List.IsDistinct, List.AllByRecursion, Str.bytes_eq}
-use Rattle.std.proofs.lemmas.Slice.Eq.{bytes_eq-Decides}
-use Rattle.arch_trait.specs.{PlaceNames.number_in, Threads.Puts, Writing.Writing, Writing.WritesBack, Writing.name_in}
+use Rattle.std.proofs.{Common.{◌≡◌, ℕ, zero, suc, ◌+◌, ◌<◌, false, cond, List, [], ◌∷◌, length, get_or, Some, ap, ◌∙◌, arith}, lemmas.Slice.Eq.bytes_eq-Decides}
+use Rattle.std.specs.{List.{position_from, IsDistinct, AllByRecursion}, Str.bytes_eq}
+use Rattle.arch_trait.specs.{PlaceNames.number_in, Threads.Puts, Writing.{Writing, WritesBack, name_in}}
 use Rattle.tests_force_cycles.specs.TestHeadline.{FindsRegisters}
 
 each_at : (P : List ℕ → Type 0) (names : List (List ℕ)) (i : ℕ) → AllByRecursion P names → i < length names → P (get_or names i [])

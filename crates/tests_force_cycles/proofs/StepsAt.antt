@@ -1,12 +1,11 @@
 -- Where the accesses of each thread of a cycle and of each observer are among those of the cycle's test, and that
 -- there is nothing else.
-use Rattle.std.proofs.Common.{◌≡◌, ℕ, ◌+◌, ◌-◌, ◌<◌, ◌≤◌, true, List, length, map, Some, slice_get, sym, ◌∙◌, arith, length-append}
+use Rattle.std.proofs.{Common.{◌≡◌, ℕ, ◌+◌, ◌-◌, ◌<◌, ◌≤◌, true, List, length, map, Some, slice_get, sym, ◌∙◌, arith, length-append}, lemmas.List.length-map}
 use Rattle.std.specs.List.{count_by}
-use Rattle.std.proofs.lemmas.List.{length-map}
-use Rattle.relax_edges.specs.declared.{kinds.ObsMode.ObsMode, edge.Edge.Edge}
+use Rattle.relax_edges.specs.{declared.kinds.ObsMode.ObsMode, declared.edge.Edge.Edge}
 use Rattle.list_laws.specs.Numbers.{upto}
-use Rattle.list_laws.proofs.{Cases.by_less, Numbers.length-map-upto, Numbers.slice_get-map-upto, Ranks.length-filter-upto, Ranks.unrank_upto}
-use Rattle.cycle_events.specs.{Resolution.external_count, Resolution.move_count, Values.is_observed}
+use Rattle.list_laws.proofs.{Cases.by_less, Numbers.{length-map-upto, slice_get-map-upto}, Ranks.{length-filter-upto, unrank_upto}}
+use Rattle.cycle_events.specs.{Resolution.{external_count, move_count}, Values.is_observed}
 use Rattle.cycle_events.proofs.ValueLaws.{threads_and_observers}
 use Rattle.arch_trait.specs.declared.step.Step.{Step}
 use Rattle.program_meaning.specs.Intended.{observed_locations}

@@ -1,23 +1,21 @@
 -- The accesses of each thread of a cycle's test are some and not too many, can follow one another on the architecture,
 -- with their marks, and are at the places of locations.
 use Rattle.std.proofs.Common.{◌≡◌, ℕ, zero, suc, ◌+◌, ◌<◌, ◌≤◌, Bool, true, false, ◌==◌, List, [], ◌∷◌, length, get_or, Some, slice_get, refl, sym, ◌∙◌, ap, subst, arith, add-one, eq-eqb}
+use Rattle.std.proofs.{lemmas.Bool.{cond-true, and_parts}, lemmas.List.length-map, lemmas.Option.slice_get_within}
 use Rattle.std.specs.List.{list_all}
-use Rattle.std.proofs.lemmas.{Bool.cond-true, Bool.and_parts, List.length-map, Option.slice_get_within}
-use Rattle.relax_edges.specs.declared.{kinds.Dir.Dir, kinds.ArchName.ArchName, kinds.ObsMode.ObsMode, kinds.Kind.Kind, edge.Edge.Edge}
-use Rattle.relax_edges.specs.declared.{TheConstants.MAX_EDGES}
-use Rattle.relax_edges.specs.declared.kinds.Dir.TheVariants as dirs
+use Rattle.relax_edges.specs.{declared.kinds.Dir.Dir, declared.kinds.ArchName.ArchName, declared.kinds.ObsMode.ObsMode, declared.kinds.Kind.Kind}
+use Rattle.relax_edges.specs.{declared.edge.Edge.Edge, declared.TheConstants.MAX_EDGES}
 use Rattle.relax_edges.specs.EdgeTable.{kind_of, kind_source, kind_target, source_of, mark_fits, mark_is_of, is_of_arch, is_external}
+use Rattle.relax_edges.specs.declared.kinds.Dir.TheVariants as dirs
 use Rattle.edge_algebra_laws.proofs.Marks.{source_mark_fits}
 use Rattle.list_laws.specs.Numbers.{upto}
 use Rattle.list_laws.proofs.Numbers.{length-upto, length-map-upto, slice_get-upto}
 use Rattle.cycle_events.specs.Resolution.{IsResolved, edge_at, move_count, event_before, event_after, events_in, thread_of, slot_of, location_of}
-use Rattle.cycle_events.proofs.{Threads.slot-zero, Threads.slot_out, Threads.slot_of_event, Around.after_below, Around.source_after}
-use Rattle.cycle_events.proofs.{Around.internal_follows, Arcs.location_below, Sizes.only_in_slot, Sizes.thread_has_events, Sizes.thread_size_most}
-use Rattle.cycle_events.proofs.{Along.value_most, Along.write_count_most, ValueLaws.observed_writes}
 use Rattle.cycle_events.specs.Values.{value_of, write_count}
-use Rattle.arch_trait.specs.declared.{step.Step.Step, link.Link.Link, link.Link.TheVariants.Plain}
-use Rattle.arch_trait.specs.Links.{kind_link, edge_link, depends_on_load, is_data}
-use Rattle.arch_trait.specs.Threads.{FitStep, FitSteps, is_load_dir}
+use Rattle.cycle_events.proofs.{Threads.{slot-zero, slot_out, slot_of_event}, Around.{after_below, source_after, internal_follows}, Arcs.location_below}
+use Rattle.cycle_events.proofs.{Sizes.{only_in_slot, thread_has_events, thread_size_most}, Along.{value_most, write_count_most}, ValueLaws.observed_writes}
+use Rattle.arch_trait.specs.{declared.step.Step.Step, declared.link.Link.Link, declared.link.Link.TheVariants.Plain}
+use Rattle.arch_trait.specs.{Links.{kind_link, edge_link, depends_on_load, is_data}, Threads.{FitStep, FitSteps, is_load_dir}}
 use Rattle.tests_force_cycles.proofs.{EdgeMarks.has_edge, StepsAt.by_steps}
 use Rattle.accesses_force_cycles.proofs.Lists.{image_of}
 use Rattle.tests_force_cycles.specs.CycleSteps.{event_link, event_step, thread_steps, observing, observer_steps, cycle_steps}

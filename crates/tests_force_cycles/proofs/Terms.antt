@@ -1,18 +1,16 @@
 -- The terms of a test's condition: those of some threads and then of others, and how many there are.
 use Rattle.std.proofs.Common.{◌≡◌, ℕ, zero, suc, ◌+◌, ◌<◌, ◌≤◌, Bool, true, false, not, ◌==◌, ◌&&◌, cond, List, [], ◌∷◌, ◌++◌, length, get_or, take, drop, map, refl, sym, ◌∙◌, ap, arith, length-append, append_assoc, append-nil, length-take}
-use Rattle.std.specs.List.{count_by, filter, sum_by}
-use Rattle.std.proofs.{lemmas.List.length-map, lemmas.List.take-append-drop, lemmas.List.take_more, lemmas.Slice.Zip.length-zip, Math.Bool.and_comm}
+use Rattle.std.proofs.{lemmas.List.{length-map, take-append-drop, take_more}, lemmas.Slice.Zip.length-zip, Math.Bool.and_comm}
 use Rattle.std.proofs.lemmas.List.Sums.{sum_by-cons, sum_by-append, count_by-le-length, length-filter}
-use Rattle.relax_edges.specs.declared.{kinds.ObsMode.ObsMode, edge.Edge.Edge}
-use Rattle.relax_edges.specs.EdgeTable.{source_of}
+use Rattle.std.specs.List.{count_by, filter, sum_by}
+use Rattle.relax_edges.specs.{declared.kinds.ObsMode.ObsMode, declared.edge.Edge.Edge, EdgeTable.source_of}
 use Rattle.list_laws.specs.Numbers.{upto}
-use Rattle.list_laws.proofs.{Numbers.length-map-upto, Counts.count_upto-suc, Counts.count_upto_none, Counts.count_upto_same, Totals.count_upto_single}
-use Rattle.list_laws.proofs.{Totals.sum_upto_same, Totals.sum_upto-add}
+use Rattle.list_laws.proofs.{Numbers.length-map-upto, Counts.{count_upto-suc, count_upto_none, count_upto_same}}
+use Rattle.list_laws.proofs.Totals.{count_upto_single, sum_upto_same, sum_upto-add}
 use Rattle.cycle_events.specs.Resolution.{IsResolved, edge_at, external_count, move_count, events_in, location_of, thread_of}
-use Rattle.cycle_events.proofs.{Arcs.location_below, Arcs.thread_below, Lists.count_filter}
 use Rattle.cycle_events.specs.Values.{is_observed, is_write, write_count}
-use Rattle.arch_trait.specs.declared.step.Step.{Step}
-use Rattle.arch_trait.specs.Threads.{Puts, is_load_dir, loads_in, setting_out, compiled}
+use Rattle.cycle_events.proofs.{Arcs.{location_below, thread_below}, Lists.count_filter}
+use Rattle.arch_trait.specs.{declared.step.Step.Step, Threads.{Puts, is_load_dir, loads_in, setting_out, compiled}}
 use Rattle.arch_trait_laws.proofs.CodeLaws.{thread_loads_length}
 use Rattle.program_meaning.specs.Intended.{observed_locations}
 use Rattle.tests_force_cycles.specs.CycleSteps.{thread_steps, observer_steps, cycle_steps, numbers_read}

@@ -1,17 +1,15 @@
 -- The code of a cycle's test, with any numbers for the places, makes the accesses of the test at these places.
 use Rattle.std.proofs.Common.{◌≡◌, ℕ, true, List, [], ◌∷◌, length, map, Some, slice_get, refl, sym, ◌∙◌, ap, subst, arith}
-use Rattle.std.specs.List.{list_all}
 use Rattle.std.proofs.lemmas.List.{length-map, map-append}
-use Rattle.relax_edges.specs.declared.{kinds.ObsMode.ObsMode, edge.Edge.Edge}
-use Rattle.relax_edges.specs.EdgeTable.{is_of_arch}
+use Rattle.std.specs.List.{list_all}
+use Rattle.relax_edges.specs.{declared.kinds.ObsMode.ObsMode, declared.edge.Edge.Edge, EdgeTable.is_of_arch}
 use Rattle.cycle_events.specs.Resolution.{IsResolved, move_count}
-use Rattle.arch_trait.specs.declared.step.Step.{Step}
-use Rattle.arch_trait.specs.{Codes.AllBelow, Codes.MakesSteps, Threads.Puts, Threads.ThreadCode, Threads.compiled, Laws.IsArch}
-use Rattle.arch_trait.specs.{PlaceRenumbering.step_at, PlaceRenumbering.renumbered}
-use Rattle.arch_trait_laws.proofs.{CodeLaws.makes_steps, CodeLaws.is_formed, Renumbered.renumbered_makes}
+use Rattle.arch_trait.specs.{declared.step.Step.Step, Codes.{AllBelow, MakesSteps}, Threads.{Puts, ThreadCode, compiled}, Laws.IsArch}
+use Rattle.arch_trait.specs.PlaceRenumbering.{step_at, renumbered}
+use Rattle.arch_trait_laws.proofs.{CodeLaws.{makes_steps, is_formed}, Renumbered.renumbered_makes}
 use Rattle.program_meaning.specs.Programs.{Program}
 use Rattle.accesses_force_cycles.proofs.Lists.{got_map, image_of, map_same, map-map}
-use Rattle.tests_force_cycles.specs.{CycleSteps.cycle_steps, CycleSteps.numbers_read, TestOf.plain, TestPrograms.program_of, TestHeadline.HasCode}
+use Rattle.tests_force_cycles.specs.{CycleSteps.{cycle_steps, numbers_read}, TestOf.plain, TestPrograms.program_of, TestHeadline.HasCode}
 use Rattle.tests_force_cycles.proofs.{StepsFit.steps_fit, ThreadRuns.AreCodesOf}
 
 -- the code of the threads of a cycle's test, where each location's place has the number that `number` gives it

@@ -1,16 +1,12 @@
 -- The runs of a program's threads in an execution: with a number for each load they end, and make the accesses of their
 -- steps; with fewer or more they don't end.
-use Rattle.std.proofs.Common.{◌≡◌, ℕ, suc, ◌<◌, List, ◌∷◌, length, map, Option, Some, slice_get, sym, ◌∙◌, ap, subst, arith}
-use Rattle.std.proofs.lemmas.{List.length-map, Option.slice_get_within}
+use Rattle.std.proofs.{Common.{◌≡◌, ℕ, suc, ◌<◌, List, ◌∷◌, length, map, Option, Some, slice_get, sym, ◌∙◌, ap, subst, arith}, lemmas.List.length-map}
+use Rattle.std.proofs.lemmas.Option.{slice_get_within}
 use Rattle.list_laws.proofs.Cases.{by_less}
 use Rattle.relax_edges.specs.declared.kinds.Value.{Value}
-use Rattle.micro_ops.specs.declared.operation.Item.{Item}
-use Rattle.micro_ops.specs.Running.{Outcome, Ended, ReadsLeft, ReadsShort}
-use Rattle.arch_trait.specs.declared.step.Step.{Step}
-use Rattle.arch_trait.specs.Codes.{MakesSteps}
-use Rattle.arch_trait.specs.Threads.{ThreadCode, loads_in, thread_items, HoldNumbers}
-use Rattle.program_meaning.specs.declared.WriteAt.{WriteAt}
-use Rattle.program_meaning.specs.{Accesses.Visit, Accesses.visits_of, Accesses.accesses_of, Executions.Execution}
+use Rattle.micro_ops.specs.{declared.operation.Item.Item, Running.{Outcome, Ended, ReadsLeft, ReadsShort}}
+use Rattle.arch_trait.specs.{declared.step.Step.Step, Codes.MakesSteps, Threads.{ThreadCode, loads_in, thread_items, HoldNumbers}}
+use Rattle.program_meaning.specs.{declared.WriteAt.WriteAt, Accesses.{Visit, visits_of, accesses_of}, Executions.Execution}
 use Rattle.program_meaning.specs.Programs.{Program, Thread, run_of, runs_of, made_in, HasEnded, items_in, visits_in, accesses_in}
 use Rattle.program_meaning.proofs.Runs.{accesses-count}
 use Rattle.accesses_force_cycles.specs.Joining.{accesses_filled, values_read}

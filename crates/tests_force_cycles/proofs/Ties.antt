@@ -1,14 +1,10 @@
 -- What an edge asks for between two accesses is what its link makes.
-use Rattle.std.proofs.Common.{◌≡◌, ℕ, ◌<◌, ◌^◌, Bool, true, false, ◌&&◌, List, map, sym, ◌∙◌, ap, arith}
-use Rattle.std.proofs.Math.Bool.{and-false}
+use Rattle.std.proofs.{Common.{◌≡◌, ℕ, ◌<◌, ◌^◌, Bool, true, false, ◌&&◌, List, map, sym, ◌∙◌, ap, arith}, Math.Bool.and-false}
 use Rattle.relax_edges.specs.declared.kinds.Dir.TheVariants as dirs
-use Rattle.relax_edges.specs.declared.kinds.Kind.{Kind}
-use Rattle.relax_edges.specs.EdgeTable.{kind_source}
-use Rattle.arch_trait.specs.declared.link.Link.{Link}
-use Rattle.arch_trait.specs.Links.{kind_link, branches, is_addr, is_data, mask_if, link_control}
+use Rattle.relax_edges.specs.{declared.kinds.Kind.Kind, EdgeTable.kind_source}
+use Rattle.arch_trait.specs.{declared.link.Link.Link, Links.{kind_link, branches, is_addr, is_data, mask_if, link_control}}
 use Rattle.arch_trait_laws.proofs.Items.{control_row}
-use Rattle.program_meaning.specs.Accesses.{Access, is_read, reads_by, reads_before}
-use Rattle.program_meaning.specs.Standing.{NamedAccess, IsTied, TiesBy, is_in_mask, mask_of}
+use Rattle.program_meaning.specs.{Accesses.{Access, is_read, reads_by, reads_before}, Standing.{NamedAccess, IsTied, TiesBy, is_in_mask, mask_of}}
 use Rattle.tests_force_cycles.proofs.Visits.{link_barred}
 
 -- an access follows another in its thread, by the link of an edge of a kind: load number k is the other access, if that

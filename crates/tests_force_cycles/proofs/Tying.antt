@@ -1,28 +1,24 @@
 -- The marks of the accesses of the program of a cycle's test, and what comes between them, are what the edges of the
 -- cycle say.
 use Rattle.std.proofs.Common.{◌≡◌, ℕ, suc, ◌+◌, ◌-◌, ◌<◌, true, false, List, [], length, take, Some, slice_get, refl, sym, ◌∙◌, ap, subst, arith, add-one}
-use Rattle.std.specs.List.{list_all}
 use Rattle.std.proofs.lemmas.Option.{slice_get_within}
+use Rattle.std.specs.List.{list_all}
 use Rattle.list_laws.specs.Numbers.{upto}
 use Rattle.list_laws.proofs.Cases.{by_test}
-use Rattle.relax_edges.specs.declared.{kinds.ArchName.ArchName, kinds.ObsMode.ObsMode, kinds.Kind.Kind, edge.Edge.Edge}
+use Rattle.relax_edges.specs.{declared.kinds.ArchName.ArchName, declared.kinds.ObsMode.ObsMode, declared.kinds.Kind.Kind, declared.edge.Edge.Edge}
 use Rattle.relax_edges.specs.EdgeTable.{kind_of, source_mark, is_of_arch, is_external}
 use Rattle.cycle_events.specs.Resolution.{IsResolved, edge_at, move_count, thread_of as event_thread, slot_of, events_in, event_after}
-use Rattle.cycle_events.proofs.{Threads.event_in_slot, Threads.slot_of_event, Arcs.thread_below, Around.after_below, Around.before_after}
-use Rattle.cycle_events.proofs.{Around.internal_follows}
+use Rattle.cycle_events.proofs.{Threads.{event_in_slot, slot_of_event}, Arcs.thread_below, Around.{after_below, before_after, internal_follows}}
 use Rattle.cycle_events.specs.Values.{write_count}
-use Rattle.arch_trait.specs.declared.{step.Step.Step, link.Link.TheVariants.Plain}
-use Rattle.arch_trait.specs.Links.{edge_link}
+use Rattle.arch_trait.specs.{declared.step.Step.Step, declared.link.Link.TheVariants.Plain, Links.edge_link}
 use Rattle.arch_trait.specs.Threads.{ThreadCode, loads_in, control_after, thread_items}
-use Rattle.program_meaning.specs.Accesses.{Access, Visit, accesses_of, barriers_after, reads_among, reads_before}
-use Rattle.program_meaning.specs.{Executions.Execution, Programs.IsCandidate, Programs.visits_in, Programs.accesses_in}
-use Rattle.program_meaning.specs.Standing.{NamedAccess, IsEvent, StartsFree, TiesBy}
+use Rattle.program_meaning.specs.{Accesses.{Access, Visit, accesses_of, barriers_after, reads_among, reads_before}, Executions.Execution}
+use Rattle.program_meaning.specs.{Programs.{IsCandidate, visits_in, accesses_in}, Standing.{NamedAccess, IsEvent, StartsFree, TiesBy}}
 use Rattle.accesses_force_cycles.specs.Joining.{AreFree, IsTiedUp, values_read}
 use Rattle.accesses_force_cycles.proofs.Lists.{got_map, image_of}
-use Rattle.tests_force_cycles.specs.CycleSteps.{event_link, event_step, thread_steps, observing, observer_steps, cycle_steps}
-use Rattle.tests_force_cycles.specs.TestPrograms.{program_of}
-use Rattle.tests_force_cycles.proofs.{StepsAt.thread_steps_at, StepsAt.by_steps, Visits.thread_visits, Visits.ends_free, Ties.Follows, Ties.ties}
-use Rattle.tests_force_cycles.proofs.{Following.next_follows, Making.candidate_enough, Making.candidate_lists}
+use Rattle.tests_force_cycles.specs.{CycleSteps.{event_link, event_step, thread_steps, observing, observer_steps, cycle_steps}, TestPrograms.program_of}
+use Rattle.tests_force_cycles.proofs.{StepsAt.{thread_steps_at, by_steps}, Visits.{thread_visits, ends_free}, Ties.{Follows, ties}, Following.next_follows}
+use Rattle.tests_force_cycles.proofs.Making.{candidate_enough, candidate_lists}
 use Rattle.tests_force_cycles.proofs.StepsFit.{Before, inner_before, link_between, link_first, thread_fits, event_fits}
 use Rattle.tests_force_cycles.proofs.VisitsAt.{IsPlain, visit_at, starts_free, all_free}
 use Rattle.tests_force_cycles.proofs.ThreadRuns.{AreCodesOf, DidThread, did_thread, ThreadOf, thread_of, items_below, visits_below}

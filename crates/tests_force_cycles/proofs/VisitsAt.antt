@@ -1,16 +1,14 @@
 -- What comes before an access of a thread and what its masks name, by the place of the access in its thread.
 use Rattle.std.proofs.Common.{◌≡◌, ℕ, zero, suc, ◌+◌, ◌-◌, ◌<◌, ◌≤◌, ◌^◌, Bool, true, cond, List, [], ◌∷◌, length, take, Some, slice_get, refl, sym, ◌∙◌, ap, subst, lt_of_lt_of_le, arith}
-use Rattle.std.specs.List.{count_by}
 use Rattle.std.proofs.{lemmas.List.Sums.sum_by-cons, Math.Pow.pow_mono}
-use Rattle.relax_edges.specs.declared.kinds.{Dir.Dir, ArchName.ArchName}
+use Rattle.std.specs.List.{count_by}
+use Rattle.relax_edges.specs.{declared.kinds.Dir.Dir, declared.kinds.ArchName.ArchName}
 use Rattle.relax_edges.specs.declared.kinds.Dir.TheVariants as dirs
 use Rattle.relax_edges.specs.declared.kinds.Mark.TheVariants as marks
-use Rattle.arch_trait.specs.declared.{step.Step.Step, link.Link.TheVariants.Plain}
-use Rattle.arch_trait.specs.Links.{link_control}
+use Rattle.arch_trait.specs.{declared.step.Step.Step, declared.link.Link.TheVariants.Plain, Links.link_control}
 use Rattle.arch_trait.specs.Threads.{FitSteps, is_load_dir, loads_in, loads_after, first_number, left_after, control_after}
 use Rattle.arch_trait_laws.proofs.{Accesses.branch_depends, Items.link_below}
-use Rattle.program_meaning.specs.Accesses.{Visit, accesses_of, reads_by, is_read}
-use Rattle.program_meaning.specs.Standing.{IsFree, StartsFree}
+use Rattle.program_meaning.specs.{Accesses.{Visit, accesses_of, reads_by, is_read}, Standing.{IsFree, StartsFree}}
 use Rattle.accesses_force_cycles.specs.Joining.{AreFree}
 use Rattle.tests_force_cycles.proofs.Visits.{link_barred, step_visit, thread_visits}
 

@@ -1,17 +1,13 @@
 -- The accesses of the test of a cycle, thread by thread, with their marks and the links between them. `es` is the list of
 -- edges in which threads, locations and values are counted, and `number` gives the number of each location's place.
 -- Source: own, after the way diy takes from a cycle to a test.
-use Rattle.std.specs.Prelude.{ℕ, ◌+◌, ◌==◌, if◌then◌else◌, List, ◌++◌, map}
-use Rattle.std.specs.List.{filter}
+use Rattle.std.specs.{Prelude.{ℕ, ◌+◌, ◌==◌, if◌then◌else◌, List, ◌++◌, map}, List.filter}
 use Rattle.relax_edges.specs.declared.kinds.Dir.TheVariants as dirs
 use Rattle.relax_edges.specs.declared.kinds.Mark.TheVariants as marks
-use Rattle.relax_edges.specs.declared.{kinds.ObsMode.ObsMode, edge.Edge.Edge}
-use Rattle.relax_edges.specs.EdgeTable.{source_of, source_mark}
+use Rattle.relax_edges.specs.{declared.kinds.ObsMode.ObsMode, declared.edge.Edge.Edge, EdgeTable.{source_of, source_mark}}
 use Rattle.list_laws.specs.Numbers.{upto}
-use Rattle.cycle_events.specs.Resolution.{edge_at, event_before, events_in, external_count, location_of, slot_of}
-use Rattle.cycle_events.specs.Values.{value_of, write_count}
-use Rattle.arch_trait.specs.declared.{link.Link.Link, link.Link.TheVariants.Plain, step.Step.Step}
-use Rattle.arch_trait.specs.{Links.edge_link, Threads.is_load_dir}
+use Rattle.cycle_events.specs.{Resolution.{edge_at, event_before, events_in, external_count, location_of, slot_of}, Values.{value_of, write_count}}
+use Rattle.arch_trait.specs.{declared.link.Link.Link, declared.link.Link.TheVariants.Plain, declared.step.Step.Step, Links.edge_link, Threads.is_load_dir}
 use Rattle.program_meaning.specs.Intended.{observed_locations}
 
 -- how event i is tied to the event before it in its thread: by the edge between them, the first of a thread by none

@@ -1,11 +1,10 @@
 -- The final state of an execution of a test, and the executions that a test asks for.
 -- Source: own, as the litmus format reads the terms of a condition.
-use Rattle.std.specs.{Prelude.ℕ, Prelude.List, Prelude.Option, Option.option_map, Option.option_and_then}
-use Rattle.relax_edges.specs.declared.kinds.{Value.Value, Value.TheVariants.Num}
-use Rattle.final_cond.specs.{Conditions.LeftSeen, Conditions.InRegister, Conditions.AtPlace, States.Meets}
+use Rattle.std.specs.{Prelude.{ℕ, List, Option}, Option.{option_map, option_and_then}}
+use Rattle.relax_edges.specs.{declared.kinds.Value.Value, declared.kinds.Value.TheVariants.Num}
+use Rattle.final_cond.specs.{Conditions.{LeftSeen, InRegister, AtPlace}, States.Meets}
 use Rattle.arch_trait.specs.{PlaceNames.number_in, SeenTests.TestSeen}
-use Rattle.program_meaning.specs.{Executions.Execution, Coherence.final_value}
-use Rattle.program_meaning.specs.Programs.{Program, IsCandidate, IsCoherentIn, accesses_in, register_in}
+use Rattle.program_meaning.specs.{Executions.Execution, Coherence.final_value, Programs.{Program, IsCandidate, IsCoherentIn, accesses_in, register_in}}
 use Rattle.tests_force_cycles.specs.TestPrograms.{test_program}
 
 -- the value of a left side at the end of an execution of a program: of a register of a thread, found by its name, what it

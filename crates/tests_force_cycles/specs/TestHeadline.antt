@@ -1,15 +1,12 @@
 -- What a test says of its cycle: the edges stand in every execution that it asks for, and there is exactly one.
 -- Source: own.
-use Rattle.std.specs.Prelude.{◌≡◌, ◌↔◌, ℕ, ◌<◌, ◌≤◌, true, List, length, map, Option, Some, slice_get, Ok}
-use Rattle.std.specs.List.{list_all}
-use Rattle.relax_edges.specs.declared.{kinds.ObsMode.ObsMode, edge.Edge.Edge}
-use Rattle.relax_edges.specs.EdgeTable.{is_of_arch}
+use Rattle.std.specs.{Prelude.{◌≡◌, ◌↔◌, ℕ, ◌<◌, ◌≤◌, true, List, length, map, Option, Some, slice_get, Ok}, List.list_all}
+use Rattle.relax_edges.specs.{declared.kinds.ObsMode.ObsMode, declared.edge.Edge.Edge, EdgeTable.is_of_arch}
 use Rattle.cycle_events.specs.{Resolution.IsResolved, Values.valuation_of}
 use Rattle.program_meaning.specs.{Executions.Execution, Standing.AllStand, Intended.intended}
 use Rattle.accesses_force_cycles.specs.Joining.{IsOutcome}
-use Rattle.arch_trait.specs.declared.step.Step.{Step}
-use Rattle.arch_trait.specs.{Threads.Puts, Threads.shape_of, Laws.IsArch, PlaceRenumbering.renumbered, SeenTests.TestSeen}
-use Rattle.tests_force_cycles.specs.{CycleSteps.cycle_steps, TestOf.plain, TestOf.test_of, TestPrograms.test_program, FinalStates.IsAskedFor}
+use Rattle.arch_trait.specs.{declared.step.Step.Step, Threads.{Puts, shape_of}, Laws.IsArch, PlaceRenumbering.renumbered, SeenTests.TestSeen}
+use Rattle.tests_force_cycles.specs.{CycleSteps.cycle_steps, TestOf.{plain, test_of}, TestPrograms.test_program, FinalStates.IsAskedFor}
 
 -- the test of a cycle has code on an architecture: the cycle's edges are the architecture's, and no thread needs more
 -- registers than there are

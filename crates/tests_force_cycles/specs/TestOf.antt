@@ -1,18 +1,11 @@
 -- The test of a cycle: its places, the code of its threads, and its condition.
 -- Source: own, after the way diy takes from a cycle to a test.
-use Rattle.std.specs.Prelude.{ℕ, ◌+◌, Bool, ◌&&◌, nat_le, not, List, [], ◌∷◌, ◌++◌, map}
-use Rattle.std.specs.List.{filter, zip}
-use Rattle.relax_edges.specs.declared.kinds.ObsMode.{ObsMode}
-use Rattle.relax_edges.specs.declared.edge.Edge.{Edge}
+use Rattle.std.specs.{Prelude.{ℕ, ◌+◌, Bool, ◌&&◌, nat_le, not, List, [], ◌∷◌, ◌++◌, map}, List.{filter, zip}}
+use Rattle.relax_edges.specs.{declared.kinds.ObsMode.ObsMode, declared.edge.Edge.Edge}
 use Rattle.list_laws.specs.Numbers.{upto}
-use Rattle.cycle_events.specs.Resolution.{move_count}
-use Rattle.cycle_events.specs.Values.{is_observed, write_count}
-use Rattle.final_cond.specs.declared.cond.Quantifier.TheVariants.{Exists}
-use Rattle.final_cond.specs.Conditions.{TermSeen, InRegister, AtPlace}
-use Rattle.arch_trait.specs.declared.step.Step.{Step}
-use Rattle.arch_trait.specs.PlaceNames.{letters, location_name}
-use Rattle.arch_trait.specs.SeenTests.{TestSeen}
-use Rattle.arch_trait.specs.Threads.{Puts, compiled}
+use Rattle.cycle_events.specs.{Resolution.move_count, Values.{is_observed, write_count}}
+use Rattle.final_cond.specs.{declared.cond.Quantifier.TheVariants.Exists, Conditions.{TermSeen, InRegister, AtPlace}}
+use Rattle.arch_trait.specs.{declared.step.Step.Step, PlaceNames.{letters, location_name}, SeenTests.TestSeen, Threads.{Puts, compiled}}
 use Rattle.tests_force_cycles.specs.CycleSteps.{cycle_steps, numbers_read}
 
 -- the condition names the last value of a location: it has two writes or more and no observer

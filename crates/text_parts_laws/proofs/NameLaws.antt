@@ -1,11 +1,10 @@
 -- Names of places and registers: how code tests their form, which bytes they have, and that they are short and ASCII. What each letter, digit
 -- and `_` passes, names and numbers pass.
-use Rattle.std.proofs.Common.{◌≡◌, ℕ, ◌-◌, ◌≤◌, ◌<◌, ◌^◌, List, [], ◌∷◌, length, get_or, take, drop, refl, arith}
-use Rattle.std.specs.Prelude.{Bool, true, ◌&&◌, nat_le}
-use Rattle.std.specs.Char.{is_ascii, is_ascii_alphabetic, is_ascii_alphanumeric, is_ascii_digit}
-use Rattle.std.specs.{Fmt.decimal, List.list_all, Str.IsAscii, Str.IsUtf8}
-use Rattle.std.proofs.lemmas.{Bool.and_from, Str.IsUtf8-from_ascii, Str.Ascii.IsAscii-nil}
-use Rattle.list_laws.proofs.{Digits.digits_of, Elements.list_all-weaker, Elements.rest-cons}
+use Rattle.std.proofs.{Common.{◌≡◌, ℕ, ◌-◌, ◌≤◌, ◌<◌, ◌^◌, List, [], ◌∷◌, length, get_or, take, drop, refl, arith}, lemmas.Bool.and_from}
+use Rattle.std.proofs.{lemmas.Str.IsUtf8-from_ascii, lemmas.Str.Ascii.IsAscii-nil}
+use Rattle.std.specs.{Prelude.{Bool, true, ◌&&◌, nat_le}, Char.{is_ascii, is_ascii_alphabetic, is_ascii_alphanumeric, is_ascii_digit}, Fmt.decimal}
+use Rattle.std.specs.{List.list_all, Str.{IsAscii, IsUtf8}}
+use Rattle.list_laws.proofs.{Digits.digits_of, Elements.{list_all-weaker, rest-cons}}
 use Rattle.text_parts_laws.specs.Names.{begins_place, is_place_byte, is_place_name, is_register_name}
 
 -- whether a text names a place is seen from its first byte and the others

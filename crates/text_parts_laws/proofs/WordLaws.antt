@@ -1,10 +1,8 @@
 -- The first word of a text, by a walk over blanks and then over a word, and the words of two texts with a blank between.
-use Rattle.std.proofs.Common.{◌≡◌, ◌==◌, ℕ, ◌<◌, List, [], ◌∷◌, ◌++◌, true, false, length, refl, sym, ap, ◌∙◌, arith}
-use Rattle.std.specs.{Prelude.not, List.slice_split, List.filter, List.list_all}
-use Rattle.std.proofs.lemmas.List.Elements.{filter-append}
+use Rattle.std.proofs.{Common.{◌≡◌, ◌==◌, ℕ, ◌<◌, List, [], ◌∷◌, ◌++◌, true, false, length, refl, sym, ap, ◌∙◌, arith}, lemmas.List.Elements.filter-append}
+use Rattle.std.specs.{Prelude.not, List.{slice_split, filter, list_all}}
 use Rattle.list_laws.proofs.Cases.{by_test}
-use Rattle.text_parts_laws.specs.{LeadingRuns.leading_run, LeadingRuns.after_run, Blanks.is_blank, Blanks.is_inked, Blanks.unblanked, Words.is_nil}
-use Rattle.text_parts_laws.specs.{Words.words}
+use Rattle.text_parts_laws.specs.{LeadingRuns.{leading_run, after_run}, Blanks.{is_blank, is_inked, unblanked}, Words.{is_nil, words}}
 use Rattle.text_parts_laws.proofs.PieceLaws.{split_both, split_whole}
 
 -- the pieces between blanks, by the first of them

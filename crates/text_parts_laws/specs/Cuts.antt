@@ -1,7 +1,6 @@
 -- A text that is cut at the first place of a byte.
 -- Source: own.
-use Rattle.std.specs.Prelude.{◌≡◌, ℕ, ◌==◌, Bool, true, not, cond, List, [], ◌∷◌, ◌++◌, Option, Some, None}
-use Rattle.std.specs.List.{list_all}
+use Rattle.std.specs.{Prelude.{◌≡◌, ℕ, ◌==◌, Bool, true, not, cond, List, [], ◌∷◌, ◌++◌, Option, Some, None}, List.list_all}
 
 -- a byte before the first part of a cut
 abbrev pub before_cut : ℕ → Option (List ℕ × List ℕ) → Option (List ℕ × List ℕ)

@@ -1,7 +1,6 @@
 -- Lines of a text and their ends.
 -- Source: own.
-use Rattle.std.specs.Prelude.{ℕ, ◌==◌, Bool, cond, List, [], ◌∷◌, ◌++◌, map}
-use Rattle.std.specs.List.{slice_split}
+use Rattle.std.specs.{Prelude.{ℕ, ◌==◌, Bool, cond, List, [], ◌∷◌, ◌++◌, map}, List.slice_split}
 
 -- a byte that ends a line
 abbrev pub is_line_feed : ℕ → Bool

@@ -1,7 +1,6 @@
 -- The words of a text.
 -- Source: own.
-use Rattle.std.specs.Prelude.{ℕ, Bool, true, false, ◌||◌, ◌==◌, not, List, [], ◌∷◌, Option, Some, None}
-use Rattle.std.specs.List.{filter, slice_split}
+use Rattle.std.specs.{Prelude.{ℕ, Bool, true, false, ◌||◌, ◌==◌, not, List, [], ◌∷◌, Option, Some, None}, List.{filter, slice_split}}
 use Rattle.text_parts_laws.specs.Blanks.{is_blank}
 
 -- a text is empty

@@ -1,8 +1,6 @@
 ghost use Rattle.std.specs.Prelude.{◌≡◌};
 ghost use Rattle.final_cond.specs.Conditions.{cond_view};
-ghost use Rattle.litmus_text.specs.ReadingAnswers.{GivesTest, GivesInMemory};
-ghost use Rattle.litmus_text.specs.Condition.{condition_read};
-ghost use Rattle.litmus_text.specs.ConditionScan.{cond_scanned};
+ghost use Rattle.litmus_text.specs.{ReadingAnswers.{GivesTest, GivesInMemory}, Condition.{condition_read}, ConditionScan.{cond_scanned}};
 ghost use Rattle.litmus_text.specs.Views.{text_left, setting_seen, cond_read_seen};
 
 use crate::errors::{ReadError, TestKind, TextError, error_at_line};

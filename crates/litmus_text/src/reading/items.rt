@@ -1,9 +1,7 @@
 ghost use Rattle.std.specs.Prelude.{◌≡◌, true, option_map, IfSome};
-ghost use Rattle.final_cond.specs.Conditions.{left_view};
-ghost use Rattle.final_cond.specs.ConditionReading.{left_at_start};
+ghost use Rattle.final_cond.specs.{Conditions.{left_view}, ConditionReading.{left_at_start}};
 ghost use Rattle.text_parts_laws.specs.Blanks.{trim_blanks};
-ghost use Rattle.litmus_text.specs.InitialState.{worth_of, item_with, whole_left, item_of, item_if};
-ghost use Rattle.litmus_text.specs.Views.{worth_seen, worth_formed, item_seen, item_formed};
+ghost use Rattle.litmus_text.specs.{InitialState.{worth_of, item_with, whole_left, item_of, item_if}, Views.{worth_seen, worth_formed, item_seen, item_formed}};
 
 use crate::limits::MAX_THREADS;
 use arch_trait::{Arch, register_named};

@@ -1,7 +1,6 @@
 ghost use Rattle.std.specs.Prelude.{◌≡◌, ◌++◌, length, OnOk};
 ghost use Rattle.std.proofs.Math.ListN.{replicate};
-ghost use Rattle.litmus_text.specs.Joined.{no_text, with_text, all_joined, line_at};
-ghost use Rattle.litmus_text.specs.Views.{text_left, joined_seen};
+ghost use Rattle.litmus_text.specs.{Joined.{no_text, with_text, all_joined, line_at}, Views.{text_left, joined_seen}};
 
 use crate::reading::lines::Lines;
 use crate::reading::text::Text;

@@ -1,8 +1,6 @@
-ghost use Rattle.std.specs.Prelude.{◌≡◌, map, count_by};
-ghost use Rattle.std.specs.List.{flat_map};
+ghost use Rattle.std.specs.{Prelude.{◌≡◌, map, count_by}, List.{flat_map}};
 ghost use Rattle.list_laws.specs.Errors.{unless};
-ghost use Rattle.litmus_text.specs.ReadingAnswers.{GivesTest};
-ghost use Rattle.litmus_text.specs.TestTable.{is_label_row, lands_among, landing_error, with_after, all_labels_judged};
+ghost use Rattle.litmus_text.specs.{ReadingAnswers.{GivesTest}, TestTable.{is_label_row, lands_among, landing_error, with_after, all_labels_judged}};
 ghost use Rattle.litmus_text.specs.Views.{column_seen};
 
 use crate::errors::{TestKind, TextError, error_at_line};

@@ -1,6 +1,5 @@
 ghost use Rattle.std.specs.Prelude.{◌≡◌, ◌<◌, length};
-ghost use Rattle.litmus_text.specs.TextLines.{line_kept, is_passed, is_comment, lines_from};
-ghost use Rattle.litmus_text.specs.Views.{text_left, lines_seen, IsShorter};
+ghost use Rattle.litmus_text.specs.{TextLines.{line_kept, is_passed, is_comment, lines_from}, Views.{text_left, lines_seen, IsShorter}};
 
 use crate::reading::text::Text;
 use text_parts::{cut, trim_blanks, without_return};

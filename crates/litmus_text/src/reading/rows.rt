@@ -1,7 +1,6 @@
 ghost use Rattle.std.specs.Prelude.{◌≡◌, map, length, count_by, IfOk};
 ghost use Rattle.arch_trait.specs.Cells.{is_access, ends_rows};
-ghost use Rattle.litmus_text.specs.ReadingAnswers.{GivesInMemory};
-ghost use Rattle.litmus_text.specs.TestTable.{no_columns, fits_in_column, after_locations};
+ghost use Rattle.litmus_text.specs.{ReadingAnswers.{GivesInMemory}, TestTable.{no_columns, fits_in_column, after_locations}};
 ghost use Rattle.litmus_text.specs.TableScan.{instr_in, instr_or_nothing, cell_read, rows_scanned};
 ghost use Rattle.litmus_text.specs.Views.{text_left, pieces_left, cells_read, column_with_places, columns_with_places, columns_before, column_seen, EndsRow};
 

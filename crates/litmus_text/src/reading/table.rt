@@ -1,7 +1,5 @@
-ghost use Rattle.std.specs.Prelude.{◌≡◌, ◌≤◌, nat_lt, IfOk};
-ghost use Rattle.std.specs.List.{list_all};
-ghost use Rattle.litmus_text.specs.ReadingAnswers.{GivesTest};
-ghost use Rattle.litmus_text.specs.TestTable.{cells_of, is_head, heads_read, head_read, threads_there};
+ghost use Rattle.std.specs.{Prelude.{◌≡◌, ◌≤◌, nat_lt, IfOk}, List.{list_all}};
+ghost use Rattle.litmus_text.specs.{ReadingAnswers.{GivesTest}, TestTable.{cells_of, is_head, heads_read, head_read, threads_there}};
 ghost use Rattle.litmus_text.specs.Views.{text_left, begun_seen, cells_seen};
 
 use crate::errors::{TestKind, TextError, error_at_line};

@@ -1,9 +1,6 @@
 ghost use Rattle.std.specs.Prelude.{◌≡◌, [], true};
-ghost use Rattle.final_cond.specs.Conditions.{AtPlace, left_view};
-ghost use Rattle.final_cond.specs.ConditionReading.{has_form};
-ghost use Rattle.litmus_text.specs.ReadingAnswers.{GivesTest};
-ghost use Rattle.litmus_text.specs.Condition.{line_of_rest};
-ghost use Rattle.litmus_text.specs.ConditionScan.{name_mentioned, left_put, term_here};
+ghost use Rattle.final_cond.specs.{Conditions.{AtPlace, left_view}, ConditionReading.{has_form}};
+ghost use Rattle.litmus_text.specs.{ReadingAnswers.{GivesTest}, Condition.{line_of_rest}, ConditionScan.{name_mentioned, left_put, term_here}};
 ghost use Rattle.litmus_text.specs.Views.{setting_seen, mentioned_seen, term_read_seen, all_terms_seen, terms_from, GivesMentioned};
 
 use crate::errors::{TestKind, TextError, error_at_line};

@@ -1,8 +1,6 @@
 ghost use Rattle.std.specs.Prelude.{◌≡◌, ◌<◌, ◌≤◌, [], length, option_map, slice_get, Some};
 ghost use Rattle.final_cond.specs.Conditions.{cond_view};
-ghost use Rattle.litmus_text.specs.TestReading.{TestRead};
-ghost use Rattle.litmus_text.specs.Runnable.{IsRunnable, NamesRegisters};
-ghost use Rattle.litmus_text.specs.declared.limits.TheConstants.{MAX_THREADS};
+ghost use Rattle.litmus_text.specs.{TestReading.{TestRead}, Runnable.{IsRunnable, NamesRegisters}, declared.limits.TheConstants.{MAX_THREADS}};
 
 use crate::limits::MAX_THREADS;
 use crate::reading::thread::Thread;

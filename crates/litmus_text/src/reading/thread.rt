@@ -10,8 +10,7 @@ pub(crate) struct Thread {
 }
 
 impl Model for Thread {
-    ghost use Rattle.litmus_text.specs.TestReading.{ThreadRead};
-    ghost use Rattle.litmus_text.specs.Runnable.{CanRun};
+    ghost use Rattle.litmus_text.specs.{TestReading.{ThreadRead}, Runnable.{CanRun}};
 
     ghost Value = { ThreadRead };
 

@@ -1,6 +1,5 @@
 ghost use Rattle.std.specs.Prelude.{◌≡◌, ◌≤◌, map, length, option_map, IfOk};
-ghost use Rattle.litmus_text.specs.ReadingAnswers.{GivesTest, GivesInMemory};
-ghost use Rattle.litmus_text.specs.Runnable.{IsRunnable, NamesRegisters, AllNameRegisters, AllRunnable, ops_in};
+ghost use Rattle.litmus_text.specs.{ReadingAnswers.{GivesTest, GivesInMemory}, Runnable.{IsRunnable, NamesRegisters, AllNameRegisters, AllRunnable, ops_in}};
 ghost use Rattle.litmus_text.specs.TestReading.{values_of_thread, threads_of, lines_read, test_read, arch_in_text};
 ghost use Rattle.litmus_text.specs.Views.{rest_view, table_view, body_of, test_of_parts, only_values, text_left, column_seen};
 

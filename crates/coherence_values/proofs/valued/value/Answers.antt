@@ -2,10 +2,9 @@
 use Rattle.std.proofs.Common.{◌≡◌, length, Some, None, sym, ◌∙◌, ap, arith}
 use Rattle.list_laws.specs.Numbers.{upto}
 use Rattle.list_laws.proofs.Numbers.{length-map-upto}
-use Rattle.cycle_events.specs.{Resolution.move_count, Values.observer_need, Values.write_count, Values.first_need, Entries.inner_entry}
-use Rattle.coherence_values.specs.declared.valued.Arc.{Arc}
-use Rattle.coherence_values.specs.Arc.{seen_of, all_seen}
-use Rattle.coherence_values.proofs.{Walk.arc_read, valued.value.Goals.in-Avoid+else-loop-location-test, valued.value.Goals.in_default}
+use Rattle.cycle_events.specs.{Resolution.move_count, Values.{observer_need, write_count, first_need}, Entries.inner_entry}
+use Rattle.coherence_values.specs.{declared.valued.Arc.Arc, Arc.{seen_of, all_seen}}
+use Rattle.coherence_values.proofs.{Walk.arc_read, valued.value.Goals.{in-Avoid+else-loop-location-test, in_default}}
 use Rattle.cycle_events.proofs.Entries.{need_found, no_need_more, avoid_refused, avoid_allowed, others_allowed}
 use Rattle.coherence_values.proofs.valued.value.Goals as goal
 

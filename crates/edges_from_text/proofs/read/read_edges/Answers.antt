@@ -1,8 +1,7 @@
 use Rattle.std.proofs.Common.{rules, tests, ◌≡◌, [], ◌∷◌, map, Some, None, sym, ap, ◌∙◌}
-use Rattle.std.specs.List.{slice_split}
-use Rattle.std.proofs.lemmas.Iterator.Consumers.{YieldsList-at, YieldsList-so_far, YieldsList-turn, YieldsList-end}
-use Rattle.std.proofs.lemmas.List.{map-append}
+use Rattle.std.proofs.{lemmas.Iterator.Consumers.{YieldsList-at, YieldsList-so_far, YieldsList-turn, YieldsList-end}, lemmas.List.map-append}
 use Rattle.std.proofs.lemmas.Iterator.Splits.{YieldsList-from_slice_split}
+use Rattle.std.specs.List.{slice_split}
 use Rattle.edges_from_text.specs.Spelled.{separates}
 use Rattle.edges_from_text.proofs.ReadingLaws.{spelled, then_words, none_of, none_if_err}
 use Rattle.edges_from_text.proofs.read.read_edges.Goals as goal

@@ -1,9 +1,8 @@
 -- That `read_terms` reads the terms of a condition, or finds the first fault.
-use Rattle.std.proofs.Common.{◌≡◌, ◌≢◌, ◌≤◌, ◌+◌, ◌-◌, ◌++◌, ℕ, false, nat_eq, refl, ◌∷◌, [], map, length, ◌∙◌, sym, arith}
-use Rattle.std.proofs.lemmas.{Bool.eqb-true, Bool.eqb-false, List.map_push, Result.err_from_is_err_and}
-use Rattle.final_cond.specs.declared.cond.TheConstants.{MAX_TERMS}
-use Rattle.final_cond.specs.{Conditions.term_view, ConditionAnswers.fault_view, ConditionAnswers.term_and_rest, ConditionReading.has_form}
-use Rattle.final_cond.specs.{ConditionReading.terms_read}
+use Rattle.std.proofs.{Common.{◌≡◌, ◌≢◌, ◌≤◌, ◌+◌, ◌-◌, ◌++◌, ℕ, false, nat_eq, refl, ◌∷◌, [], map, length, ◌∙◌, sym, arith}, lemmas.Bool.{eqb-true, eqb-false}}
+use Rattle.std.proofs.{lemmas.List.map_push, lemmas.Result.err_from_is_err_and}
+use Rattle.final_cond.specs.{declared.cond.TheConstants.MAX_TERMS, Conditions.term_view, ConditionAnswers.{fault_view, term_and_rest}}
+use Rattle.final_cond.specs.ConditionReading.{has_form, terms_read}
 use Rattle.final_cond.proofs.TermLaws.{stops_at_term, stops_at_full, stops_at_follow, ends_at_follow, goes_on}
 use Rattle.final_cond.proofs.read.read_terms.Goals as goal
 

@@ -1,7 +1,6 @@
 -- The loop of `read_terms`: the terms so far, and that there is room for fewer.
 use Rattle.std.proofs.Common.{◌≡◌, ◌-◌, map, length}
-use Rattle.final_cond.specs.declared.cond.TheConstants.{MAX_TERMS}
-use Rattle.final_cond.specs.{Conditions.term_view, ConditionReading.has_form, ConditionReading.terms_read}
+use Rattle.final_cond.specs.{declared.cond.TheConstants.MAX_TERMS, Conditions.term_view, ConditionReading.{has_form, terms_read}}
 use Rattle.final_cond.proofs.TermLaws.{remainder}
 use Rattle.final_cond.proofs.read.read_terms.Given as goal
 

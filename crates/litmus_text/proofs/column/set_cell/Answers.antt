@@ -1,6 +1,5 @@
 -- The cell of a row is the header, an instruction, or nothing.
-use Rattle.litmus_text.proofs.Vocabulary.{arith, refl, thread_code_of, ◌-◌}
-use Rattle.litmus_text.proofs.TableLaws.{header_cell, op_cell, no_cell}
+use Rattle.litmus_text.proofs.{Vocabulary.{arith, refl, thread_code_of, ◌-◌}, TableLaws.{header_cell, op_cell, no_cell}}
 use Rattle.litmus_text.proofs.column.set_cell.Goals as goal
 
 pub returns-then-row-eq0 : goal.returns-then-row-eq0

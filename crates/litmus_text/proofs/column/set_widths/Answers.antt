@@ -1,6 +1,5 @@
 -- With each column its width is added and its cells are kept.
-use Rattle.litmus_text.proofs.Vocabulary.{arith}
-use Rattle.litmus_text.proofs.{TableLaws.widths_more, TableLaws.widths_whole, KeptLaws.column_more, KeptLaws.columns_whole, KeptLaws.kept_few, ElementLaws.short_more}
+use Rattle.litmus_text.proofs.{Vocabulary.arith, TableLaws.{widths_more, widths_whole}, KeptLaws.{column_more, columns_whole, kept_few}, ElementLaws.short_more}
 use Rattle.litmus_text.proofs.column.set_widths.Goals as goal
 
 pub loop-thread-preserved : goal.loop-thread-preserved

@@ -1,6 +1,5 @@
 -- The walk over the rows keeps the cells of a column and finds the widest.
-use Rattle.litmus_text.proofs.Vocabulary.{column_of, take, thread_code_of, ◌++◌, ◌≡◌, ◌≤◌}
-use Rattle.litmus_text.proofs.TableLaws.{widest}
+use Rattle.litmus_text.proofs.{Vocabulary.{column_of, take, thread_code_of, ◌++◌, ◌≡◌, ◌≤◌}, TableLaws.widest}
 use Rattle.litmus_text.proofs.column.width_of.Given as goal
 
 -- the widest of the texts so far, which are kept

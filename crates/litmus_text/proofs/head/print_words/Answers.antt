@@ -1,6 +1,5 @@
 -- The words of the edges are appended one after another, with blanks between.
-use Rattle.litmus_text.proofs.Vocabulary.{arith}
-use Rattle.litmus_text.proofs.JoinLaws.{none_put, one_put, all_put, all_short}
+use Rattle.litmus_text.proofs.{Vocabulary.arith, JoinLaws.{none_put, one_put, all_put, all_short}}
 use Rattle.litmus_text.proofs.head.print_words.Goals as goal
 
 pub loop-i-init : goal.loop-i-init

@@ -1,6 +1,5 @@
 -- The walk over the edges appends their words.
-use Rattle.litmus_text.proofs.Vocabulary.{WORD_ROOM, codes, word_of}
-use Rattle.litmus_text.proofs.JoinLaws.{Put}
+use Rattle.litmus_text.proofs.{Vocabulary.{WORD_ROOM, codes, word_of}, JoinLaws.Put}
 use Rattle.litmus_text.proofs.head.print_words.Given as goal
 
 -- the words so far are appended

@@ -1,6 +1,5 @@
 -- An item has room.
-use Rattle.litmus_text.proofs.Vocabulary.{ap, arith, length}
-use Rattle.litmus_text.proofs.ItemText.{item_short}
+use Rattle.litmus_text.proofs.{Vocabulary.{ap, arith, length}, ItemText.item_short}
 use Rattle.litmus_text.proofs.initial.print_item.Goals as goal
 
 pub returns-clause-short : goal.returns-clause-short

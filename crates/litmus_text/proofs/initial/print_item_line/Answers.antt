@@ -1,6 +1,5 @@
 -- A thread has one line of items, or none where it has no address registers.
-use Rattle.litmus_text.proofs.Vocabulary.{codes, length, ◌≡◌, ◌≢◌}
-use Rattle.litmus_text.proofs.{InitialLaws.no_items, InitialLaws.some_items, InitialLaws.empty_from, InitialLaws.some_from, JoinLaws.nothing_put, JoinLaws.two_put}
+use Rattle.litmus_text.proofs.{Vocabulary.{codes, length, ◌≡◌, ◌≢◌}, InitialLaws.{no_items, some_items, empty_from, some_from}, JoinLaws.{nothing_put, two_put}}
 use Rattle.litmus_text.proofs.initial.print_item_line.Goals as goal
 
 pub returns-then-is_empty-clause-text : goal.returns-then-is_empty-clause-text

@@ -1,6 +1,5 @@
 -- The items of a thread are appended one after another, with blanks between.
-use Rattle.litmus_text.proofs.Vocabulary.{arith}
-use Rattle.litmus_text.proofs.{ElementLaws.below_at, JoinLaws.none_put, JoinLaws.one_put, JoinLaws.all_put, JoinLaws.all_short}
+use Rattle.litmus_text.proofs.{Vocabulary.arith, ElementLaws.below_at, JoinLaws.{none_put, one_put, all_put, all_short}}
 use Rattle.litmus_text.proofs.initial.print_items.Goals as goal
 
 pub loop-i-init : goal.loop-i-init

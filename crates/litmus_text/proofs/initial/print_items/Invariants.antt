@@ -1,6 +1,5 @@
 -- The walk over the address registers appends their items.
-use Rattle.litmus_text.proofs.Vocabulary.{ITEM_ROOM, codes, item_text}
-use Rattle.litmus_text.proofs.JoinLaws.{Put}
+use Rattle.litmus_text.proofs.{Vocabulary.{ITEM_ROOM, codes, item_text}, JoinLaws.Put}
 use Rattle.litmus_text.proofs.initial.print_items.Given as goal
 
 -- the items so far are appended

@@ -1,6 +1,5 @@
 -- A short item is put in one piece.
-use Rattle.litmus_text.proofs.Vocabulary.{arith}
-use Rattle.litmus_text.proofs.ItemText.{short_link}
+use Rattle.litmus_text.proofs.{Vocabulary.arith, ItemText.short_link}
 use Rattle.litmus_text.proofs.initial.put_link.Goals as goal
 
 pub returns-then-thread-lt10 : goal.returns-then-thread-lt10

@@ -1,6 +1,5 @@
 -- The walk over the threads appends the items of each.
-use Rattle.litmus_text.proofs.Vocabulary.{Items, LINE_ROOM, test_seen, ◌+◌, ◌-◌, ◌≡◌}
-use Rattle.litmus_text.proofs.TextParts.{PutsParts}
+use Rattle.litmus_text.proofs.{Vocabulary.{Items, LINE_ROOM, test_seen, ◌+◌, ◌-◌, ◌≡◌}, TextParts.PutsParts}
 use Rattle.litmus_text.proofs.parts.put_items.Given as goal
 
 -- the items of the threads up to one are appended, with room for the closing brace, and before the first nothing of the room is taken

@@ -1,7 +1,6 @@
 -- The part of the edges is their line and the opening brace.
 use Rattle.litmus_text.specs.declared.parts.TextPart.TheVariants as parts
-use Rattle.litmus_text.proofs.Vocabulary.{PutsPart, Some, ap, codes, edges_line, subst, sym, test_seen, with_line_feed, ◌++◌}
-use Rattle.litmus_text.proofs.TextParts.{edges_put}
+use Rattle.litmus_text.proofs.{Vocabulary.{PutsPart, Some, ap, codes, edges_line, subst, sym, test_seen, with_line_feed, ◌++◌}, TextParts.edges_put}
 use Rattle.litmus_text.proofs.parts.put_part.Goals as goal
 
 pub returns-in-Edges : goal.returns-in-Edges

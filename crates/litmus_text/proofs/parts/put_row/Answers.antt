@@ -1,6 +1,5 @@
 -- The part of a row is its line, with later ones, and after the last row the condition.
-use Rattle.litmus_text.proofs.Vocabulary.{ap, arith, test_seen}
-use Rattle.litmus_text.proofs.TextParts.{condition_put}
+use Rattle.litmus_text.proofs.{Vocabulary.{ap, arith, test_seen}, TextParts.condition_put}
 use Rattle.litmus_text.proofs.parts.put_row.Goals as goal
 
 pub returns-else-row-table : goal.returns-else-row-table

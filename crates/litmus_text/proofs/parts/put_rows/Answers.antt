@@ -1,7 +1,6 @@
 -- Rows are appended as long as there is room.
 use Rattle.litmus_text.specs.declared.parts.TextPart.TheVariants as parts
-use Rattle.litmus_text.proofs.Vocabulary.{PutsPart, Some, ap, arith, length, refl, subst, test_seen, ◌≡◌, ◌≢◌}
-use Rattle.litmus_text.proofs.TextParts.{no_parts, rows_more, rows_put}
+use Rattle.litmus_text.proofs.{Vocabulary.{PutsPart, Some, ap, arith, length, refl, subst, test_seen, ◌≡◌, ◌≢◌}, TextParts.{no_parts, rows_more, rows_put}}
 use Rattle.litmus_text.proofs.parts.put_rows.Goals as goal
 
 pub loop-row-init : goal.loop-row-init

@@ -1,6 +1,5 @@
 -- The walk over the rows appends each.
-use Rattle.litmus_text.proofs.Vocabulary.{LINE_ROOM, Row, test_seen, ◌≡◌}
-use Rattle.litmus_text.proofs.TextParts.{PutsParts}
+use Rattle.litmus_text.proofs.{Vocabulary.{LINE_ROOM, Row, test_seen, ◌≡◌}, TextParts.PutsParts}
 use Rattle.litmus_text.proofs.parts.put_rows.Given as goal
 
 -- the rows up to one are appended, and before the first nothing of the room is taken

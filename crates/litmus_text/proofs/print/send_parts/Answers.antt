@@ -1,6 +1,5 @@
 -- The parts of a text are sent one after another, until there is none or the sink fails.
-use Rattle.litmus_text.proofs.Vocabulary.{subst, test_seen}
-use Rattle.litmus_text.proofs.SendLaws.{SentTo, parts_first, parts_more, parts_stop}
+use Rattle.litmus_text.proofs.{Vocabulary.{subst, test_seen}, SendLaws.{SentTo, parts_first, parts_more, parts_stop}}
 use Rattle.litmus_text.proofs.print.send_parts.Goals as goal
 
 pub loop-next-init : goal.loop-next-init

@@ -1,6 +1,5 @@
 -- The walk over the parts of a text sends each, and fewer are left.
-use Rattle.litmus_text.proofs.Vocabulary.{parts_left, test_seen}
-use Rattle.litmus_text.proofs.SendLaws.{SentTo}
+use Rattle.litmus_text.proofs.{Vocabulary.{parts_left, test_seen}, SendLaws.SentTo}
 use Rattle.litmus_text.proofs.print.send_parts.Given as goal
 
 -- the text is sent up to the next part

@@ -1,6 +1,5 @@
 -- The walk over the threads appends their cells of a row.
-use Rattle.litmus_text.proofs.Vocabulary.{CELL_ROOM, all_texts, cell_text, codes, columns_of, length, map, take, thread_code_of, ◌*◌, ◌≡◌, ◌≤◌}
-use Rattle.litmus_text.proofs.JoinLaws.{Put}
+use Rattle.litmus_text.proofs.{Vocabulary.{CELL_ROOM, all_texts, cell_text, codes, columns_of, length, map, take, thread_code_of, ◌*◌, ◌≡◌, ◌≤◌}, JoinLaws.Put}
 use Rattle.litmus_text.proofs.table.print_cells.Given as goal
 
 -- the cells so far are appended, and the next column begins at its place

@@ -1,7 +1,6 @@
 -- The search keeps exactly the paths that begin with the chosen edges, or is refused where there is no room for them.
-use Rattle.std.proofs.Common.{◌≡◌, ◌∷◌, [], ◌++◌, false, map, refl, ap, ◌∙◌, arith}
-use Rattle.std.proofs.lemmas.Result.{err_from_is_err_and}
-use Rattle.relax_edges.specs.declared.{kinds.Reach.TheVariants.Internal, kinds.Com.TheVariants.Rf, edge.Edge.TheVariants.Com}
+use Rattle.std.proofs.{Common.{◌≡◌, ◌∷◌, [], ◌++◌, false, map, refl, ap, ◌∙◌, arith}, lemmas.Result.err_from_is_err_and}
+use Rattle.relax_edges.specs.{declared.kinds.Reach.TheVariants.Internal, declared.kinds.Com.TheVariants.Rf, declared.edge.Edge.TheVariants.Com}
 use Rattle.relax_edges.specs.{RelaxText.words_of, JoinedEdges.is_joined, Relaxations.word_edges}
 use Rattle.relax_edges.proofs.Search.{keeps_no_path, keeps_first, keeps_word_next, refused_word, keeps_word, keeps_no_word, refused_no_word}
 use Rattle.relax_edges.proofs.relax_search.+relax_search.Goals as goal

@@ -1,7 +1,6 @@
 -- That `accepted` judges a cycle that resolves and has values by its registers.
 use Rattle.std.proofs.Common.{Option, sym, subst}
-use Rattle.test_maker.specs.declared.refusal.Refusal.{Refusal}
-use Rattle.test_maker.specs.Made.{Judges}
+use Rattle.test_maker.specs.{declared.refusal.Refusal.Refusal, Made.Judges}
 use Rattle.test_maker.proofs.Reasons.{is_valued}
 use Rattle.test_maker.proofs.acceptance.accepted.Goals as goal
 

@@ -2,8 +2,7 @@
 use Rattle.std.proofs.Common.{◌≡◌, drop, not}
 use Rattle.std.specs.{List.position_from, Option.option_map}
 use Rattle.relax_edges.specs.EdgeTable.{is_of_arch}
-use Rattle.test_maker.specs.declared.refusal.Refusal.TheVariants.{NotOfArch}
-use Rattle.test_maker.specs.Refusals.{foreign_edge}
+use Rattle.test_maker.specs.{declared.refusal.Refusal.TheVariants.NotOfArch, Refusals.foreign_edge}
 use Rattle.test_maker.proofs.acceptance.all_of_name.Given as goal
 
 abbrev pub invariant-loop-at : goal.invariant-loop-at

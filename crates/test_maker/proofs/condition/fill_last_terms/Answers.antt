@@ -2,11 +2,9 @@
 use Rattle.std.proofs.Common.{◌∙◌, ◌<◌, map, sym, ap, arith, length}
 use Rattle.cycle_events.specs.Resolution.{move_count}
 use Rattle.arrayvec.specs.ArrayVec.{ArrayVec}
-use Rattle.final_cond.specs.declared.cond.Term.{Term}
-use Rattle.final_cond.specs.Conditions.{term_view}
+use Rattle.final_cond.specs.{declared.cond.Term.Term, Conditions.term_view}
 use Rattle.tests_force_cycles.specs.TestOf.{is_named_location, last_term}
-use Rattle.test_maker.proofs.{Filling.found_same, Naming.last_room, Naming.named_more, condition.fill_last_terms.Goals.then-is_named}
-use Rattle.test_maker.proofs.{condition.fill_last_terms.Goals.else-is_named}
+use Rattle.test_maker.proofs.{Filling.found_same, Naming.{last_room, named_more}, condition.fill_last_terms.Goals.{then-is_named, else-is_named}}
 use Rattle.test_maker.proofs.condition.fill_last_terms.Goals as goal
 use Rattle.arch_trait_laws.proofs.NameLaws.{length-letters}
 

@@ -1,10 +1,9 @@
 -- That `make_into` makes the test of a cycle that has one, which forces it, and that its refusals name locations of the cycle.
-use Rattle.std.proofs.Common.{◌∙◌, sym, subst}
+use Rattle.std.proofs.{Common.{◌∙◌, sym, subst}, lemmas.Result.err_from_is_err_and}
 use Rattle.std.specs.Prelude.{IfOk}
-use Rattle.std.proofs.lemmas.Result.{err_from_is_err_and}
 use Rattle.cycle_events.specs.Resolution.{IsResolved}
 use Rattle.arch_trait.specs.Writing.{name_in}
-use Rattle.test_maker.proofs.{Forcing.made_forces, HavingTests.made_has_test, Located.need_located, Reasons.is_valued, Reasons.made_seen}
+use Rattle.test_maker.proofs.{Forcing.made_forces, HavingTests.made_has_test, Located.need_located, Reasons.{is_valued, made_seen}}
 use Rattle.test_maker.proofs.maker.make_into.Goals as goal
 
 pub returns-in_err-as_ref-2-clause-located : goal.returns-in_err-as_ref-2-clause-located

@@ -1,6 +1,5 @@
 -- That `put_threads` makes the code of all threads, or refuses the first that needs too many registers.
-use Rattle.std.proofs.Common.{arith}
-use Rattle.std.proofs.lemmas.Result.{err_from_is_err_and}
+use Rattle.std.proofs.{Common.arith, lemmas.Result.err_from_is_err_and}
 use Rattle.arch_trait.specs.Writing.{name_in}
 use Rattle.tests_force_cycles.specs.TestOf.{plain}
 use Rattle.tests_force_cycles.proofs.StepsFit.{steps_fit}

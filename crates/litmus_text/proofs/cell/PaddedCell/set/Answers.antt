@@ -1,6 +1,5 @@
 -- A text is copied between ` | ` and blanks.
-use Rattle.litmus_text.proofs.Vocabulary.{ap, arith, length, ◌+◌, ◌-◌, ◌∙◌}
-use Rattle.litmus_text.proofs.CellLaws.{copied_text, copied_whole}
+use Rattle.litmus_text.proofs.{Vocabulary.{ap, arith, length, ◌+◌, ◌-◌, ◌∙◌}, CellLaws.{copied_text, copied_whole}}
 use Rattle.litmus_text.proofs.cell.PaddedCell.set.Goals as goal
 
 pub invariant_of-self : goal.invariant_of-self

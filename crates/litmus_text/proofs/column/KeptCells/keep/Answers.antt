@@ -1,6 +1,5 @@
 -- One more text is kept where there is room.
-use Rattle.litmus_text.proofs.Vocabulary.{KEPT_CELLS, ap, arith, length, length-map, length-take, map, text_in}
-use Rattle.litmus_text.proofs.KeptLaws.{text_kept, text_lost}
+use Rattle.litmus_text.proofs.{Vocabulary.{KEPT_CELLS, ap, arith, length, length-map, length-take, map, text_in}, KeptLaws.{text_kept, text_lost}}
 use Rattle.litmus_text.proofs.column.KeptCells.keep.Goals as goal
 
 pub returns-then-self-lt-KEPT_CELLS : goal.returns-then-self-lt-KEPT_CELLS

@@ -1,6 +1,5 @@
 -- What is kept is that of the table of the test.
-use Rattle.litmus_text.proofs.Vocabulary.{all_texts, ap, columns_of, map, row_count, take, thread_code_of, width_of, ◌∙◌}
-use Rattle.litmus_text.proofs.TableLaws.{rows_are}
+use Rattle.litmus_text.proofs.{Vocabulary.{all_texts, ap, columns_of, map, row_count, take, thread_code_of, width_of, ◌∙◌}, TableLaws.rows_are}
 use Rattle.litmus_text.proofs.kept.KeptTable.keep.Goals as goal
 
 pub returns : goal.returns

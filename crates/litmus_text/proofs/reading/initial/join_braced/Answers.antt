@@ -1,6 +1,5 @@
 -- The text of the items ends at the first `}`, or with the lines.
-use Rattle.litmus_text.proofs.Vocabulary.{joined_seen, text_left, ◌∙◌}
-use Rattle.litmus_text.proofs.ItemLoops.{brace_found, brace_missing, brace_further}
+use Rattle.litmus_text.proofs.{Vocabulary.{joined_seen, text_left, ◌∙◌}, ItemLoops.{brace_found, brace_missing, brace_further}}
 use Rattle.litmus_text.proofs.reading.initial.join_braced.Goals as goal
 
 pub returns-in-Some : goal.returns-in-Some

@@ -1,6 +1,5 @@
 -- A cell with a label is read as the label, and then as what comes after it.
-use Rattle.litmus_text.proofs.Vocabulary.{column_seen, with_places}
-use Rattle.litmus_text.proofs.TableLoops.{cell_labelled}
+use Rattle.litmus_text.proofs.{Vocabulary.{column_seen, with_places}, TableLoops.cell_labelled}
 use Rattle.litmus_text.proofs.reading.rows.read_one_cell.Goals as goal
 
 pub returns-in_ok-read_instr-in-Some : goal.returns-in_ok-read_instr-in-Some

@@ -1,6 +1,5 @@
 -- The columns so far and the cells that are left give what the row gives.
-use Rattle.litmus_text.proofs.Vocabulary.{column_seen, drop, map, pieces_left, row_read, take, ◌≡◌}
-use Rattle.litmus_text.proofs.TableLoops.{carried}
+use Rattle.litmus_text.proofs.{Vocabulary.{column_seen, drop, map, pieces_left, row_read, take, ◌≡◌}, TableLoops.carried}
 use Rattle.litmus_text.proofs.reading.rows.read_row.Given as goal
 
 abbrev pub invariant-loop-i : goal.invariant-loop-i

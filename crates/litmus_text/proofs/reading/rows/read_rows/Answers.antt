@@ -1,6 +1,5 @@
 -- The rows are read one after another, up to the line that ends them.
-use Rattle.litmus_text.proofs.Vocabulary.{arith, cells_seen, column_seen, err_from_is_err_and, map, sym, text_left, with_places, ◌∙◌}
-use Rattle.litmus_text.proofs.GiveLaws.{fails_map}
+use Rattle.litmus_text.proofs.{Vocabulary.{arith, cells_seen, column_seen, err_from_is_err_and, map, sym, text_left, with_places, ◌∙◌}, GiveLaws.fails_map}
 use Rattle.litmus_text.proofs.TableLoops.{rows_fail, rows_more}
 use Rattle.litmus_text.proofs.reading.rows.read_rows.Goals as goal
 

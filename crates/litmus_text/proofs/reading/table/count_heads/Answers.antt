@@ -1,6 +1,5 @@
 -- A cell of the header that isn't that of the next thread is a fault, and so is one of a thread too many.
-use Rattle.litmus_text.proofs.Vocabulary.{Err, ap, pieces_left, sym, ◌∙◌}
-use Rattle.litmus_text.proofs.TableLoops.{heads_bad, heads_full}
+use Rattle.litmus_text.proofs.{Vocabulary.{Err, ap, pieces_left, sym, ◌∙◌}, TableLoops.{heads_bad, heads_full}}
 use Rattle.litmus_text.proofs.reading.table.count_heads.Goals as goal
 
 pub returns-then-not-is_head-clause-heads : goal.returns-then-not-is_head-clause-heads

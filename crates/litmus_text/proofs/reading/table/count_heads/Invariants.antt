@@ -1,6 +1,5 @@
 -- The threads so far and the cells that are left give what the header gives.
-use Rattle.litmus_text.proofs.Vocabulary.{MAX_THREADS, cells_seen, heads_read, length, pieces_left, ◌≡◌, ◌≤◌}
-use Rattle.litmus_text.proofs.TableLoops.{heads_from}
+use Rattle.litmus_text.proofs.{Vocabulary.{MAX_THREADS, cells_seen, heads_read, length, pieces_left, ◌≡◌, ◌≤◌}, TableLoops.heads_from}
 use Rattle.litmus_text.proofs.reading.table.count_heads.Given as goal
 
 abbrev pub invariant-heads : goal.invariant-heads

@@ -1,6 +1,5 @@
 -- A left side that was read has its form.
-use Rattle.litmus_text.proofs.Vocabulary.{left_view, unblanked}
-use Rattle.litmus_text.proofs.ItemLaws.{left_form}
+use Rattle.litmus_text.proofs.{Vocabulary.{left_view, unblanked}, ItemLaws.left_form}
 use Rattle.litmus_text.proofs.reading.terms.read_term.Goals as goal
 
 pub put_left-requires : goal.put_left-requires

@@ -1,6 +1,5 @@
 -- The walk over the terms of a condition, for which less and less room is left.
-use Rattle.litmus_text.proofs.Vocabulary.{MAX_TERMS, length, map, mentioned_seen, setting_seen, term_view, terms_here, ◌-◌, ◌≡◌}
-use Rattle.litmus_text.proofs.TermLoops.{remainder}
+use Rattle.litmus_text.proofs.{Vocabulary.{MAX_TERMS, length, map, mentioned_seen, setting_seen, term_view, terms_here, ◌-◌, ◌≡◌}, TermLoops.remainder}
 use Rattle.litmus_text.proofs.reading.terms.read_terms.Given as goal
 
 -- the terms so far, and those of the rest, are those of the text

@@ -1,6 +1,5 @@
 -- The registers of the initial state are the machine's, as the table asks.
-use Rattle.litmus_text.proofs.Vocabulary.{arith, begun_seen, length, text_left, ◌≤◌}
-use Rattle.litmus_text.proofs.RegistersRead.{initial_below}
+use Rattle.litmus_text.proofs.{Vocabulary.{arith, begun_seen, length, text_left, ◌≤◌}, RegistersRead.initial_below}
 use Rattle.litmus_text.proofs.reading.whole.read_body.Goals as goal
 
 pub read_table-requires-clause-registers : goal.read_table-requires-clause-registers

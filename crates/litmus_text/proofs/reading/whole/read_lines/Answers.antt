@@ -1,6 +1,5 @@
 -- A test is its header, its quoted text, and its body.
-use Rattle.litmus_text.proofs.Vocabulary.{ap, header_read, sym, text_left, ◌∙◌}
-use Rattle.litmus_text.proofs.PartLoops.{lines_body}
+use Rattle.litmus_text.proofs.{Vocabulary.{ap, header_read, sym, text_left, ◌∙◌}, PartLoops.lines_body}
 use Rattle.litmus_text.proofs.reading.whole.read_lines.Goals as goal
 
 pub returns : goal.returns

@@ -1,6 +1,5 @@
 -- Each column gives a thread.
-use Rattle.litmus_text.proofs.Vocabulary.{Begun, [], arith, length-append, ◌∷◌}
-use Rattle.litmus_text.proofs.{PartLoops.thread_step, RunnableRead.registers_of, RunnableRead.runnable_at}
+use Rattle.litmus_text.proofs.{Vocabulary.{Begun, [], arith, length-append, ◌∷◌}, PartLoops.thread_step, RunnableRead.{registers_of, runnable_at}}
 use Rattle.litmus_text.proofs.reading.whole.threads_of.Goals as goal
 
 pub loop-thread-preserved : goal.loop-thread-preserved

@@ -1,6 +1,5 @@
 -- The first piece is what comes before the first sign, or the whole text.
-use Rattle.litmus_text.proofs.Vocabulary.{ap, pieces_if, sym, ◌∙◌, ◌∷◌}
-use Rattle.litmus_text.proofs.{CutLaws.pieces_cut, CutBack.piece_last}
+use Rattle.litmus_text.proofs.{Vocabulary.{ap, pieces_if, sym, ◌∙◌, ◌∷◌}, CutLaws.pieces_cut, CutBack.piece_last}
 use Rattle.litmus_text.proofs.reading.cuts.Pieces.first.Goals as goal
 
 pub returns-in-Some : goal.returns-in-Some

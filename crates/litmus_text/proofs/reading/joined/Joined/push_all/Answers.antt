@@ -1,6 +1,5 @@
 -- Each line that is left is joined to the text after a blank.
-use Rattle.litmus_text.proofs.Vocabulary.{joined_seen, text_left, ◌∙◌}
-use Rattle.litmus_text.proofs.ItemLoops.{joined_ends, joined_more}
+use Rattle.litmus_text.proofs.{Vocabulary.{joined_seen, text_left, ◌∙◌}, ItemLoops.{joined_ends, joined_more}}
 use Rattle.litmus_text.proofs.reading.joined.Joined.push_all.Goals as goal
 
 pub loop-line-preserved : goal.loop-line-preserved

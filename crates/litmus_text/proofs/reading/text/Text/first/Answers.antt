@@ -1,6 +1,5 @@
 -- The first line of a text ends at its first line feed, or with the text.
-use Rattle.litmus_text.proofs.Vocabulary.{ap, arith, cut_length, line_kept, lines_from, sym, ◌+◌, ◌∙◌}
-use Rattle.litmus_text.proofs.LineLaws.{line_cut, line_last}
+use Rattle.litmus_text.proofs.{Vocabulary.{ap, arith, cut_length, line_kept, lines_from, sym, ◌+◌, ◌∙◌}, LineLaws.{line_cut, line_last}}
 use Rattle.litmus_text.proofs.reading.text.Text.first.Goals as goal
 
 pub invariant_of-result : goal.invariant_of-result

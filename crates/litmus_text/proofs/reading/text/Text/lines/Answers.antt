@@ -1,6 +1,5 @@
 -- Where no byte is left, no line is.
-use Rattle.litmus_text.proofs.Vocabulary.{sym, ◌∙◌}
-use Rattle.litmus_text.proofs.LineLaws.{lines_end}
+use Rattle.litmus_text.proofs.{Vocabulary.{sym, ◌∙◌}, LineLaws.lines_end}
 use Rattle.litmus_text.proofs.reading.text.Text.lines.Goals as goal
 
 pub returns-clause-lines : goal.returns-clause-lines
