@@ -34,9 +34,10 @@ abbrev pub may_stand : Writing → ℕ → LeftSeen → Bool
 may_stand w threads (InRegister thread name) = nat_lt thread threads && is_some (number_in w.registers name)
 may_stand w threads (AtPlace name) = true
 
--- After its quantifier and `(` the text gives entries: a place that a left side names in a line, a term, or an error of the form, after which nothing is
--- read. A named place is an error of its line if it is one too many among all places that are named so far, those before the condition included; there
--- is room for MAX_PLACES. The first error by its line counts, and of those of one line the first in the text.
+-- After its quantifier and `(` the text gives entries: a place that a left side names in a line, a term, or an error, after which nothing is read: the
+-- form is wrong, or a term is one too many. A named place is an error of its line, TooLarge, if it is one too many among all places that are named so
+-- far, those before the condition included; there is room for MAX_PLACES. The error of the least line counts, and of those of one line the first in the
+-- text.
 
 -- what stands in the text of a condition: a place that is named in a line, a term, or an error, which has a line
 pub data CondEntry : Type 0 where
@@ -62,7 +63,7 @@ bad_part begins = record { entries = an_error begins BadCondition ∷ []; rest =
 abbrev pub part_after : List CondEntry → CondPart → CondPart
 part_after entries part = record part { entries = entries ++ part.entries }
 
--- the end of a term, from the value that its left side is to have
+-- the rest of a term: the value after its left side
 abbrev pub value_part : ℕ → LeftSeen → Result (ℕ × List ℕ) Fault → CondPart
 value_part begins left (Err fault) = bad_part begins
 value_part begins left (Ok right) = record { entries = a_term (record { left = left; value = right.0 }) ∷ []; rest = Some right.1 }
@@ -77,7 +78,7 @@ left_part w here n (Ok left) =
 abbrev pub term_part : Writing → Setting → List ℕ → CondPart
 term_part w here text = left_part w here (line_of_rest here (unblanked text)) (left_read has_form (unblanked text))
 
--- the end of the text, which nothing but blanks comes before
+-- the end of the text, with nothing but blanks before it
 abbrev pub end_part : ℕ → Result (List ℕ) Fault → CondPart
 end_part begins (Err fault) = bad_part begins
 end_part begins (Ok rest) = record { entries = []; rest = None }
@@ -92,7 +93,7 @@ follow_part begins (Ok (follows.Term, rest)) = record { entries = []; rest = Som
 abbrev pub with_follow : ℕ → CondPart → CondPart
 with_follow begins part = elim part.rest as (λ _. CondPart) [ None ↦ part | Some rest ↦ part_after part.entries (follow_part begins (follow_read rest)) ]
 
--- the entries of a text of at most so many terms, up to its end; if the form of one term more is right, the condition is too large
+-- the entries of a text with room for so many terms, up to its end; a term beyond them whose form is right is TooLarge
 unfoldable pub entries_of : Writing → Setting → ℕ → List ℕ → List CondEntry
 entries_of w here zero text =
     let part = term_part w here text in
@@ -116,13 +117,13 @@ abbrev pub over_in_line : ℕ → Option ℕ → List TextError
 over_in_line n (Some place) = []
 over_in_line n None = record { line = n; kind = TooLarge } ∷ []
 
--- the error of an entry, by the entries before it and the places that were named before the condition, if it has one
+-- the error of an entry, if it has one, given the entries before it and the places that were named before the condition
 abbrev pub error_in : List (List ℕ) → List CondEntry × CondEntry → List TextError
 error_in names (before, a_naming n name) = over_in_line n (number_added (with_names names (flat_map names_in before)) name)
 error_in names (before, a_term term) = []
 error_in names (before, an_error n kind) = record { line = n; kind = kind } ∷ []
 
--- errors by their lines, which go up with the text: those at the line where the condition begins are first, whatever comes before them
+-- errors in the order of their lines: those reported where the condition begins first, wherever they stand; the lines of the others go up already
 abbrev pub by_line : ℕ → List TextError → List TextError
 by_line begins errors = filter (λ error. error.line == begins) errors ++ filter (λ error. not (error.line == begins)) errors
 

@@ -48,7 +48,7 @@ end_error n whole = cond whole [] (record { line = n; kind = BadTable } ∷ [])
 unfoldable pub heads_read : ℕ → Cells → Result ℕ TextError
 heads_read n row = unless (flat_map (head_error n) (enumerate_from 0 row.texts) ++ end_error n row.whole) (length row.texts)
 
--- the number of threads, where each thread to which the initial state gives a value is one of them
+-- the number of threads, where each thread to which the initial state gives a value is one of them, or BadTable
 abbrev pub threads_there : ℕ → Begun → ℕ → Result ℕ TextError
 threads_there n begun threads = cond (list_all (λ v. nat_lt v.0 threads) begun.values) (Ok threads) (bad BadTable n)
 
@@ -83,8 +83,8 @@ abbrev pub fits_in_column : Column → Micro → Bool
 fits_in_column column op = not (is_access op) || nat_lt (count_by (λ placed. is_access placed.op) column.ops) MAX_ACCESSES
 
 -- The rows of the table. Each row, read by itself, gives entries: an instruction or a label in the column of a thread, or a fault. Each entry is then
--- judged with all entries before it: it is too large if it names a place that is one too many of those named so far, the initial state included, or
--- a label that is one too many in its thread, or if it is an access too many of its thread; there is room for MAX_PLACES places, and for as many labels
+-- judged with all entries before it: it is the error TooLarge if it names a place that is one too many of those named so far, the initial state included,
+-- or a label that is one too many in its thread, or if it is one access too many for its thread; there is room for MAX_PLACES places, and for as many labels
 -- of a thread. The first fault counts.
 
 -- what stands in a line of the table: an instruction or a label in the column of a thread, with the name that it mentions, or a fault of the line
@@ -226,7 +226,7 @@ is_label_of label op = false
 abbrev pub is_label_row : ℕ → Placed → Bool
 is_label_row label placed = is_label_of label placed.op
 
--- exactly one element of a list passes a test, and exactly one of a later part of it, so that it is in that part
+-- exactly one element of a list passes a test, and it is in the later part of the list
 abbrev pub comes_once : {X : Type 0} → (X → Bool) → List X → List X → Bool
 comes_once test all remainder = (count_by test all == 1) && (count_by test remainder == 1)
 
@@ -242,12 +242,12 @@ abbrev pub with_after : {A : Type 0} → List A → List (A × List A)
 with_after [] = []
 with_after (x ∷ xs) = (x, xs) ∷ with_after xs
 
--- the error of an operation of a thread, with the operations after it, if it has one: it is a branch whose label doesn't come after it, or comes twice
+-- the error of an operation of a thread, if it has one, with the operations after it: it is a branch whose label isn't after it, or comes more than once
 abbrev pub landing_error : List Placed → Placed × List Placed → List TextError
 landing_error all (placed, remainder) =
     cond (lands_among is_label_row placed.op all remainder) [] (record { line = placed.at_line; kind = BadLabel } ∷ [])
 
--- the branches of all threads have their labels after them; the first that hasn't, thread by thread, is an error in its line
+-- the branches of all threads have their labels after them, each exactly once; the first that hasn't, thread by thread, is an error in its own line
 unfoldable pub all_labels_judged : List Column → Result (Unit {0}) TextError
 all_labels_judged columns = unless (flat_map (λ column. flat_map (landing_error column.ops) (with_after column.ops)) columns) tt
 

@@ -1,4 +1,4 @@
--- The items of a relaxation list: words and brackets of words, each with the byte where it begins.
+-- The items of a relaxation list: words and brackets of words, each with the position where it begins.
 -- Source: the diy part of the herdtools manual, option `-relax`.
 use Rattle.std.specs.Prelude.{ℕ, ◌==◌, ◌||◌, ◌&&◌, Bool, true, false, not, cond, Option, Some, None, List, [], ◌∷◌, ◌++◌, length, filter}
 use Rattle.std.specs.List.{before_first, slice_split}
@@ -42,12 +42,12 @@ some_words (word ∷ words) = Some (word ∷ words)
 abbrev pub bracket_words : List ℕ → Option (List (List ℕ))
 bracket_words remainder = cond (has_closed_bracket remainder) (some_words (words_of (inside remainder))) None
 
--- an item: the byte where it begins, and its words, or none where its bracket is bad
+-- an item: the position of its first byte, from 0, and its words, or none where its bracket is bad
 pub record RelaxItem : Type 0 where
   pub start : ℕ
   pub words : Option (List (List ℕ))
 
--- the words of the item that begins with a byte
+-- the words of the item that begins with a byte, by the text after that byte
 abbrev pub words_from : ℕ → List ℕ → Option (List (List ℕ))
 words_from byte remainder = cond (byte == 91) (bracket_words remainder) (cond (byte == 93) None (Some ((byte ∷ before_first ends_word remainder) ∷ [])))
 
@@ -56,15 +56,15 @@ abbrev pub last_byte : ℕ → List ℕ → ℕ
 last_byte byte [] = byte
 last_byte _ (byte ∷ bytes) = last_byte byte bytes
 
--- whether a bracket is open after some bytes: the last bracket among them is a `[`
+-- whether a bracket is open after some bytes: the last bracket among them is a `[`; without a bracket none is open
 abbrev pub is_open : List ℕ → Bool
 is_open before = last_byte 93 (filter is_bracket before) == 91
 
--- whether a word cannot go on after some bytes: there are none, or the last of them ends a word
+-- whether no word is in progress after some bytes: there are none, or the last of them ends a word
 abbrev pub stands_apart : List ℕ → Bool
 stands_apart before = ends_word (last_byte 32 before)
 
--- whether an item begins with the byte after some bytes: it separates nothing, no bracket is open there, and it is a bracket or the first byte of a word
+-- whether an item begins with the byte after some bytes: it is no separator, no bracket is open there, and it is a bracket or the first byte of a word
 abbrev pub begins_item : List ℕ → ℕ → Bool
 begins_item before byte = not (is_separator byte) && not (is_open before) && (is_bracket byte || stands_apart before)
 

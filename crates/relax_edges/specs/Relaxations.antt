@@ -11,16 +11,16 @@ use Rattle.relax_edges.specs.{JoinedEdges.is_joined, Order.rank_of, Spelling.edg
 abbrev pub byte_choices : ℕ → ℕ → List ℕ
 byte_choices byte remainder = cond (byte == 42 && nat_lt remainder 2) (codes "RW") (byte ∷ [])
 
--- the words that a word expands to, the first star turning slowest
+-- the words that a word expands to, the first star varying slowest
 abbrev pub expansions : List ℕ → List (List ℕ)
 expansions [] = [] ∷ []
 expansions (byte ∷ remainder) = flat_map (λ choice. map (λ word. choice ∷ word) (expansions remainder)) (byte_choices byte (length remainder))
 
--- the edges that a word names
+-- the edges that a word names: those among the words that it expands to
 unfoldable pub word_edges : List ℕ → List Edge
 word_edges word = filter_map edge_of (expansions word)
 
--- all choices of one from each list, the last turning fastest
+-- all choices of one from each list, the last varying fastest
 abbrev pub path_choices : List (List Edge) → List (List Edge)
 path_choices [] = [] ∷ []
 path_choices (edges ∷ remainder) = flat_map (λ edge. map (λ path. edge ∷ path) (path_choices remainder)) edges
@@ -66,11 +66,11 @@ item_paths (Some words) = paths_of words
 abbrev pub relaxes_in : List RelaxItem → List (List Edge)
 relaxes_in items = distinct (flat_map (λ item. item_paths item.words) items)
 
--- an error where this is so, and else none
+-- this error if the condition holds, otherwise none
 abbrev pub error_if : Bool → RelaxKind → List RelaxKind
-error_if this kind = cond this (kind ∷ []) []
+error_if condition kind = cond condition (kind ∷ []) []
 
--- the errors of an item by itself: its bracket is bad, or else a word of it names no edge, it has more than 8 words, or it has no path
+-- the errors of an item taken alone, in this order: its bracket is bad; or else some word names no edge, there are more than 8 words, no choice joins
 unfoldable pub item_errors : Option (List (List ℕ)) → List RelaxKind
 item_errors None = BadBracket ∷ []
 item_errors (Some words) =
@@ -82,7 +82,7 @@ item_errors (Some words) =
 abbrev pub too_many : List (List Edge) → List RelaxKind
 too_many relaxes = error_if (nat_lt 64 (length relaxes)) TooManyRelaxes
 
--- the errors of an item, by the items before it: its own, then that the items up to it have too many relaxations
+-- the errors of an item, given the items before it: its own, then that the items up to it have too many relaxations
 abbrev pub errors_of : List RelaxItem × RelaxItem → List RelaxError
 errors_of (before, item) =
     map (λ kind. record { at = item.start; kind = kind }) (item_errors item.words ++ too_many (relaxes_in (before ++ item ∷ [])))
