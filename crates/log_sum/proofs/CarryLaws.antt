@@ -1,6 +1,6 @@
 -- What is read line by line, by the blocks: the facts of lines, the place where they end, and the fault that bytes show.
-use Rattle.std.proofs.Common.{◌≡◌, ◌<◌, ℕ, zero, suc, ◌+◌, List, [], ◌∷◌, ◌++◌, length, true, false, refl, sym, ap, ◌∙◌, arith, subst, append_assoc, append-nil, Some, None}
-use Rattle.std.specs.Prelude.{Option, Result, Ok, Err}
+use Rattle.std.proofs.Common.{◌≡◌, ◌<◌, ℕ, zero, suc, ◌+◌, ◌-◌, List, [], ◌∷◌, ◌++◌, length, true, false, refl, sym, ap, ◌∙◌, arith, subst, append_assoc, append-nil, Some, None}
+use Rattle.std.specs.Prelude.{Option, Result, Ok, Err, nat_lt}
 use Rattle.text_parts_laws.specs.{Lines.without_return, Lines.whole_lines, Lines.unended, ReadingSteps.◌>>=◌}
 use Rattle.log_sum.specs.declared.{errors.LogKind.LogKind, errors.LogKind.TheVariants.LineTooLong, errors.LogError.LogError, errors.SumError.SumError}
 use Rattle.log_sum.specs.declared.{errors.Fault.Fault, errors.Fault.TheVariants.Wrong, errors.Fault.TheVariants.NoMemory, kinds.Place.Place}
@@ -9,15 +9,15 @@ use Rattle.log_sum.specs.Facts.{Fact, Entry, fact_fault}
 use Rattle.log_sum.specs.{Counts.count_read, LogStates.form_read, Summed.Summed}
 use Rattle.log_sum.specs.LogLines.{histogram_line, log_row}
 use Rattle.log_sum.specs.LineReading.{Said, log_line_said, place_after, fact_said, test_after}
-use Rattle.log_sum.specs.LogGrammar.{LogSays, text_in, is_too_long, next_line, fault_at, ended_texts, all_judged}
+use Rattle.log_sum.specs.LogGrammar.{Statement, is_too_long, next_line, fault_at, ended_texts, texts_before, LogLine, numbered, facts_in, lines_say, inside, all_judged}
 use Rattle.log_sum.specs.LogReading.{LogSeen, nothing_seen, fact_put, at_next_line, said_put, text_judged, line_judged, lines_judged, rest_judged, bytes_judged, last_judged, end_judged, files_judged, input_judged}
-use Rattle.log_sum.specs.Representing.{SumProgress, Kept, Represents, ShowsFault, ShowsNone, IsInside, FedTo, sum_table, test_name_at, says_so_far, facts_said, logs_text}
+use Rattle.log_sum.specs.Representing.{SumProgress, Kept, Represents, ShowsFault, ShowsNone, IsInside, FedTo, sum_table, test_name_at, lines_so_far, facts_so_far, logs_text}
 use Rattle.log_sum.specs.Feeding.{IsFed, IsAtSeen, IsRunning, PieceTo, entry_of, sum_refusal}
-use Rattle.log_sum.proofs.PlaceLaws.{place_says, HasStates, before_says, line_says, has_states}
+use Rattle.log_sum.proofs.PlaceLaws.{HasStates, goes_on, ends_in, fact_says, LineGoes, line_goes, has_states}
 use Rattle.log_sum.proofs.ReadingLaws.{is_one_line, so_far_more, input_by_lines, rest_more}
 use Rattle.log_sum.proofs.FeedLaws.{middle_of, rest_same, part_long, file_by_lines}
 use Rattle.log_sum.proofs.StayLaws.{files_fault, long_rest}
-use Rattle.log_sum.proofs.{LineLaws.input_line, Grammar.between, Grammar.at_place, Grammar.files_by_blocks, Grammar.judged_text, Grammar.text_fault}
+use Rattle.log_sum.proofs.{LineLaws.input_line, Grammar.between, Grammar.files_by_blocks, Grammar.judged_text, Grammar.text_fault}
 
 -- the entry of a fact, if there is one
 abbrev said_entries : List ℕ → Option Fact → List Entry
@@ -68,61 +68,57 @@ abbrev IsSeenInside : Option (List ℕ × Place) → LogSeen → Type 0
 IsSeenInside None seen = seen.place ≡ Outside
 IsSeenInside (Some block) seen = (seen.test ≡ block.0) × (seen.place ≡ block.1) × (block.1 ≡ Outside → ⊥)
 
--- lines were read that say this after others
-record EndsAs (before : List Entry) (says : LogSays) (next : LogSeen) : Type 0 where
-  entries : next.entries ≡ before ++ facts_said says
-  inside : IsSeenInside says.inside next
+-- lines were read that state this after facts, and end there
+record EndsAs (before : List Entry) (statements : List Statement) (block : Option (List ℕ × Place)) (next : LogSeen) : Type 0 where
+  entries : next.entries ≡ before ++ facts_in statements
+  inside : IsSeenInside block next
 
-nothing_ends : (entries : List Entry) (test : List ℕ) (place : Place) (line : ℕ) → HasStates place
-    → EndsAs entries (place_says place test line []) (at_place entries test place line)
-nothing_ends entries test Outside line h = record { entries = sym (append-nil entries); inside = refl }
-nothing_ends entries test (Histogram kind) line h = record { entries = sym (append-nil entries); inside = (refl, refl, λ e. cc) }
-nothing_ends entries test (States kind zero) line h = absurd h
-nothing_ends entries test (States kind (suc left)) line h = record { entries = sym (append-nil entries); inside = (refl, refl, λ e. cc) }
-nothing_ends entries test (Judgement kind) line h = record { entries = sym (append-nil entries); inside = (refl, refl, λ e. cc) }
-nothing_ends entries test (Rest kind) line h = record { entries = sym (append-nil entries); inside = (refl, refl, λ e. cc) }
-nothing_ends entries test (Conditioned kind) line h = record { entries = sym (append-nil entries); inside = (refl, refl, λ e. cc) }
+nothing_ends : (place : Place) (seen : LogSeen) → seen.place ≡ place → HasStates place → EndsAs seen.entries (goes_on place seen.test []) (ends_in place seen.test []) seen
+nothing_ends (States kind zero) seen e h = absurd h
+nothing_ends (States kind (suc left)) seen e h =
+    let less : nat_lt 0 (suc left) ≡ true = grind arith in
+    let all : suc left - 0 ≡ suc left = omega arith in
+    record { entries = sym (append-nil seen.entries); inside = rw (less, all) (refl, e, λ f. cc) }
+nothing_ends Outside seen e h = record { entries = sym (append-nil seen.entries); inside = e }
+nothing_ends (Histogram kind) seen e h = record { entries = sym (append-nil seen.entries); inside = (refl, e, λ f. cc) }
+nothing_ends (Judgement kind) seen e h = record { entries = sym (append-nil seen.entries); inside = (refl, e, λ f. cc) }
+nothing_ends (Rest kind) seen e h = record { entries = sym (append-nil seen.entries); inside = (refl, e, λ f. cc) }
+nothing_ends (Conditioned kind) seen e h = record { entries = sym (append-nil seen.entries); inside = (refl, e, λ f. cc) }
 
-fact_ends : (entries : List Entry) (n : ℕ) (test : List ℕ) (fact : Option Fact) (says : LogSays) (next : LogSeen)
-    → EndsAs (entries ++ said_entries test fact) says next → EndsAs entries (before_says n test fact says) next
-fact_ends entries n test None says next h = record { entries = h.entries ∙ ap (λ x. x ++ facts_said says) (append-nil entries); inside = h.inside }
-fact_ends entries n test (Some fact) says next h =
-    record { entries = h.entries ∙ append_assoc entries (entry_of test fact ∷ []) (facts_said says); inside = h.inside }
+facts_first : (line : LogLine) (test : List ℕ) (fact : Option Fact) (statements : List Statement) → facts_in (fact_says line test fact ++ statements) ≡ said_entries test fact ++ facts_in statements
+facts_first line test None statements = refl
+facts_first line test (Some fact) statements = refl
 
-line_ends : (seen mid next : LogSeen) (text : List ℕ) (lines : List (Option (List ℕ))) (s : Steps seen mid text) → HasStates seen.place
-    → EndsAs mid.entries (place_says mid.place mid.test mid.line lines) next → EndsAs seen.entries (place_says seen.place seen.test seen.line (Some text ∷ lines)) next
-line_ends seen mid next text lines s has h =
-    rw (line_says seen.place seen.test seen.line text lines has, s.is)
-    (fact_ends seen.entries seen.line (test_after seen.test s.said) (fact_said s.said) _ next
-    (rw (sym s.entries, sym s.place, sym s.test, sym s.line) h))
-
--- lines that were read without a fault say what the grammar says of them
+-- lines that were read without a fault state what the grammar says of them
 lines_end : (seen next : LogSeen) (lines : List (List ℕ)) → HasStates seen.place → lines_judged seen lines ≡ Ok next
-    → EndsAs seen.entries (place_says seen.place seen.test seen.line (ended_texts lines)) next
+    → EndsAs seen.entries (goes_on seen.place seen.test (numbered seen.line (texts_before (ended_texts lines)))) (ends_in seen.place seen.test (numbered seen.line (texts_before (ended_texts lines)))) next
 lines_end seen next [] has h =
     let e : seen ≡ next = cc in
-    subst (EndsAs seen.entries (place_says seen.place seen.test seen.line [])) e (nothing_ends seen.entries seen.test seen.place seen.line has)
+    subst (EndsAs seen.entries (goes_on seen.place seen.test []) (ends_in seen.place seen.test [])) e (nothing_ends seen.place seen refl has)
 lines_end seen next (line ∷ lines) has h =
     let b = middle_of (line_judged seen line) (λ x. lines_judged x lines) next h in
     let f = line_fits seen b.middle line b.is in
     let s = text_steps seen b.middle (without_return line) f.read in
-    let first : text_in without_return line ≡ Some (without_return line) = rw f.fits refl in
-    subst (λ (text : Option (List ℕ)). EndsAs seen.entries (place_says seen.place seen.test seen.line (text ∷ ended_texts lines)) next) (sym first)
-    (line_ends seen b.middle next (without_return line) (ended_texts lines) s has
-    (lines_end b.middle next lines (subst HasStates (sym s.place) (has_states seen.place s.said has)) b.then))
+    let here : LogLine = record { number = seen.line; text = without_return line } in
+    let goes = subst (LineGoes seen.place seen.test here (numbered (next_line seen.line) (texts_before (ended_texts lines)))) s.is (line_goes seen.place seen.test here _ has) in
+    let later = lines_end b.middle next lines (subst HasStates (sym s.place) (has_states seen.place s.said has)) b.then in
+    rw (f.fits, goes.says, goes.ends) (record {
+      entries = grind (arith, append_assoc, facts_first);
+      inside = rw (sym s.place, sym s.test, sym s.line) later.inside;
+    })
 
 -- whole files, and the bytes so far of one more, were read
 record HasRead (files : List (List ℕ)) (bytes : List ℕ) (seen : LogSeen) : Type 0 where
   before : List Entry
-  whole : all_judged [] files ≡ Ok before
-  ends : EndsAs before (says_so_far bytes) seen
+  whole : all_judged files ≡ Ok before
+  ends : EndsAs before (lines_say (lines_so_far bytes)) (inside (lines_so_far bytes)) seen
 
 has_read : (files : List (List ℕ)) (bytes : List ℕ) (seen : LogSeen) → input_judged files bytes ≡ Ok seen → HasRead files bytes seen
 unfolding input_judged bytes_judged
 has_read files bytes seen h =
     let a = middle_of (files_judged nothing_seen files) (λ x. bytes_judged x bytes) seen h in
     let b = middle_of (lines_judged a.middle (whole_lines bytes)) (λ x. rest_judged x (unended bytes)) seen a.then in
-    let m = middle_of (all_judged [] files) (λ all. Ok (between all)) a.middle (sym (files_by_blocks [] files) ∙ a.is) in
+    let m = middle_of (all_judged files) (λ all. Ok (between all)) a.middle (sym (files_by_blocks files) ∙ a.is) in
     let start : between m.middle ≡ a.middle = (let e : ◌≡◌ {A = Result LogSeen LogError} (Ok (between m.middle)) (Ok a.middle) = m.then in cc) in
     let same : b.middle ≡ seen = rest_same b.middle seen (unended bytes) b.then in
     record {
@@ -235,7 +231,7 @@ fed_represents kept files bytes fed =
       before = read.before;
       whole = read.whole;
       tests = fed.reading.tests ∙ ap sum_table read.ends.entries;
-      inside = inside_of (says_so_far bytes).inside kept.progress fed.seen fed.reading read.ends.inside;
+      inside = inside_of (inside (lines_so_far bytes)) kept.progress fed.seen fed.reading read.ends.inside;
       line = fed.reading.line ∙ input_line fed.seen files bytes fed.judged;
       held = fed.held;
       going = fed.going;
@@ -252,12 +248,12 @@ represents_fed kept files bytes h = by_judged (input_judged files bytes) refl
         let read = has_read files bytes seen e in
         let oks : ◌≡◌ {A = Result (List Entry) LogError} (Ok h.before) (Ok read.before) = sym h.whole ∙ read.whole in
         let same : h.before ≡ read.before = cc in
-        let place = place_of (says_so_far bytes).inside kept.progress seen h.inside read.ends.inside in
+        let place = place_of (inside (lines_so_far bytes)) kept.progress seen h.inside read.ends.inside in
         record {
           seen = seen;
           judged = e;
           reading = record {
-            tests = h.tests ∙ ap (λ before. sum_table (before ++ facts_said (says_so_far bytes))) same ∙ ap sum_table (sym read.ends.entries);
+            tests = h.tests ∙ ap (λ before. sum_table (before ++ facts_so_far bytes)) same ∙ ap sum_table (sym read.ends.entries);
             place = place.place;
             test = place.test;
             line = h.line ∙ sym (input_line seen files bytes e);

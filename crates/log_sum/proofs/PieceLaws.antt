@@ -3,7 +3,7 @@ use Rattle.std.proofs.Common.{◌≡◌, ℕ, List, [], ◌∷◌, ◌++◌, Ok,
 use Rattle.std.specs.Prelude.{Result}
 use Rattle.log_sum.specs.declared.errors.{LogError.LogError, SumError.SumError, SumError.TheVariants.Log, SumError.TheVariants.NoMemory}
 use Rattle.log_sum.specs.{Representing.Kept, Representing.Represents, Representing.FedTo, Representing.EndedTo, Representing.logs_text}
-use Rattle.log_sum.specs.{Facts.Entry, SumText.sum_text, Representing.facts_said, Representing.says_so_far}
+use Rattle.log_sum.specs.{Facts.Entry, SumText.sum_text, Representing.facts_so_far}
 use Rattle.log_sum.specs.{Representing.kept_text, SumPieces.SameAnswers, SumPieces.IsOneAnswer}
 use Rattle.log_sum.proofs.{PrintLaws.sum_is, RepresentingLaws.one_fault, RepresentingLaws.fault_stays, RepresentingLaws.represented_text}
 
@@ -36,7 +36,7 @@ kept_one : (one other : Kept) (files : List (List ℕ)) (bytes : List ℕ) → R
 kept_one one other files bytes h k =
     let oks : ◌≡◌ {A = Result (List Entry) LogError} (Ok h.before) (Ok k.before) = sym h.whole ∙ k.whole in
     let same : h.before ≡ k.before = cc in
-    sum_is one _ h.tests ∙ ap (λ before. sum_text (before ++ facts_said (says_so_far bytes))) same ∙ sym (sum_is other _ k.tests)
+    sum_is one _ h.tests ∙ ap (λ before. sum_text (before ++ facts_so_far bytes)) same ∙ sym (sum_is other _ k.tests)
 
 -- however the same bytes are cut, there is one answer, and one sum
 pub one_answer_in_pieces : SameAnswers

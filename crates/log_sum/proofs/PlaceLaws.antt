@@ -1,87 +1,177 @@
--- What the lines of a log say from a place on.
-use Rattle.std.proofs.Common.{◌≡◌, ◌-◌, ℕ, zero, suc, List, ◌∷◌, true, false, refl, arith, Some, None}
-use Rattle.std.specs.Prelude.{Option, Result, Ok, Err}
+-- What the lines of a log say from a place of the reading on, line by line.
+use Rattle.std.proofs.Common.{◌≡◌, ◌-◌, ℕ, zero, suc, List, [], ◌∷◌, ◌++◌, length, take, drop, true, false, refl, arith, Some, None}
+use Rattle.std.specs.Prelude.{Option, Result, Ok, Err, Bool, cond, nat_lt, filter, fold, option_map}
+use Rattle.std.specs.{List.flat_map, List.list_any, List.before_first, Option.is_some}
+use Rattle.std.proofs.lemmas.Slice.Eq.{bytes_eq-Decides}
 use Rattle.list_laws.proofs.Cases.{by_test}
-use Rattle.text_parts_laws.specs.Words.{words}
+use Rattle.text_parts_laws.specs.{Words.words, Blanks.is_blank, Blanks.is_inked, Blanks.before_blanks, LeadingRuns.leading_run, LeadingRuns.after_run}
+use Rattle.text_parts_laws.proofs.WordLaws.{word_found}
 use Rattle.log_sum.specs.declared.{errors.LogKind.LogKind, kinds.Kind.Kind, kinds.Verdict.Verdict, kinds.Place.Place}
 use Rattle.log_sum.specs.declared.kinds.Place.TheVariants.{Outside, Histogram, States, Judgement, Rest, Conditioned}
-use Rattle.log_sum.specs.Facts.{Row, Fact}
-use Rattle.log_sum.specs.LogLines.{test_line, histogram_line, log_row, is_judgement, is_observation, condition_line, hash_line}
-use Rattle.log_sum.specs.LineReading.{Said, outside_said, counts_said, row_said, no_test, condition_said, hash_said, kind_at, log_line_said, states_left, after_state, place_after, fact_said, test_after}
-use Rattle.log_sum.specs.LogGrammar.{LogSays, next_line, stops_at, and_says, of_test, of_count, of_row, of_no_test, of_condition, of_hash}
-use Rattle.log_sum.specs.LogGrammar.{log_says, block_says, states_say, rest_says}
+use Rattle.log_sum.specs.{Texts.begins_with, Counts.count_read, Facts.Row, Facts.Fact}
+use Rattle.log_sum.specs.LogLines.{quantifier, test_line, histogram_line, log_row, is_judgement, is_observation, hash_line}
+use Rattle.log_sum.specs.LineReading.{Said, outside_said, counts_said, row_said, no_test, condition_said, hash_said, log_line_said, states_left, after_state, place_after, fact_said, test_after}
+use Rattle.log_sum.specs.LogGrammar.{LogLine, Statement, opening, condition, is_closing, blocks, block_parts, says, row_says, judgement_says, further_says, closing_says}
+use Rattle.log_sum.specs.LogGrammar.{parts_say, lines_say, no_line, place_in, inside_block}
 
--- what the lines from a place on say
-abbrev pub place_says : Place → List ℕ → ℕ → List (Option (List ℕ)) → LogSays
-place_says Outside test n lines = log_says n lines
-place_says (Histogram kind) test n lines = block_says (test, kind) n lines
-place_says (States kind left) test n lines = states_say (test, kind) left n lines
-place_says (Judgement kind) test n lines = states_say (test, kind) 0 n lines
-place_says (Rest kind) test n lines = rest_says (test, kind) false n lines
-place_says (Conditioned kind) test n lines = rest_says (test, kind) true n lines
+-- a condition came, or is among lines
+abbrev had_condition : Bool → List LogLine → Bool
+had_condition true lines = true
+had_condition false lines = list_any (λ line. is_some (condition line)) lines
+
+-- what further lines and the closing say, where it is known whether a condition came
+abbrev further_say : List ℕ × Kind → List LogLine → List Statement
+further_say test lines = flat_map (λ line. further_says test line (opening line)) (before_first is_closing lines)
+
+abbrev closing_say : Bool → List LogLine → List Statement
+closing_say conditioned lines = flat_map (closing_says (had_condition conditioned (before_first is_closing lines))) (take 1 (filter is_closing lines))
+
+-- what the lines of a block from a place on say
+abbrev pub place_says : Place → List ℕ → List LogLine → List Statement
+place_says Outside test lines = []
+place_says (Histogram kind) test lines = parts_say (test, kind) (block_parts lines)
+place_says (States kind left) test lines =
+    flat_map (λ line. row_says test line (log_row line.text)) (take left lines)
+    ++ flat_map judgement_says (take 1 (drop left lines)) ++ further_say (test, kind) (drop 1 (drop left lines)) ++ closing_say false (drop 1 (drop left lines))
+place_says (Judgement kind) test lines = flat_map judgement_says (take 1 lines) ++ further_say (test, kind) (drop 1 lines) ++ closing_say false (drop 1 lines)
+place_says (Rest kind) test lines = further_say (test, kind) lines ++ closing_say false lines
+place_says (Conditioned kind) test lines = further_say (test, kind) lines ++ closing_say true lines
+
+-- what the lines of a log from a place on say
+abbrev pub goes_on : Place → List ℕ → List LogLine → List Statement
+goes_on place test lines = place_says place test lines ++ lines_say lines
+
+-- the place where lines end that come after the judgement
+abbrev rest_end : Kind → Bool → List LogLine → Option Place
+rest_end kind conditioned lines =
+    cond (no_line (take 1 (filter is_closing lines)))
+    (Some (cond (had_condition conditioned (before_first is_closing lines)) (Conditioned kind) (Rest kind))) None
+
+abbrev judged_end : Kind → List LogLine → Option Place
+judged_end kind lines = cond (no_line (take 1 lines)) (Some (Judgement kind)) (rest_end kind false (drop 1 lines))
+
+-- the place in a block where lines end that come from a place on
+abbrev place_end : Place → List LogLine → Option Place
+place_end Outside lines = None
+place_end (Histogram kind) lines = place_in kind (block_parts lines)
+place_end (States kind left) lines = cond (nat_lt (length (take left lines)) left) (Some (States kind (left - length (take left lines)))) (judged_end kind (drop left lines))
+place_end (Judgement kind) lines = judged_end kind lines
+place_end (Rest kind) lines = rest_end kind false lines
+place_end (Conditioned kind) lines = rest_end kind true lines
+
+-- the same of a log
+abbrev pub ends_in : Place → List ℕ → List LogLine → Option (List ℕ × Place)
+ends_in place test lines = fold (λ other block. inside_block block) (option_map (λ at. (test, at)) (place_end place lines)) (blocks lines)
 
 -- where states come next, it is one or more
 abbrev pub HasStates : Place → Type 0
 HasStates (States kind zero) = ⊥
 HasStates _ = Unit {0}
 
--- the fact of a line, if it has one, before what others say
-abbrev pub before_says : ℕ → List ℕ → Option Fact → LogSays → LogSays
-before_says n test None says = says
-before_says n test (Some fact) says = and_says n test fact says
+-- the fact of a line, if it has one
+abbrev pub fact_says : LogLine → List ℕ → Option Fact → List Statement
+fact_says line test None = []
+fact_says line test (Some fact) = says line test fact
 
--- what a line says, or its fault, and then what the others say from the place after it on
-abbrev pub after_line : Place → List ℕ → ℕ → List (Option (List ℕ)) → Result Said LogKind → LogSays
-after_line place test n lines (Err kind) = stops_at n kind
-after_line place test n lines (Ok said) =
-    before_says n (test_after test said) (fact_said said) (place_says (place_after place said) (test_after test said) (next_line n) lines)
+-- a line says this and nothing, or what it is wrong by, and then the other lines say what they say from the place after it on
+pub record GoesOn (place : Place) (test : List ℕ) (line : LogLine) (lines : List LogLine) (said : Said) : Type 0 where
+  pub says : goes_on place test (line ∷ lines) ≡ fact_says line (test_after test said) (fact_said said) ++ goes_on (place_after place said) (test_after test said) lines
+  pub ends : ends_in place test (line ∷ lines) ≡ ends_in (place_after place said) (test_after test said) lines
 
--- a line outside the blocks
-outside_line : (test : List ℕ) (n : ℕ) (lines : List (Option (List ℕ))) (begun : Option (List ℕ × Kind))
-    → of_test n begun (λ t. block_says t (next_line n) lines) (log_says (next_line n) lines) ≡ after_line Outside test n lines (Ok (outside_said begun))
+-- the first of what lines say is that this one is wrong
+abbrev pub StopsAt : LogLine → LogKind → List Statement → Type 0
+StopsAt line kind [] = ⊥
+StopsAt line kind (statement ∷ statements) = statement ≡ (line.number, Err kind)
+
+abbrev pub LineGoes : Place → List ℕ → LogLine → List LogLine → Result Said LogKind → Type 0
+LineGoes place test line lines (Ok said) = GoesOn place test line lines said
+LineGoes place test line lines (Err kind) = StopsAt line kind (goes_on place test (line ∷ lines))
+
+-- no line of another form begins a test
+count_no_test : (line : List (List ℕ)) (states : ℕ) → histogram_line line ≡ Ok states → test_line line ≡ None
+unfolding histogram_line test_line
+count_no_test line states h = grind (arith, bytes_eq-Decides)
+
+judgement_no_test : (line : List (List ℕ)) → is_judgement line ≡ true → test_line line ≡ None
+unfolding test_line
+judgement_no_test line h = grind arith
+
+closing_no_test : (line : List (List ℕ)) → is_observation line ≡ true → test_line line ≡ None
+unfolding test_line
+closing_no_test line h = grind (arith, bytes_eq-Decides)
+
+row_no_test : (text : List ℕ) (row : Row) → log_row text ≡ Ok row → test_line (words text) ≡ None
+unfolding log_row test_line words leading_run after_run before_blanks count_read
+row_no_test [] row h = refl
+row_no_test (byte ∷ text) row h =
+    by_test (is_blank byte) (λ t. rw t (row_no_test text row (rw t at h)))
+    (λ f. grind (arith, bytes_eq-Decides, (word_found (byte ∷ text) (byte ∷ text) (leading_run is_inked (byte ∷ text)) (after_run is_inked (byte ∷ text)))))
+
+outside_goes : (test : List ℕ) (line : LogLine) (lines : List LogLine) (begun : Option (List ℕ × Kind)) → opening line ≡ begun → GoesOn Outside test line lines (outside_said begun)
 unfolding place_after fact_said
-outside_line test n lines None = refl
-outside_line test n lines (Some begun) = refl
+outside_goes test line lines None e = record { says = rw e refl; ends = rw e refl }
+outside_goes test line lines (Some begun) e = record { says = rw e refl; ends = rw e refl }
 
--- the line of the number of states
-count_line : (kind : Kind) (test : List ℕ) (n : ℕ) (lines : List (Option (List ℕ))) (count : Result ℕ LogKind)
-    → of_count n count (λ left. states_say (test, kind) left (next_line n) lines) ≡ after_line (Histogram kind) test n lines (counts_said count)
+count_goes : (kind : Kind) (test : List ℕ) (line : LogLine) (lines : List LogLine) (count : Result ℕ LogKind) → histogram_line (words line.text) ≡ count
+    → LineGoes (Histogram kind) test line lines (counts_said count)
 unfolding place_after fact_said
-count_line kind test n lines (Err error) = refl
-count_line kind test n lines (Ok zero) = refl
-count_line kind test n lines (Ok (suc left)) = refl
+count_goes kind test line lines (Err error) e = rw e refl
+count_goes kind test line lines (Ok zero) e = let none = count_no_test (words line.text) 0 e in record { says = rw (e, none) refl; ends = rw (e, none) refl }
+count_goes kind test line lines (Ok (suc left)) e = let none = count_no_test (words line.text) (suc left) e in record { says = rw (e, none) refl; ends = rw (e, none) refl }
 
--- the line of a state
-state_line : (kind : Kind) (left : ℕ) (test : List ℕ) (n : ℕ) (lines : List (Option (List ℕ))) (row : Result Row LogKind)
-    → of_row n test row (states_say (test, kind) left (next_line n) lines) ≡ after_line (States kind (suc left)) test n lines (row_said row)
+less_both : (a b : ℕ) → nat_lt (suc a) (suc b) ≡ nat_lt a b
+less_both a b = grind arith
+
+minus_both : (a b : ℕ) → suc a - suc b ≡ a - b
+minus_both a b = omega arith
+
+row_goes : (kind : Kind) (left : ℕ) (test : List ℕ) (line : LogLine) (lines : List LogLine) (row : Result Row LogKind) → log_row line.text ≡ row
+    → LineGoes (States kind (suc left)) test line lines (row_said row)
 unfolding place_after fact_said
-state_line kind left test n lines (Err error) = refl
-state_line kind zero test n lines (Ok row) = refl
-state_line kind (suc left) test n lines (Ok row) = refl
+row_goes kind left test line lines (Err error) e = rw e refl
+row_goes kind zero test line lines (Ok row) e = let none = row_no_test line.text row e in record { says = rw (e, none) refl; ends = rw none refl }
+row_goes kind (suc left) test line lines (Ok row) e =
+    let none = row_no_test line.text row e in
+    record { says = rw (e, none) refl; ends = rw (none, less_both (length (take (suc left) lines)) (suc left), minus_both (suc left) (length (take (suc left) lines))) refl }
 
--- a line in the rest of a block but `Observation`
-rest_line : (place : Place) (kind : Kind) (test : List ℕ) (n : ℕ) (lines : List (Option (List ℕ))) (begun : Option (List ℕ × Kind))
-    (condition : Option (List ℕ × Verdict)) (hash : Option (List ℕ)) → kind_at place ≡ kind
-    → of_no_test n begun (of_condition n (test, kind) condition (place_says (Conditioned kind) test (next_line n) lines) (of_hash n test hash (place_says place test (next_line n) lines)))
-    ≡ after_line place test n lines (no_test begun (condition_said kind condition (hash_said hash)))
+-- the place after the judgement, where a condition came or not
+abbrev rest_place : Bool → Kind → Place
+rest_place true kind = Conditioned kind
+rest_place false kind = Rest kind
+
+more_before : (line : LogLine) (lines : List LogLine) → is_closing line ≡ false → before_first is_closing (line ∷ lines) ≡ line ∷ before_first is_closing lines
+more_before line lines f = grind arith
+
+further_goes : (conditioned : Bool) (kind : Kind) (test : List ℕ) (line : LogLine) (lines : List LogLine) (begun : Option (List ℕ × Kind)) (claim : Option (List ℕ × Verdict))
+    (hash : Option (List ℕ)) → is_closing line ≡ false → opening line ≡ begun → condition line ≡ claim → hash_line line.text ≡ hash
+    → LineGoes (rest_place conditioned kind) test line lines (no_test begun (condition_said kind claim (hash_said hash)))
 unfolding place_after fact_said
-rest_line place kind test n lines begun condition hash is = grind arith
+further_goes true kind test line lines (Some other) claim hash f e g h = rw (more_before line lines f, f, e) refl
+further_goes false kind test line lines (Some other) claim hash f e g h = rw (more_before line lines f, f, e) refl
+further_goes true kind test line lines None None None f e g h = record { says = rw (more_before line lines f, f, e, g, h) refl; ends = rw (f, e) refl }
+further_goes false kind test line lines None None None f e g h = record { says = rw (more_before line lines f, f, e, g, h) refl; ends = rw (more_before line lines f, f, e, g) refl }
+further_goes true kind test line lines None None (Some hash) f e g h = record { says = rw (more_before line lines f, f, e, g, h) refl; ends = rw (f, e) refl }
+further_goes false kind test line lines None None (Some hash) f e g h = record { says = rw (more_before line lines f, f, e, g, h) refl; ends = rw (more_before line lines f, f, e, g) refl }
+further_goes true kind test line lines None (Some claim) hash f e g h =
+    by_test (begins_with claim.0 (quantifier kind)) (λ t. rw t (record { says = rw (more_before line lines f, f, e, g, t) refl; ends = rw (f, e) refl })) (λ k. rw k (rw (more_before line lines f, f, e, g, k) refl))
+further_goes false kind test line lines None (Some claim) hash f e g h =
+    by_test (begins_with claim.0 (quantifier kind)) (λ t. rw t (record { says = rw (more_before line lines f, f, e, g, t) refl; ends = rw (more_before line lines f, f, e, g) refl })) (λ k. rw k (rw (more_before line lines f, f, e, g, k) refl))
 
--- a line says its fact, and then the others say what they say from the place after it on; or it has a fault
-pub line_says : (place : Place) (test : List ℕ) (n : ℕ) (text : List ℕ) (lines : List (Option (List ℕ))) → HasStates place
-    → place_says place test n (Some text ∷ lines) ≡ after_line place test n lines (log_line_said place text)
+-- a line that says something at a place, or is wrong there
+pub line_goes : (place : Place) (test : List ℕ) (line : LogLine) (lines : List LogLine) → HasStates place → LineGoes place test line lines (log_line_said place line.text)
 unfolding log_line_said place_after fact_said
-line_says Outside test n text lines h = outside_line test n lines (test_line (words text))
-line_says (Histogram kind) test n text lines h = count_line kind test n lines (histogram_line (words text))
-line_says (States kind zero) test n text lines h = absurd h
-line_says (States kind (suc left)) test n text lines h = state_line kind left test n lines (log_row text)
-line_says (Judgement kind) test n text lines h = by_test (is_judgement (words text)) (λ t. rw t refl) (λ f. rw f refl)
-line_says (Rest kind) test n text lines h =
-    by_test (is_observation (words text)) (λ t. rw t refl)
-    (λ f. rw f (rest_line (Rest kind) kind test n lines (test_line (words text)) (condition_line (words text)) (hash_line text) refl))
-line_says (Conditioned kind) test n text lines h =
-    by_test (is_observation (words text)) (λ t. rw t refl)
-    (λ f. rw f (rest_line (Conditioned kind) kind test n lines (test_line (words text)) (condition_line (words text)) (hash_line text) refl))
+line_goes Outside test line lines h = outside_goes test line lines (opening line) refl
+line_goes (Histogram kind) test line lines h = count_goes kind test line lines (histogram_line (words line.text)) refl
+line_goes (States kind zero) test line lines h = absurd h
+line_goes (States kind (suc left)) test line lines h = row_goes kind left test line lines (log_row line.text) refl
+line_goes (Judgement kind) test line lines h =
+    by_test (is_judgement (words line.text)) (λ t. let none = judgement_no_test (words line.text) t in rw t (record { says = rw (t, none) refl; ends = rw none refl })) (λ f. rw f (rw f refl))
+line_goes (Rest kind) test line lines h =
+    by_test (is_closing line) (λ t. rw t (rw t refl))
+    (λ f. rw f (further_goes false kind test line lines (opening line) (condition line) (hash_line line.text) f refl refl refl))
+line_goes (Conditioned kind) test line lines h =
+    by_test (is_closing line) (λ t. let none = closing_no_test (words line.text) t in rw t (record { says = rw (t, none) refl; ends = rw (t, none) refl }))
+    (λ f. rw f (further_goes true kind test line lines (opening line) (condition line) (hash_line line.text) f refl refl refl))
 
 -- after a line too it is one or more
 pub has_states : (place : Place) (said : Said) → HasStates place → HasStates (place_after place said)

@@ -5,11 +5,11 @@ use Rattle.text_parts_laws.specs.{Lines.whole_lines, ReadingSteps.◌>>=◌}
 use Rattle.log_sum.specs.{Facts.Entry, SumText.sum_text}
 use Rattle.log_sum.specs.declared.errors.LogError.{LogError}
 use Rattle.log_sum.specs.LogReading.{LogSeen, input_judged}
-use Rattle.log_sum.specs.Representing.{Kept, Represents, IsBetweenLogs, ShowsFault, ShowsNone, sum_table, says_so_far, facts_said, kept_text, logs_text, LogsByBlocks}
+use Rattle.log_sum.specs.Representing.{Kept, Represents, IsBetweenLogs, ShowsFault, ShowsNone, sum_table, facts_so_far, kept_text, logs_text, LogsByBlocks}
 use Rattle.log_sum.proofs.{PrintLaws.sum_is, StayLaws.file_more, Grammar.judged_text, Grammar.text_fault, CarryLaws.fault_shown, CarryLaws.none_shown}
 
 -- nothing has been said so far where nothing has come
-nothing_said : (entries : List Entry) → entries ++ facts_said (says_so_far []) ≡ entries
+nothing_said : (entries : List Entry) → entries ++ facts_so_far [] ≡ entries
 unfolding whole_lines
 nothing_said entries = append-nil entries
 

@@ -1,9 +1,11 @@
 -- What a log is: blocks, and lines between them.
 -- Source: the logs of litmus7; what is a fault is own.
-use Rattle.std.specs.Prelude.{ℕ, zero, suc, ◌+◌, nat_lt, min, Bool, true, false, cond, List, [], ◌∷◌, ◌++◌, length, map, Option, Some, None, Result, Ok, Err}
+use Rattle.std.specs.Prelude.{ℕ, ◌+◌, ◌-◌, nat_lt, Bool, true, false, cond, List, [], ◌∷◌, ◌++◌, length, map, take, drop, Option, Some, None, Result, Ok, Err, option_map}
+use Rattle.std.specs.{Prelude.filter, Prelude.fold, List.flat_map, List.list_any, List.before_first, Option.is_some, Option.is_none}
+use Rattle.list_laws.specs.Errors.{with_before, unless}
 use Rattle.text_parts_laws.specs.Lines.{without_return, whole_lines, unended, last_line}
-use Rattle.text_parts_laws.specs.{Words.words, ReadingSteps.◌>>=◌}
-use Rattle.diy_io.specs.Count.{last_count}
+use Rattle.text_parts_laws.specs.{Words.words}
+use Rattle.diy_io.specs.Count.{count_of, next_count}
 use Rattle.log_sum.specs.declared.{errors.LogKind.LogKind, errors.LogError.LogError, kinds.Kind.Kind, kinds.Verdict.Verdict, kinds.Place.Place}
 use Rattle.log_sum.specs.declared.errors.LogKind.TheVariants.{Truncated, BadState, KindDiffers, LineTooLong}
 use Rattle.log_sum.specs.declared.kinds.Place.TheVariants.{Histogram, States, Judgement, Rest, Conditioned}
@@ -21,7 +23,7 @@ is_too_long line = nat_lt max_line (length line)
 
 -- the number of the next line; it stops at the greatest count
 abbrev pub next_line : ℕ → ℕ
-next_line line = min (line + 1) last_count
+next_line line = next_count line
 
 -- a fault at a line
 abbrev pub fault_at : {A : Type 0} → ℕ → LogKind → Result A LogError
@@ -39,118 +41,198 @@ ended_texts lines = map (text_in without_return) lines
 unfoldable pub log_texts : List ℕ → List (Option (List ℕ))
 log_texts bytes = ended_texts (whole_lines bytes) ++ map (text_in (λ line. line)) (last_line (unended bytes))
 
--- What the lines of a log say: facts, each with the number of its line, up to the first line that may not stand where it stands; a fault, that of
--- this line, or that the lines end inside a block; and, if they do, the test of that block and the place in it.
-pub record LogSays : Type 0 where
-  pub facts : List (ℕ × Entry)
-  pub fault : Option LogError
-  pub inside : Option (List ℕ × Place)
+-- a line of a log: its number, from 1, and its text
+pub record LogLine : Type 0 where
+  pub number : ℕ
+  pub text : List ℕ
 
--- the log ends, and no line of it has a fault
-abbrev pub log_ends : LogSays
-log_ends = record { facts = []; fault = None; inside = None }
+-- texts as lines with their numbers, from this one on
+abbrev pub numbered : ℕ → List (List ℕ) → List LogLine
+numbered n [] = []
+numbered n (text ∷ texts) = (record { number = n; text = text }) ∷ numbered (next_line n) texts
 
--- a fault in a line
-abbrev pub stops_at : ℕ → LogKind → LogSays
-stops_at n kind = record { facts = []; fault = Some (record { line = n; kind = kind }); inside = None }
+-- a line `Test NAME KIND`: the name and the kind
+abbrev pub opening : LogLine → Option (List ℕ × Kind)
+opening line = test_line (words line.text)
 
--- the lines end inside a block, where a log must not end
-abbrev pub cut_off : ℕ → List ℕ → Place → LogSays
-cut_off n test place = record { facts = []; fault = Some (record { line = n; kind = Truncated }); inside = Some (test, place) }
+-- a line `Condition TEXT is validated` or `Condition TEXT is NOT validated`: the text and the verdict
+abbrev pub condition : LogLine → Option (List ℕ × Verdict)
+condition line = condition_line (words line.text)
 
--- a line says a fact of a test, and then others follow
-abbrev pub and_says : ℕ → List ℕ → Fact → LogSays → LogSays
-and_says n test fact others = record others { facts = (n, (record { test = test; fact = fact })) ∷ others.facts }
+-- a line `Observation`
+abbrev pub is_closing : LogLine → Bool
+is_closing line = is_observation (words line.text)
 
--- what follows from a line that may be too long
-abbrev pub of_text : ℕ → Option (List ℕ) → (List ℕ → LogSays) → LogSays
-of_text n None further = stops_at n LineTooLong
-of_text n (Some text) further = further text
+-- a block: its first line, the name and kind of its test that this says, and all lines of the log after that one
+pub record Block : Type 0 where
+  pub first : LogLine
+  pub test : List ℕ × Kind
+  pub after : List LogLine
 
--- what follows where a line begins a block, and else
-abbrev pub of_test : ℕ → Option (List ℕ × Kind) → (List ℕ × Kind → LogSays) → LogSays → LogSays
-of_test n None begun other = other
-of_test n (Some test) begun other = and_says n test.0 (a_kind test.1) (begun test)
+-- the block that begins with a line, if the line is `Test NAME KIND`
+abbrev pub block_from : LogLine → Option (List ℕ × Kind) → List LogLine → List Block
+block_from line None after = []
+block_from line (Some test) after = (record { first = line; test = test; after = after }) ∷ []
 
--- what follows from the number of states, or its fault
-abbrev pub of_count : ℕ → Result ℕ LogKind → (ℕ → LogSays) → LogSays
-of_count n (Err kind) further = stops_at n kind
-of_count n (Ok count) further = further count
+-- The blocks of a log: each line `Test NAME KIND` begins one, since none may come inside another. Lines before and between blocks are passed over.
+abbrev pub blocks : List LogLine → List Block
+blocks [] = []
+blocks (line ∷ lines) = block_from line (opening line) lines ++ blocks lines
 
--- what follows from a state, or its fault
-abbrev pub of_row : ℕ → List ℕ → Result Row LogKind → LogSays → LogSays
-of_row n test (Err kind) further = stops_at n kind
-of_row n test (Ok row) further = and_says n test (a_row row) further
+-- the number of states, 0 where there is none
+abbrev pub count_or_none : Result ℕ LogKind → ℕ
+count_or_none (Ok states) = states
+count_or_none (Err kind) = 0
 
--- what follows from a line of a block that may be a hash
-abbrev pub of_hash : ℕ → List ℕ → Option (List ℕ) → LogSays → LogSays
-of_hash n test None other = other
-of_hash n test (Some text) other = and_says n test (a_hash text) other
+-- The parts of a block after its first line: a line that counts its states; so many rows; a line with the judgement; further lines up to the
+-- closing; and the closing. A part is a list of lines, and where the lines of a log end inside the block it has fewer or none.
+pub record BlockParts : Type 0 where
+  pub count : List LogLine
+  pub states : ℕ
+  pub rows : List LogLine
+  pub judgement : List LogLine
+  pub further : List LogLine
+  pub closing : List LogLine
 
--- what follows from a line that may be the condition; it is a fault if that doesn't begin with the quantifier of the block's kind
-abbrev pub of_condition : ℕ → List ℕ × Kind → Option (List ℕ × Verdict) → LogSays → LogSays → LogSays
-of_condition n test None conditioned other = other
-of_condition n test (Some condition) conditioned other =
-    cond (begins_with condition.0 (quantifier test.1)) (and_says n test.0 (a_condition condition.0 condition.1) conditioned) (stops_at n KindDiffers)
+-- the parts of a block by the lines after its first
+abbrev pub block_parts : List LogLine → BlockParts
+block_parts [] = record { count = []; states = 0; rows = []; judgement = []; further = []; closing = [] }
+block_parts (line ∷ lines) =
+    let states = count_or_none (histogram_line (words line.text)) in
+    let after_rows = drop states lines in
+    let after_judgement = drop 1 after_rows in
+    record {
+      count = line ∷ [];
+      states = states;
+      rows = take states lines;
+      judgement = take 1 after_rows;
+      further = before_first is_closing after_judgement;
+      closing = take 1 (filter is_closing after_judgement);
+    }
 
--- a line that begins a block inside another is a fault
-abbrev pub of_no_test : ℕ → Option (List ℕ × Kind) → LogSays → LogSays
-of_no_test n None other = other
-of_no_test n (Some test) other = stops_at n Truncated
+-- what a line states: a fact of a test, or that it is wrong where it stands; with the number of the line
+abbrev pub Statement : Type 0
+Statement = ℕ × Result Entry LogKind
 
--- A log, as a grammar of lines. A log is lines that are passed over, and blocks (`log_says`). A block is `Test NAME KIND`, the number of its states
--- (`block_says`), so many states and `Ok` or `No` (`states_say`), and further lines, of which one at least is a condition, up to `Observation`
--- (`rest_says`). Each of the four says what the lines from a place of the grammar to the end of the log say.
+-- a line states a fact of a test
+abbrev pub says : LogLine → List ℕ → Fact → List Statement
+says line test fact = (line.number, Ok (record { test = test; fact = fact })) ∷ []
 
-abbrev mutual
-  -- the lines from one outside the blocks on
-  pub log_says : ℕ → List (Option (List ℕ)) → LogSays
-  log_says n [] = log_ends
-  log_says n (line ∷ lines) =
-      of_text n line (λ text. of_test n (test_line (words text)) (λ test. block_says test (next_line n) lines) (log_says (next_line n) lines))
+-- a line is wrong
+abbrev pub is_wrong : LogLine → LogKind → List Statement
+is_wrong line kind = (line.number, Err kind) ∷ []
 
-  -- the lines from the one after `Test NAME KIND` on, which has the number of states
-  pub block_says : List ℕ × Kind → ℕ → List (Option (List ℕ)) → LogSays
-  block_says test n [] = cut_off n test.0 (Histogram test.1)
-  block_says test n (line ∷ lines) =
-      of_text n line (λ text. of_count n (histogram_line (words text)) (λ count. states_say test count (next_line n) lines))
+-- a line that counts the states
+abbrev pub count_says : LogLine → Result ℕ LogKind → List Statement
+count_says line (Ok states) = []
+count_says line (Err kind) = is_wrong line kind
 
-  -- the lines from so many states on, after which `Ok` or `No` comes
-  pub states_say : List ℕ × Kind → ℕ → ℕ → List (Option (List ℕ)) → LogSays
-  states_say test zero n [] = cut_off n test.0 (Judgement test.1)
-  states_say test (suc left) n [] = cut_off n test.0 (States test.1 (suc left))
-  states_say test zero n (line ∷ lines) =
-      of_text n line (λ text. cond (is_judgement (words text)) (rest_says test false (next_line n) lines) (stops_at n BadState))
-  states_say test (suc left) n (line ∷ lines) = of_text n line (λ text. of_row n test.0 (log_row text) (states_say test left (next_line n) lines))
+-- a row
+abbrev pub row_says : List ℕ → LogLine → Result Row LogKind → List Statement
+row_says test line (Ok row) = says line test (a_row row)
+row_says test line (Err kind) = is_wrong line kind
 
-  -- the lines from the one after `Ok` or `No` on, or from a later one before `Observation`, where it is known whether a condition came
-  pub rest_says : List ℕ × Kind → Bool → ℕ → List (Option (List ℕ)) → LogSays
-  rest_says test conditioned n [] = cut_off n test.0 (cond conditioned (Conditioned test.1) (Rest test.1))
-  rest_says test conditioned n (line ∷ lines) = of_text n line (λ text.
-      cond (is_observation (words text)) (cond conditioned (log_says (next_line n) lines) (stops_at n BadState))
-      (of_no_test n (test_line (words text)) (of_condition n test (condition_line (words text)) (rest_says test true (next_line n) lines)
-      (of_hash n test.0 (hash_line text) (rest_says test conditioned (next_line n) lines)))))
+-- a line with the judgement
+abbrev pub judgement_says : LogLine → List Statement
+judgement_says line = cond (is_judgement (words line.text)) [] (is_wrong line BadState)
 
--- what follows from a fact in a line that may contradict those before it
-abbrev pub unless_contradicted : ℕ → Option LogKind → Result (List Entry) LogError → Result (List Entry) LogError
-unless_contradicted n (Some kind) others = fault_at n kind
-unless_contradicted n None others = others
+-- a further line that is no condition
+abbrev pub hash_says : List ℕ → LogLine → Option (List ℕ) → List Statement
+hash_says test line (Some text) = says line test (a_hash text)
+hash_says test line None = []
 
--- facts after others, or the fault of the first one that contradicts those before it
-abbrev pub facts_judged : List Entry → List (ℕ × Entry) → Result (List Entry) LogError
-facts_judged entries [] = Ok entries
-facts_judged entries (fact ∷ facts) =
-    unless_contradicted fact.0 (fact_fault (facts_of fact.1.test entries) fact.1.fact) (facts_judged (entries ++ fact.1 ∷ []) facts)
+-- a further line that begins no test; a condition must begin with the quantifier of the block's kind
+abbrev pub condition_says : List ℕ × Kind → LogLine → Option (List ℕ × Verdict) → List Statement
+condition_says test line (Some condition) =
+    cond (begins_with condition.0 (quantifier test.1)) (says line test.0 (a_condition condition.0 condition.1)) (is_wrong line KindDiffers)
+condition_says test line None = hash_says test.0 line (hash_line line.text)
 
--- facts after others, and then the fault of the log, if it has one
-abbrev pub log_judged : List Entry → LogSays → Result (List Entry) LogError
-log_judged entries says = facts_judged entries says.facts >>= λ all. unless says.fault all
+-- a further line of a block
+abbrev pub further_says : List ℕ × Kind → LogLine → Option (List ℕ × Kind) → List Statement
+further_says test line (Some other) = is_wrong line Truncated
+further_says test line None = condition_says test line (condition line)
+
+-- the closing, after a condition or not
+abbrev pub closing_says : Bool → LogLine → List Statement
+closing_says conditioned line = cond conditioned [] (is_wrong line BadState)
+
+-- the parts of a block; one of the further lines at least must be a condition
+abbrev pub parts_say : List ℕ × Kind → BlockParts → List Statement
+parts_say test parts =
+    flat_map (λ line. count_says line (histogram_line (words line.text))) parts.count
+    ++ flat_map (λ line. row_says test.0 line (log_row line.text)) parts.rows
+    ++ flat_map judgement_says parts.judgement
+    ++ flat_map (λ line. further_says test line (opening line)) parts.further
+    ++ flat_map (closing_says (list_any (λ line. is_some (condition line)) parts.further)) parts.closing
+
+-- a block; what comes after its first error counts for nothing
+abbrev pub block_says : Block → List Statement
+block_says block = says block.first block.test.0 (a_kind block.test.1) ++ parts_say block.test (block_parts block.after)
+
+-- the lines of a log
+abbrev pub lines_say : List LogLine → List Statement
+lines_say lines = flat_map block_says (blocks lines)
+
+-- there is no line
+abbrev pub no_line : List LogLine → Bool
+no_line [] = true
+no_line (line ∷ lines) = false
+
+-- the place inside a block where the lines end, or none where the block has its closing
+abbrev pub place_in : Kind → BlockParts → Option Place
+place_in kind parts =
+    cond (no_line parts.count) (Some (Histogram kind))
+    (cond (nat_lt (length parts.rows) parts.states) (Some (States kind (parts.states - length parts.rows)))
+    (cond (no_line parts.judgement) (Some (Judgement kind))
+    (cond (no_line parts.closing) (Some (cond (list_any (λ line. is_some (condition line)) parts.further) (Conditioned kind) (Rest kind))) None)))
+
+-- the test of a block and the place in it where the lines end, if they end inside it
+abbrev pub inside_block : Block → Option (List ℕ × Place)
+inside_block block = option_map (λ place. (block.test.0, place)) (place_in block.test.1 (block_parts block.after))
+
+-- the same of a log by its last block, if it has one; in any block before that which has no closing the next block's first line is wrong
+abbrev pub inside : List LogLine → Option (List ℕ × Place)
+inside lines = fold (λ other block. inside_block block) None (blocks lines)
+
+-- the texts of lines before the first line that is too long
+abbrev pub texts_before : List (Option (List ℕ)) → List (List ℕ)
+texts_before (Some text ∷ lines) = text ∷ texts_before lines
+texts_before _ = []
+
+-- after these lines comes one that is too long, or else the log ends, which must not be inside a block
+abbrev pub end_says : ℕ → Bool → Option (List ℕ × Place) → List Statement
+end_says n true place = (n, Err LineTooLong) ∷ []
+end_says n false (Some place) = (n, Err Truncated) ∷ []
+end_says n false None = []
+
+-- what a log states: its lines before the first that is too long, and then that line or the end of the log
+abbrev pub log_says : List (Option (List ℕ)) → List Statement
+log_says texts =
+    let lines = numbered 1 (texts_before texts) in
+    lines_say lines ++ end_says (count_of (length lines + 1)) (list_any is_none texts) (inside lines)
+
+-- the fact that a statement is, if it is one
+abbrev pub fact_in : Statement → List Entry
+fact_in (n, Ok entry) = entry ∷ []
+fact_in (n, Err kind) = []
+
+-- the facts among statements
+abbrev pub facts_in : List Statement → List Entry
+facts_in statements = flat_map fact_in statements
+
+-- the error of a statement after others: that of its line, or that its fact contradicts facts among them
+abbrev pub error_after : List Statement × Statement → List LogError
+error_after (before, (n, Err kind)) = (record { line = n; kind = kind }) ∷ []
+error_after (before, (n, Ok entry)) = contradiction (fact_fault (facts_of entry.test (facts_in before)) entry.fact)
   where
-    unless : Option LogError → List Entry → Result (List Entry) LogError
-    unless (Some error) all = Err error
-    unless None all = Ok all
+    contradiction : Option LogKind → List LogError
+    contradiction None = []
+    contradiction (Some kind) = (record { line = n; kind = kind }) ∷ []
 
--- the facts of logs, one after another, or their first fault
-abbrev pub all_judged : List Entry → List (List ℕ) → Result (List Entry) LogError
-all_judged entries [] = Ok entries
-all_judged entries (log ∷ logs) = log_judged entries (log_says 1 (log_texts log)) >>= λ more. all_judged more logs
+-- what logs state, one after another
+abbrev pub all_said : List (List ℕ) → List Statement
+all_said logs = flat_map (λ log. log_says (log_texts log)) logs
+
+-- the facts of logs, or their first error
+abbrev pub all_judged : List (List ℕ) → Result (List Entry) LogError
+all_judged logs = unless (flat_map error_after (with_before [] (all_said logs))) (facts_in (all_said logs))

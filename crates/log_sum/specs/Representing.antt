@@ -6,7 +6,7 @@ use Rattle.log_sum.specs.declared.{errors.LogError.LogError, errors.SumError.Sum
 use Rattle.log_sum.specs.declared.{errors.SumError.TheVariants.NoMemory, kinds.Place.Place, kinds.Place.TheVariants.Outside}
 use Rattle.log_sum.specs.{Facts.Entry, Facts.facts_of, Facts.tests_of, Summed.Summed, Summed.summed, SumText.summed_text}
 use Rattle.log_sum.specs.{SumText.sum_text}
-use Rattle.log_sum.specs.LogGrammar.{LogSays, ended_texts, log_says, all_judged}
+use Rattle.log_sum.specs.LogGrammar.{LogLine, ended_texts, texts_before, numbered, facts_in, lines_say, inside, all_judged}
 use Rattle.text_parts_laws.specs.{Lines.whole_lines, Lines.unended, ReadingSteps.◌>>=◌}
 use Rattle.std.specs.List.{flat_map}
 
@@ -28,7 +28,7 @@ pub record Kept : Type 0 where
 
 -- the printed sum of whole logs, or their first fault
 unfoldable pub logs_text : List (List ℕ) → Result (List ℕ) LogError
-logs_text logs = all_judged [] logs >>= λ entries. Ok (sum_text entries)
+logs_text logs = all_judged logs >>= λ entries. Ok (sum_text entries)
 
 -- the tests of facts, each with what it is by its facts
 abbrev pub sum_table : List Entry → List (List ℕ × Summed)
@@ -50,13 +50,13 @@ ShowsFault before bytes error = (rest : List ℕ) (more : List (List ℕ)) → l
 abbrev pub ShowsNone : List (List ℕ) → List ℕ → Type 0
 ShowsNone before bytes = (error : LogError) → ShowsFault before bytes error → ⊥
 
--- what the lines that have ended say in the bytes so far of a log
-abbrev pub says_so_far : List ℕ → LogSays
-says_so_far bytes = log_says 1 (ended_texts (whole_lines bytes))
+-- the lines that have ended in the bytes so far of a log, up to the first that is too long
+abbrev pub lines_so_far : List ℕ → List LogLine
+lines_so_far bytes = numbered 1 (texts_before (ended_texts (whole_lines bytes)))
 
--- the facts that lines say
-abbrev pub facts_said : LogSays → List Entry
-facts_said says = map (λ fact. fact.1) says.facts
+-- the facts that these state
+abbrev pub facts_so_far : List ℕ → List Entry
+facts_so_far bytes = facts_in (lines_say (lines_so_far bytes))
 
 -- the reading is at this place of the block of this test, inside which lines end, or outside the blocks
 abbrev pub IsInside : Option (List ℕ × Place) → SumProgress → Type 0
@@ -69,9 +69,9 @@ IsInside (Some block) progress = (progress.place ≡ block.1) × (test_name_at p
 pub record Represents (kept : Kept) (files : List (List ℕ)) (bytes : List ℕ) : Type 0 where
   pub no_fault : ShowsNone files bytes
   pub before : List Entry
-  pub whole : all_judged [] files ≡ Ok before
-  pub tests : kept.progress.tests ≡ sum_table (before ++ facts_said (says_so_far bytes))
-  pub inside : IsInside (says_so_far bytes).inside kept.progress
+  pub whole : all_judged files ≡ Ok before
+  pub tests : kept.progress.tests ≡ sum_table (before ++ facts_so_far bytes)
+  pub inside : IsInside (inside (lines_so_far bytes)) kept.progress
   pub line : kept.progress.line ≡ running_line bytes
   pub held : kept.held ≡ unended bytes
   pub going : kept.refusal ≡ None

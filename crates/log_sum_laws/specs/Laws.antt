@@ -22,7 +22,7 @@ pub record NoFault (logs : List (List ℕ)) : Type 0 where
 -- a text is the printed sum of logs without a fault, and keeps the limits
 pub record IsSum (logs : List (List ℕ)) (text : List ℕ) : Type 0 where
   pub entries : List Entry
-  pub judged : all_judged [] logs ≡ Ok entries
+  pub judged : all_judged logs ≡ Ok entries
   pub printed : text ≡ sum_text entries
   pub limits : KeepsSumLimits entries
 
