@@ -9,8 +9,8 @@ use Rattle.log_sum.specs.Facts.{Fact, Entry, fact_fault}
 use Rattle.log_sum.specs.{Counts.count_read, LogStates.form_read, Summed.Summed}
 use Rattle.log_sum.specs.LogLines.{histogram_line, log_row}
 use Rattle.log_sum.specs.LineReading.{Said, log_line_said, place_after, fact_said, test_after}
-use Rattle.log_sum.specs.LogGrammar.{Statement, is_too_long, next_line, fault_at, ended_texts, texts_before, LogLine, numbered, facts_in, lines_say, inside, all_judged}
-use Rattle.log_sum.specs.LogReading.{LogSeen, nothing_seen, fact_put, at_next_line, said_put, text_judged, line_judged, lines_judged, rest_judged, bytes_judged, last_judged, end_judged, files_judged, input_judged}
+use Rattle.log_sum.specs.LogGrammar.{Statement, is_too_long, ended_texts, texts_before, LogLine, numbered, facts_in, lines_say, inside, all_judged}
+use Rattle.log_sum.specs.LogReading.{LogSeen, fault_at, next_line, nothing_seen, fact_put, at_next_line, said_put, text_judged, line_judged, lines_judged, rest_judged, bytes_judged, last_judged, end_judged, files_judged, input_judged}
 use Rattle.log_sum.specs.Representing.{SumProgress, Kept, Represents, ShowsFault, ShowsNone, IsInside, FedTo, sum_table, test_name_at, lines_so_far, facts_so_far, logs_text}
 use Rattle.log_sum.specs.Feeding.{IsFed, IsAtSeen, IsRunning, PieceTo, entry_of, sum_refusal}
 use Rattle.log_sum.proofs.PlaceLaws.{HasStates, goes_on, ends_in, fact_says, LineGoes, line_goes, has_states}

@@ -16,9 +16,6 @@ use Rattle.diy_io.specs.Count.{last_count}
 use Rattle.log_sum.specs.StateEntries.{sum_view, state_view, state_at, states_view, AreInOrder, EntriesAreWritten, HasState}
 use Rattle.log_sum.proofs.OrderLaws.{ordered_known, ordered_put, ordered_is}
 
-abbrev Entries : Type 0
-Entries = List (Vec ℕ Global × StateSum)
-
 -- what is looked up by a text, as the definitions see it
 pub entries_known : (test : Vec ℕ Global → Bool) (text : List ℕ) → ((k : Vec ℕ Global) → test k ≡ bytes_eq text k.items) → (es : List (Vec ℕ Global × StateSum))
     → option_map sum_view (lookup test es) ≡ known_state (map state_view es) text

@@ -1,7 +1,7 @@
 -- Logs that are read line by line say what their blocks say.
 use Rattle.std.specs.Prelude.{◌≡◌, ℕ, ◌+◌, List, [], ◌∷◌, ◌++◌, length, map, Option, Some, None, Result, Ok, Err}
 use Rattle.std.specs.{List.flat_map, List.list_any, Option.is_none}
-use Rattle.std.proofs.Common.{sym, refl, ap, ◌∙◌, arith, append_assoc, append-nil}
+use Rattle.std.proofs.Common.{refl, ap, ◌∙◌, arith, append_assoc, append-nil}
 use Rattle.list_laws.specs.Errors.{with_before, unless}
 use Rattle.diy_io.specs.Count.{count_of}
 use Rattle.list_laws.proofs.Cases.{by_test}
@@ -13,7 +13,7 @@ use Rattle.log_sum.specs.{Facts.Entry, Facts.Fact, Facts.facts_of, Facts.fact_fa
 use Rattle.log_sum.specs.LineReading.{Said, log_line_said, place_after, fact_said, test_after}
 use Rattle.log_sum.specs.LogReading.{LogSeen, nothing_seen, fault_at, is_too_long, next_line, fact_put, at_next_line, said_put, text_judged}
 use Rattle.log_sum.specs.LogReading.{line_judged, lines_judged, last_judged, end_judged, file_judged, files_judged}
-use Rattle.log_sum.specs.LogGrammar.{text_in, log_texts, LogLine, Statement, numbered, texts_before, end_says, log_says, facts_in, error_after, all_said, all_judged}
+use Rattle.log_sum.specs.LogGrammar.{text_in, log_texts, LogLine, Statement, numbered, texts_before, end_says, log_says, facts_in, error_after, logs_say, all_judged}
 use Rattle.log_sum.proofs.PlaceLaws.{HasStates, goes_on, ends_in, fact_says, StopsAt, LineGoes, line_goes, has_states}
 
 -- what was seen, by its parts
@@ -127,10 +127,10 @@ judged_both entries [] other = refl
 judged_both entries ((n, Err kind) ∷ one) other = refl
 judged_both entries ((n, Ok entry) ∷ one) other = grind (arith, (judged_both (entries ++ entry ∷ []) one other))
 
-files_from : (entries : List Entry) (logs : List (List ℕ)) → files_judged (between entries) logs ≡ gives entries (all_said logs)
+files_from : (entries : List Entry) (logs : List (List ℕ)) → files_judged (between entries) logs ≡ gives entries (logs_say logs)
 files_from entries [] = refl
 files_from entries (log ∷ logs) =
-    grind (arith, (file_texts (between entries) log), (reads (between entries) (log_texts log) tt), (log_whole (log_texts log)), (judged_both entries (log_says (log_texts log)) (all_said logs)), (λ (more : List Entry). files_from more logs))
+    grind (arith, (file_texts (between entries) log), (reads (between entries) (log_texts log) tt), (log_whole (log_texts log)), (judged_both entries (log_says (log_texts log)) (logs_say logs)), (λ (more : List Entry). files_from more logs))
 
 facts_both : (one other : List Statement) → facts_in (one ++ other) ≡ facts_in one ++ facts_in other
 facts_both [] other = refl
@@ -145,16 +145,12 @@ first_error before ((n, Ok entry) ∷ statements) =
 
 -- whole logs are read as the facts of their blocks, one after another
 pub files_by_blocks : (logs : List (List ℕ)) → files_judged nothing_seen logs ≡ (all_judged logs >>= λ all. Ok (between all))
-files_by_blocks logs = rw (first_error [] (all_said logs)) (files_from [] logs)
-
--- the reading of logs line by line gives the sum of their blocks
-pub read_by_blocks : (logs : List (List ℕ)) → (files_judged nothing_seen logs >>= λ seen. Ok (sum_text seen.entries)) ≡ logs_text logs
-unfolding logs_text
-read_by_blocks logs = grind (arith, files_by_blocks)
+files_by_blocks logs = rw (first_error [] (logs_say logs)) (files_from [] logs)
 
 -- the sum of logs is that of their reading
 pub judged_text : (logs : List (List ℕ)) → logs_text logs ≡ (files_judged nothing_seen logs >>= λ seen. Ok (sum_text seen.entries))
-judged_text logs = sym (read_by_blocks logs)
+unfolding logs_text
+judged_text logs = grind (arith, files_by_blocks)
 
 -- the fault of logs is that of their reading
 pub text_fault : (logs : List (List ℕ)) (error : LogError) → logs_text logs ≡ Err error → files_judged nothing_seen logs ≡ Err error

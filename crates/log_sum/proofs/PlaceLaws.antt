@@ -1,7 +1,7 @@
 -- What the lines of a log say from a place of the reading on, line by line.
 use Rattle.std.proofs.Common.{◌≡◌, ◌-◌, ℕ, zero, suc, List, [], ◌∷◌, ◌++◌, length, take, drop, true, false, refl, arith, Some, None}
 use Rattle.std.specs.Prelude.{Option, Result, Ok, Err, Bool, cond, nat_lt, filter, fold, option_map}
-use Rattle.std.specs.{List.flat_map, List.list_any, List.before_first, Option.is_some}
+use Rattle.std.specs.{List.flat_map, List.before_first}
 use Rattle.std.proofs.lemmas.Slice.Eq.{bytes_eq-Decides}
 use Rattle.list_laws.proofs.Cases.{by_test}
 use Rattle.text_parts_laws.specs.{Words.words, Blanks.is_blank, Blanks.is_inked, Blanks.before_blanks, LeadingRuns.leading_run, LeadingRuns.after_run}
@@ -10,28 +10,31 @@ use Rattle.log_sum.specs.declared.{errors.LogKind.LogKind, kinds.Kind.Kind, kind
 use Rattle.log_sum.specs.declared.kinds.Place.TheVariants.{Outside, Histogram, States, Judgement, Rest, Conditioned}
 use Rattle.log_sum.specs.{Texts.begins_with, Counts.count_read, Facts.Row, Facts.Fact}
 use Rattle.log_sum.specs.LogLines.{quantifier, test_line, histogram_line, log_row, is_judgement, is_observation, hash_line}
-use Rattle.log_sum.specs.LineReading.{Said, outside_said, counts_said, row_said, no_test, condition_said, hash_said, log_line_said, states_left, after_state, place_after, fact_said, test_after}
+use Rattle.log_sum.specs.LineReading.{Said, judged, conditioned, outside_said, counts_said, row_said, no_test, condition_said, hash_said, log_line_said, states_left, after_state, place_after, fact_said, test_after}
 use Rattle.log_sum.specs.LogGrammar.{LogLine, Statement, opening, condition, is_closing, blocks, block_parts, says, row_says, judgement_says, further_says, closing_says}
-use Rattle.log_sum.specs.LogGrammar.{parts_say, lines_say, no_line, place_in, inside_block}
+use Rattle.log_sum.specs.LogGrammar.{has_condition, count_says, lines_say, no_lines, place_in, inside_block}
 
 -- a condition came, or is among lines
 abbrev had_condition : Bool → List LogLine → Bool
 had_condition true lines = true
-had_condition false lines = list_any (λ line. is_some (condition line)) lines
+had_condition false lines = has_condition lines
 
 -- what further lines and the closing say, where it is known whether a condition came
 abbrev further_say : List ℕ × Kind → List LogLine → List Statement
-further_say test lines = flat_map (λ line. further_says test line (opening line)) (before_first is_closing lines)
+further_say test lines = flat_map (further_says test) (before_first is_closing lines)
 
 abbrev closing_say : Bool → List LogLine → List Statement
-closing_say conditioned lines = flat_map (closing_says (had_condition conditioned (before_first is_closing lines))) (take 1 (filter is_closing lines))
+closing_say came lines = flat_map (closing_says (had_condition came (before_first is_closing lines))) (take 1 (filter is_closing lines))
 
 -- what the lines of a block from a place on say
 abbrev pub place_says : Place → List ℕ → List LogLine → List Statement
 place_says Outside test lines = []
-place_says (Histogram kind) test lines = parts_say (test, kind) (block_parts lines)
+place_says (Histogram kind) test lines =
+    let parts = block_parts lines in
+    flat_map count_says parts.count ++ flat_map (row_says test) parts.rows ++ flat_map judgement_says parts.judgement
+    ++ flat_map (further_says (test, kind)) parts.further ++ flat_map (closing_says (has_condition parts.further)) parts.closing
 place_says (States kind left) test lines =
-    flat_map (λ line. row_says test line (log_row line.text)) (take left lines)
+    flat_map (row_says test) (take left lines)
     ++ flat_map judgement_says (take 1 (drop left lines)) ++ further_say (test, kind) (drop 1 (drop left lines)) ++ closing_say false (drop 1 (drop left lines))
 place_says (Judgement kind) test lines = flat_map judgement_says (take 1 lines) ++ further_say (test, kind) (drop 1 lines) ++ closing_say false (drop 1 lines)
 place_says (Rest kind) test lines = further_say (test, kind) lines ++ closing_say false lines
@@ -43,12 +46,12 @@ goes_on place test lines = place_says place test lines ++ lines_say lines
 
 -- the place where lines end that come after the judgement
 abbrev rest_end : Kind → Bool → List LogLine → Option Place
-rest_end kind conditioned lines =
-    cond (no_line (take 1 (filter is_closing lines)))
-    (Some (cond (had_condition conditioned (before_first is_closing lines)) (Conditioned kind) (Rest kind))) None
+rest_end kind came lines =
+    cond (no_lines (take 1 (filter is_closing lines)))
+    (Some (cond (had_condition came (before_first is_closing lines)) (Conditioned kind) (Rest kind))) None
 
 abbrev judged_end : Kind → List LogLine → Option Place
-judged_end kind lines = cond (no_line (take 1 lines)) (Some (Judgement kind)) (rest_end kind false (drop 1 lines))
+judged_end kind lines = cond (no_lines (take 1 lines)) (Some (Judgement kind)) (rest_end kind false (drop 1 lines))
 
 -- the place in a block where lines end that come from a place on
 abbrev place_end : Place → List LogLine → Option Place
@@ -109,30 +112,23 @@ row_no_test (byte ∷ text) row h =
 
 outside_goes : (test : List ℕ) (line : LogLine) (lines : List LogLine) (begun : Option (List ℕ × Kind)) → opening line ≡ begun → GoesOn Outside test line lines (outside_said begun)
 unfolding place_after fact_said
-outside_goes test line lines None e = record { says = rw e refl; ends = rw e refl }
-outside_goes test line lines (Some begun) e = record { says = rw e refl; ends = rw e refl }
+outside_goes test line lines begun e = record { says = grind arith; ends = grind arith }
 
 count_goes : (kind : Kind) (test : List ℕ) (line : LogLine) (lines : List LogLine) (count : Result ℕ LogKind) → histogram_line (words line.text) ≡ count
     → LineGoes (Histogram kind) test line lines (counts_said count)
 unfolding place_after fact_said
-count_goes kind test line lines (Err error) e = rw e refl
-count_goes kind test line lines (Ok zero) e = let none = count_no_test (words line.text) 0 e in record { says = rw (e, none) refl; ends = rw (e, none) refl }
-count_goes kind test line lines (Ok (suc left)) e = let none = count_no_test (words line.text) (suc left) e in record { says = rw (e, none) refl; ends = rw (e, none) refl }
-
-less_both : (a b : ℕ) → nat_lt (suc a) (suc b) ≡ nat_lt a b
-less_both a b = grind arith
-
-minus_both : (a b : ℕ) → suc a - suc b ≡ a - b
-minus_both a b = omega arith
+count_goes kind test line lines (Err error) e = grind arith
+count_goes kind test line lines (Ok states) e = record { says = grind (arith, count_no_test); ends = grind (arith, count_no_test) }
 
 row_goes : (kind : Kind) (left : ℕ) (test : List ℕ) (line : LogLine) (lines : List LogLine) (row : Result Row LogKind) → log_row line.text ≡ row
     → LineGoes (States kind (suc left)) test line lines (row_said row)
 unfolding place_after fact_said
-row_goes kind left test line lines (Err error) e = rw e refl
-row_goes kind zero test line lines (Ok row) e = let none = row_no_test line.text row e in record { says = rw (e, none) refl; ends = rw none refl }
-row_goes kind (suc left) test line lines (Ok row) e =
-    let none = row_no_test line.text row e in
-    record { says = rw (e, none) refl; ends = rw (none, less_both (length (take (suc left) lines)) (suc left), minus_both (suc left) (length (take (suc left) lines))) refl }
+row_goes kind left test line lines (Err error) e = grind arith
+row_goes kind left test line lines (Ok row) e = record { says = grind (arith, row_no_test); ends = grind (arith, row_no_test) }
+
+judgement_goes : (kind : Kind) (test : List ℕ) (line : LogLine) (lines : List LogLine) → is_judgement (words line.text) ≡ true → GoesOn (Judgement kind) test line lines judged
+unfolding place_after fact_said
+judgement_goes kind test line lines t = record { says = grind (arith, judgement_no_test); ends = grind (arith, judgement_no_test) }
 
 -- the place after the judgement, where a condition came or not
 abbrev rest_place : Bool → Kind → Place
@@ -142,20 +138,20 @@ rest_place false kind = Rest kind
 more_before : (line : LogLine) (lines : List LogLine) → is_closing line ≡ false → before_first is_closing (line ∷ lines) ≡ line ∷ before_first is_closing lines
 more_before line lines f = grind arith
 
-further_goes : (conditioned : Bool) (kind : Kind) (test : List ℕ) (line : LogLine) (lines : List LogLine) (begun : Option (List ℕ × Kind)) (claim : Option (List ℕ × Verdict))
-    (hash : Option (List ℕ)) → is_closing line ≡ false → opening line ≡ begun → condition line ≡ claim → hash_line line.text ≡ hash
-    → LineGoes (rest_place conditioned kind) test line lines (no_test begun (condition_said kind claim (hash_said hash)))
+condition_goes : (came : Bool) (kind : Kind) (test : List ℕ) (line : LogLine) (lines : List LogLine) (claim : List ℕ × Verdict) → is_closing line ≡ false
+    → opening line ≡ None → condition line ≡ Some claim → begins_with claim.0 (quantifier kind) ≡ true → GoesOn (rest_place came kind) test line lines (conditioned claim.0 claim.1)
 unfolding place_after fact_said
-further_goes true kind test line lines (Some other) claim hash f e g h = rw (more_before line lines f, f, e) refl
-further_goes false kind test line lines (Some other) claim hash f e g h = rw (more_before line lines f, f, e) refl
-further_goes true kind test line lines None None None f e g h = record { says = rw (more_before line lines f, f, e, g, h) refl; ends = rw (f, e) refl }
-further_goes false kind test line lines None None None f e g h = record { says = rw (more_before line lines f, f, e, g, h) refl; ends = rw (more_before line lines f, f, e, g) refl }
-further_goes true kind test line lines None None (Some hash) f e g h = record { says = rw (more_before line lines f, f, e, g, h) refl; ends = rw (f, e) refl }
-further_goes false kind test line lines None None (Some hash) f e g h = record { says = rw (more_before line lines f, f, e, g, h) refl; ends = rw (more_before line lines f, f, e, g) refl }
-further_goes true kind test line lines None (Some claim) hash f e g h =
-    by_test (begins_with claim.0 (quantifier kind)) (λ t. rw t (record { says = rw (more_before line lines f, f, e, g, t) refl; ends = rw (f, e) refl })) (λ k. rw k (rw (more_before line lines f, f, e, g, k) refl))
-further_goes false kind test line lines None (Some claim) hash f e g h =
-    by_test (begins_with claim.0 (quantifier kind)) (λ t. rw t (record { says = rw (more_before line lines f, f, e, g, t) refl; ends = rw (more_before line lines f, f, e, g) refl })) (λ k. rw k (rw (more_before line lines f, f, e, g, k) refl))
+condition_goes came kind test line lines claim f e g t = record { says = grind (arith, (more_before line lines f)); ends = grind (arith, (more_before line lines f)) }
+
+further_goes : (came : Bool) (kind : Kind) (test : List ℕ) (line : LogLine) (lines : List LogLine) (begun : Option (List ℕ × Kind)) (claim : Option (List ℕ × Verdict))
+    (hash : Option (List ℕ)) → is_closing line ≡ false → opening line ≡ begun → condition line ≡ claim → hash_line line.text ≡ hash
+    → LineGoes (rest_place came kind) test line lines (no_test begun (condition_said kind claim (hash_said hash)))
+unfolding place_after fact_said
+further_goes came kind test line lines (Some other) claim hash f e g h = grind (arith, (more_before line lines f))
+further_goes came kind test line lines None None hash f e g h =
+    record { says = grind (arith, (more_before line lines f)); ends = grind (arith, (more_before line lines f)) }
+further_goes came kind test line lines None (Some claim) hash f e g h =
+    by_test (begins_with claim.0 (quantifier kind)) (λ t. rw t (condition_goes came kind test line lines claim f e g t)) (λ k. grind (arith, (more_before line lines f)))
 
 -- a line that says something at a place, or is wrong there
 pub line_goes : (place : Place) (test : List ℕ) (line : LogLine) (lines : List LogLine) → HasStates place → LineGoes place test line lines (log_line_said place line.text)
@@ -165,7 +161,7 @@ line_goes (Histogram kind) test line lines h = count_goes kind test line lines (
 line_goes (States kind zero) test line lines h = absurd h
 line_goes (States kind (suc left)) test line lines h = row_goes kind left test line lines (log_row line.text) refl
 line_goes (Judgement kind) test line lines h =
-    by_test (is_judgement (words line.text)) (λ t. let none = judgement_no_test (words line.text) t in rw t (record { says = rw (t, none) refl; ends = rw none refl })) (λ f. rw f (rw f refl))
+    by_test (is_judgement (words line.text)) (λ t. rw t (judgement_goes kind test line lines t)) (λ f. grind arith)
 line_goes (Rest kind) test line lines h =
     by_test (is_closing line) (λ t. rw t (rw t refl))
     (λ f. rw f (further_goes false kind test line lines (opening line) (condition line) (hash_line line.text) f refl refl refl))

@@ -5,7 +5,7 @@ use Rattle.text_parts_laws.specs.{Lines.whole_lines, ReadingSteps.◌>>=◌}
 use Rattle.log_sum.specs.{Facts.Entry, SumText.sum_text}
 use Rattle.log_sum.specs.declared.errors.LogError.{LogError}
 use Rattle.log_sum.specs.LogReading.{LogSeen, input_judged}
-use Rattle.log_sum.specs.Representing.{Kept, Represents, IsBetweenLogs, ShowsFault, ShowsNone, sum_table, facts_so_far, kept_text, logs_text, LogsByBlocks}
+use Rattle.log_sum.specs.Representing.{Kept, Represents, IsBetweenLogs, ShowsFault, ShowsNone, sum_table, facts_so_far, kept_text, logs_text, SumOrFault}
 use Rattle.log_sum.proofs.{PrintLaws.sum_is, StayLaws.file_more, Grammar.judged_text, Grammar.text_fault, CarryLaws.fault_shown, CarryLaws.none_shown}
 
 -- nothing has been said so far where nothing has come
@@ -28,9 +28,9 @@ shown files bytes = by_judged (input_judged files bytes) refl
     by_judged (Ok seen) e = inr (none_shown files bytes seen e)
     by_judged (Err error) e = inl (error, fault_shown files bytes error e)
 
--- logs that are read line by line say what their blocks say
-pub logs_by_blocks : LogsByBlocks
-logs_by_blocks = record { written = represented_text; shown = shown }
+-- what is printed of whole logs is their sum, and bytes show a fault or none
+pub sum_or_fault : SumOrFault
+sum_or_fault = record { written = represented_text; shown = shown }
 
 -- bytes show one fault at most
 pub one_fault : (files : List (List ℕ)) (bytes : List ℕ) (one other : LogError) → ShowsFault files bytes one → ShowsFault files bytes other → one ≡ other

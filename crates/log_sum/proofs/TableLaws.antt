@@ -76,10 +76,6 @@ row_is : (test : List ℕ → Summed) (xs : List (List ℕ)) (i : ℕ) (name : L
 row_is test (x ∷ xs) (suc i) name t h = row_is test xs i name t h
 row_is test xs i name t h = grind arith
 
--- what a fact gives is what the facts with it give
-abbrev pub Both : List Entry → List ℕ → Fact → Summed → Type 0
-Both entries name fact t = (fact_fault (facts_of name entries) fact ≡ None) × (t ≡ summed (facts_of name entries ++ fact ∷ []))
-
 fault_some : (o : Option LogKind) (s : Summed) (kind : LogKind) → by_fault o s ≡ Err kind → o ≡ Some kind
 fault_some o s kind e = grind arith
 

@@ -22,8 +22,3 @@ same_mark_is Starred Starred h = refl
 same_mark_is Starred Plain h = cc
 same_mark_is Plain Starred h = cc
 same_mark_is Plain Plain h = refl
-
--- a mark is the same as itself
-pub mark_same : (m : Mark) → same_state_mark m m ≡ true
-mark_same Starred = refl
-mark_same Plain = refl

@@ -7,7 +7,3 @@ use Rattle.log_sum.specs.declared.errors.{LogKind.LogKind, Fault.Fault, Fault.Th
 abbrev pub IsLineFault : {Y : Type 0} → Fault → Result Y LogKind → Type 0
 IsLineFault (Wrong kind) read = read ≡ Err kind
 IsLineFault NoMemory read = Unit {0}
-
--- there was no memory
-abbrev pub IsMemory : Fault → Type 0
-IsMemory fault = fault ≡ NoMemory

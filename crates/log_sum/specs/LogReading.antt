@@ -5,9 +5,18 @@ use Rattle.std.specs.Prelude.{ℕ, cond, List, [], ◌∷◌, ◌++◌, Option, 
 use Rattle.text_parts_laws.specs.{Lines.without_return, Lines.whole_lines, Lines.unended, ReadingSteps.◌>>=◌}
 use Rattle.log_sum.specs.declared.{errors.LogKind.LogKind, errors.LogKind.TheVariants.Truncated, errors.LogKind.TheVariants.LineTooLong}
 use Rattle.log_sum.specs.declared.{errors.LogError.LogError, kinds.Place.Place, kinds.Place.TheVariants.Outside}
-pub use Rattle.log_sum.specs.LogGrammar.{fault_at, is_too_long, next_line}
+pub use Rattle.log_sum.specs.LogGrammar.{is_too_long}
+use Rattle.diy_io.specs.Count.{next_count}
 use Rattle.log_sum.specs.Facts.{Fact, Entry, facts_of, fact_fault}
 use Rattle.log_sum.specs.LineReading.{Said, log_line_said, place_after, fact_said, test_after}
+
+-- the number of the next line; it stops at the greatest count
+abbrev pub next_line : ℕ → ℕ
+next_line line = next_count line
+
+-- an error at a line
+abbrev pub fault_at : {A : Type 0} → ℕ → LogKind → Result A LogError
+fault_at line kind = Err (record { line = line; kind = kind })
 
 -- the facts so far, the test of the running block, the place in it, and the number of the next line
 pub record LogSeen : Type 0 where

@@ -108,7 +108,7 @@ IsKeptRefusal new result = IfErr result (λ refusal. new.refusal ≡ Some refusa
 abbrev pub kept_text : Kept → List ℕ
 kept_text kept = flat_map (λ test. summed_text test.0 test.1) kept.progress.tests
 
--- What is printed of a summer that was fed whole logs is their sum; and the bytes so far of a log show a fault, or show none.
-pub record LogsByBlocks : Type 0 where
+-- What is printed of a summer that was fed whole logs is their sum; and the bytes so far of a log show an error, or show none.
+pub record SumOrFault : Type 0 where
   pub written : (kept : Kept) (files : List (List ℕ)) → Represents kept files [] → logs_text files ≡ Ok (kept_text kept)
   pub shown : (files : List (List ℕ)) (bytes : List ℕ) → ((error : LogError) × ShowsFault files bytes error) ⊎ ShowsNone files bytes

@@ -1,4 +1,4 @@
-ghost use Rattle.log_sum.specs.Representing.{LogsByBlocks};
+ghost use Rattle.log_sum.specs.Representing.{SumOrFault};
 ghost use Rattle.log_sum.specs.SumPieces.{SameAnswers};
 
 /// A law: the same bytes give the same answers and the same sum, in whatever pieces they come.
@@ -11,14 +11,12 @@ pub fn same_answers()
     ensures { SameAnswers }
 {}
 
-/// A law: what is printed of whole logs is the sum of their blocks.
+/// A law: what is printed of whole logs is their sum, and the bytes so far of a log show an error or none.
 ///
-/// A log is read line by line, by the place of the running line in its block. What comes of that is
-/// what the grammar of logs gives: lines that are passed over, and blocks, each from `Test` to
-/// `Observation`. So what a summer between two logs prints is the sum of the blocks of the logs that it
-/// was fed. The bytes so far of a log show a fault, which is the first fault of all logs that go on so,
-/// whatever follows, or they show none.
-#[tactic(auto, using(crate::proofs::RepresentingLaws::logs_by_blocks))]
-pub fn sum_by_blocks()
-    ensures { LogsByBlocks }
+/// So what a summer between two logs prints is the sum of the facts that the blocks of the logs say that
+/// it was fed. An error that the bytes so far of a log show is the first error of all logs that go on so,
+/// whatever follows.
+#[tactic(auto, using(crate::proofs::RepresentingLaws::sum_or_fault))]
+pub fn sum_or_fault()
+    ensures { SumOrFault }
 {}

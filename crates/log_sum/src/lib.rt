@@ -18,5 +18,5 @@ mod test_sum;
 
 pub use errors::{LogError, LogKind, SumError};
 pub use kinds::{Kind, Mark, Place, Verdict};
-pub use law::{same_answers, sum_by_blocks};
+pub use law::{same_answers, sum_or_fault};
 pub use summer::{MAX_LOG_LINE, Summer};

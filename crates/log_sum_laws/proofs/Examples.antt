@@ -1,6 +1,6 @@
 -- The laws tried on logs.
-use Rattle.log_sum_laws.proofs.Vocabulary.{◌≡◌, ℕ, ◌≤◌, List, [], ◌∷◌, ◌++◌, length, drop, refl, sym, ◌∙◌, arith, subst, Some, bytes_eq, digits, bytes_eq-Decides, Fact, Entry, a_kind, a_row, a_condition, a_hash, row_with, facts_of, marked_sum, state_sum, states_of, mark_in, fact_fault, IsSum, codes, Result, Ok, Err, by_test, HashDiffers, LogError, leading_run, after_run, before_blanks, words, cut_at, without_return, whole_lines, unended, last_count, count_read, log_texts, summed, logs_text, form_read, with_pieces, state_read, state_form, test_line, histogram_line, log_row, condition_line, hash_line, log_line_said, place_after, fact_said, text_judged, line_judged, last_judged, file_judged, state_line, head_text, sum_verdict_text, condition_text, claim_text, hash_text, observation_text, summed_text, sum_text}
-use Rattle.log_sum_laws.proofs.{Cases.Forbidden, Cases.Plain, Cases.NotValidated, Blocks.entry, Agreeing.fact_elsewhere}
+use Rattle.log_sum_laws.proofs.Vocabulary.{◌≡◌, ℕ, List, [], ◌∷◌, ◌++◌, refl, arith, digits, Entry, a_kind, a_row, a_condition, a_hash, row_with, marked_sum, state_sum, states_of, mark_in, fact_fault, IsSum, codes, Result, Ok, Err, HashDiffers, LogError, leading_run, after_run, before_blanks, words, cut_at, without_return, whole_lines, unended, count_read, log_texts, summed, logs_text, form_read, with_pieces, state_read, state_form, test_line, histogram_line, log_row, condition_line, hash_line, log_line_said, place_after, fact_said, text_judged, line_judged, last_judged, file_judged, state_line, head_text, sum_verdict_text, condition_text, claim_text, hash_text, observation_text, summed_text, sum_text}
+use Rattle.log_sum_laws.proofs.{Cases.Forbidden, Cases.Plain, Cases.NotValidated, Blocks.entry}
 
 abbrev nl : List ℕ → List ℕ
 nl line = line ++ 10 ∷ []
@@ -52,31 +52,6 @@ abbrev printed_other : List Entry
 printed_other =
     entry name (a_kind Forbidden) ∷ entry name (a_row (row_with (codes "[x]=0; [y]=0;") Plain 5))
     ∷ entry name (a_condition (codes "~exists (x=1)") NotValidated) ∷ entry name (a_hash (codes "a")) ∷ []
-
-facts_here : (test : List ℕ) (P : List Fact → Type 0) → P (facts_of name printed_other) → P [] → P (facts_of test printed_other)
-facts_here test P here none =
-    by_test (bytes_eq name test)
-    (λ e. let same : name ≡ test = (bytes_eq-Decides name test).0 e in subst (λ n. P (facts_of n printed_other)) same here)
-    (λ e. let elsewhere : facts_of test printed_other ≡ [] =
-    fact_elsewhere test (entry name (a_kind Forbidden)) (drop 1 printed_other) e ∙ fact_elsewhere test (entry name (a_row (row_with (codes "[x]=0; [y]=0;") Plain 5))) (drop 2 printed_other) e
-    ∙ fact_elsewhere test (entry name (a_condition (codes "~exists (x=1)") NotValidated)) (drop 3 printed_other) e ∙ fact_elsewhere test (entry name (a_hash (codes "a"))) [] e in
-    subst P (sym elsewhere) none)
-
-few_here : length (summed (facts_of name printed_other)).states ≤ last_count
-unfolding summed states_of
-few_here = omega arith
-
-few_nowhere : length (summed []).states ≤ last_count
-unfolding summed states_of
-few_nowhere = omega arith
-
-hash_here : (hash : List ℕ) → (summed (facts_of name printed_other)).hash ≡ Some hash → without_return hash ≡ hash
-unfolding summed without_return
-hash_here hash h = let same : codes "a" ≡ hash = cc in subst (λ t. without_return t ≡ t) same refl
-
-hash_nowhere : (hash : List ℕ) → (summed []).hash ≡ Some hash → without_return hash ≡ hash
-unfolding summed
-hash_nowhere hash h = absurd (cc)
 
 a_sum_that_keeps_them : IsSum (other_log ∷ []) (sum_text printed_other)
 unfolding log_texts form_read digits leading_run after_run before_blanks words count_read cut_at with_pieces state_read state_form marked_sum state_sum states_of mark_in fact_fault test_line histogram_line log_row condition_line hash_line log_line_said place_after fact_said text_judged without_return line_judged whole_lines unended last_judged file_judged summed state_line head_text sum_verdict_text condition_text claim_text hash_text observation_text summed_text sum_text
