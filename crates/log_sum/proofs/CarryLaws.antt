@@ -1,16 +1,16 @@
 -- What is read line by line, by the blocks: the facts of lines, the place where they end, and the fault that bytes show.
-use Rattle.std.proofs.Common.{◌≡◌, ◌<◌, ℕ, zero, suc, ◌+◌, ◌-◌, List, [], ◌∷◌, ◌++◌, length, true, false, refl, sym, ap, ◌∙◌, arith, subst, append_assoc, append-nil, Some, None}
-use Rattle.std.specs.Prelude.{Option, Result, Ok, Err, nat_lt}
+use Rattle.std.proofs.Common.{◌≡◌, ◌<◌, ℕ, zero, suc, ◌+◌, List, [], ◌∷◌, ◌++◌, length, true, false, refl, sym, ap, ◌∙◌, arith, subst, append_assoc, append-nil, Some, None}
+use Rattle.std.specs.Prelude.{Option, Result, Ok, Err}
 use Rattle.text_parts_laws.specs.{Lines.without_return, Lines.whole_lines, Lines.unended, ReadingSteps.◌>>=◌}
 use Rattle.log_sum.specs.declared.{errors.LogKind.LogKind, errors.LogKind.TheVariants.LineTooLong, errors.LogError.LogError, errors.SumError.SumError}
 use Rattle.log_sum.specs.declared.{errors.Fault.Fault, errors.Fault.TheVariants.Wrong, errors.Fault.TheVariants.NoMemory, kinds.Place.Place}
-use Rattle.log_sum.specs.declared.kinds.Place.TheVariants.{Outside, Histogram, States, Judgement, Rest, Conditioned}
+use Rattle.log_sum.specs.declared.kinds.Place.TheVariants.{Outside}
 use Rattle.log_sum.specs.Facts.{Fact, Entry, fact_fault}
 use Rattle.log_sum.specs.{Counts.count_read, LogStates.form_read, Summed.Summed}
 use Rattle.log_sum.specs.LogLines.{histogram_line, log_row}
 use Rattle.log_sum.specs.LineReading.{Said, log_line_said, place_after, fact_said, test_after}
 use Rattle.log_sum.specs.LogGrammar.{Statement, is_too_long, ended_texts, texts_before, LogLine, numbered, facts_in, lines_say, inside, all_judged}
-use Rattle.log_sum.specs.LogReading.{LogSeen, fault_at, next_line, nothing_seen, fact_put, at_next_line, said_put, text_judged, line_judged, lines_judged, rest_judged, bytes_judged, last_judged, end_judged, files_judged, input_judged}
+use Rattle.log_sum.specs.LogReading.{LogSeen, fault_at, next_line, nothing_seen, said_put, text_judged, line_judged, lines_judged, rest_judged, bytes_judged, last_judged, end_judged, files_judged, input_judged}
 use Rattle.log_sum.specs.Representing.{SumProgress, Kept, Represents, ShowsFault, ShowsNone, IsInside, FedTo, sum_table, test_name_at, lines_so_far, facts_so_far, logs_text}
 use Rattle.log_sum.specs.Feeding.{IsFed, IsAtSeen, IsRunning, PieceTo, entry_of, sum_refusal}
 use Rattle.log_sum.proofs.PlaceLaws.{HasStates, goes_on, ends_in, fact_says, LineGoes, line_goes, has_states}
@@ -33,22 +33,10 @@ record Steps (seen next : LogSeen) (text : List ℕ) : Type 0 where
   line : next.line ≡ next_line seen.line
   entries : next.entries ≡ seen.entries ++ said_entries (test_after seen.test said) (fact_said said)
 
--- what comes of a fact that has no fault, if there is one
-record Puts (seen next : LogSeen) (fact : Option Fact) : Type 0 where
-  place : next.place ≡ seen.place
-  test : next.test ≡ seen.test
-  line : next.line ≡ next_line seen.line
-  entries : next.entries ≡ seen.entries ++ said_entries seen.test fact
-
-fact_puts : (seen next : LogSeen) (fact : Option Fact) → (fact_put seen fact >>= at_next_line) ≡ Ok next → Puts seen next fact
-fact_puts seen next None h = grind (arith, append-nil)
-fact_puts seen next (Some fact) h = grind arith
-
 said_steps : (seen next : LogSeen) (text : List ℕ) (said : Result Said LogKind) → log_line_said seen.place text ≡ said → said_put seen said ≡ Ok next → Steps seen next text
 said_steps seen next text (Err kind) e h = absurd (let k : ◌≡◌ {A = Result LogSeen LogError} (fault_at seen.line kind) (Ok next) = h in cc)
 said_steps seen next text (Ok said) e h =
-    let puts = fact_puts (record seen { test = test_after seen.test said; place = place_after seen.place said }) next (fact_said said) h in
-    record { said = said; is = e; place = puts.place; test = puts.test; line = puts.line; entries = puts.entries }
+    record { said = said; is = e; place = grind arith; test = grind arith; line = grind arith; entries = grind (arith, append-nil) }
 
 text_steps : (seen next : LogSeen) (text : List ℕ) → text_judged seen text ≡ Ok next → Steps seen next text
 unfolding text_judged
@@ -74,16 +62,7 @@ record EndsAs (before : List Entry) (statements : List Statement) (block : Optio
   inside : IsSeenInside block next
 
 nothing_ends : (place : Place) (seen : LogSeen) → seen.place ≡ place → HasStates place → EndsAs seen.entries (goes_on place seen.test []) (ends_in place seen.test []) seen
-nothing_ends (States kind zero) seen e h = absurd h
-nothing_ends (States kind (suc left)) seen e h =
-    let less : nat_lt 0 (suc left) ≡ true = grind arith in
-    let all : suc left - 0 ≡ suc left = omega arith in
-    record { entries = sym (append-nil seen.entries); inside = rw (less, all) (refl, e, λ f. cc) }
-nothing_ends Outside seen e h = record { entries = sym (append-nil seen.entries); inside = e }
-nothing_ends (Histogram kind) seen e h = record { entries = sym (append-nil seen.entries); inside = (refl, e, λ f. cc) }
-nothing_ends (Judgement kind) seen e h = record { entries = sym (append-nil seen.entries); inside = (refl, e, λ f. cc) }
-nothing_ends (Rest kind) seen e h = record { entries = sym (append-nil seen.entries); inside = (refl, e, λ f. cc) }
-nothing_ends (Conditioned kind) seen e h = record { entries = sym (append-nil seen.entries); inside = (refl, e, λ f. cc) }
+nothing_ends place seen e h = record { entries = grind (arith, append-nil); inside = grind arith }
 
 facts_first : (line : LogLine) (test : List ℕ) (fact : Option Fact) (statements : List Statement) → facts_in (fact_says line test fact ++ statements) ≡ said_entries test fact ++ facts_in statements
 facts_first line test None statements = refl

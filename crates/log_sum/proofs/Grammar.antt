@@ -4,14 +4,13 @@ use Rattle.std.specs.{List.flat_map, List.list_any, Option.is_none}
 use Rattle.std.proofs.Common.{refl, ap, ◌∙◌, arith, append_assoc, append-nil}
 use Rattle.list_laws.specs.Errors.{with_before, unless}
 use Rattle.diy_io.specs.Count.{count_of}
-use Rattle.list_laws.proofs.Cases.{by_test}
-use Rattle.text_parts_laws.specs.{Lines.without_return, Lines.last_line, ReadingSteps.◌>>=◌}
+use Rattle.text_parts_laws.specs.{Lines.without_return, Lines.last_line, Lines.whole_lines, Lines.unended, ReadingSteps.◌>>=◌}
 use Rattle.log_sum.specs.declared.{errors.LogKind.LogKind, errors.LogKind.TheVariants.LineTooLong, errors.LogError.LogError}
 use Rattle.log_sum.specs.declared.{kinds.Place.Place}
 use Rattle.log_sum.specs.declared.kinds.Place.TheVariants.{Outside}
 use Rattle.log_sum.specs.{Facts.Entry, Facts.Fact, Facts.facts_of, Facts.fact_fault, SumText.sum_text, Representing.logs_text}
 use Rattle.log_sum.specs.LineReading.{Said, log_line_said, place_after, fact_said, test_after}
-use Rattle.log_sum.specs.LogReading.{LogSeen, nothing_seen, fault_at, is_too_long, next_line, fact_put, at_next_line, said_put, text_judged}
+use Rattle.log_sum.specs.LogReading.{LogSeen, nothing_seen, fault_at, next_line, fact_put, at_next_line, said_put, text_judged}
 use Rattle.log_sum.specs.LogReading.{line_judged, lines_judged, last_judged, end_judged, file_judged, files_judged}
 use Rattle.log_sum.specs.LogGrammar.{text_in, log_texts, LogLine, Statement, numbered, texts_before, end_says, log_says, facts_in, error_after, logs_say, all_judged}
 use Rattle.log_sum.proofs.PlaceLaws.{HasStates, goes_on, ends_in, fact_says, StopsAt, LineGoes, line_goes, has_states}
@@ -45,9 +44,6 @@ texts_judged seen [] = end_judged seen
 texts_judged seen (None ∷ lines) = fault_at seen.line LineTooLong
 texts_judged seen (Some text ∷ lines) = text_judged seen text >>= λ next. texts_judged next lines
 
-bind_both : {A B C : Type 0} (r : Result A LogError) (f : A → Result B LogError) (g : B → Result C LogError) → ((r >>= f) >>= g) ≡ (r >>= λ x. f x >>= g)
-bind_both r f g = grind arith
-
 last_texts : (seen : LogSeen) (last : List ℕ) → (last_judged seen last >>= end_judged) ≡ texts_judged seen (map (text_in (λ line. line)) (last_line last))
 unfolding last_judged
 last_texts seen last = grind arith
@@ -57,23 +53,11 @@ lines_texts : (seen : LogSeen) (lines : List (List ℕ)) (last : List ℕ)
     ≡ texts_judged seen (map (text_in without_return) lines ++ map (text_in (λ line. line)) (last_line last))
 unfolding line_judged
 lines_texts seen [] last = last_texts seen last
-lines_texts seen (line ∷ lines) last =
-    by_test (is_too_long line) (λ t. rw t refl)
-    (λ f. rw f
-    (bind_both (text_judged seen (without_return line)) (λ next. lines_judged next lines) (λ next. last_judged next last >>= end_judged)
-    ∙ each (λ next. lines_texts next lines last) (text_judged seen (without_return line))))
-  where
-    each : ((next : LogSeen)
-        → (lines_judged next lines >>= λ then_next. last_judged then_next last >>= end_judged)
-        ≡ texts_judged next (map (text_in without_return) lines ++ map (text_in (λ line. line)) (last_line last)))
-        → (r : Result LogSeen LogError)
-        → (r >>= λ next. lines_judged next lines >>= λ then_next. last_judged then_next last >>= end_judged)
-        ≡ (r >>= λ next. texts_judged next (map (text_in without_return) lines ++ map (text_in (λ line. line)) (last_line last)))
-    each later (x) = grind arith
+lines_texts seen (line ∷ lines) last = grind (arith, (λ (next : LogSeen). lines_texts next lines last))
 
 file_texts : (seen : LogSeen) (bytes : List ℕ) → file_judged seen bytes ≡ texts_judged seen (log_texts bytes)
 unfolding file_judged log_texts
-file_texts seen bytes = search (arith, bind_both, lines_texts)
+file_texts seen bytes = grind (arith, (lines_texts seen (whole_lines bytes) (unended bytes)))
 
 -- the number after that of the last of texts
 abbrev number_after : ℕ → List (List ℕ) → ℕ

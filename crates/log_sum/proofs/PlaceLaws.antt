@@ -10,7 +10,7 @@ use Rattle.log_sum.specs.declared.{errors.LogKind.LogKind, kinds.Kind.Kind, kind
 use Rattle.log_sum.specs.declared.kinds.Place.TheVariants.{Outside, Histogram, States, Judgement, Rest, Conditioned}
 use Rattle.log_sum.specs.{Texts.begins_with, Counts.count_read, Facts.Row, Facts.Fact}
 use Rattle.log_sum.specs.LogLines.{quantifier, test_line, histogram_line, log_row, is_judgement, is_observation, hash_line}
-use Rattle.log_sum.specs.LineReading.{Said, judged, conditioned, outside_said, counts_said, row_said, no_test, condition_said, hash_said, log_line_said, states_left, after_state, place_after, fact_said, test_after}
+use Rattle.log_sum.specs.LineReading.{Said, counts_said, row_said, no_test, condition_said, hash_said, log_line_said, states_left, after_state, place_after, fact_said, test_after}
 use Rattle.log_sum.specs.LogGrammar.{LogLine, Statement, opening, condition, is_closing, blocks, block_parts, says, row_says, judgement_says, further_says, closing_says}
 use Rattle.log_sum.specs.LogGrammar.{has_condition, count_says, lines_say, no_lines, place_in, inside_block}
 
@@ -110,10 +110,6 @@ row_no_test (byte ∷ text) row h =
     by_test (is_blank byte) (λ t. rw t (row_no_test text row (rw t at h)))
     (λ f. grind (arith, bytes_eq-Decides, (word_found (byte ∷ text) (byte ∷ text) (leading_run is_inked (byte ∷ text)) (after_run is_inked (byte ∷ text)))))
 
-outside_goes : (test : List ℕ) (line : LogLine) (lines : List LogLine) (begun : Option (List ℕ × Kind)) → opening line ≡ begun → GoesOn Outside test line lines (outside_said begun)
-unfolding place_after fact_said
-outside_goes test line lines begun e = record { says = grind arith; ends = grind arith }
-
 count_goes : (kind : Kind) (test : List ℕ) (line : LogLine) (lines : List LogLine) (count : Result ℕ LogKind) → histogram_line (words line.text) ≡ count
     → LineGoes (Histogram kind) test line lines (counts_said count)
 unfolding place_after fact_said
@@ -126,10 +122,6 @@ unfolding place_after fact_said
 row_goes kind left test line lines (Err error) e = grind arith
 row_goes kind left test line lines (Ok row) e = record { says = grind (arith, row_no_test); ends = grind (arith, row_no_test) }
 
-judgement_goes : (kind : Kind) (test : List ℕ) (line : LogLine) (lines : List LogLine) → is_judgement (words line.text) ≡ true → GoesOn (Judgement kind) test line lines judged
-unfolding place_after fact_said
-judgement_goes kind test line lines t = record { says = grind (arith, judgement_no_test); ends = grind (arith, judgement_no_test) }
-
 -- the place after the judgement, where a condition came or not
 abbrev rest_place : Bool → Kind → Place
 rest_place true kind = Conditioned kind
@@ -137,11 +129,6 @@ rest_place false kind = Rest kind
 
 more_before : (line : LogLine) (lines : List LogLine) → is_closing line ≡ false → before_first is_closing (line ∷ lines) ≡ line ∷ before_first is_closing lines
 more_before line lines f = grind arith
-
-condition_goes : (came : Bool) (kind : Kind) (test : List ℕ) (line : LogLine) (lines : List LogLine) (claim : List ℕ × Verdict) → is_closing line ≡ false
-    → opening line ≡ None → condition line ≡ Some claim → begins_with claim.0 (quantifier kind) ≡ true → GoesOn (rest_place came kind) test line lines (conditioned claim.0 claim.1)
-unfolding place_after fact_said
-condition_goes came kind test line lines claim f e g t = record { says = grind (arith, (more_before line lines f)); ends = grind (arith, (more_before line lines f)) }
 
 further_goes : (came : Bool) (kind : Kind) (test : List ℕ) (line : LogLine) (lines : List LogLine) (begun : Option (List ℕ × Kind)) (claim : Option (List ℕ × Verdict))
     (hash : Option (List ℕ)) → is_closing line ≡ false → opening line ≡ begun → condition line ≡ claim → hash_line line.text ≡ hash
@@ -151,22 +138,23 @@ further_goes came kind test line lines (Some other) claim hash f e g h = grind (
 further_goes came kind test line lines None None hash f e g h =
     record { says = grind (arith, (more_before line lines f)); ends = grind (arith, (more_before line lines f)) }
 further_goes came kind test line lines None (Some claim) hash f e g h =
-    by_test (begins_with claim.0 (quantifier kind)) (λ t. rw t (condition_goes came kind test line lines claim f e g t)) (λ k. grind (arith, (more_before line lines f)))
+    by_test (begins_with claim.0 (quantifier kind)) (λ t. rw t (record { says = grind (arith, (more_before line lines f)); ends = grind (arith, (more_before line lines f)) }))
+    (λ k. grind (arith, (more_before line lines f)))
 
 -- a line that says something at a place, or is wrong there
 pub line_goes : (place : Place) (test : List ℕ) (line : LogLine) (lines : List LogLine) → HasStates place → LineGoes place test line lines (log_line_said place line.text)
 unfolding log_line_said place_after fact_said
-line_goes Outside test line lines h = outside_goes test line lines (opening line) refl
+line_goes Outside test line lines h = record { says = grind arith; ends = grind arith }
 line_goes (Histogram kind) test line lines h = count_goes kind test line lines (histogram_line (words line.text)) refl
 line_goes (States kind zero) test line lines h = absurd h
 line_goes (States kind (suc left)) test line lines h = row_goes kind left test line lines (log_row line.text) refl
 line_goes (Judgement kind) test line lines h =
-    by_test (is_judgement (words line.text)) (λ t. rw t (judgement_goes kind test line lines t)) (λ f. grind arith)
+    by_test (is_judgement (words line.text)) (λ t. rw t (record { says = grind (arith, judgement_no_test); ends = grind (arith, judgement_no_test) })) (λ f. grind arith)
 line_goes (Rest kind) test line lines h =
-    by_test (is_closing line) (λ t. rw t (rw t refl))
+    by_test (is_closing line) (λ t. grind arith)
     (λ f. rw f (further_goes false kind test line lines (opening line) (condition line) (hash_line line.text) f refl refl refl))
 line_goes (Conditioned kind) test line lines h =
-    by_test (is_closing line) (λ t. let none = closing_no_test (words line.text) t in rw t (record { says = rw (t, none) refl; ends = rw (t, none) refl }))
+    by_test (is_closing line) (λ t. rw t (record { says = grind (arith, closing_no_test); ends = grind (arith, closing_no_test) }))
     (λ f. rw f (further_goes true kind test line lines (opening line) (condition line) (hash_line line.text) f refl refl refl))
 
 -- after a line too it is one or more
