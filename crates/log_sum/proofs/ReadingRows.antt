@@ -10,8 +10,7 @@ use Rattle.log_sum.specs.{Counts.count_read, Summed.summed}
 use Rattle.log_sum.specs.LogStates.{form_read, with_pieces, state_read, state_form}
 use Rattle.log_sum.specs.Facts.{marked_sum, state_sum, states_of, mark_in, fact_fault}
 use Rattle.log_sum.specs.LogLines.{test_line, histogram_line, log_row, condition_line, hash_line}
-use Rattle.log_sum.specs.LineReading.{log_line_said, place_after, fact_said}
-use Rattle.log_sum.specs.LogReading.{LogSeen, text_judged, line_judged, rest_judged, bytes_judged, last_judged, file_judged, input_judged}
+use Rattle.log_sum.specs.{LogGrammar.log_texts, Representing.logs_text}
 use Rattle.log_sum.specs.SumText.{state_line, head_text, sum_verdict_text, condition_text, claim_text, hash_text, observation_text, summed_text, sum_text}
 
 abbrev nl : List ℕ → List ℕ
@@ -49,74 +48,74 @@ printed =
     ++ nl (codes "Positive: 96, Negative: 1000004") ++ nl (codes "Condition exists (0:EAX=0 /\\ 1:EAX=0) is validated")
     ++ nl (codes "Observation SB Sometimes 96 1000004") ++ nl []
 
--- the sum of files, or the first fault
-abbrev sum_of : Result LogSeen LogError → Result (List ℕ) LogError
-sum_of (Ok seen) = Ok (sum_text seen.entries)
-sum_of (Err error) = Err error
+-- what the definitions of logs are made of
+log_reading : Unit {0}
+unfolding logs_text log_texts form_read digits leading_run after_run before_blanks words count_read cut_at with_pieces state_read state_form marked_sum state_sum states_of mark_in fact_fault test_line histogram_line log_row condition_line hash_line without_return whole_lines unended summed state_line head_text sum_verdict_text condition_text claim_text hash_text observation_text summed_text sum_text
+log_reading = tt
 
 abbrev fault : ℕ → LogKind → Result (List ℕ) LogError
 fault line kind = Err (record { line = line; kind = kind })
 
-two_logs : sum_of (input_judged (a_log ∷ b_log ∷ []) []) ≡ Ok printed
-unfolding form_read digits leading_run after_run before_blanks words count_read cut_at with_pieces state_read state_form marked_sum state_sum states_of mark_in fact_fault test_line histogram_line log_row condition_line hash_line log_line_said place_after fact_said text_judged without_return line_judged whole_lines unended rest_judged bytes_judged last_judged file_judged input_judged summed state_line head_text sum_verdict_text condition_text claim_text hash_text observation_text summed_text sum_text
+two_logs : logs_text (a_log ∷ b_log ∷ []) ≡ Ok printed
+unfolding log_reading
 two_logs = refl
 
-no_log : sum_of (input_judged ([]) []) ≡ Ok []
-unfolding form_read digits leading_run after_run before_blanks words count_read cut_at with_pieces state_read state_form marked_sum state_sum states_of mark_in fact_fault test_line histogram_line log_row condition_line hash_line log_line_said place_after fact_said text_judged without_return line_judged whole_lines unended rest_judged bytes_judged last_judged file_judged input_judged summed state_line head_text sum_verdict_text condition_text claim_text hash_text observation_text summed_text sum_text
+no_log : logs_text [] ≡ Ok []
+unfolding log_reading
 no_log = refl
 
-empty_log : sum_of (input_judged ([] ∷ []) []) ≡ Ok []
-unfolding form_read digits leading_run after_run before_blanks words count_read cut_at with_pieces state_read state_form marked_sum state_sum states_of mark_in fact_fault test_line histogram_line log_row condition_line hash_line log_line_said place_after fact_said text_judged without_return line_judged whole_lines unended rest_judged bytes_judged last_judged file_judged input_judged summed state_line head_text sum_verdict_text condition_text claim_text hash_text observation_text summed_text sum_text
+empty_log : logs_text ([] ∷ []) ≡ Ok []
+unfolding log_reading
 empty_log = refl
 
-cut_in_the_name_of_the_kind : sum_of (input_judged (take 14 a_log ∷ []) []) ≡ Ok []
-unfolding form_read digits leading_run after_run before_blanks words count_read cut_at with_pieces state_read state_form marked_sum state_sum states_of mark_in fact_fault test_line histogram_line log_row condition_line hash_line log_line_said place_after fact_said text_judged without_return line_judged whole_lines unended rest_judged bytes_judged last_judged file_judged input_judged summed state_line head_text sum_verdict_text condition_text claim_text hash_text observation_text summed_text sum_text
+cut_in_the_name_of_the_kind : logs_text (take 14 a_log ∷ []) ≡ Ok []
+unfolding log_reading
 cut_in_the_name_of_the_kind = refl
 
-cut_after_the_kind : sum_of (input_judged (take 15 a_log ∷ []) []) ≡ fault 2 Truncated
-unfolding form_read digits leading_run after_run before_blanks words count_read cut_at with_pieces state_read state_form marked_sum state_sum states_of mark_in fact_fault test_line histogram_line log_row condition_line hash_line log_line_said place_after fact_said text_judged without_return line_judged whole_lines unended rest_judged bytes_judged last_judged file_judged input_judged summed state_line head_text sum_verdict_text condition_text claim_text hash_text observation_text summed_text sum_text
+cut_after_the_kind : logs_text (take 15 a_log ∷ []) ≡ fault 2 Truncated
+unfolding log_reading
 cut_after_the_kind = refl
 
-cut_in_the_line_of_the_number : sum_of (input_judged (take 35 a_log ∷ []) []) ≡ fault 2 BadState
-unfolding form_read digits leading_run after_run before_blanks words count_read cut_at with_pieces state_read state_form marked_sum state_sum states_of mark_in fact_fault test_line histogram_line log_row condition_line hash_line log_line_said place_after fact_said text_judged without_return line_judged whole_lines unended rest_judged bytes_judged last_judged file_judged input_judged summed state_line head_text sum_verdict_text condition_text claim_text hash_text observation_text summed_text sum_text
+cut_in_the_line_of_the_number : logs_text (take 35 a_log ∷ []) ≡ fault 2 BadState
+unfolding log_reading
 cut_in_the_line_of_the_number = refl
 
-cut_after_that_line : sum_of (input_judged (take 37 a_log ∷ []) []) ≡ fault 3 Truncated
-unfolding form_read digits leading_run after_run before_blanks words count_read cut_at with_pieces state_read state_form marked_sum state_sum states_of mark_in fact_fault test_line histogram_line log_row condition_line hash_line log_line_said place_after fact_said text_judged without_return line_judged whole_lines unended rest_judged bytes_judged last_judged file_judged input_judged summed state_line head_text sum_verdict_text condition_text claim_text hash_text observation_text summed_text sum_text
+cut_after_that_line : logs_text (take 37 a_log ∷ []) ≡ fault 3 Truncated
+unfolding log_reading
 cut_after_that_line = refl
 
-four_lines : sum_of (input_judged (four_lines_of_a ∷ []) []) ≡ fault 5 Truncated
-unfolding form_read digits leading_run after_run before_blanks words count_read cut_at with_pieces state_read state_form marked_sum state_sum states_of mark_in fact_fault test_line histogram_line log_row condition_line hash_line log_line_said place_after fact_said text_judged without_return line_judged whole_lines unended rest_judged bytes_judged last_judged file_judged input_judged summed state_line head_text sum_verdict_text condition_text claim_text hash_text observation_text summed_text sum_text
+four_lines : logs_text (four_lines_of_a ∷ []) ≡ fault 5 Truncated
+unfolding log_reading
 four_lines = refl
 
-second_log_is_cut : sum_of (input_judged (a_log ∷ take 37 a_log ∷ []) []) ≡ fault 3 Truncated
-unfolding form_read digits leading_run after_run before_blanks words count_read cut_at with_pieces state_read state_form marked_sum state_sum states_of mark_in fact_fault test_line histogram_line log_row condition_line hash_line log_line_said place_after fact_said text_judged without_return line_judged whole_lines unended rest_judged bytes_judged last_judged file_judged input_judged summed state_line head_text sum_verdict_text condition_text claim_text hash_text observation_text summed_text sum_text
+second_log_is_cut : logs_text (a_log ∷ take 37 a_log ∷ []) ≡ fault 3 Truncated
+unfolding log_reading
 second_log_is_cut = refl
 
-no_counts : sum_of (input_judged ((nl (codes "Test T Allowed") ++ codes "States 3") ∷ []) []) ≡ fault 2 NoCounts
-unfolding form_read digits leading_run after_run before_blanks words count_read cut_at with_pieces state_read state_form marked_sum state_sum states_of mark_in fact_fault test_line histogram_line log_row condition_line hash_line log_line_said place_after fact_said text_judged without_return line_judged whole_lines unended rest_judged bytes_judged last_judged file_judged input_judged summed state_line head_text sum_verdict_text condition_text claim_text hash_text observation_text summed_text sum_text
+no_counts : logs_text ((nl (codes "Test T Allowed") ++ codes "States 3") ∷ []) ≡ fault 2 NoCounts
+unfolding log_reading
 no_counts = refl
 
-sum_too_large : sum_of (input_judged (large (codes "18446744073709551615*>a=1;") ∷ []) []) ≡ fault 4 SumTooLarge
-unfolding form_read digits leading_run after_run before_blanks words count_read cut_at with_pieces state_read state_form marked_sum state_sum states_of mark_in fact_fault test_line histogram_line log_row condition_line hash_line log_line_said place_after fact_said text_judged without_return line_judged whole_lines unended rest_judged bytes_judged last_judged file_judged input_judged summed state_line head_text sum_verdict_text condition_text claim_text hash_text observation_text summed_text sum_text
+sum_too_large : logs_text (large (codes "18446744073709551615*>a=1;") ∷ []) ≡ fault 4 SumTooLarge
+unfolding log_reading
 sum_too_large = refl
 
-count_too_large : sum_of (input_judged (large (codes "18446744073709551616*>a=1;") ∷ []) []) ≡ fault 3 BadCount
-unfolding form_read digits leading_run after_run before_blanks words count_read cut_at with_pieces state_read state_form marked_sum state_sum states_of mark_in fact_fault test_line histogram_line log_row condition_line hash_line log_line_said place_after fact_said text_judged without_return line_judged whole_lines unended rest_judged bytes_judged last_judged file_judged input_judged summed state_line head_text sum_verdict_text condition_text claim_text hash_text observation_text summed_text sum_text
+count_too_large : logs_text (large (codes "18446744073709551616*>a=1;") ∷ []) ≡ fault 3 BadCount
+unfolding log_reading
 count_too_large = refl
 
-left_side_twice : sum_of (input_judged (large (codes "1*>x=1; [x]=2;") ∷ []) []) ≡ fault 3 BadState
-unfolding form_read digits leading_run after_run before_blanks words count_read cut_at with_pieces state_read state_form marked_sum state_sum states_of mark_in fact_fault test_line histogram_line log_row condition_line hash_line log_line_said place_after fact_said text_judged without_return line_judged whole_lines unended rest_judged bytes_judged last_judged file_judged input_judged summed state_line head_text sum_verdict_text condition_text claim_text hash_text observation_text summed_text sum_text
+left_side_twice : logs_text (large (codes "1*>x=1; [x]=2;") ∷ []) ≡ fault 3 BadState
+unfolding log_reading
 left_side_twice = refl
 
-value_with_a_sign : sum_of (input_judged (large (codes "1*>a=2=3;  b:c=x;[d]=1;") ∷ []) []) ≡ fault 5 Truncated
-unfolding form_read digits leading_run after_run before_blanks words count_read cut_at with_pieces state_read state_form marked_sum state_sum states_of mark_in fact_fault test_line histogram_line log_row condition_line hash_line log_line_said place_after fact_said text_judged without_return line_judged whole_lines unended rest_judged bytes_judged last_judged file_judged input_judged summed state_line head_text sum_verdict_text condition_text claim_text hash_text observation_text summed_text sum_text
+value_with_a_sign : logs_text (large (codes "1*>a=2=3;  b:c=x;[d]=1;") ∷ []) ≡ fault 5 Truncated
+unfolding log_reading
 value_with_a_sign = refl
 
-mark_differs : sum_of (input_judged (large (codes "1:>[a]=2;") ∷ []) []) ≡ fault 4 MarkDiffers
-unfolding form_read digits leading_run after_run before_blanks words count_read cut_at with_pieces state_read state_form marked_sum state_sum states_of mark_in fact_fault test_line histogram_line log_row condition_line hash_line log_line_said place_after fact_said text_judged without_return line_judged whole_lines unended rest_judged bytes_judged last_judged file_judged input_judged summed state_line head_text sum_verdict_text condition_text claim_text hash_text observation_text summed_text sum_text
+mark_differs : logs_text (large (codes "1:>[a]=2;") ∷ []) ≡ fault 4 MarkDiffers
+unfolding log_reading
 mark_differs = refl
 
-kind_differs : sum_of (input_judged (a_log ∷ codes "Test SB Required" ∷ []) []) ≡ fault 1 KindDiffers
-unfolding form_read digits leading_run after_run before_blanks words count_read cut_at with_pieces state_read state_form marked_sum state_sum states_of mark_in fact_fault test_line histogram_line log_row condition_line hash_line log_line_said place_after fact_said text_judged without_return line_judged whole_lines unended rest_judged bytes_judged last_judged file_judged input_judged summed state_line head_text sum_verdict_text condition_text claim_text hash_text observation_text summed_text sum_text
+kind_differs : logs_text (a_log ∷ codes "Test SB Required" ∷ []) ≡ fault 1 KindDiffers
+unfolding log_reading
 kind_differs = refl
