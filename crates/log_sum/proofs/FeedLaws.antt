@@ -1,6 +1,6 @@
 -- What a summer keeps, fed piece by piece.
 use Rattle.std.proofs.Common.{◌≡◌, ◌<◌, ◌≤◌, ℕ, ◌+◌, List, [], ◌∷◌, ◌++◌, Some, None, true, false, length, refl, sym, ap, ◌∙◌, arith, append_assoc, length-append, subst}
-use Rattle.std.specs.Prelude.{Result, Ok, Err, OnOk, nat_lt, ◌==◌}
+use Rattle.std.specs.Prelude.{Result, Ok, Err, OnOk, ◌==◌}
 use Rattle.log_sum.specs.declared.{errors.Fault.Fault, errors.Fault.TheVariants.Wrong, errors.Fault.TheVariants.NoMemory, errors.LogError.LogError}
 use Rattle.log_sum.specs.declared.{errors.LogKind.TheVariants.LineTooLong, errors.SumError.SumError, kinds.Place.Place}
 use Rattle.log_sum.specs.LogReading.{LogSeen, fault_at, is_too_long, nothing_seen, text_judged, line_judged, lines_judged, rest_judged, bytes_judged, last_judged, end_at, end_judged, file_judged, files_judged, input_judged}
@@ -124,12 +124,6 @@ pub last_nothing : (seen : LogSeen) (line : List ℕ) → length line ≡ 0 → 
 unfolding last_judged
 last_nothing seen line h = grind arith
 
-fits : (n : ℕ) → n ≤ 65536 → nat_lt 65536 n ≡ false
-fits n h = grind arith
-
-is_over : (n : ℕ) → 65536 < n → nat_lt 65536 n ≡ true
-is_over n h = grind arith
-
 -- a last line that fits is judged by its text
 pub last_text : (seen : LogSeen) (line : List ℕ) → 0 < length line → length line ≤ 65536 → last_judged seen line ≡ text_judged seen line
 unfolding last_judged
@@ -158,17 +152,17 @@ part_fits new seen held part h f = grind (arith, length-append)
 
 -- a line whose parts have too many bytes is too long
 pub part_long : (held part : List ℕ) → 65536 < length held + length part → is_too_long (held ++ part) ≡ true
-part_long held part h = is_over (length (held ++ part)) (omega (arith, length-append held part))
+part_long held part h = grind (arith, (length-append held part))
 
 -- a line that fits is judged by its text without the carriage return
 pub line_fits : (seen : LogSeen) (line : List ℕ) → length line ≤ 65536 → line_judged seen line ≡ text_judged seen (without_return line)
 unfolding line_judged
-line_fits seen line h = let e : is_too_long line ≡ false = fits (length line) h in rw e refl
+line_fits seen line h = grind arith
 
 -- a line that is too long has that fault
 pub line_long : (seen : LogSeen) (line : List ℕ) → 65536 < length line → line_judged seen line ≡ fault_at seen.line LineTooLong
 unfolding line_judged
-line_long seen line h = let e : is_too_long line ≡ true = is_over (length line) h in rw e refl
+line_long seen line h = grind arith
 
 -- the fault of a held line that is too long is that of the line once it has ended
 pub long_ended : (new : SumProgress) (seen : LogSeen) (line : List ℕ) (fault : Fault) → JudgedTo new (rest_judged seen line) (Err fault) → JudgedTo new (line_judged seen line) (Err fault)

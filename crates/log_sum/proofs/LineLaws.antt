@@ -2,11 +2,10 @@
 use Rattle.std.proofs.Common.{◌≡◌, ℕ, ◌+◌, List, [], ◌∷◌, length, refl, sym, ap, ◌∙◌, arith}
 use Rattle.std.specs.Prelude.{Ok}
 use Rattle.std.proofs.lemmas.List.Splits.{length-slice_split}
-use Rattle.text_parts_laws.specs.{Lines.is_line_feed, Lines.whole_lines, Lines.unended, ReadingSteps.◌>>=◌}
+use Rattle.text_parts_laws.specs.{Lines.is_line_feed, Lines.whole_lines, Lines.unended}
 use Rattle.text_parts_laws.proofs.PieceLaws.{first_piece, length-but_last}
 use Rattle.diy_io.specs.{Count.count_of, Sink.line_feed_count}
-use Rattle.log_sum.specs.declared.kinds.Place.{Place}
-use Rattle.log_sum.specs.LogReading.{LogSeen, nothing_seen, next_line, text_judged, line_judged, lines_judged, rest_judged, bytes_judged, last_judged, end_at, end_judged, file_judged, files_judged, input_judged}
+use Rattle.log_sum.specs.LogReading.{LogSeen, nothing_seen, next_line, text_judged, line_judged, lines_judged, rest_judged, bytes_judged, file_judged, files_judged, input_judged}
 use Rattle.log_sum.specs.Representing.{running_line}
 use Rattle.log_sum.proofs.FeedLaws.{middle_of, rest_same}
 
@@ -15,31 +14,17 @@ text_line : (seen next : LogSeen) (text : List ℕ) → text_judged seen text �
 unfolding text_judged
 text_line seen next text h = grind arith
 
--- after a line that a line feed ends comes the next line
-ended_line : (seen next : LogSeen) (line : List ℕ) → line_judged seen line ≡ Ok next → next.line ≡ next_line seen.line
-unfolding line_judged
-ended_line seen next line h = grind (arith, text_line)
-
 -- after some lines the number is greater by as many
 lines_line : (seen next : LogSeen) (lines : List (List ℕ)) (n : ℕ) → seen.line ≡ count_of n → lines_judged seen lines ≡ Ok next → next.line ≡ count_of (n + length lines)
-lines_line seen next [] n at_line h = let e : seen ≡ next = cc in ap (λ (s : LogSeen). s.line) (sym e) ∙ at_line ∙ omega arith
-lines_line seen next (line ∷ lines) n at_line h =
-    let b = middle_of (line_judged seen line) (λ x. lines_judged x lines) next h in
-    let one : b.middle.line ≡ count_of (n + 1) = ended_line seen b.middle line b.is ∙ ap next_line at_line ∙ omega arith in
-    lines_line b.middle next lines (n + 1) one b.then ∙ ap count_of (omega arith)
+unfolding line_judged
+lines_line seen next [] n at_line h = grind arith
+lines_line seen next (line ∷ lines) n at_line h = grind (arith, text_line, (λ (s : LogSeen). lines_line s next lines (n + 1)))
 
 -- after the end of a file comes line 1
-end_line_first : (seen next : LogSeen) (place : Place) → end_at seen place ≡ Ok next → next.line ≡ 1
-end_line_first seen next place h = grind arith
-
--- after some files comes line 1
 files_line : (seen next : LogSeen) (files : List (List ℕ)) → seen.line ≡ 1 → files_judged seen files ≡ Ok next → next.line ≡ 1
 unfolding file_judged
-files_line seen next [] first h = let e : seen ≡ next = cc in ap (λ (s : LogSeen). s.line) (sym e) ∙ first
-files_line seen next (file ∷ files) first h =
-    let b = middle_of (file_judged seen file) (λ x. files_judged x files) next h in
-    let a = middle_of (lines_judged seen (whole_lines file) >>= (λ x. last_judged x (unended file))) end_judged b.middle b.is in
-    files_line b.middle next files (end_line_first a.middle b.middle a.middle.place a.then) b.then
+files_line seen next [] first h = grind arith
+files_line seen next (file ∷ files) first h = grind (arith, (λ (s : LogSeen). files_line s next files))
 
 -- as many lines have ended as there are line feeds
 whole_count : (bytes : List ℕ) → length (whole_lines bytes) ≡ line_feed_count bytes
