@@ -1,5 +1,5 @@
 -- What is read line by line, by the blocks: the facts of lines, the place where they end, and the fault that bytes show.
-use Rattle.std.proofs.Common.{◌≡◌, ◌<◌, ℕ, zero, suc, ◌+◌, List, [], ◌∷◌, ◌++◌, length, true, false, refl, sym, ap, ◌∙◌, arith, subst, append_assoc, append-nil, Some, None}
+use Rattle.std.proofs.Common.{◌≡◌, ◌<◌, ℕ, zero, suc, ◌+◌, List, [], ◌∷◌, ◌++◌, length, drop, true, false, refl, sym, ap, ◌∙◌, arith, subst, append_assoc, append-nil, Some, None}
 use Rattle.std.specs.Prelude.{Option, Result, Ok, Err}
 use Rattle.text_parts_laws.specs.{Lines.without_return, Lines.whole_lines, Lines.unended, ReadingSteps.◌>>=◌}
 use Rattle.log_sum.specs.declared.{errors.LogKind.LogKind, errors.LogKind.TheVariants.LineTooLong, errors.LogError.LogError, errors.SumError.SumError}
@@ -61,16 +61,22 @@ record EndsAs (before : List Entry) (statements : List Statement) (block : Optio
   entries : next.entries ≡ before ++ facts_in statements
   inside : IsSeenInside block next
 
-nothing_ends : (place : Place) (seen : LogSeen) → seen.place ≡ place → HasStates place → EndsAs seen.entries (goes_on place seen.test []) (ends_in place seen.test []) seen
+nothing_ends : (place : Place) (seen : LogSeen) → seen.place ≡ place → HasStates place
+    → EndsAs seen.entries (goes_on place seen.test []) (ends_in place seen.test []) seen
 nothing_ends place seen e h = record { entries = grind (arith, append-nil); inside = grind arith }
 
-facts_first : (line : LogLine) (test : List ℕ) (fact : Option Fact) (statements : List Statement) → facts_in (fact_says line test fact ++ statements) ≡ said_entries test fact ++ facts_in statements
+facts_first : (line : LogLine) (test : List ℕ) (fact : Option Fact) (statements : List Statement)
+    → facts_in (fact_says line test fact ++ statements) ≡ said_entries test fact ++ facts_in statements
 facts_first line test None statements = refl
 facts_first line test (Some fact) statements = refl
 
+-- lines with their numbers, from the next one on
+abbrev lines_from : LogSeen → List (List ℕ) → List LogLine
+lines_from seen lines = numbered seen.line (texts_before (ended_texts lines))
+
 -- lines that were read without a fault state what the grammar says of them
 lines_end : (seen next : LogSeen) (lines : List (List ℕ)) → HasStates seen.place → lines_judged seen lines ≡ Ok next
-    → EndsAs seen.entries (goes_on seen.place seen.test (numbered seen.line (texts_before (ended_texts lines)))) (ends_in seen.place seen.test (numbered seen.line (texts_before (ended_texts lines)))) next
+    → EndsAs seen.entries (goes_on seen.place seen.test (lines_from seen lines)) (ends_in seen.place seen.test (lines_from seen lines)) next
 lines_end seen next [] has h =
     let e : seen ≡ next = cc in
     subst (EndsAs seen.entries (goes_on seen.place seen.test []) (ends_in seen.place seen.test [])) e (nothing_ends seen.place seen refl has)
@@ -79,7 +85,7 @@ lines_end seen next (line ∷ lines) has h =
     let f = line_fits seen b.middle line b.is in
     let s = text_steps seen b.middle (without_return line) f.read in
     let here : LogLine = record { number = seen.line; text = without_return line } in
-    let goes = subst (LineGoes seen.place seen.test here (numbered (next_line seen.line) (texts_before (ended_texts lines)))) s.is (line_goes seen.place seen.test here _ has) in
+    let goes = subst (LineGoes seen.place seen.test here _) s.is (line_goes seen.place seen.test here (drop 1 (lines_from seen ([] ∷ lines))) has) in
     let later = lines_end b.middle next lines (subst HasStates (sym s.place) (has_states seen.place s.said has)) b.then in
     rw (f.fits, goes.says, goes.ends) (record {
       entries = grind (arith, append_assoc, facts_first);

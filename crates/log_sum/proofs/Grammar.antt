@@ -4,7 +4,7 @@ use Rattle.std.specs.{List.flat_map, List.list_any, Option.is_none}
 use Rattle.std.proofs.Common.{refl, ap, ◌∙◌, arith, append_assoc, append-nil}
 use Rattle.list_laws.specs.Errors.{with_before, unless}
 use Rattle.diy_io.specs.Count.{count_of}
-use Rattle.text_parts_laws.specs.{Lines.without_return, Lines.last_line, Lines.whole_lines, Lines.unended, ReadingSteps.◌>>=◌}
+use Rattle.text_parts_laws.specs.{Lines.last_line, Lines.whole_lines, Lines.unended, ReadingSteps.◌>>=◌}
 use Rattle.log_sum.specs.declared.{errors.LogKind.LogKind, errors.LogKind.TheVariants.LineTooLong, errors.LogError.LogError}
 use Rattle.log_sum.specs.declared.{kinds.Place.Place}
 use Rattle.log_sum.specs.declared.kinds.Place.TheVariants.{Outside}
@@ -12,7 +12,7 @@ use Rattle.log_sum.specs.{Facts.Entry, Facts.Fact, Facts.facts_of, Facts.fact_fa
 use Rattle.log_sum.specs.LineReading.{Said, log_line_said, place_after, fact_said, test_after}
 use Rattle.log_sum.specs.LogReading.{LogSeen, nothing_seen, fault_at, next_line, fact_put, at_next_line, said_put, text_judged}
 use Rattle.log_sum.specs.LogReading.{line_judged, lines_judged, last_judged, end_judged, file_judged, files_judged}
-use Rattle.log_sum.specs.LogGrammar.{text_in, log_texts, LogLine, Statement, numbered, texts_before, end_says, log_says, facts_in, error_after, logs_say, all_judged}
+use Rattle.log_sum.specs.LogGrammar.{text_in, ended_texts, log_texts, LogLine, Statement, numbered, texts_before, end_says, log_says, facts_in, error_after, logs_say, all_judged}
 use Rattle.log_sum.proofs.PlaceLaws.{HasStates, goes_on, ends_in, fact_says, StopsAt, LineGoes, line_goes, has_states}
 
 -- what was seen, by its parts
@@ -44,13 +44,13 @@ texts_judged seen [] = end_judged seen
 texts_judged seen (None ∷ lines) = fault_at seen.line LineTooLong
 texts_judged seen (Some text ∷ lines) = text_judged seen text >>= λ next. texts_judged next lines
 
-last_texts : (seen : LogSeen) (last : List ℕ) → (last_judged seen last >>= end_judged) ≡ texts_judged seen (map (text_in (λ line. line)) (last_line last))
+last_texts : (seen : LogSeen) (last : List ℕ) → (last_judged seen last >>= end_judged) ≡ texts_judged seen (map (λ line. text_in line line) (last_line last))
 unfolding last_judged
 last_texts seen last = grind arith
 
 lines_texts : (seen : LogSeen) (lines : List (List ℕ)) (last : List ℕ)
     → (lines_judged seen lines >>= λ next. last_judged next last >>= end_judged)
-    ≡ texts_judged seen (map (text_in without_return) lines ++ map (text_in (λ line. line)) (last_line last))
+    ≡ texts_judged seen (ended_texts lines ++ map (λ line. text_in line line) (last_line last))
 unfolding line_judged
 lines_texts seen [] last = last_texts seen last
 lines_texts seen (line ∷ lines) last = grind (arith, (λ (next : LogSeen). lines_texts next lines last))
@@ -84,7 +84,8 @@ stops_judged entries line kind statements more h = grind arith
 -- the reading goes on after a fact, if there is one
 fact_goes : (seen : LogSeen) (text : List ℕ) (fact : Option Fact) (texts : List (Option (List ℕ))) (statements : List Statement)
     → ((entries : List Entry) → texts_judged (record seen { entries = entries; line = next_line seen.line }) texts ≡ gives entries statements)
-    → ((fact_put seen fact >>= at_next_line) >>= λ next. texts_judged next texts) ≡ gives seen.entries (fact_says (record { number = seen.line; text = text }) seen.test fact ++ statements)
+    → ((fact_put seen fact >>= at_next_line) >>= λ next. texts_judged next texts)
+    ≡ gives seen.entries (fact_says (record { number = seen.line; text = text }) seen.test fact ++ statements)
 fact_goes seen text fact texts statements further = grind arith
 
 -- and so after what a line says, or stops at its fault
@@ -99,14 +100,17 @@ said_goes seen text (Ok said) texts has goes further =
     (λ entries. further (at_place entries (test_after seen.test said) (place_after seen.place said) (next_line seen.line)) (has_states seen.place said has)))
 
 -- lines that are read one by one from a place on give what they state from there on
-reads : (seen : LogSeen) (texts : List (Option (List ℕ))) → HasStates seen.place → texts_judged seen texts ≡ gives seen.entries (log_goes seen.place seen.test seen.line texts)
+reads : (seen : LogSeen) (texts : List (Option (List ℕ))) → HasStates seen.place
+    → texts_judged seen texts ≡ gives seen.entries (log_goes seen.place seen.test seen.line texts)
 unfolding text_judged
 reads seen (Some text ∷ texts) has =
     said_goes seen text (log_line_said seen.place text) texts has
-    (line_goes seen.place seen.test (record { number = seen.line; text = text }) (numbered (next_line seen.line) (texts_before texts)) has) (λ next h. reads next texts h)
+    (line_goes seen.place seen.test (record { number = seen.line; text = text }) (numbered (next_line seen.line) (texts_before texts)) has)
+    (λ next h. reads next texts h)
 reads seen texts has = grind arith
 
-judged_both : (entries : List Entry) (one other : List Statement) → statements_judged entries (one ++ other) ≡ (statements_judged entries one >>= λ all. statements_judged all other)
+judged_both : (entries : List Entry) (one other : List Statement)
+    → statements_judged entries (one ++ other) ≡ (statements_judged entries one >>= λ all. statements_judged all other)
 judged_both entries [] other = refl
 judged_both entries ((n, Err kind) ∷ one) other = refl
 judged_both entries ((n, Ok entry) ∷ one) other = grind (arith, (judged_both (entries ++ entry ∷ []) one other))
@@ -114,14 +118,22 @@ judged_both entries ((n, Ok entry) ∷ one) other = grind (arith, (judged_both (
 files_from : (entries : List Entry) (logs : List (List ℕ)) → files_judged (between entries) logs ≡ gives entries (logs_say logs)
 files_from entries [] = refl
 files_from entries (log ∷ logs) =
-    grind (arith, (file_texts (between entries) log), (reads (between entries) (log_texts log) tt), (log_whole (log_texts log)), (judged_both entries (log_says (log_texts log)) (logs_say logs)), (λ (more : List Entry). files_from more logs))
+    grind (
+      arith,
+      (file_texts (between entries) log),
+      (reads (between entries) (log_texts log) tt),
+      (log_whole (log_texts log)),
+      (judged_both entries (log_says (log_texts log)) (logs_say logs)),
+      (λ (more : List Entry). files_from more logs),
+    )
 
 facts_both : (one other : List Statement) → facts_in (one ++ other) ≡ facts_in one ++ facts_in other
 facts_both [] other = refl
 facts_both (statement ∷ one) other = grind (arith, append_assoc, (facts_both one other))
 
 -- the first error of statements, each judged by those before it
-first_error : (before statements : List Statement) → unless (flat_map error_after (with_before before statements)) (facts_in (before ++ statements)) ≡ statements_judged (facts_in before) statements
+first_error : (before statements : List Statement)
+    → unless (flat_map error_after (with_before before statements)) (facts_in (before ++ statements)) ≡ statements_judged (facts_in before) statements
 first_error before [] = ap (λ all. Ok (facts_in all)) (append-nil before)
 first_error before ((n, Err kind) ∷ statements) = refl
 first_error before ((n, Ok entry) ∷ statements) =

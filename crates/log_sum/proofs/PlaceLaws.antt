@@ -57,7 +57,8 @@ judged_end kind lines = cond (no_lines (take 1 lines)) (Some (Judgement kind)) (
 abbrev place_end : Place → List LogLine → Option Place
 place_end Outside lines = None
 place_end (Histogram kind) lines = place_in kind (block_parts lines)
-place_end (States kind left) lines = cond (nat_lt (length (take left lines)) left) (Some (States kind (left - length (take left lines)))) (judged_end kind (drop left lines))
+place_end (States kind left) lines =
+    cond (nat_lt (length (take left lines)) left) (Some (States kind (left - length (take left lines)))) (judged_end kind (drop left lines))
 place_end (Judgement kind) lines = judged_end kind lines
 place_end (Rest kind) lines = rest_end kind false lines
 place_end (Conditioned kind) lines = rest_end kind true lines
@@ -78,7 +79,8 @@ fact_says line test (Some fact) = says line test fact
 
 -- a line says this and nothing, or what it is wrong by, and then the other lines say what they say from the place after it on
 pub record GoesOn (place : Place) (test : List ℕ) (line : LogLine) (lines : List LogLine) (said : Said) : Type 0 where
-  pub says : goes_on place test (line ∷ lines) ≡ fact_says line (test_after test said) (fact_said said) ++ goes_on (place_after place said) (test_after test said) lines
+  pub says : goes_on place test (line ∷ lines)
+    ≡ fact_says line (test_after test said) (fact_said said) ++ goes_on (place_after place said) (test_after test said) lines
   pub ends : ends_in place test (line ∷ lines) ≡ ends_in (place_after place said) (test_after test said) lines
 
 -- the first of what lines say is that this one is wrong
@@ -130,8 +132,8 @@ rest_place false kind = Rest kind
 more_before : (line : LogLine) (lines : List LogLine) → is_closing line ≡ false → before_first is_closing (line ∷ lines) ≡ line ∷ before_first is_closing lines
 more_before line lines f = grind arith
 
-further_goes : (came : Bool) (kind : Kind) (test : List ℕ) (line : LogLine) (lines : List LogLine) (begun : Option (List ℕ × Kind)) (claim : Option (List ℕ × Verdict))
-    (hash : Option (List ℕ)) → is_closing line ≡ false → opening line ≡ begun → condition line ≡ claim → hash_line line.text ≡ hash
+further_goes : (came : Bool) (kind : Kind) (test : List ℕ) (line : LogLine) (lines : List LogLine) (begun : Option (List ℕ × Kind))
+    (claim : Option (List ℕ × Verdict)) (hash : Option (List ℕ)) → is_closing line ≡ false → opening line ≡ begun → condition line ≡ claim → hash_line line.text ≡ hash
     → LineGoes (rest_place came kind) test line lines (no_test begun (condition_said kind claim (hash_said hash)))
 unfolding place_after fact_said
 further_goes came kind test line lines (Some other) claim hash f e g h = grind (arith, (more_before line lines f))
@@ -142,7 +144,8 @@ further_goes came kind test line lines None (Some claim) hash f e g h =
     (λ k. grind (arith, (more_before line lines f)))
 
 -- a line that says something at a place, or is wrong there
-pub line_goes : (place : Place) (test : List ℕ) (line : LogLine) (lines : List LogLine) → HasStates place → LineGoes place test line lines (log_line_said place line.text)
+pub line_goes : (place : Place) (test : List ℕ) (line : LogLine) (lines : List LogLine) → HasStates place
+    → LineGoes place test line lines (log_line_said place line.text)
 unfolding log_line_said place_after fact_said
 line_goes Outside test line lines h = record { says = grind arith; ends = grind arith }
 line_goes (Histogram kind) test line lines h = count_goes kind test line lines (histogram_line (words line.text)) refl

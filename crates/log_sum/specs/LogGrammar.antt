@@ -1,7 +1,8 @@
 -- What a log is, as a grammar of lines, and what it says: the facts of its tests, up to the first error.
 -- Source: the logs of litmus7; what is an error is own.
-use Rattle.std.specs.Prelude.{ℕ, ◌+◌, ◌-◌, nat_lt, Bool, true, false, cond, List, [], ◌∷◌, ◌++◌, length, map, take, drop, Option, Some, None, Result, Ok, Err, option_map}
-use Rattle.std.specs.{Prelude.filter, Prelude.fold, List.flat_map, List.list_any, List.before_first, Option.is_some, Option.is_none}
+use Rattle.std.specs.Prelude.{ℕ, ◌+◌, ◌-◌, nat_lt, Bool, true, false, cond, List, [], ◌∷◌, ◌++◌, length, map, take, drop, filter, fold, Option, Some, None}
+use Rattle.std.specs.Prelude.{option_map, Result, Ok, Err}
+use Rattle.std.specs.{List.flat_map, List.list_any, List.before_first, Option.is_some, Option.is_none}
 use Rattle.list_laws.specs.Errors.{with_before, unless}
 use Rattle.text_parts_laws.specs.{Words.words, Lines.without_return, Lines.whole_lines, Lines.unended, Lines.last_line}
 use Rattle.diy_io.specs.Count.{count_of, next_count}
@@ -20,17 +21,17 @@ max_line = 65536
 abbrev pub is_too_long : List ℕ → Bool
 is_too_long line = nat_lt max_line (length line)
 
--- The text of a line is the line without its ending, unless it is too long.
-abbrev pub text_in : (List ℕ → List ℕ) → List ℕ → Option (List ℕ)
-text_in ending line = cond (is_too_long line) None (Some (ending line))
+-- A line has this text, unless the line is too long.
+abbrev pub text_in : List ℕ → List ℕ → Option (List ℕ)
+text_in line text = cond (is_too_long line) None (Some text)
 
 -- A line may end with a line feed. A carriage return right before that is no part of the text.
 abbrev pub ended_texts : List (List ℕ) → List (Option (List ℕ))
-ended_texts lines = map (text_in without_return) lines
+ended_texts lines = map (λ line. text_in line (without_return line)) lines
 
--- A log has these lines. A last line without a line feed keeps its carriage return.
+-- A log has the texts of these lines. A last line without a line feed keeps its carriage return.
 unfoldable pub log_texts : List ℕ → List (Option (List ℕ))
-log_texts bytes = ended_texts (whole_lines bytes) ++ map (text_in (λ line. line)) (last_line (unended bytes))
+log_texts bytes = ended_texts (whole_lines bytes) ++ map (λ line. text_in line line) (last_line (unended bytes))
 
 -- A line that isn't too long has a number, from 1, and a text.
 pub record LogLine : Type 0 where
@@ -215,7 +216,10 @@ facts_in statements = flat_map fact statements
 abbrev pub error_after : List Statement × Statement → List LogError
 error_after (before, (n, Err kind)) = (record { line = n; kind = kind }) ∷ []
 error_after (before, (n, Ok entry)) =
-    elim (fact_fault (facts_of entry.test (facts_in before)) entry.fact) as (λ _. List LogError) [ Some kind ↦ (record { line = n; kind = kind }) ∷ [] | None ↦ [] ]
+    elim (fact_fault (facts_of entry.test (facts_in before)) entry.fact) as (λ _. List LogError) [
+      | Some kind ↦ (record { line = n; kind = kind }) ∷ []
+      | None ↦ []
+    ]
 
 -- Logs give their facts, or their first error.
 abbrev pub all_judged : List (List ℕ) → Result (List Entry) LogError

@@ -1,5 +1,5 @@
 -- The laws tried on logs.
-use Rattle.log_sum_laws.proofs.Vocabulary.{◌≡◌, ℕ, List, [], ◌∷◌, ◌++◌, refl, arith, digits, Entry, a_kind, a_row, a_condition, a_hash, row_with, marked_sum, state_sum, states_of, mark_in, fact_fault, IsSum, codes, Result, Ok, Err, HashDiffers, LogError, leading_run, after_run, before_blanks, words, cut_at, without_return, whole_lines, unended, count_read, log_texts, summed, logs_text, form_read, with_pieces, state_read, state_form, test_line, histogram_line, log_row, condition_line, hash_line, log_line_said, place_after, fact_said, text_judged, line_judged, last_judged, file_judged, state_line, head_text, sum_verdict_text, condition_text, claim_text, hash_text, observation_text, summed_text, sum_text}
+use Rattle.log_sum_laws.proofs.Vocabulary.{◌≡◌, ℕ, List, [], ◌∷◌, ◌++◌, refl, arith, digits, Entry, a_kind, a_row, a_condition, a_hash, row_with, marked_sum, state_sum, states_of, mark_in, fact_fault, IsSum, codes, Result, Ok, Err, HashDiffers, LogError, leading_run, after_run, before_blanks, words, cut_at, without_return, whole_lines, unended, count_read, log_texts, summed, logs_text, form_read, with_pieces, state_read, state_form, test_line, histogram_line, log_row, condition_line, hash_line, state_line, head_text, sum_verdict_text, condition_text, claim_text, hash_text, observation_text, summed_text, sum_text}
 use Rattle.log_sum_laws.proofs.{Cases.Forbidden, Cases.Plain, Cases.NotValidated, Blocks.entry}
 
 abbrev nl : List ℕ → List ℕ
@@ -28,12 +28,17 @@ abbrev or_nothing : Result (List ℕ) LogError → List ℕ
 or_nothing (Ok text) = text
 or_nothing (Err error) = []
 
+-- what the definitions of logs are made of
+log_reading : Unit {0}
+unfolding logs_text log_texts form_read digits leading_run after_run before_blanks words count_read cut_at with_pieces state_read state_form marked_sum state_sum states_of mark_in fact_fault test_line histogram_line log_row condition_line hash_line without_return whole_lines unended summed state_line head_text sum_verdict_text condition_text claim_text hash_text observation_text summed_text sum_text
+log_reading = tt
+
 together : logs_text (one_log ∷ other_log ∷ []) ≡ Ok all
-unfolding logs_text log_texts form_read digits leading_run after_run before_blanks words count_read cut_at with_pieces state_read state_form marked_sum state_sum states_of mark_in fact_fault test_line histogram_line log_row condition_line hash_line log_line_said place_after fact_said text_judged without_return line_judged whole_lines unended last_judged file_judged summed state_line head_text sum_verdict_text condition_text claim_text hash_text observation_text summed_text sum_text
+unfolding log_reading
 together = refl
 
 by_sums : logs_text (or_nothing (logs_text (one_log ∷ [])) ∷ or_nothing (logs_text (other_log ∷ [])) ∷ []) ≡ Ok all
-unfolding logs_text log_texts form_read digits leading_run after_run before_blanks words count_read cut_at with_pieces state_read state_form marked_sum state_sum states_of mark_in fact_fault test_line histogram_line log_row condition_line hash_line log_line_said place_after fact_said text_judged without_return line_judged whole_lines unended last_judged file_judged summed state_line head_text sum_verdict_text condition_text claim_text hash_text observation_text summed_text sum_text
+unfolding log_reading
 by_sums = refl
 
 -- a hash that ends with a carriage return isn't read back
@@ -41,7 +46,7 @@ abbrev returned : List ℕ
 returned = block (codes "7:>x=0;") (codes "is validated") (nl (codes "Hash=a" ++ 13 ∷ 13 ∷ []))
 
 not_read_back : logs_text (or_nothing (logs_text (returned ∷ [])) ∷ returned ∷ []) ≡ Err (record { line = 6; kind = HashDiffers })
-unfolding logs_text log_texts form_read digits leading_run after_run before_blanks words count_read cut_at with_pieces state_read state_form marked_sum state_sum states_of mark_in fact_fault test_line histogram_line log_row condition_line hash_line log_line_said place_after fact_said text_judged without_return line_judged whole_lines unended last_judged file_judged summed state_line head_text sum_verdict_text condition_text claim_text hash_text observation_text summed_text sum_text
+unfolding log_reading
 not_read_back = refl
 
 -- a printed sum that keeps the limits
@@ -54,7 +59,7 @@ printed_other =
     ∷ entry name (a_condition (codes "~exists (x=1)") NotValidated) ∷ entry name (a_hash (codes "a")) ∷ []
 
 a_sum_that_keeps_them : IsSum (other_log ∷ []) (sum_text printed_other)
-unfolding log_texts form_read digits leading_run after_run before_blanks words count_read cut_at with_pieces state_read state_form marked_sum state_sum states_of mark_in fact_fault test_line histogram_line log_row condition_line hash_line log_line_said place_after fact_said text_judged without_return line_judged whole_lines unended last_judged file_judged summed state_line head_text sum_verdict_text condition_text claim_text hash_text observation_text summed_text sum_text
+unfolding log_reading
 a_sum_that_keeps_them = record {
   entries = printed_other;
   judged = refl;
