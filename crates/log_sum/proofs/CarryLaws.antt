@@ -6,12 +6,12 @@ use Rattle.log_sum.specs.declared.{errors.LogKind.LogKind, errors.LogKind.TheVar
 use Rattle.log_sum.specs.declared.{errors.Fault.Fault, errors.Fault.TheVariants.Wrong, errors.Fault.TheVariants.NoMemory, kinds.Place.Place}
 use Rattle.log_sum.specs.declared.kinds.Place.TheVariants.{Outside}
 use Rattle.log_sum.specs.Facts.{Fact, Entry, fact_fault}
-use Rattle.log_sum.specs.{Counts.count_read, LogStates.form_read, Summed.Summed}
+use Rattle.log_sum.specs.{Counts.count_read, LogStates.form_read}
 use Rattle.log_sum.specs.LogLines.{histogram_line, log_row}
 use Rattle.log_sum.specs.LineReading.{Said, log_line_said, place_after, fact_said, test_after}
 use Rattle.log_sum.specs.LogGrammar.{Statement, is_too_long, ended_texts, texts_before, LogLine, numbered, facts_in, lines_say, inside, all_judged}
 use Rattle.log_sum.specs.LogReading.{LogSeen, fault_at, next_line, nothing_seen, said_put, text_judged, line_judged, lines_judged, rest_judged, bytes_judged, last_judged, end_judged, files_judged, input_judged}
-use Rattle.log_sum.specs.Representing.{SumProgress, Kept, Represents, ShowsFault, ShowsNone, IsInside, FedTo, sum_table, test_name_at, lines_so_far, facts_so_far, logs_text}
+use Rattle.log_sum.specs.Representing.{SumProgress, Kept, Represents, ShowsFault, ShowsNone, IsInside, FedTo, sum_table, lines_so_far, facts_so_far, logs_text}
 use Rattle.log_sum.specs.Feeding.{IsFed, IsAtSeen, IsRunning, PieceTo, entry_of, sum_refusal}
 use Rattle.log_sum.proofs.PlaceLaws.{HasStates, goes_on, ends_in, fact_says, LineGoes, line_goes, has_states}
 use Rattle.log_sum.proofs.ReadingLaws.{is_one_line, so_far_more, input_by_lines, rest_more}
@@ -121,33 +121,21 @@ fault_shown files bytes error h = λ rest more. fault_stays rest more
 
 -- a line that is too long has no other fault, and no other line has this one
 
-count_short : (text : List ℕ) → ◌≡◌ {A = Result (ℕ × List ℕ) LogKind} (count_read text) (Err LineTooLong) → ⊥
-unfolding count_read
-count_short text h = grind arith
-
-form_short : (text : List ℕ) → form_read text ≡ Err LineTooLong → ⊥
-unfolding form_read
-form_short text h = grind arith
-
 number_short : (text : List (List ℕ)) → histogram_line text ≡ Err LineTooLong → ⊥
-unfolding histogram_line
-number_short text h = grind (arith, count_short)
+unfolding histogram_line count_read
+number_short text h = grind arith
 
 row_short : (text : List ℕ) → log_row text ≡ Err LineTooLong → ⊥
-unfolding log_row
-row_short text h = grind (arith, count_short, form_short)
+unfolding log_row count_read form_read
+row_short text h = grind arith
 
 said_short : (place : Place) (text : List ℕ) → log_line_said place text ≡ Err LineTooLong → ⊥
 unfolding log_line_said
 said_short place text h = grind (arith, number_short, row_short)
 
-fact_short : (facts : List Fact) (fact : Fact) → fact_fault facts fact ≡ Some LineTooLong → ⊥
-unfolding fact_fault
-fact_short facts fact h = grind arith
-
 text_short : (seen : LogSeen) (text : List ℕ) (error : LogError) → text_judged seen text ≡ Err error → error.kind ≡ LineTooLong → ⊥
-unfolding text_judged
-text_short seen text error h k = grind (arith, said_short, fact_short)
+unfolding text_judged fact_fault
+text_short seen text error h k = grind (arith, said_short)
 
 last_short : (seen next : LogSeen) (line : List ℕ) (error : LogError) → rest_judged seen line ≡ Ok next → (last_judged seen line >>= end_judged) ≡ Err error → error.kind ≡ LineTooLong → ⊥
 unfolding rest_judged last_judged
@@ -185,17 +173,10 @@ none_shown files bytes seen h error shown =
     let kind : error.kind ≡ LineTooLong = cc in
     whole_short files bytes seen error h (ap (λ log. logs_text (files ++ log ∷ [])) (sym (append-nil bytes)) ∙ shown [] []) kind
 
--- inside a block the test has its name at the index
-name_running : (place : Place) (tests : List (List ℕ × Summed)) (i : ℕ) (name : List ℕ) → (place ≡ Outside → ⊥) → IsRunning place tests i name → test_name_at tests i ≡ Some name
-name_running place tests i name inside h = grind arith
-
-running_named : (place : Place) (tests : List (List ℕ × Summed)) (i : ℕ) (name : List ℕ) → test_name_at tests i ≡ Some name → IsRunning place tests i name
-running_named place tests i name h = grind arith
-
+-- what is kept of a reading is at the place where lines end, as the reading is
 inside_of : (block : Option (List ℕ × Place)) (progress : SumProgress) (seen : LogSeen) → IsAtSeen progress seen → IsSeenInside block seen → IsInside block progress
 inside_of None progress seen at_seen h = at_seen.place ∙ h
-inside_of (Some block) progress seen at_seen h =
-    (at_seen.place ∙ h.1, rw (sym h.0) (name_running seen.place progress.tests progress.test seen.test (λ e. h.2 (sym h.1 ∙ e)) at_seen.test))
+inside_of (Some block) progress seen at_seen h = grind arith
 
 -- the place and the test of a reading
 record IsAtPlace (progress : SumProgress) (seen : LogSeen) : Type 0 where
@@ -203,9 +184,7 @@ record IsAtPlace (progress : SumProgress) (seen : LogSeen) : Type 0 where
   test : IsRunning seen.place progress.tests progress.test seen.test
 
 place_of : (block : Option (List ℕ × Place)) (progress : SumProgress) (seen : LogSeen) → IsInside block progress → IsSeenInside block seen → IsAtPlace progress seen
-place_of None progress seen h k = record { place = h ∙ sym k; test = rw k tt }
-place_of (Some block) progress seen h k =
-    record { place = h.0 ∙ sym k.1; test = running_named seen.place progress.tests progress.test seen.test (h.1 ∙ ap (λ t. Some t) (sym k.0)) }
+place_of block progress seen h k = record { place = grind arith; test = grind arith }
 
 -- what was read represents its input
 pub fed_represents : (kept : Kept) (files : List (List ℕ)) (bytes : List ℕ) → IsFed kept files bytes → Represents kept files bytes
