@@ -8,7 +8,7 @@ use Rattle.log_sum.specs.declared.{kinds.Verdict.Verdict, kinds.Verdict.TheVaria
 use Rattle.log_sum.specs.declared.errors.LogKind.TheVariants.{MarkDiffers, HashDiffers, ConditionDiffers, SumTooLarge, KindDiffers}
 use Rattle.diy_io.specs.Count.{last_count}
 
--- a state, by its printed form, with its mark, was seen so often
+-- a state, by its printed form, with its mark, was seen this many times
 pub record Row : Type 0 where
   pub state : List ℕ
   pub mark : Mark

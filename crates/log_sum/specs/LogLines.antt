@@ -51,7 +51,7 @@ abbrev pub after_histogram : List (List ℕ) → Result ℕ LogKind
 after_histogram [] = Err BadState
 after_histogram (word ∷ rest) = in_parenthesis word rest
 
--- `Histogram (n states)`, or `state)`: the number of states; a line that begins with `States` shows a block without counts
+-- `Histogram (n states)`, or `state)`: the number of states; a line whose first word is `States` shows a block without counts
 unfoldable pub histogram_line : List (List ℕ) → Result ℕ LogKind
 histogram_line [] = Err BadState
 histogram_line (first ∷ rest) =
@@ -82,7 +82,7 @@ abbrev pub row_marked : ℕ → Option (Mark × List ℕ) → Result Row LogKind
 row_marked count None = Err BadState
 row_marked count (Some marked) = row_of count marked.0 (form_read marked.1)
 
--- a row by its count, where there is one, and the text after it
+-- a row by its count and the text after it, or the error of the count
 abbrev pub row_counted : Result (ℕ × List ℕ) LogKind → Result Row LogKind
 row_counted (Err kind) = Err kind
 row_counted (Ok counted) = row_marked counted.0 (mark_read (unblanked counted.1))
