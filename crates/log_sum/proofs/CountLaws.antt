@@ -1,11 +1,10 @@
 -- Counts and the digits that write them.
 use Rattle.std.proofs.Common.{◌≡◌, ℕ, ◌^◌, ◌<◌, List, length, ap, ◌∙◌, arith}
-use Rattle.std.specs.Prelude.{true, false, cond, nat_lt, Some, None, Result, Ok, Err}
-use Rattle.std.specs.{Char.is_ascii_digit, List.list_all, Result.result_ok, Str.Parse.digits_value, Str.Parse.ParsesUnsigned}
+use Rattle.std.specs.{Prelude.{true, false, cond, nat_lt, Some, None, Result, Ok, Err}, Char.is_ascii_digit, List.list_all, Result.result_ok}
+use Rattle.std.specs.Str.Parse.{digits_value, ParsesUnsigned}
 use Rattle.list_laws.proofs.Digits.{digits_model}
-use Rattle.log_sum.specs.declared.errors.LogKind.TheVariants.{BadState, BadCount}
-use Rattle.text_parts_laws.specs.{LeadingRuns.leading_run, LeadingRuns.after_run, Words.is_nil}
-use Rattle.log_sum.specs.Counts.{count_read}
+use Rattle.log_sum.specs.{declared.errors.LogKind.TheVariants.{BadState, BadCount}, Counts.count_read}
+use Rattle.text_parts_laws.specs.{LeadingRuns.{leading_run, after_run}, Words.is_nil}
 use Rattle.text_parts_laws.proofs.RunLaws.{run_passes}
 
 -- what is parsed is the digits' value, if it is small

@@ -1,19 +1,17 @@
 -- States with their sums, as a table keeps them.
 use Rattle.std.proofs.Common.{◌≡◌, ℕ, zero, suc, ◌+◌, ◌<◌, List, [], ◌∷◌, ◌++◌, Some, None, true, false, cond, length, refl, sym, ap, ◌∙◌, arith, subst}
+use Rattle.std.proofs.{lemmas.Map.Text.is_eq-slice_cmp, lemmas.Slice.Eq.bytes_eq-Decides}
 use Rattle.std.specs.Prelude.{Bool, ◌&&◌, Option, map, slice_get, option_map, T, position, is_some, min, Result, Ok, Err, OnOk, OnErr, MatchOption}
-use Rattle.std.specs.{Bool.OnTrue, Ordering.nat_cmp, Ordering.is_eq, Ordering.is_lt, Cmp.Lexicographic.slice_cmp, BTreeMap.insert_entry}
-use Rattle.std.specs.{FinMap.Entries.is_sorted, FinMap.Entries.below_all, List.IsDistinct, List.AllByRecursion, Str.bytes_eq}
-use Rattle.std.specs.Map.{lookup, lookup_key, keys_of, values_of}
-use Rattle.std.specs.declared.{vec.Vec.Vec, alloc.Global.Global}
-use Rattle.std.proofs.lemmas.{Map.Text.is_eq-slice_cmp, Slice.Eq.bytes_eq-Decides}
+use Rattle.std.specs.{Bool.OnTrue, Ordering.{nat_cmp, is_eq, is_lt}, Cmp.Lexicographic.slice_cmp, BTreeMap.insert_entry, FinMap.Entries.{is_sorted, below_all}}
+use Rattle.std.specs.{List.{IsDistinct, AllByRecursion}, Str.bytes_eq, Map.{lookup, lookup_key, keys_of, values_of}, declared.vec.Vec.Vec}
+use Rattle.std.specs.declared.alloc.Global.{Global}
 use Rattle.indexmap.specs.Layout.{set_value_at}
 use Rattle.indexmap.specs.IndexMap as indexed
 use Rattle.indexmap.proofs.MapLemmas.{Found-position, insert_entry-absent, absent_from_lookup}
-use Rattle.log_sum.specs.declared.{kinds.Mark.Mark, spelling.Spelling.Spelling, state_table.StateSum.StateSum}
-use Rattle.log_sum.specs.{Summed.StateSummed, LogStates.form_read, SummingSteps.known_state, StateSpelling.is_spelled, StateSpelling.IsSpelled}
-use Rattle.log_sum.specs.{StateSpelling.AddsText}
-use Rattle.diy_io.specs.Count.{last_count}
+use Rattle.log_sum.specs.{declared.kinds.Mark.Mark, declared.spelling.Spelling.Spelling, declared.state_table.StateSum.StateSum, Summed.StateSummed}
+use Rattle.log_sum.specs.{LogStates.form_read, SummingSteps.known_state, StateSpelling.{is_spelled, IsSpelled, AddsText}}
 use Rattle.log_sum.specs.StateEntries.{sum_view, state_view, state_at, states_view, AreInOrder, EntriesAreWritten, HasState}
+use Rattle.diy_io.specs.Count.{last_count}
 use Rattle.log_sum.proofs.OrderLaws.{ordered_known, ordered_put, ordered_is}
 
 -- what is looked up by a text, as the definitions see it

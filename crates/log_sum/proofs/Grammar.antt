@@ -1,17 +1,13 @@
 -- Logs that are read line by line say what their blocks say.
-use Rattle.std.specs.Prelude.{◌≡◌, ℕ, ◌+◌, List, [], ◌∷◌, ◌++◌, length, map, Option, Some, None, Result, Ok, Err}
-use Rattle.std.specs.{List.flat_map, List.list_any, Option.is_none}
+use Rattle.std.specs.{Prelude.{◌≡◌, ℕ, ◌+◌, List, [], ◌∷◌, ◌++◌, length, map, Option, Some, None, Result, Ok, Err}, List.{flat_map, list_any}, Option.is_none}
 use Rattle.std.proofs.Common.{refl, ap, ◌∙◌, arith, append_assoc, append-nil}
 use Rattle.list_laws.specs.Errors.{with_before, unless}
 use Rattle.diy_io.specs.Count.{count_of}
-use Rattle.text_parts_laws.specs.{Lines.last_line, Lines.whole_lines, Lines.unended, ReadingSteps.◌>>=◌}
-use Rattle.log_sum.specs.declared.{errors.LogKind.LogKind, errors.LogKind.TheVariants.LineTooLong, errors.LogError.LogError}
-use Rattle.log_sum.specs.declared.{kinds.Place.Place}
-use Rattle.log_sum.specs.declared.kinds.Place.TheVariants.{Outside}
-use Rattle.log_sum.specs.{Facts.Entry, Facts.Fact, Facts.facts_of, Facts.fact_fault, SumText.sum_text, Representing.logs_text}
-use Rattle.log_sum.specs.LineReading.{Said, log_line_said, place_after, fact_said, test_after}
-use Rattle.log_sum.specs.LogReading.{LogSeen, nothing_seen, fault_at, next_line, fact_put, at_next_line, said_put, text_judged}
-use Rattle.log_sum.specs.LogReading.{line_judged, lines_judged, last_judged, end_judged, file_judged, files_judged}
+use Rattle.text_parts_laws.specs.{Lines.{last_line, whole_lines, unended}, ReadingSteps.◌>>=◌}
+use Rattle.log_sum.specs.{declared.errors.LogKind.LogKind, declared.errors.LogKind.TheVariants.LineTooLong, declared.errors.LogError.LogError}
+use Rattle.log_sum.specs.{declared.kinds.Place.Place, declared.kinds.Place.TheVariants.Outside, Facts.{Entry, Fact, facts_of, fact_fault}, SumText.sum_text}
+use Rattle.log_sum.specs.{Representing.logs_text, LineReading.{Said, log_line_said, place_after, fact_said, test_after}}
+use Rattle.log_sum.specs.LogReading.{LogSeen, nothing_seen, fault_at, next_line, fact_put, at_next_line, said_put, text_judged, line_judged, lines_judged, last_judged, end_judged, file_judged, files_judged}
 use Rattle.log_sum.specs.LogGrammar.{text_in, ended_texts, log_texts, LogLine, Statement, numbered, texts_before, end_says, log_says, facts_in, error_after, logs_say, all_judged}
 use Rattle.log_sum.proofs.PlaceLaws.{HasStates, goes_on, ends_in, fact_says, StopsAt, LineGoes, line_goes, has_states}
 

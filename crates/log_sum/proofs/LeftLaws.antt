@@ -1,16 +1,15 @@
 -- The left sides of equalities: in byte order those that have one left side are neighbours.
 use Rattle.std.proofs.Common.{◌≡◌, ℕ, suc, ◌+◌, ◌-◌, ◌<◌, List, [], ◌∷◌, ◌++◌, Some, None, true, false, length, drop, refl, sym, ap, ◌∙◌, arith, append_assoc}
-use Rattle.std.specs.Prelude.{Option, IsSome, is_some, map, slice_index_or}
-use Rattle.std.specs.{List.All, List.AllByRecursion, List.IsDistinct, List.Sorted.IsSortedBy, List.Sorted.IsStrictlySortedBy, Ordering.nat_cmp}
-use Rattle.std.specs.{Ordering.is_lt, Cmp.both_ways, Cmp.Lexicographic.slice_cmp, Str.bytes_eq}
+use Rattle.std.proofs.{lemmas.Bool.{or_from, or_parts, or_right, false_from_ne_true}, lemmas.Bool.Decides.Decides-eqb}
+use Rattle.std.proofs.{lemmas.List.Elements.{All-head, All-tail}, lemmas.Slice.Eq.{bytes_eq-Decides, starts_is}}
+use Rattle.std.specs.{Prelude.{Option, IsSome, is_some, map, slice_index_or}, List.{All, AllByRecursion, IsDistinct}}
+use Rattle.std.specs.{List.Sorted.{IsSortedBy, IsStrictlySortedBy}, Ordering.{nat_cmp, is_lt}, Cmp.both_ways, Cmp.Lexicographic.slice_cmp, Str.bytes_eq}
 use Rattle.std.specs.declared.cmp.Ordering.TheVariants.{Less}
-use Rattle.std.proofs.lemmas.Bool.{or_from, or_parts, or_right, false_from_ne_true}
-use Rattle.std.proofs.lemmas.{Bool.Decides.Decides-eqb, List.Elements.All-head, List.Elements.All-tail, Slice.Eq.bytes_eq-Decides, Slice.Eq.starts_is}
-use Rattle.log_sum.specs.{Texts.begins_with, LogStates.left_kept, LogStates.sides_read}
-use Rattle.text_parts_laws.specs.Cuts.{cut_at, is_without, CutParts}
-use Rattle.text_parts_laws.proofs.{CutLaws.cut_back, CutLaws.cut_parts, CutLaws.all_both, OrderLaws.order}
+use Rattle.log_sum.specs.{Texts.begins_with, LogStates.{left_kept, sides_read}}
 use Rattle.log_sum.specs.Equalities.{equality_of, before_sign, left_side, HasSign, same_left, has_left_twice}
-use Rattle.log_sum.proofs.{OrderLaws.apart_less, StateLaws.text_at, StateLaws.shown_at}
+use Rattle.text_parts_laws.specs.Cuts.{cut_at, is_without, CutParts}
+use Rattle.text_parts_laws.proofs.{CutLaws.{cut_back, cut_parts, all_both}, OrderLaws.order}
+use Rattle.log_sum.proofs.{OrderLaws.apart_less, StateLaws.{text_at, shown_at}}
 
 -- a text has no sign
 abbrev NoSign : List ℕ → Type 0

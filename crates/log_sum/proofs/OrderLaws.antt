@@ -1,11 +1,8 @@
 -- States in byte order, whatever the order in which a table keeps them.
-use Rattle.std.proofs.Common.{◌≡◌, ℕ, List, [], ◌∷◌, Some, false, cond, refl, sym, ap, ◌∙◌, subst, arith}
-use Rattle.std.specs.{Prelude.T, Ordering.nat_cmp, Ordering.is_eq, Ordering.is_lt, Cmp.Lexicographic.slice_cmp, BTreeMap.insert_entry, Str.bytes_eq}
-use Rattle.std.specs.declared.cmp.Ordering.TheVariants.{Less}
-use Rattle.std.specs.FinMap.Entries.{put, find, is_sorted, is_sorted-put, find-put, same_entries}
-use Rattle.std.proofs.lemmas.Map.Text.{is_eq-slice_cmp}
-use Rattle.log_sum.specs.declared.kinds.Mark.{Mark}
-use Rattle.log_sum.specs.{Summed.StateSummed, SummingSteps.known_state, StateEntries.ordered}
+use Rattle.std.proofs.{Common.{◌≡◌, ℕ, List, [], ◌∷◌, Some, false, cond, refl, sym, ap, ◌∙◌, subst, arith}, lemmas.Map.Text.is_eq-slice_cmp}
+use Rattle.std.specs.{Prelude.T, Ordering.{nat_cmp, is_eq, is_lt}, Cmp.Lexicographic.slice_cmp, BTreeMap.insert_entry, Str.bytes_eq}
+use Rattle.std.specs.{declared.cmp.Ordering.TheVariants.Less, FinMap.Entries.{put, find, is_sorted, is_sorted-put, find-put, same_entries}}
+use Rattle.log_sum.specs.{declared.kinds.Mark.Mark, Summed.StateSummed, SummingSteps.known_state, StateEntries.ordered}
 use Rattle.text_parts_laws.proofs.OrderLaws.{order, is_text}
 
 -- a text is below another that differs from it and isn't below it

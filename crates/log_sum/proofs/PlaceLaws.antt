@@ -1,18 +1,15 @@
 -- What the lines of a log say from a place of the reading on, line by line.
 use Rattle.std.proofs.Common.{◌≡◌, ◌-◌, ℕ, zero, suc, List, [], ◌∷◌, ◌++◌, length, take, drop, true, false, refl, arith, Some, None}
-use Rattle.std.specs.Prelude.{Option, Result, Ok, Err, Bool, cond, nat_lt, filter, fold, option_map}
-use Rattle.std.specs.{List.flat_map, List.before_first}
 use Rattle.std.proofs.lemmas.Slice.Eq.{bytes_eq-Decides}
+use Rattle.std.specs.{Prelude.{Option, Result, Ok, Err, Bool, cond, nat_lt, filter, fold, option_map}, List.{flat_map, before_first}}
 use Rattle.list_laws.proofs.Cases.{by_test}
-use Rattle.text_parts_laws.specs.{Words.words, Blanks.is_blank, Blanks.is_inked, Blanks.before_blanks, LeadingRuns.leading_run, LeadingRuns.after_run}
+use Rattle.text_parts_laws.specs.{Words.words, Blanks.{is_blank, is_inked, before_blanks}, LeadingRuns.{leading_run, after_run}}
 use Rattle.text_parts_laws.proofs.WordLaws.{word_found}
-use Rattle.log_sum.specs.declared.{errors.LogKind.LogKind, kinds.Kind.Kind, kinds.Verdict.Verdict, kinds.Place.Place}
-use Rattle.log_sum.specs.declared.kinds.Place.TheVariants.{Outside, Histogram, States, Judgement, Rest, Conditioned}
-use Rattle.log_sum.specs.{Texts.begins_with, Counts.count_read, Facts.Row, Facts.Fact}
-use Rattle.log_sum.specs.LogLines.{quantifier, test_line, histogram_line, log_row, is_judgement, is_observation, hash_line}
+use Rattle.log_sum.specs.{declared.errors.LogKind.LogKind, declared.kinds.Kind.Kind, declared.kinds.Verdict.Verdict, declared.kinds.Place.Place}
+use Rattle.log_sum.specs.{declared.kinds.Place.TheVariants.{Outside, Histogram, States, Judgement, Rest, Conditioned}, Texts.begins_with, Counts.count_read}
+use Rattle.log_sum.specs.{Facts.{Row, Fact}, LogLines.{quantifier, test_line, histogram_line, log_row, is_judgement, is_observation, hash_line}}
 use Rattle.log_sum.specs.LineReading.{Said, counts_said, row_said, no_test, condition_said, hash_said, log_line_said, states_left, after_state, place_after, fact_said, test_after}
-use Rattle.log_sum.specs.LogGrammar.{LogLine, Statement, opening, condition, is_closing, blocks, block_parts, says, row_says, judgement_says, further_says, closing_says}
-use Rattle.log_sum.specs.LogGrammar.{has_condition, count_says, lines_say, no_lines, place_in, inside_block}
+use Rattle.log_sum.specs.LogGrammar.{LogLine, Statement, opening, condition, is_closing, blocks, block_parts, says, row_says, judgement_says, further_says, closing_says, has_condition, count_says, lines_say, no_lines, place_in, inside_block}
 
 -- a condition came, or is among lines
 abbrev had_condition : Bool → List LogLine → Bool
@@ -80,7 +77,7 @@ fact_says line test (Some fact) = says line test fact
 -- a line says this and nothing, or what it is wrong by, and then the other lines say what they say from the place after it on
 pub record GoesOn (place : Place) (test : List ℕ) (line : LogLine) (lines : List LogLine) (said : Said) : Type 0 where
   pub says : goes_on place test (line ∷ lines)
-    ≡ fact_says line (test_after test said) (fact_said said) ++ goes_on (place_after place said) (test_after test said) lines
+      ≡ fact_says line (test_after test said) (fact_said said) ++ goes_on (place_after place said) (test_after test said) lines
   pub ends : ends_in place test (line ∷ lines) ≡ ends_in (place_after place said) (test_after test said) lines
 
 -- the first of what lines say is that this one is wrong

@@ -1,14 +1,11 @@
 -- The printed sum, piece by piece.
 use Rattle.std.proofs.Common.{◌≡◌, ◌≤◌, ℕ, zero, suc, ◌-◌, List, [], ◌∷◌, ◌++◌, length, take, drop, refl, ap, ◌∙◌, arith, min, append_assoc, append-nil}
-use Rattle.std.specs.Prelude.{map, replicate, codes, Result, Ok, Err}
-use Rattle.std.specs.{Fmt.decimal, List.flat_map, Result.IsErrAnd}
-use Rattle.std.proofs.lemmas.{List.Concat.flat_map-append, List.map_push}
-use Rattle.diy_io.specs.declared.errors.Failed.{Failed}
-use Rattle.diy_io.specs.{Wrote.SinkSeen, Wrote.WrotePart, Page.SentAll, Page.Sends}
+use Rattle.std.proofs.{lemmas.List.Concat.flat_map-append, lemmas.List.map_push}
+use Rattle.std.specs.{Prelude.{map, replicate, codes, Result, Ok, Err}, Fmt.decimal, List.flat_map, Result.IsErrAnd}
+use Rattle.diy_io.specs.{declared.errors.Failed.Failed, Wrote.{SinkSeen, WrotePart}, Page.{SentAll, Sends}}
 use Rattle.diy_io.specs.PageLaws.{sent_both, sent_part, sent_part_more, sends_then, sends_stopped}
-use Rattle.log_sum.specs.declared.kinds.{Kind.TheVariants.Allowed, Mark.Mark}
-use Rattle.log_sum.specs.Summed.{Summed, summed, some_or, is_validated}
-use Rattle.log_sum.specs.{Representing.Kept, Representing.sum_table, Representing.kept_text, Facts.Entry, Facts.facts_of, Facts.tests_of}
+use Rattle.log_sum.specs.{declared.kinds.Kind.TheVariants.Allowed, declared.kinds.Mark.Mark, Summed.{Summed, summed, some_or, is_validated}}
+use Rattle.log_sum.specs.{Representing.{Kept, sum_table, kept_text}, Facts.{Entry, facts_of, tests_of}}
 use Rattle.log_sum.specs.SumText.{summed_text, sum_text, line_end, filling, mark_sign, state_line, sum_kind_word, verdict_word, how_often, head_text, sum_verdict_text, observation_text}
 
 -- the rest of six blanks and a sign, from a place on

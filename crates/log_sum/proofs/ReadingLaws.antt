@@ -1,15 +1,12 @@
 -- A log may come in any pieces.
-use Rattle.std.proofs.Common.{◌≡◌, ℕ, List, [], ◌∷◌, ◌++◌, true, false, refl, sym, ap, ◌∙◌, append-nil, arith}
-use Rattle.std.specs.Prelude.{Bool, not, cond, map, Result, Ok, fold}
-use Rattle.std.specs.{List.slice_split, List.list_any, List.list_all, Str.bytes_eq}
-use Rattle.std.proofs.lemmas.{List.Elements.filter-append, List.Sums.fold-append, Slice.Eq.bytes_eq-Decides, List.map_push}
+use Rattle.std.proofs.{Common.{◌≡◌, ℕ, List, [], ◌∷◌, ◌++◌, true, false, refl, sym, ap, ◌∙◌, append-nil, arith}, lemmas.List.Elements.filter-append}
+use Rattle.std.proofs.{lemmas.List.Sums.fold-append, lemmas.Slice.Eq.bytes_eq-Decides, lemmas.List.map_push}
+use Rattle.std.specs.{Prelude.{Bool, not, cond, map, Result, Ok, fold}, List.{slice_split, list_any, list_all}, Str.bytes_eq}
 use Rattle.list_laws.proofs.Cases.{by_test, eq_swap}
-use Rattle.log_sum.specs.declared.errors.LogError.{LogError}
-use Rattle.log_sum.specs.Facts.{Fact, Entry, facts_of, tests_of, with_test_name}
-use Rattle.log_sum.specs.{Summed.Summed, Summed.summed, Representing.sum_table, Feeding.entry_of}
+use Rattle.log_sum.specs.{declared.errors.LogError.LogError, Facts.{Fact, Entry, facts_of, tests_of, with_test_name}, Summed.{Summed, summed}}
+use Rattle.log_sum.specs.{Representing.sum_table, Feeding.entry_of}
 use Rattle.log_sum.specs.LogReading.{LogSeen, lines_judged, line_judged, bytes_judged, rest_judged, file_judged, files_judged, input_judged, nothing_seen}
-use Rattle.text_parts_laws.specs.ReadingSteps.{◌>>=◌}
-use Rattle.text_parts_laws.specs.Lines.{is_line_feed, but_last, last_of, whole_lines, unended}
+use Rattle.text_parts_laws.specs.{ReadingSteps.◌>>=◌, Lines.{is_line_feed, but_last, last_of, whole_lines, unended}}
 use Rattle.text_parts_laws.proofs.PieceLaws.{first_piece, split_whole, split_both, split_append, but_last_append, last_append, whole_split}
 use Rattle.text_parts_laws.proofs.OrderLaws.{bytes_same}
 

@@ -1,19 +1,15 @@
 -- Equalities that are sorted at once are the set of those that are inserted one by one.
-use Rattle.std.proofs.Common.{◌≡◌, ℕ, List, [], ◌∷◌, ◌++◌, Some, None, true, false, refl, sym, ap, ◌∙◌, subst, arith}
-use Rattle.std.specs.Prelude.{Bool, ◌||◌, cond, Option, Ok, Err, T, map}
-use Rattle.std.specs.List.{list_any, All, AllByRecursion, IsDistinct}
-use Rattle.std.specs.{List.Sorted.IsPermutation, List.Sorted.IsSortedBy, List.Sorted.IsStrictlySortedBy, Ordering.nat_cmp, Ordering.eq_by_cmp}
-use Rattle.std.specs.{Ordering.is_lt, Cmp.Lexicographic.slice_cmp, Cmp.Lexicographic.nat_list_eq_equiv, BTreeSet.insert_key}
-use Rattle.std.specs.declared.cmp.Ordering.TheVariants.{Less}
-use Rattle.std.specs.FinMap.Entries.{put, find, is_sorted, below_all, is_sorted-put, same_entries}
-use Rattle.std.proofs.lemmas.{Bool.and_from, Bool.or_from, Map.Keys.IsDistinct-IsPermutation, List.map_push}
-use Rattle.std.proofs.lemmas.List.Elements.{All-nil, All-head, All-tail, All-push}
+use Rattle.std.proofs.{Common.{◌≡◌, ℕ, List, [], ◌∷◌, ◌++◌, Some, None, true, false, refl, sym, ap, ◌∙◌, subst, arith}, lemmas.Bool.{and_from, or_from}}
+use Rattle.std.proofs.{lemmas.Map.Keys.IsDistinct-IsPermutation, lemmas.List.map_push, lemmas.List.Elements.{All-nil, All-head, All-tail, All-push}}
 use Rattle.std.proofs.lemmas.List.Sorted.{All-permutation, IsPermutation-map, IsPermutation-sym, list_any-IsPermutation}
+use Rattle.std.specs.{Prelude.{Bool, ◌||◌, cond, Option, Ok, Err, T, map}, List.{list_any, All, AllByRecursion, IsDistinct}}
+use Rattle.std.specs.{List.Sorted.{IsPermutation, IsSortedBy, IsStrictlySortedBy}, Ordering.{nat_cmp, eq_by_cmp, is_lt}}
+use Rattle.std.specs.{Cmp.Lexicographic.{slice_cmp, nat_list_eq_equiv}, BTreeSet.insert_key, declared.cmp.Ordering.TheVariants.Less}
+use Rattle.std.specs.FinMap.Entries.{put, find, is_sorted, below_all, is_sorted-put, same_entries}
 use Rattle.text_parts_laws.specs.{Words.is_nil, Blanks.unblanked, Cuts.cut_at}
-use Rattle.log_sum.specs.LogStates.{has_left, sides_read, with_equality, and_then, state_read, or_bad}
-use Rattle.list_laws.proofs.Cases.{by_test}
-use Rattle.log_sum.specs.declared.errors.LogKind.{LogKind}
+use Rattle.log_sum.specs.{LogStates.{has_left, sides_read, with_equality, and_then, state_read, or_bad}, declared.errors.LogKind.LogKind}
 use Rattle.log_sum.specs.Equalities.{equality_of, and_equality, with_piece, left_side, HasSign, same_left, has_left_twice, with_one, with_all}
+use Rattle.list_laws.proofs.Cases.{by_test}
 use Rattle.text_parts_laws.proofs.OrderLaws.{order, is_text, any_insert}
 use Rattle.log_sum.proofs.StateLaws.{rest_read, rest_goes, rest_whole, set_begins}
 use Rattle.log_sum.proofs.LeftLaws.{read_left, read_sign, begins_left, ascend_apart, twice_not_apart, sorted_ascends}

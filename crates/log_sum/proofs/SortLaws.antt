@@ -1,15 +1,13 @@
 -- A table of states whose entries were sorted.
 use Rattle.std.proofs.Common.{◌≡◌, ℕ, suc, ◌+◌, ◌<◌, List, [], ◌∷◌, None, true, false, length, refl, sym, ap, ◌∙◌, arith, subst}
-use Rattle.std.specs.Prelude.{Bool, ◌&&◌, map, option_map, T, slice_index_or}
-use Rattle.std.specs.{Ordering.nat_cmp, Ordering.is_eq, Ordering.is_lt, Cmp.IsEquivalence, Cmp.Lexicographic.slice_cmp, FinMap.Entries.is_sorted}
-use Rattle.std.specs.{FinMap.Entries.below_all, List.IsDistinct, List.Sorted.IsSortedBy, Map.lookup, Map.keys_of, Str.bytes_eq}
-use Rattle.std.specs.declared.{cmp.Ordering.Ordering, cmp.Ordering.TheVariants.Less, vec.Vec.Vec, alloc.Global.Global}
-use Rattle.std.proofs.lemmas.{Map.Entries.place_from_lookup, Map.Entries.lookup_from_place, Map.Text.is_eq-slice_cmp, Slice.Eq.bytes_eq-Decides}
+use Rattle.std.proofs.{lemmas.Map.Entries.{place_from_lookup, lookup_from_place}, lemmas.Map.Text.is_eq-slice_cmp, lemmas.Slice.Eq.bytes_eq-Decides}
+use Rattle.std.specs.{Prelude.{Bool, ◌&&◌, map, option_map, T, slice_index_or}, Ordering.{nat_cmp, is_eq, is_lt}, Cmp.IsEquivalence}
+use Rattle.std.specs.{Cmp.Lexicographic.slice_cmp, FinMap.Entries.{is_sorted, below_all}, List.IsDistinct, List.Sorted.IsSortedBy, Map.{lookup, keys_of}}
+use Rattle.std.specs.{Str.bytes_eq, declared.cmp.Ordering.Ordering, declared.cmp.Ordering.TheVariants.Less, declared.vec.Vec.Vec, declared.alloc.Global.Global}
 use Rattle.list_laws.proofs.Cases.{by_test}
-use Rattle.log_sum.specs.declared.state_table.StateSum.{StateSum}
-use Rattle.log_sum.specs.{StateSpelling.IsSpelled, SummingSteps.known_state}
+use Rattle.log_sum.specs.{declared.state_table.StateSum.StateSum, StateSpelling.IsSpelled, SummingSteps.known_state}
 use Rattle.log_sum.specs.StateEntries.{sum_view, state_view, states_view, AreInOrder, EntriesAreWritten}
-use Rattle.log_sum.proofs.{OrderLaws.apart_less, OrderLaws.ordered_same, EntryLaws.entries_known}
+use Rattle.log_sum.proofs.{OrderLaws.{apart_less, ordered_same}, EntryLaws.entries_known}
 use Rattle.text_parts_laws.proofs.OrderLaws.{order}
 
 by_bytes : IsEquivalence (λ (x y : Vec ℕ Global). bytes_eq x.items y.items)

@@ -1,20 +1,17 @@
 -- The tests as the code's table keeps them.
 use Rattle.std.proofs.Common.{◌≡◌, ℕ, zero, suc, ◌+◌, ◌<◌, List, [], ◌∷◌, ◌++◌, Some, None, true, false, length, get_or, refl, sym, ap, ◌∙◌, arith, subst}
-use Rattle.std.specs.Prelude.{Bool, Option, map, Result, Ok, Err, slice_get, fold, position}
-use Rattle.std.specs.{List.list_any, List.list_all, List.position_or_len, Map.keys_of, Map.values_of, Str.bytes_eq}
-use Rattle.std.specs.declared.{vec.Vec.Vec, alloc.Global.Global}
-use Rattle.std.proofs.lemmas.{List.Quantifiers.position-Some, Slice.Eq.bytes_eq-Decides}
+use Rattle.std.proofs.{lemmas.List.Quantifiers.position-Some, lemmas.Slice.Eq.bytes_eq-Decides}
+use Rattle.std.specs.{Prelude.{Bool, Option, map, Result, Ok, Err, slice_get, fold, position}, List.{list_any, list_all, position_or_len}}
+use Rattle.std.specs.{Map.{keys_of, values_of}, Str.bytes_eq, declared.vec.Vec.Vec, declared.alloc.Global.Global}
 use Rattle.list_laws.proofs.Cases.{by_test, eq_swap}
 use Rattle.indexmap.specs.{IndexMap.insert_entry, Layout.set_value_at}
-use Rattle.log_sum.specs.declared.{errors.LogKind.LogKind, kinds.Kind.Kind, state_table.StateTable.StateTable, table.Table.Table}
-use Rattle.log_sum.specs.declared.{test_sum.TestSum.TestSum, errors.Fault.Fault}
-use Rattle.log_sum.specs.{SumViews.named_view, SumViews.test_view, SumViews.GivesOr, Summed.StateSummed, Summed.Summed, Summed.summed}
-use Rattle.log_sum.specs.{SummingSteps.fact_to, SummingSteps.row_to, SummingSteps.of_kind, StateEntries.states_view, Representing.sum_table}
-use Rattle.log_sum.specs.{Representing.test_name_at}
+use Rattle.log_sum.specs.{declared.errors.LogKind.LogKind, declared.kinds.Kind.Kind, declared.state_table.StateTable.StateTable, declared.table.Table.Table}
+use Rattle.log_sum.specs.{declared.test_sum.TestSum.TestSum, declared.errors.Fault.Fault, SumViews.{named_view, test_view, GivesOr}}
+use Rattle.log_sum.specs.{Summed.{StateSummed, Summed, summed}, SummingSteps.{fact_to, row_to, of_kind}, StateEntries.states_view}
+use Rattle.log_sum.specs.Representing.{sum_table, test_name_at}
 use Rattle.log_sum.specs.Facts.{Fact, Entry, Row, a_kind, facts_of, tests_of, fact_fault, with_test_name, marked_sum, states_of}
 use Rattle.log_sum.specs.Feeding.{AreMarked, WithFact, FactPut, RowPut}
-use Rattle.log_sum.proofs.SumLaws.{by_fault, fact_put_is}
-use Rattle.log_sum.proofs.ReadingLaws.{Differ, more, put_at, table_put, tests_differ}
+use Rattle.log_sum.proofs.{SumLaws.{by_fault, fact_put_is}, ReadingLaws.{Differ, more, put_at, table_put, tests_differ}}
 
 abbrev names : List (List ℕ × Summed) → List (List ℕ)
 names shown = map (λ (r : List ℕ × Summed). r.0) shown

@@ -1,12 +1,10 @@
 -- States as the code keeps them.
 use Rattle.std.proofs.Common.{◌≡◌, ℕ, ◌+◌, ◌-◌, ◌<◌, ◌≤◌, List, Some, None, true, false, refl, sym, arith, min}
-use Rattle.std.specs.Prelude.{Option, Ok, Err, option_map, nat_lt}
-use Rattle.std.specs.{Ordering.nat_cmp, Cmp.Lexicographic.slice_cmp, BTreeMap.insert_entry}
-use Rattle.log_sum.specs.declared.{errors.LogKind.TheVariants.MarkDiffers, errors.LogKind.TheVariants.SumTooLarge, kinds.Mark.Mark}
-use Rattle.diy_io.specs.Count.{last_count}
-use Rattle.log_sum.specs.Facts.{Row, a_row, is_other, same_state_mark}
-use Rattle.log_sum.specs.Summed.{Summed, StateSummed}
+use Rattle.std.specs.{Prelude.{Option, Ok, Err, option_map, nat_lt}, Ordering.nat_cmp, Cmp.Lexicographic.slice_cmp, BTreeMap.insert_entry}
+use Rattle.log_sum.specs.{declared.errors.LogKind.TheVariants.{MarkDiffers, SumTooLarge}, declared.kinds.Mark.Mark}
+use Rattle.log_sum.specs.{Facts.{Row, a_row, is_other, same_state_mark}, Summed.{Summed, StateSummed}}
 use Rattle.log_sum.specs.SummingSteps.{known_state, count_known, marked, with_marked, with_row, fact_to}
+use Rattle.diy_io.specs.Count.{last_count}
 
 -- a row whose mark isn't that of its state has that fault
 pub row_other : (test : Summed) (row : Row) (known : Option (Mark × ℕ)) → known ≡ known_state test.states row.state

@@ -1,9 +1,8 @@
 -- Counts at the start of a text.
 -- Source: the logs of litmus7; the limit is own.
-use Rattle.std.specs.Prelude.{ℕ, nat_le, cond, List, [], ◌∷◌, Result, Ok, Err}
-use Rattle.std.specs.{Char.is_ascii_digit, Str.Parse.digits_value}
+use Rattle.std.specs.{Prelude.{ℕ, nat_le, cond, List, [], ◌∷◌, Result, Ok, Err}, Char.is_ascii_digit, Str.Parse.digits_value}
 use Rattle.diy_io.specs.Count.{last_count}
-use Rattle.log_sum.specs.declared.errors.{LogKind.LogKind, LogKind.TheVariants.BadState, LogKind.TheVariants.BadCount}
+use Rattle.log_sum.specs.{declared.errors.LogKind.LogKind, declared.errors.LogKind.TheVariants.{BadState, BadCount}}
 use Rattle.text_parts_laws.specs.LeadingRuns.{leading_run, after_run}
 
 -- the count that digits write, with the text after them: there is a digit, and the count isn't too large

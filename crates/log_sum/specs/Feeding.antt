@@ -1,16 +1,13 @@
 -- What the steps of a summer answer, compared with the reading of the same bytes line by line.
 -- Source: own.
-use Rattle.std.specs.Prelude.{◌≡◌, ℕ, true, not, ◌||◌, List, [], ◌∷◌, ◌++◌, Some, None, Result, Ok, Err}
-use Rattle.std.specs.{List.list_all, Str.bytes_eq}
-use Rattle.log_sum.specs.declared.{errors.Fault.Fault, errors.Fault.TheVariants.Wrong, errors.Fault.TheVariants.NoMemory, errors.LogError.LogError}
-use Rattle.log_sum.specs.declared.{errors.LogKind.LogKind, errors.SumError.SumError, kinds.Mark.Mark, table.Table.Table}
-use Rattle.log_sum.specs.declared.errors.SumError.TheVariants as sums
-use Rattle.log_sum.specs.{SumViews.tests_view, LineReading.Said, LineReading.log_line_said}
+use Rattle.std.specs.{Prelude.{◌≡◌, ℕ, true, not, ◌||◌, List, [], ◌∷◌, ◌++◌, Some, None, Result, Ok, Err}, List.list_all, Str.bytes_eq}
+use Rattle.log_sum.specs.{declared.errors.Fault.Fault, declared.errors.Fault.TheVariants.{Wrong, NoMemory}, declared.errors.LogError.LogError}
+use Rattle.log_sum.specs.{declared.errors.LogKind.LogKind, declared.errors.SumError.SumError, declared.kinds.Mark.Mark, declared.table.Table.Table}
+use Rattle.log_sum.specs.{SumViews.tests_view, LineReading.{Said, log_line_said}}
 use Rattle.log_sum.specs.Facts.{Row, Fact, Entry, a_row, facts_of, rows, same_state_mark, mark_in, fact_fault}
-use Rattle.log_sum.specs.LogReading.{LogSeen, nothing_seen, fault_at, said_judged, input_judged, files_judged}
-use Rattle.log_sum.specs.declared.kinds.{Place.Place, Place.TheVariants.Outside}
-use Rattle.log_sum.specs.Representing.{SumProgress, Kept, sum_table, test_name_at}
-use Rattle.log_sum.specs.Summed.{Summed}
+use Rattle.log_sum.specs.{LogReading.{LogSeen, nothing_seen, fault_at, said_judged, input_judged, files_judged}, declared.kinds.Place.Place}
+use Rattle.log_sum.specs.{declared.kinds.Place.TheVariants.Outside, Representing.{SumProgress, Kept, sum_table, test_name_at}, Summed.Summed}
+use Rattle.log_sum.specs.declared.errors.SumError.TheVariants as sums
 use Rattle.text_parts_laws.specs.Lines.{unended}
 
 -- all rows of a state have the mark that the first one has

@@ -1,13 +1,12 @@
 -- What a line of a log says by its place in its block, as the code reads it: `LogGrammar` says it by blocks.
 -- Source: own.
 use Rattle.std.specs.Prelude.{ℕ, zero, suc, cond, List, Option, Some, None, Result, Ok, Err}
-use Rattle.log_sum.specs.declared.{errors.LogKind.LogKind, kinds.Kind.Kind, kinds.Kind.TheVariants.Allowed, kinds.Verdict.Verdict}
-use Rattle.log_sum.specs.declared.{kinds.Place.Place}
-use Rattle.log_sum.specs.declared.errors.LogKind.TheVariants.{Truncated, BadState, KindDiffers}
-use Rattle.log_sum.specs.declared.kinds.Place.TheVariants.{Outside, Histogram, States, Judgement, Rest, Conditioned}
-use Rattle.text_parts_laws.specs.Words.{words}
-use Rattle.log_sum.specs.{Texts.begins_with, Facts.Row, Facts.Fact, Facts.a_kind, Facts.a_row, Facts.a_condition, Facts.a_hash}
+use Rattle.log_sum.specs.{declared.errors.LogKind.LogKind, declared.kinds.Kind.Kind, declared.kinds.Kind.TheVariants.Allowed, declared.kinds.Verdict.Verdict}
+use Rattle.log_sum.specs.{declared.kinds.Place.Place, declared.errors.LogKind.TheVariants.{Truncated, BadState, KindDiffers}}
+use Rattle.log_sum.specs.{declared.kinds.Place.TheVariants.{Outside, Histogram, States, Judgement, Rest, Conditioned}, Texts.begins_with}
+use Rattle.log_sum.specs.Facts.{Row, Fact, a_kind, a_row, a_condition, a_hash}
 use Rattle.log_sum.specs.LogLines.{test_line, histogram_line, log_row, is_judgement, condition_line, quantifier, hash_line, is_observation}
+use Rattle.text_parts_laws.specs.Words.{words}
 
 -- what a line says
 pub data Said : Type 0 where

@@ -1,14 +1,11 @@
 -- The forms of the lines of a log.
 -- Source: the logs of litmus7; what is a fault is own.
-use Rattle.std.specs.Prelude.{ℕ, ◌==◌, Bool, false, ◌||◌, ◌&&◌, cond, List, [], ◌∷◌, drop, Option, Some, None, Result, Ok, Err, codes}
-use Rattle.std.specs.Str.{bytes_eq}
-use Rattle.log_sum.specs.declared.{errors.LogKind.LogKind, kinds.Kind.Kind, kinds.Kind.TheVariants.Allowed, kinds.Kind.TheVariants.Forbidden}
-use Rattle.log_sum.specs.declared.{kinds.Kind.TheVariants.Required, kinds.Mark.Mark, kinds.Mark.TheVariants.Starred, kinds.Mark.TheVariants.Plain}
-use Rattle.log_sum.specs.declared.{kinds.Verdict.Verdict, kinds.Verdict.TheVariants.Validated, kinds.Verdict.TheVariants.NotValidated}
-use Rattle.log_sum.specs.declared.errors.LogKind.TheVariants.{BadState, NoCounts}
-use Rattle.text_parts_laws.specs.{Words.is_nil, Blanks.trim_blanks, Blanks.unblanked}
-use Rattle.log_sum.specs.Texts.{joined_words, ends_with, before_end, begins_with}
-use Rattle.log_sum.specs.{Counts.count_read, LogStates.form_read, Facts.Row}
+use Rattle.std.specs.{Prelude.{ℕ, ◌==◌, Bool, false, ◌||◌, ◌&&◌, cond, List, [], ◌∷◌, drop, Option, Some, None, Result, Ok, Err, codes}, Str.bytes_eq}
+use Rattle.log_sum.specs.{declared.errors.LogKind.LogKind, declared.kinds.Kind.Kind, declared.kinds.Kind.TheVariants.{Allowed, Forbidden, Required}}
+use Rattle.log_sum.specs.{declared.kinds.Mark.Mark, declared.kinds.Mark.TheVariants.{Starred, Plain}, declared.kinds.Verdict.Verdict}
+use Rattle.log_sum.specs.{declared.kinds.Verdict.TheVariants.{Validated, NotValidated}, declared.errors.LogKind.TheVariants.{BadState, NoCounts}}
+use Rattle.log_sum.specs.{Texts.{joined_words, ends_with, before_end, begins_with}, Counts.count_read, LogStates.form_read, Facts.Row}
+use Rattle.text_parts_laws.specs.{Words.is_nil, Blanks.{trim_blanks, unblanked}}
 
 -- a kind by its word
 abbrev pub kind_named : List ℕ → Option Kind

@@ -7,8 +7,7 @@ use Rattle.log_sum.specs.declared.{errors.LogKind.LogKind, errors.LogKind.TheVar
 use Rattle.log_sum.specs.declared.{errors.LogError.LogError, kinds.Place.Place, kinds.Place.TheVariants.Outside}
 pub use Rattle.log_sum.specs.LogGrammar.{is_too_long}
 use Rattle.diy_io.specs.Count.{next_count}
-use Rattle.log_sum.specs.Facts.{Fact, Entry, facts_of, fact_fault}
-use Rattle.log_sum.specs.LineReading.{Said, log_line_said, place_after, fact_said, test_after}
+use Rattle.log_sum.specs.{Facts.{Fact, Entry, facts_of, fact_fault}, LineReading.{Said, log_line_said, place_after, fact_said, test_after}}
 
 -- the number of the next line; it stops at the greatest count
 abbrev pub next_line : ℕ → ℕ

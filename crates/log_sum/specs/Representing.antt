@@ -1,14 +1,12 @@
 -- What a summer keeps, and the input that this represents.
 -- Source: own.
 use Rattle.std.specs.Prelude.{◌≡◌, ◌⊎◌, ℕ, ◌+◌, Bool, true, List, [], ◌∷◌, ◌++◌, map, slice_get, Option, Some, None, option_map, Result, Ok, Err, IfErr}
-use Rattle.diy_io.specs.{Count.count_of, Sink.line_feed_count}
-use Rattle.log_sum.specs.declared.{errors.LogError.LogError, errors.SumError.SumError, errors.SumError.TheVariants.Log}
-use Rattle.log_sum.specs.declared.{errors.SumError.TheVariants.NoMemory, kinds.Place.Place, kinds.Place.TheVariants.Outside}
-use Rattle.log_sum.specs.{Facts.Entry, Facts.facts_of, Facts.tests_of, Summed.Summed, Summed.summed, SumText.summed_text}
-use Rattle.log_sum.specs.{SumText.sum_text}
-use Rattle.log_sum.specs.LogGrammar.{LogLine, ended_texts, texts_before, numbered, facts_in, lines_say, inside, all_judged}
-use Rattle.text_parts_laws.specs.{Lines.whole_lines, Lines.unended, ReadingSteps.◌>>=◌}
 use Rattle.std.specs.List.{flat_map}
+use Rattle.diy_io.specs.{Count.count_of, Sink.line_feed_count}
+use Rattle.log_sum.specs.{declared.errors.LogError.LogError, declared.errors.SumError.SumError, declared.errors.SumError.TheVariants.{Log, NoMemory}}
+use Rattle.log_sum.specs.{declared.kinds.Place.Place, declared.kinds.Place.TheVariants.Outside, Facts.{Entry, facts_of, tests_of}, Summed.{Summed, summed}}
+use Rattle.log_sum.specs.{SumText.{summed_text, sum_text}, LogGrammar.{LogLine, ended_texts, texts_before, numbered, facts_in, lines_say, inside, all_judged}}
+use Rattle.text_parts_laws.specs.{Lines.{whole_lines, unended}, ReadingSteps.◌>>=◌}
 
 -- how far the reading is: the tests by name, in the order in which each was first seen; the place in the running log, the
 -- index of the test of the running block, and the number of the running line

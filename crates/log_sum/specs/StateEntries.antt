@@ -1,11 +1,10 @@
 -- States with their sums, as a table keeps them.
 -- Source: own.
-use Rattle.std.specs.Prelude.{◌≡◌, ◌+◌, ℕ, T, min, List, [], ◌∷◌, Option, Some, map, option_map, slice_get, Ok}
-use Rattle.std.specs.{Ordering.nat_cmp, Cmp.Lexicographic.slice_cmp, BTreeMap.insert_entry, FinMap.Entries.is_sorted}
-use Rattle.std.specs.declared.{vec.Vec.Vec, alloc.Global.Global}
-use Rattle.log_sum.specs.declared.{kinds.Mark.Mark, state_table.StateSum.StateSum}
+use Rattle.std.specs.{Prelude.{◌≡◌, ◌+◌, ℕ, T, min, List, [], ◌∷◌, Option, Some, map, option_map, slice_get, Ok}, Ordering.nat_cmp, Cmp.Lexicographic.slice_cmp}
+use Rattle.std.specs.{BTreeMap.insert_entry, FinMap.Entries.is_sorted, declared.vec.Vec.Vec, declared.alloc.Global.Global}
+use Rattle.log_sum.specs.{declared.kinds.Mark.Mark, declared.state_table.StateSum.StateSum, LogStates.form_read, StateSpelling.IsSpelled}
+use Rattle.log_sum.specs.{SummingSteps.known_state, Summed.StateSummed}
 use Rattle.diy_io.specs.Count.{last_count}
-use Rattle.log_sum.specs.{LogStates.form_read, StateSpelling.IsSpelled, SummingSteps.known_state, Summed.StateSummed}
 
 -- a state's mark and count
 abbrev pub sum_view : StateSum → Mark × ℕ

@@ -1,10 +1,8 @@
 -- The texts that are kept of a state, by which logs wrote it.
 -- Source: own.
-use Rattle.std.specs.Prelude.{◌≡◌, ◌⊎◌, ◌||◌, ℕ, Bool, false, List, Option, Some, None, Ok}
-use Rattle.std.specs.{Option.ForSome, Str.bytes_eq}
-use Rattle.std.specs.declared.{vec.Vec.Vec, alloc.Global.Global}
-use Rattle.log_sum.specs.declared.spelling.Spelling.{Spelling}
-use Rattle.log_sum.specs.LogStates.{form_read}
+use Rattle.std.specs.{Prelude.{◌≡◌, ◌⊎◌, ◌||◌, ℕ, Bool, false, List, Option, Some, None, Ok}, Option.ForSome, Str.bytes_eq, declared.vec.Vec.Vec}
+use Rattle.std.specs.declared.alloc.Global.{Global}
+use Rattle.log_sum.specs.{declared.spelling.Spelling.Spelling, LogStates.form_read}
 
 -- the text by which a log wrote a state first: its printed form, unless another is kept
 abbrev pub written_as : List ℕ → Option (Vec ℕ Global) → List ℕ

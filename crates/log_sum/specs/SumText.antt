@@ -2,9 +2,8 @@
 -- Source: the output of msum7; own where P, Q and the word are made for conditions that aren't `exists`.
 use Rattle.std.specs.Prelude.{ℕ, ◌-◌, ◌==◌, Bool, true, false, cond, List, [], ◌∷◌, ◌++◌, length, replicate, Option, Some, None, codes, decimal}
 use Rattle.std.specs.List.{flat_map}
-use Rattle.log_sum.specs.declared.kinds.{Kind.Kind, Kind.TheVariants.Allowed, Kind.TheVariants.Forbidden, Kind.TheVariants.Required, Mark.Mark}
-use Rattle.log_sum.specs.declared.kinds.{Mark.TheVariants.Starred, Mark.TheVariants.Plain}
-use Rattle.log_sum.specs.Facts.{Entry, facts_of, tests_of}
+use Rattle.log_sum.specs.{declared.kinds.Kind.Kind, declared.kinds.Kind.TheVariants.{Allowed, Forbidden, Required}, declared.kinds.Mark.Mark}
+use Rattle.log_sum.specs.{declared.kinds.Mark.TheVariants.{Starred, Plain}, Facts.{Entry, facts_of, tests_of}}
 use Rattle.log_sum.specs.Summed.{StateSummed, Summed, summed, is_validated, some_or}
 
 -- the line feed that ends a line

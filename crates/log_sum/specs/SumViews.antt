@@ -1,16 +1,13 @@
 -- What the values of the code mean to the definitions.
 -- Source: own.
-use Rattle.std.specs.Prelude.{◌≡◌, ℕ, Bool, List, Some, Result, Ok, Err, map, option_map}
-use Rattle.std.specs.{List.list_all, Borrow.Bor}
+use Rattle.std.specs.{Prelude.{◌≡◌, ℕ, Bool, List, Some, Result, Ok, Err, map, option_map}, List.list_all, Borrow.Bor}
 use Rattle.log_sum.specs.declared.{errors.LogKind.LogKind, errors.Fault.Fault, lines.Row.Row as RowCode, lines.Said.Said as SaidCode}
-use Rattle.log_sum.specs.declared.{kinds.Verdict.Verdict, test_sum.TestSum.TestSum, table.Table.Table, reading.Reading.Reading}
+use Rattle.log_sum.specs.{declared.kinds.Verdict.Verdict, declared.test_sum.TestSum.TestSum, declared.table.Table.Table, declared.reading.Reading.Reading}
 pub use Rattle.log_sum.specs.LineFaults.{IsLineFault}
 use Rattle.log_sum.specs.declared.lines.Said.TheVariants as code
-use Rattle.std.specs.declared.{vec.Vec.Vec, alloc.Global.Global}
-use Rattle.log_sum.specs.{Summed.Summed, StateEntries.states_view, Facts.Row, Facts.Fact, Representing.SumProgress, LogStates.form_read}
-use Rattle.log_sum.specs.{SummingSteps.fact_to}
-use Rattle.log_sum.specs.LogLines.{row_of}
-use Rattle.log_sum.specs.LineReading.{Said, row_said, passed_over, begins, counts, judged, conditioned, hashed, ends}
+use Rattle.std.specs.{declared.vec.Vec.Vec, declared.alloc.Global.Global}
+use Rattle.log_sum.specs.{Summed.Summed, StateEntries.states_view, Facts.{Row, Fact}, Representing.SumProgress, LogStates.form_read, SummingSteps.fact_to}
+use Rattle.log_sum.specs.{LogLines.row_of, LineReading.{Said, row_said, passed_over, begins, counts, judged, conditioned, hashed, ends}}
 
 -- an answer is what the definition gives; `view` says what the answer means
 abbrev pub GivesParsed : {X Y : Type 0} → (X → Y) → Result X LogKind → Result Y LogKind → Type 0

@@ -1,7 +1,6 @@
 -- Words that are joined, and ends of a text.
 -- Source: own.
-use Rattle.std.specs.Prelude.{ℕ, nat_eq, Bool, ◌-◌, List, [], ◌∷◌, ◌++◌, length, take, drop}
-use Rattle.std.specs.{List.starts_with, Str.bytes_eq}
+use Rattle.std.specs.{Prelude.{ℕ, nat_eq, Bool, ◌-◌, List, [], ◌∷◌, ◌++◌, length, take, drop}, List.starts_with, Str.bytes_eq}
 
 -- each word with one blank before it
 abbrev pub later_words : List (List ℕ) → List ℕ

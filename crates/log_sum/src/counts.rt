@@ -1,9 +1,5 @@
-ghost use Rattle.std.specs.Prelude.{◌≡◌, ◌^◌, ◌<◌, length, cond, nat_lt, true, Some, None};
-ghost use Rattle.std.specs.Char.{is_ascii_digit};
-ghost use Rattle.std.specs.List.{list_all};
-ghost use Rattle.std.specs.Str.Parse.{digits_value};
-ghost use Rattle.log_sum.specs.SumViews.{count_and_rest, GivesParsed};
-ghost use Rattle.log_sum.specs.Counts.{count_read};
+ghost use Rattle.std.specs.{Prelude.{◌≡◌, ◌^◌, ◌<◌, length, cond, nat_lt, true, Some, None}, Char.{is_ascii_digit}, List.{list_all}, Str.Parse.{digits_value}};
+ghost use Rattle.log_sum.specs.{SumViews.{count_and_rest, GivesParsed}, Counts.{count_read}};
 
 use crate::errors::LogKind;
 use std::str;

@@ -1,5 +1,4 @@
-ghost use Rattle.log_sum.specs.Representing.{SumOrFault};
-ghost use Rattle.log_sum.specs.SumPieces.{SameAnswers};
+ghost use Rattle.log_sum.specs.{Representing.{SumOrFault}, SumPieces.{SameAnswers}};
 
 /// A law: the same bytes give the same answers and the same sum, in whatever pieces they come.
 ///

@@ -1,10 +1,8 @@
-ghost use Rattle.std.specs.Prelude.{◌≡◌, option_map, take, IfOk};
-ghost use Rattle.std.specs.Borrow.{Bor};
+ghost use Rattle.std.specs.{Prelude.{◌≡◌, option_map, take, IfOk}, Borrow.{Bor}};
 ghost use Rattle.log_sum.specs.SumViews.{GivesParsed, ReadsBy, ReadsOr, row_code_said, said_read, condition_view};
 ghost use Rattle.log_sum.specs.LogLines.{kind_named, test_line, is_states, are_states, after_histogram, histogram_line, mark_written, mark_read, log_row, is_judgement, verdict_cut, condition_line, quantifier, hash_line, is_observation};
-ghost use Rattle.log_sum.specs.LineReading.{hash_said, condition_said, rest_said, log_line_said};
+ghost use Rattle.log_sum.specs.{LineReading.{hash_said, condition_said, rest_said, log_line_said}, Texts.{joined_words}};
 ghost use Rattle.text_parts_laws.specs.Words.{words};
-ghost use Rattle.log_sum.specs.Texts.{joined_words};
 
 use crate::counts::read_count;
 use crate::errors::{Fault, LogKind};

@@ -1,6 +1,5 @@
 ghost use Rattle.std.specs.Prelude.{◌≡◌, Ok};
-ghost use Rattle.log_sum.specs.SumViews.{said_read};
-ghost use Rattle.log_sum.specs.LineReading.{Said as Meant, states_left, kind_at, after_state, left_at, place_after};
+ghost use Rattle.log_sum.specs.{SumViews.{said_read}, LineReading.{Said as Meant, states_left, kind_at, after_state, left_at, place_after}};
 
 use crate::kinds::{Kind, Place};
 use crate::lines::Said;

@@ -1,10 +1,7 @@
-ghost use Rattle.std.specs.Prelude.{◌≡◌, ◌++◌, [], true};
-ghost use Rattle.std.specs.List.{flat_map};
+ghost use Rattle.std.specs.{Prelude.{◌≡◌, ◌++◌, [], true}, List.{flat_map}};
 ghost use Rattle.diy_io.specs.Page.{Sends};
-ghost use Rattle.log_sum.specs.SumViews.{test_view};
-ghost use Rattle.log_sum.specs.Summed.{is_validated, some_or};
-ghost use Rattle.log_sum.specs.SumText.{sum_kind_word, mark_sign, verdict_word, verdict_end, how_often, filling};
-ghost use Rattle.log_sum.specs.SumText.{head_text, state_line, sum_verdict_text, claim_text, hash_text, condition_text, observation_text, summed_text};
+ghost use Rattle.log_sum.specs.{SumViews.{test_view}, Summed.{is_validated, some_or}};
+ghost use Rattle.log_sum.specs.SumText.{sum_kind_word, mark_sign, verdict_word, verdict_end, how_often, filling, head_text, state_line, sum_verdict_text, claim_text, hash_text, condition_text, observation_text, summed_text};
 
 use crate::kinds::{Kind, Mark};
 use crate::state_table::StateSum;

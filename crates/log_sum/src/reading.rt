@@ -1,6 +1,5 @@
 ghost use Rattle.std.specs.Prelude.{◌≡◌, true, OnOk};
-ghost use Rattle.log_sum.specs.SumViews.{said_read, row_code_said, are_in_order, progress_view};
-ghost use Rattle.log_sum.specs.LogReading.{LogSeen, nothing_seen, text_judged, end_judged};
+ghost use Rattle.log_sum.specs.{SumViews.{said_read, row_code_said, are_in_order, progress_view}, LogReading.{LogSeen, nothing_seen, text_judged, end_judged}};
 ghost use Rattle.log_sum.specs.Feeding.{RowPut, FollowsSeen, JudgedTo, SaidTo, ForRunningTest};
 
 use crate::errors::{Fault, LogKind};

@@ -1,5 +1,4 @@
-ghost use Rattle.std.specs.Prelude.{◌≡◌, ℕ, [], true, Some, None, OnOk, IfSome, MatchOption};
-ghost use Rattle.std.specs.Bool.{OnTrue};
+ghost use Rattle.std.specs.{Prelude.{◌≡◌, ℕ, [], true, Some, None, OnOk, IfSome, MatchOption}, Bool.{OnTrue}};
 ghost use Rattle.log_sum.specs.StateSpelling.{IsSpelled};
 ghost use Rattle.log_sum.specs.StateEntries.{AreInOrder, EntriesAreWritten, HasState, IsSumAt, SeenMore, known_in, sum_view, state_at, states_view, with_state};
 

@@ -1,9 +1,8 @@
-ghost use Rattle.std.specs.Prelude.{◌≡◌, ◌++◌, ◌∷◌, [], option_map, OnOk};
-ghost use Rattle.std.specs.List.{All};
+ghost use Rattle.std.specs.{Prelude.{◌≡◌, ◌++◌, ◌∷◌, [], option_map, OnOk}, List.{All}};
 ghost use Rattle.log_sum.specs.SumViews.{GivesOr, texts_of};
 ghost use Rattle.log_sum.specs.LogStates.{left_kept, is_side, state_read, form_read, state_form, or_bad, sides_read, separated, form_with};
-ghost use Rattle.text_parts_laws.specs.Cuts.{cut_at};
 ghost use Rattle.log_sum.specs.Equalities.{HasSign, has_left_twice, left_side, same_left, with_all, with_piece};
+ghost use Rattle.text_parts_laws.specs.Cuts.{cut_at};
 
 use crate::errors::{Fault, LogKind};
 use diy_io::NoMemory;

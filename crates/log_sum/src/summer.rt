@@ -1,6 +1,5 @@
 ghost use Rattle.std.specs.Prelude.{◌≡◌, ℕ, List, [], ◌++◌, true, Some, None, IfOk, IfErr, OnOk};
-ghost use Rattle.diy_io.specs.Page.{Sends};
-ghost use Rattle.diy_io.specs.Wrote.{Wrote};
+ghost use Rattle.diy_io.specs.{Page.{Sends}, Wrote.{Wrote}};
 ghost use Rattle.log_sum.specs.LogReading.{LogSeen, line_judged, rest_judged};
 ghost use Rattle.log_sum.specs.Representing.{Kept, Represents, IsBetweenLogs, FedTo, EndedTo, IsKeptRefusal, GivenAgain, kept_text, running_line};
 ghost use Rattle.log_sum.specs.Feeding.{IsFed, FollowsSeen, JudgedTo, PieceTo, EndTo, sum_refusal};
@@ -28,8 +27,7 @@ pub struct Summer {
 
 impl Model for Summer {
     ghost use Rattle.std.specs.Prelude.{◌≤◌, length};
-    ghost use Rattle.log_sum.specs.Representing.{Kept};
-    ghost use Rattle.log_sum.specs.SumViews.{progress_view, are_in_order};
+    ghost use Rattle.log_sum.specs.{Representing.{Kept}, SumViews.{progress_view, are_in_order}};
 
     ghost Value = { Kept };
 

@@ -1,6 +1,5 @@
 ghost use Rattle.std.specs.Prelude.{◌≡◌, [], true, OnOk};
-ghost use Rattle.log_sum.specs.SumViews.{row_code_said, tests_view, are_in_order};
-ghost use Rattle.log_sum.specs.Facts.{a_kind, a_condition, a_hash};
+ghost use Rattle.log_sum.specs.{SumViews.{row_code_said, tests_view, are_in_order}, Facts.{a_kind, a_condition, a_hash}};
 ghost use Rattle.log_sum.specs.Feeding.{FactPut, RowPut, ForEntries, ForRunningTest};
 
 use crate::errors::Fault;

@@ -1,9 +1,7 @@
 ghost use Rattle.std.specs.Prelude.{◌≡◌, None, Ok, IfOk};
 ghost use Rattle.log_sum.specs.SumViews.{GivesParsed, GivesOr, TestTold, row_code_said, test_view};
-ghost use Rattle.log_sum.specs.Facts.{same_kind, same_state_mark, a_kind, a_condition, a_hash, a_row, row_with};
-ghost use Rattle.log_sum.specs.LogStates.{form_read};
-ghost use Rattle.log_sum.specs.StateEntries.{ForStateAt};
-ghost use Rattle.log_sum.specs.SummingSteps.{fact_to, of_kind, known_state, row_to, with_verdict, marked, with_marked};
+ghost use Rattle.log_sum.specs.{Facts.{same_kind, same_state_mark, a_kind, a_condition, a_hash, a_row, row_with}, LogStates.{form_read}};
+ghost use Rattle.log_sum.specs.{StateEntries.{ForStateAt}, SummingSteps.{fact_to, of_kind, known_state, row_to, with_verdict, marked, with_marked}};
 
 use crate::errors::{Fault, LogKind};
 use crate::kinds::{Kind, Mark, Verdict};

@@ -1,10 +1,8 @@
 -- The laws of sums of sums.
 -- Source: own.
-use Rattle.std.specs.Prelude.{◌≡◌, ℕ, ◌≤◌, true, not, List, [], ◌∷◌, ◌++◌, length, Some, Ok}
-use Rattle.std.specs.List.{list_all}
+use Rattle.std.specs.{Prelude.{◌≡◌, ℕ, ◌≤◌, true, not, List, [], ◌∷◌, ◌++◌, length, Some, Ok}, List.list_all}
 use Rattle.diy_io.specs.Count.{last_count}
-use Rattle.log_sum.specs.{Facts.Entry, Facts.facts_of, LogGrammar.is_too_long, LogGrammar.all_judged, Summed.summed, SumText.sum_text}
-use Rattle.log_sum.specs.{Representing.logs_text}
+use Rattle.log_sum.specs.{Facts.{Entry, facts_of}, LogGrammar.{is_too_long, all_judged}, Summed.summed, SumText.sum_text, Representing.logs_text}
 use Rattle.text_parts_laws.specs.Lines.{without_return, whole_lines}
 
 -- a printed sum keeps the limits of a log: none of its lines is too long, the number of the states of each test isn't above the

@@ -3,10 +3,9 @@ use Rattle.std.proofs.Common.{◌≡◌, ℕ, List, [], ◌∷◌, refl, None}
 use Rattle.std.specs.Prelude.{Ok}
 use Rattle.diy_io.specs.{Taken.SourceSeen, Wrote.SinkSeen}
 use Rattle.log_sum.specs.Representing.{logs_text}
-use Rattle.msum7_files.specs.declared.feeding.{Feeding.Feeding, LogFault.LogFault, LogFault.TheVariants.Wrong, LogFault.TheVariants.TooMuch}
-use Rattle.msum7_files.specs.declared.feeding.{LogFault.TheVariants.NoMemory}
-use Rattle.msum7_files.specs.{FileFaults.sum_end_at, FileFeeding.IsFaulty, FileFeeding.LogSummed, FileFeeding.LogFaulty, SumEnds.InputSaid}
-use Rattle.msum7_files.specs.{SumEnds.InputStopped, SumEnds.InputSummed}
+use Rattle.msum7_files.specs.{declared.feeding.Feeding.Feeding, declared.feeding.LogFault.LogFault}
+use Rattle.msum7_files.specs.{declared.feeding.LogFault.TheVariants.{Wrong, TooMuch, NoMemory}, FileFaults.sum_end_at}
+use Rattle.msum7_files.specs.{FileFeeding.{IsFaulty, LogSummed, LogFaulty}, SumEnds.{InputSaid, InputStopped, InputSummed}}
 
 -- this was done with the sum of an input
 pub input_said : (old new : SourceSeen) (done : List ℕ → Type 0) (feeding : Feeding)

@@ -1,15 +1,13 @@
 -- Pieces of a log that are fed, and a device that is read.
 use Rattle.std.proofs.Common.{◌≡◌, ◌≤◌, ◌<◌, ◌^◌, ℕ, ◌+◌, List, [], ◌++◌, length, take, drop, refl, sym, ap, ◌∙◌, subst, arith, length-append, length-drop, append_assoc, append-nil, inl}
-use Rattle.std.specs.{Prelude.Err, Prelude.◌==◌, Io.KnownBytes.Consumes, Io.KnownBytes.IsAtEnd}
-use Rattle.std.proofs.{lemmas.List.take-append-drop, lemmas.List.length-take-le, lemmas.List.Sums.count_by-le-length, KnownBytes.Consumes-nil}
-use Rattle.std.proofs.{KnownBytes.Consumes-trans, KnownBytes.Consumes-whole}
-use Rattle.diy_io.specs.{Count.count_of, Count.Rose, Taken.SourceSeen, Taken.Took}
-use Rattle.log_sum.specs.declared.errors.SumError.{SumError}
+use Rattle.std.proofs.{lemmas.List.{take-append-drop, length-take-le}, lemmas.List.Sums.count_by-le-length}
+use Rattle.std.proofs.KnownBytes.{Consumes-nil, Consumes-trans, Consumes-whole}
+use Rattle.std.specs.{Prelude.{Err, ◌==◌}, Io.KnownBytes.{Consumes, IsAtEnd}}
+use Rattle.diy_io.specs.{Count.{count_of, Rose}, Taken.{SourceSeen, Took}}
+use Rattle.log_sum.specs.{declared.errors.SumError.SumError, Representing.{Kept, Represents, ShowsNone, FedTo, EndedTo, running_line}}
 use Rattle.log_sum.specs.declared.errors.SumError.TheVariants as sums
-use Rattle.log_sum.specs.Representing.{Kept, Represents, ShowsNone, FedTo, EndedTo, running_line}
 use Rattle.log_sum_laws.proofs.Represented.{end_fault_stays}
-use Rattle.msum7_files.specs.declared.feeding.{Feeding.Feeding, LogFault.LogFault}
-use Rattle.msum7_files.specs.FileFaults.{sum_fault}
+use Rattle.msum7_files.specs.{declared.feeding.Feeding.Feeding, declared.feeding.LogFault.LogFault, FileFaults.sum_fault}
 use Rattle.msum7_files.specs.Logs.{IsShort, max_piece, PrefixFull, TookCount}
 use Rattle.msum7_files.specs.FileFeeding.{ReadsLogs, IsFaultOfLogs, IsEndFault, ReadSoFar, ReadWhole, ReadPart, LogFailed}
 use Rattle.diy_io.proofs.ConsumedLaws.{prefix_of}

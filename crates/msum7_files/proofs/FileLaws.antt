@@ -1,8 +1,7 @@
 -- A file of a shelf that is read.
 use Rattle.std.proofs.Common.{◌≡◌, ◌≤◌, ◌<◌, ℕ, List, [], length, take, sym, ap, subst}
-use Rattle.diy_io.specs.{Shelf.ShelfSeen, Shelf.IsReading, Shelf.Gave, Taken.SourceSeen, Taken.Took}
-use Rattle.msum7_files.specs.declared.feeding.Feeding.{Feeding}
-use Rattle.msum7_files.specs.{LogFiles.log_seen, FileFeeding.ReadSoFar, FileFeeding.ReadWhole}
+use Rattle.diy_io.specs.{Shelf.{ShelfSeen, IsReading, Gave}, Taken.{SourceSeen, Took}}
+use Rattle.msum7_files.specs.{declared.feeding.Feeding.Feeding, LogFiles.log_seen, FileFeeding.{ReadSoFar, ReadWhole}}
 use Rattle.msum7_files.proofs.FeedingLaws.{reads_whole}
 
 -- the bytes that a shelf gave were taken

@@ -1,18 +1,16 @@
 -- Files of a shelf that are summed, one after another.
 use Rattle.std.proofs.Common.{◌≡◌, ◌+◌, ℕ, List, [], ◌∷◌, ◌++◌, length, refl, sym, ap, ◌∙◌, subst, arith, Some, None, inl, inr, length-append, get_or}
-use Rattle.std.specs.Prelude.{Option, Ok, Err, All, slice_get, zero, suc}
 use Rattle.std.proofs.lemmas.List.Elements.{All-append}
-use Rattle.diy_io.specs.{Count.Rose, Shelf.Files, Shelf.ShelfSeen, Shelf.Opened, Wrote.SinkSeen, Opened.IsFile}
+use Rattle.std.specs.Prelude.{Option, Ok, Err, All, slice_get, zero, suc}
+use Rattle.diy_io.specs.{Count.Rose, Shelf.{Files, ShelfSeen, Opened}, Wrote.SinkSeen, Opened.IsFile}
 use Rattle.log_sum.specs.Representing.{logs_text}
-use Rattle.msum7_files.specs.declared.{feeding.Feeding.Feeding, feeding.LogFault.LogFault, feeding.LogFault.TheVariants.Wrong}
-use Rattle.msum7_files.specs.declared.{feeding.LogFault.TheVariants.TooMuch, feeding.LogFault.TheVariants.NoMemory, feeding.ReadFault.ReadFault}
-use Rattle.msum7_files.specs.declared.{feeding.ReadFault.TheVariants.Log, feeding.ReadFault.TheVariants.Device, files.FileFault.FileFault}
-use Rattle.msum7_files.specs.declared.{files.FileFault.TheVariants.Missing, files.FileFault.TheVariants.Read}
-use Rattle.msum7_files.specs.{Logs.IsShort, FileFeeding.IsFaulty, FileFeeding.LogSummed, FileFeeding.ClosedTo}
-use Rattle.diy_io.proofs.FileNameLaws.{absent_before, quiet_before, file_before}
-use Rattle.diy_io.proofs.OpenedLaws.{opened_text, opened_took, took_one_more, took_no_more}
+use Rattle.msum7_files.specs.{declared.feeding.Feeding.Feeding, declared.feeding.LogFault.LogFault}
+use Rattle.msum7_files.specs.{declared.feeding.LogFault.TheVariants.{Wrong, TooMuch, NoMemory}, declared.feeding.ReadFault.ReadFault}
+use Rattle.msum7_files.specs.{declared.feeding.ReadFault.TheVariants.{Log, Device}, declared.files.FileFault.FileFault}
+use Rattle.msum7_files.specs.{declared.files.FileFault.TheVariants.{Missing, Read}, Logs.IsShort, FileFeeding.{IsFaulty, LogSummed, ClosedTo}}
 use Rattle.msum7_files.specs.SumEnds.{AreLogs, IsBegun, IsAtWord, FileStopped, LogFilesSaid, FilesSummed}
 use Rattle.msum7_files.specs.LogFiles.{log_seen, FileSummed, LogFileFaulty, LogFileTo, FilesSoFar, log_file_end}
+use Rattle.diy_io.proofs.{FileNameLaws.{absent_before, quiet_before, file_before}, OpenedLaws.{opened_text, opened_took, took_one_more, took_no_more}}
 use Rattle.msum7_files.proofs.LogLaws.{are_right}
 
 -- a file that was opened is summed

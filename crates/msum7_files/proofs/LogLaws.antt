@@ -1,17 +1,13 @@
 -- A log that was read, summed or refused.
 use Rattle.std.proofs.Common.{◌≡◌, ◌≤◌, ◌^◌, ℕ, List, [], ◌∷◌, ◌++◌, length, refl, sym, ap, ◌∙◌, subst, arith, append_assoc, append-nil, inl, inr}
-use Rattle.std.specs.Prelude.{Result, Ok, Err, OnOk, OnErr}
-use Rattle.std.specs.Io.KnownBytes.{IsAtEnd}
-use Rattle.diy_io.specs.{Count.count_of, Count.Rose, Taken.SourceSeen}
-use Rattle.diy_io.specs.Shelf.{ShelfSeen, Mode, Idle, Stopped, Finished, left_to_read}
+use Rattle.std.specs.{Prelude.{Result, Ok, Err, OnOk, OnErr}, Io.KnownBytes.IsAtEnd}
+use Rattle.diy_io.specs.{Count.{count_of, Rose}, Taken.SourceSeen, Shelf.{ShelfSeen, Mode, Idle, Stopped, Finished, left_to_read}}
 use Rattle.diy_io.specs.declared.errors.Failed.{Failed}
-use Rattle.log_sum.specs.declared.errors.LogError.{LogError}
-use Rattle.log_sum.specs.Representing.{ShowsNone, logs_text}
+use Rattle.log_sum.specs.{declared.errors.LogError.LogError, Representing.{ShowsNone, logs_text}}
 use Rattle.log_sum_laws.proofs.Represented.{represented_text}
-use Rattle.msum7_files.specs.declared.feeding.{Feeding.Feeding, LogFault.LogFault, LogFault.TheVariants.Wrong, LogFault.TheVariants.TooMuch}
-use Rattle.msum7_files.specs.declared.feeding.{LogFault.TheVariants.NoMemory, ReadFault.ReadFault, ReadFault.TheVariants.Log}
-use Rattle.msum7_files.specs.declared.feeding.{ReadFault.TheVariants.Device}
-use Rattle.msum7_files.specs.Logs.{IsShort, AreWholeLogs, PrefixWrong, UpToFault, IsWrongLog}
+use Rattle.msum7_files.specs.{declared.feeding.Feeding.Feeding, declared.feeding.LogFault.LogFault}
+use Rattle.msum7_files.specs.{declared.feeding.LogFault.TheVariants.{Wrong, TooMuch, NoMemory}, declared.feeding.ReadFault.ReadFault}
+use Rattle.msum7_files.specs.{declared.feeding.ReadFault.TheVariants.{Log, Device}, Logs.{IsShort, AreWholeLogs, PrefixWrong, UpToFault, IsWrongLog}}
 use Rattle.msum7_files.specs.FileFeeding.{ReadsLogs, IsFaultOfLogs, IsEndFault, ReadWhole, ReadPart, LogFailed, ReadTo, LogSummed, LogFaulty, IsFaulty, SummedTo}
 
 -- logs that were fed without a fault

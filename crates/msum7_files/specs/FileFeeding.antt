@@ -1,13 +1,11 @@
 -- What an answer says of a log that is fed to a summer in pieces.
 -- Source: own.
-use Rattle.std.specs.Prelude.{◌≡◌, ◌⊎◌, ℕ, List, [], ◌∷◌, ◌++◌, length, Result, Ok, Err}
-use Rattle.std.specs.Io.KnownBytes.{Consumes, IsAtEnd}
-use Rattle.diy_io.specs.{Taken.SourceSeen, Wrote.SinkSeen, Wrote.Wrote}
-use Rattle.diy_io.specs.declared.errors.Failed.{Failed}
+use Rattle.std.specs.{Prelude.{◌≡◌, ◌⊎◌, ℕ, List, [], ◌∷◌, ◌++◌, length, Result, Ok, Err}, Io.KnownBytes.{Consumes, IsAtEnd}}
+use Rattle.diy_io.specs.{Taken.SourceSeen, Wrote.{SinkSeen, Wrote}, declared.errors.Failed.Failed}
 use Rattle.log_sum.specs.Representing.{Represents, logs_text}
-use Rattle.msum7_files.specs.declared.feeding.{Feeding.Feeding, LogFault.LogFault, LogFault.TheVariants.Wrong, LogFault.TheVariants.TooMuch}
-use Rattle.msum7_files.specs.declared.feeding.{LogFault.TheVariants.NoMemory, ReadFault.ReadFault, ReadFault.TheVariants.Log}
-use Rattle.msum7_files.specs.declared.feeding.{ReadFault.TheVariants.Device}
+use Rattle.msum7_files.specs.{declared.feeding.Feeding.Feeding, declared.feeding.LogFault.LogFault}
+use Rattle.msum7_files.specs.{declared.feeding.LogFault.TheVariants.{Wrong, TooMuch, NoMemory}, declared.feeding.ReadFault.ReadFault}
+use Rattle.msum7_files.specs.declared.feeding.ReadFault.TheVariants.{Log, Device}
 use Rattle.msum7_files.specs.Logs.{IsText, IsShort, TookCount, PrefixWrong, PrefixFull, UpToFault, IsWrongLog, IsTooMuch, ReadFailed}
 
 -- whole logs and the bytes so far of one more were fed, and the bytes of this one are counted

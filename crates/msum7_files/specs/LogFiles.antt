@@ -1,13 +1,12 @@
 -- Logs in the files of a shelf.
 -- Source: own.
 use Rattle.std.specs.Prelude.{◌≡◌, ◌+◌, ◌⊎◌, ℕ, List, [], ◌∷◌, ◌++◌, length, Some, Result, Ok, Err}
-use Rattle.diy_io.specs.{Count.Rose, Taken.SourceSeen, Opened.FileAbsent, Opened.IsFile, Opened.TookFiles}
-use Rattle.diy_io.specs.Shelf.{Mode, Idle, IsReading, ShelfSeen, left_to_read}
-use Rattle.msum7_files.specs.declared.{feeding.Feeding.Feeding, feeding.LogFault.LogFault, files.FileFault.FileFault}
-use Rattle.msum7_files.specs.declared.{files.FileFault.TheVariants.Missing, files.FileFault.TheVariants.Read, sum_end.SumEnd.SumEnd}
-use Rattle.msum7_files.specs.declared.{feeding.ReadFault.ReadFault, feeding.ReadFault.TheVariants.Log, feeding.ReadFault.TheVariants.Device}
+use Rattle.diy_io.specs.{Count.Rose, Taken.SourceSeen, Opened.{FileAbsent, IsFile, TookFiles}, Shelf.{Mode, Idle, IsReading, ShelfSeen, left_to_read}}
+use Rattle.msum7_files.specs.{declared.feeding.Feeding.Feeding, declared.feeding.LogFault.LogFault, declared.files.FileFault.FileFault}
+use Rattle.msum7_files.specs.{declared.files.FileFault.TheVariants.{Missing, Read}, declared.sum_end.SumEnd.SumEnd, declared.feeding.ReadFault.ReadFault}
+use Rattle.msum7_files.specs.{declared.feeding.ReadFault.TheVariants.{Log, Device}, FileFaults.sum_end_at, Logs.IsShort, FileFeeding.{ReadsLogs, IsFaulty}}
+use Rattle.msum7_files.specs.SumEnds.{AreLogs, IsBegun}
 use Rattle.msum7_files.specs.declared.sum_end.SumEnd.TheVariants as ends
-use Rattle.msum7_files.specs.{FileFaults.sum_end_at, Logs.IsShort, FileFeeding.ReadsLogs, FileFeeding.IsFaulty, SumEnds.AreLogs, SumEnds.IsBegun}
 
 -- the file that is read, as a source
 abbrev pub log_seen : ShelfSeen → SourceSeen

@@ -1,9 +1,8 @@
 -- Logs, as they are read from a device.
 -- Source: own.
 use Rattle.std.specs.Prelude.{◌≡◌, ◌≤◌, ◌<◌, ◌⊎◌, ◌^◌, ◌+◌, ℕ, List, ◌∷◌, ◌++◌, length, Option, IfSome, Err}
-use Rattle.diy_io.specs.{Count.count_of, Count.Rose, Taken.SourceSeen, Sink.line_feed_count}
-use Rattle.log_sum.specs.declared.errors.LogError.{LogError}
-use Rattle.log_sum.specs.Representing.{ShowsFault, ShowsNone, logs_text}
+use Rattle.diy_io.specs.{Count.{count_of, Rose}, Taken.SourceSeen, Sink.line_feed_count}
+use Rattle.log_sum.specs.{declared.errors.LogError.LogError, Representing.{ShowsFault, ShowsNone, logs_text}}
 use Rattle.log_sum_laws.specs.Laws.{NoFault}
 
 -- a log has the text that is known, where one is known

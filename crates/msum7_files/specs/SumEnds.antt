@@ -2,13 +2,10 @@
 -- Source: own.
 use Rattle.std.specs.Prelude.{◌≡◌, ◌⊎◌, ◌+◌, ℕ, List, [], ◌∷◌, ◌++◌, length, slice_get, Option, None, Some, IfSome, MatchOption, All, Ok}
 use Rattle.std.specs.Io.KnownBytes.{IsAtEnd}
-use Rattle.diy_io.specs.{Count.Rose, Shelf.Files, Shelf.ShelfSeen, Taken.SourceSeen, Wrote.SinkSeen, Wrote.WroteAll, Wrote.WrotePart, Opened.IsFile}
-use Rattle.diy_io.specs.{Opened.TookFiles}
-use Rattle.log_sum.specs.declared.errors.{LogError.LogError, LogKind.LogKind}
-use Rattle.log_sum.specs.Representing.{ShowsNone, logs_text}
-use Rattle.msum7_files.specs.declared.sum_end.SumEnd.{SumEnd}
+use Rattle.diy_io.specs.{Count.Rose, Shelf.{Files, ShelfSeen}, Taken.SourceSeen, Wrote.{SinkSeen, WroteAll, WrotePart}, Opened.{IsFile, TookFiles}}
+use Rattle.log_sum.specs.{declared.errors.LogError.LogError, declared.errors.LogKind.LogKind, Representing.{ShowsNone, logs_text}}
+use Rattle.msum7_files.specs.{declared.sum_end.SumEnd.SumEnd, Logs.{IsText, IsShort, TookCount, AreWholeLogs, IsWrongLog, IsTooMuch, ReadFailed}}
 use Rattle.msum7_files.specs.declared.sum_end.SumEnd.TheVariants as ends
-use Rattle.msum7_files.specs.Logs.{IsText, IsShort, TookCount, AreWholeLogs, IsWrongLog, IsTooMuch, ReadFailed}
 
 -- the input is a whole log of at most 2^40 bytes, which was read to its end, and this is its sum
 pub record InputRead (old new : SourceSeen) (sum : List ℕ) : Type 0 where

@@ -1,7 +1,6 @@
 -- `print_head` sends the lines above the states of a test.
-use Rattle.std.proofs.Common.{ap, ◌∙◌, sym, length}
+use Rattle.std.proofs.{Common.{ap, ◌∙◌, sym, length}, lemmas.List.length-map}
 use Rattle.std.specs.Fmt.{decimal}
-use Rattle.std.proofs.lemmas.List.{length-map}
 use Rattle.diy_io.specs.PageLaws.{sends_same}
 use Rattle.log_sum.specs.{SumViews.test_view, StateEntries.state_view}
 use Rattle.log_sum.proofs.{EntryLaws.in_order_view, PrintLaws.head_is}

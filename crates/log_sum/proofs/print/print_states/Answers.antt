@@ -1,12 +1,10 @@
 -- `print_states` sends the lines of all states of a test, in byte order.
 use Rattle.std.proofs.Common.{◌≡◌, ℕ, List, sym, ap, ◌∙◌, refl, map}
-use Rattle.std.specs.Borrow.{Bor}
-use Rattle.std.specs.declared.{vec.Vec.Vec, alloc.Global.Global}
+use Rattle.std.specs.{Borrow.Bor, declared.vec.Vec.Vec, declared.alloc.Global.Global}
 use Rattle.diy_io.specs.PageLaws.{sent_nothing}
-use Rattle.log_sum.specs.declared.{kinds.Mark.Mark, state_table.StateSum.StateSum}
-use Rattle.log_sum.specs.{StateEntries.state_view, StateEntries.states_view, Summed.StateSummed, SumText.state_line}
-use Rattle.log_sum.proofs.EntryLaws.{in_order_view}
-use Rattle.log_sum.proofs.PrintLaws.{lines_go, lines_stop, covers_next, covers_this}
+use Rattle.log_sum.specs.{declared.kinds.Mark.Mark, declared.state_table.StateSum.StateSum, StateEntries.{state_view, states_view}, Summed.StateSummed}
+use Rattle.log_sum.specs.SumText.{state_line}
+use Rattle.log_sum.proofs.{EntryLaws.in_order_view, PrintLaws.{lines_go, lines_stop, covers_next, covers_this}}
 use Rattle.log_sum.proofs.print.print_states.Goals as goal
 
 abbrev shown : Bor (Vec ℕ Global) × Bor StateSum → StateSummed

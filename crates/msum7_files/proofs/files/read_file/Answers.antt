@@ -1,9 +1,7 @@
 -- `read_file` reads the open file to its end, or until a fault is seen, and feeds what it reads.
-use Rattle.std.proofs.Common.{take, refl, arith, ◌∙◌}
-use Rattle.std.proofs.lemmas.Result.{err_from_is_err_and}
+use Rattle.std.proofs.{Common.{take, refl, arith, ◌∙◌}, lemmas.Result.err_from_is_err_and}
 use Rattle.msum7_files.specs.LogFiles.{log_seen}
-use Rattle.msum7_files.proofs.FeedingLaws.{reads_nothing, reads_more, reads_part, reads_failed, short_piece}
-use Rattle.msum7_files.proofs.FileLaws.{gave_took, gave_whole, gave_mode}
+use Rattle.msum7_files.proofs.{FeedingLaws.{reads_nothing, reads_more, reads_part, reads_failed, short_piece}, FileLaws.{gave_took, gave_whole, gave_mode}}
 use Rattle.msum7_files.proofs.files.read_file.Goals as goal
 
 pub loop-count-init : goal.loop-count-init

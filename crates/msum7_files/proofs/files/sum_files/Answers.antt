@@ -1,8 +1,7 @@
 -- `sum_files` sums the files that words name, one after another, and writes their sum.
 use Rattle.std.proofs.Common.{◌∙◌, sym, subst, arith}
 use Rattle.diy_io.specs.Wrote.{SinkSeen}
-use Rattle.msum7_files.specs.declared.sum_end.SumEnd.{SumEnd}
-use Rattle.msum7_files.specs.SumEnds.{FilesSummed}
+use Rattle.msum7_files.specs.{declared.sum_end.SumEnd.SumEnd, SumEnds.FilesSummed}
 use Rattle.msum7_files.proofs.FilesLaws.{one_more, files_refused, files_said}
 use Rattle.msum7_files.proofs.files.sum_files.Goals as goal
 

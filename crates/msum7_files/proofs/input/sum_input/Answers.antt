@@ -1,9 +1,8 @@
 -- `sum_input` sums the input and writes its sum.
 use Rattle.std.proofs.Common.{[], ◌∷◌, Err, sym, ap, subst, ◌∙◌}
 use Rattle.diy_io.specs.{Taken.SourceSeen, Wrote.SinkSeen}
-use Rattle.msum7_files.specs.declared.sum_end.SumEnd.{SumEnd}
-use Rattle.msum7_files.specs.SumEnds.{InputSummed}
-use Rattle.msum7_files.proofs.{LogLaws.summed_refused, EndLaws.input_said, EndLaws.input_faulty}
+use Rattle.msum7_files.specs.{declared.sum_end.SumEnd.SumEnd, SumEnds.InputSummed}
+use Rattle.msum7_files.proofs.{LogLaws.summed_refused, EndLaws.{input_said, input_faulty}}
 use Rattle.msum7_files.proofs.input.sum_input.Goals as goal
 
 pub write_sum-requires : goal.write_sum-requires

@@ -1,8 +1,6 @@
 -- `Reading::judge` reads a line as the definitions do, or answers its fault.
-use Rattle.std.proofs.Common.{refl, sym, ap, ◌∙◌, subst}
-use Rattle.std.proofs.lemmas.Result.{err_from_is_err_and}
-use Rattle.log_sum.specs.declared.kinds.Place.{Place}
-use Rattle.log_sum.specs.{SumViews.said_read, SumViews.progress_view, SumViews.IsLineFault, LineReading.log_line_said}
+use Rattle.std.proofs.{Common.{refl, sym, ap, ◌∙◌, subst}, lemmas.Result.err_from_is_err_and}
+use Rattle.log_sum.specs.{declared.kinds.Place.Place, SumViews.{said_read, progress_view, IsLineFault}, LineReading.log_line_said}
 use Rattle.log_sum.proofs.FollowLaws.{text_wrong, text_refused, text_read}
 use Rattle.log_sum.proofs.reading.Reading.judge.Goals as goal
 

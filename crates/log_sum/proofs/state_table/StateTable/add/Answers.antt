@@ -1,10 +1,8 @@
 -- `StateTable::add` adds a count to that of the state at an index, and changes nothing else.
 use Rattle.std.proofs.Common.{sym, ap, ◌∙◌}
-use Rattle.log_sum.specs.declared.state_table.StateTable.{StateTable}
-use Rattle.log_sum.specs.StateEntries.{states_view}
-use Rattle.log_sum.proofs.EntryLaws.{written_again, order_written, view_added, nothing_at}
+use Rattle.log_sum.specs.{declared.state_table.StateTable.StateTable, StateEntries.states_view}
+use Rattle.log_sum.proofs.{EntryLaws.{written_again, order_written, view_added, nothing_at}, state_table.StateTable.add.Goals.{in-Some, in_default}}
 use Rattle.log_sum.proofs.state_table.StateTable.add.Goals as goal
-use Rattle.log_sum.proofs.state_table.StateTable.add.Goals.{in-Some, in_default}
 
 pub invariant_of-self : goal.invariant_of-self
 invariant_of-self c = record {

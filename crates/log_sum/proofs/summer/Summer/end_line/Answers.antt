@@ -1,14 +1,12 @@
 -- `Summer::end_line` reads a last line that no line feed ends, and ends the log.
-use Rattle.std.proofs.Common.{◌≡◌, ◌<◌, ◌≤◌, ℕ, List, length, sym, ap, ◌∙◌, arith, subst}
+use Rattle.std.proofs.{Common.{◌≡◌, ◌<◌, ◌≤◌, ℕ, List, length, sym, ap, ◌∙◌, arith, subst}, lemmas.Result.err_from_is_err_and}
 use Rattle.std.specs.Prelude.{Err, Result}
-use Rattle.std.proofs.lemmas.Result.{err_from_is_err_and}
-use Rattle.log_sum.specs.declared.errors.LogError.{LogError}
-use Rattle.log_sum.specs.{SumViews.progress_view, SumViews.are_in_order, LogReading.LogSeen, LogReading.text_judged, LogReading.end_judged}
-use Rattle.log_sum.specs.{Representing.SumProgress, Representing.Kept, Feeding.FollowsSeen, Feeding.JudgedTo}
+use Rattle.log_sum.specs.{declared.errors.LogError.LogError, SumViews.{progress_view, are_in_order}, LogReading.{LogSeen, text_judged, end_judged}}
+use Rattle.log_sum.specs.{Representing.{SumProgress, Kept}, Feeding.{FollowsSeen, JudgedTo}}
 use Rattle.text_parts_laws.specs.ReadingSteps.{◌>>=◌}
 use Rattle.log_sum.proofs.FeedLaws.{fed_follows, end_after, last_nothing, last_text, end_answered, last_answered, nothing_there, some_there, none_there}
-use Rattle.log_sum.proofs.summer.Summer.end_line.Goals as goal
 use Rattle.log_sum.proofs.summer.Summer.end_line.Goals.{then-not-is_empty+in_ok-judge, else-not-is_empty}
+use Rattle.log_sum.proofs.summer.Summer.end_line.Goals as goal
 
 pub returns-in_err-judge-clause-ended : goal.returns-in_err-judge-clause-ended
 returns-in_err-judge-clause-ended c = λ files bytes is_fed.

@@ -1,12 +1,9 @@
 -- `Summer::print_sums` sends the texts of all tests.
 use Rattle.std.proofs.Common.{◌≡◌, ℕ, List, ap, ◌∙◌, refl, map}
-use Rattle.std.specs.{List.list_all, Borrow.Bor}
-use Rattle.std.specs.declared.{vec.Vec.Vec, alloc.Global.Global}
+use Rattle.std.specs.{List.list_all, Borrow.Bor, declared.vec.Vec.Vec, declared.alloc.Global.Global}
 use Rattle.diy_io.specs.PageLaws.{sent_nothing}
-use Rattle.log_sum.specs.declared.test_sum.TestSum.{TestSum}
-use Rattle.log_sum.specs.{Representing.Kept, Summed.Summed, SumViews.named_view, SumViews.test_view, SumText.summed_text}
-use Rattle.log_sum.proofs.TableLaws.{ordered_first}
-use Rattle.log_sum.proofs.PrintLaws.{lines_go, lines_stop, covers_next, covers_this}
+use Rattle.log_sum.specs.{declared.test_sum.TestSum.TestSum, Representing.Kept, Summed.Summed, SumViews.{named_view, test_view}, SumText.summed_text}
+use Rattle.log_sum.proofs.{TableLaws.ordered_first, PrintLaws.{lines_go, lines_stop, covers_next, covers_this}}
 use Rattle.log_sum.proofs.summer.Summer.print_sums.Goals as goal
 
 abbrev shown : Bor (Vec ℕ Global) × Bor TestSum → List ℕ × Summed

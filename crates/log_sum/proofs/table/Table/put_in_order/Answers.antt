@@ -1,10 +1,9 @@
 -- `Table::put_in_order` puts the states of each test in byte order; the tests stay the same.
 use Rattle.std.proofs.Common.{length, refl, sym, ap, ◌∙◌, arith}
-use Rattle.log_sum.specs.SumViews.{tests_view}
-use Rattle.log_sum.specs.declared.table.Table.{Table}
+use Rattle.log_sum.specs.{SumViews.tests_view, declared.table.Table.Table}
 use Rattle.log_sum.proofs.TableLaws.{unseen_write, ordered_written, all_ordered, same_many, there_below, same_view}
-use Rattle.log_sum.proofs.table.Table.put_in_order.Goals as goal
 use Rattle.log_sum.proofs.table.Table.put_in_order.Goals.{in-Some+in_ok-put_in_order, in_default}
+use Rattle.log_sum.proofs.table.Table.put_in_order.Goals as goal
 
 pub loop-i-init : goal.loop-i-init
 loop-i-init c = record {
