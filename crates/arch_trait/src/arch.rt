@@ -121,7 +121,7 @@ pub trait Arch {
 
     /// The instruction that the text of a cell is, with blanks at both ends, after the first word
     /// and around commas. Its place and its label get the numbers of their names in the tables, to
-    /// which new names are added last. After a fault both tables are as they were.
+    /// which new names are added last. After an error both tables are as they were.
     final fn read_instr(
         text: &str,
         places: &mut Places,

@@ -118,7 +118,7 @@ fn compiles<A: Arch>(rt: &impl Abort, thread: &Thread)
     assert_eq!(rt; code.links.as_slice(), thread.links);
 }
 
-/// Each spelling is read as its operation and each fault is refused.
+/// Each spelling is read as its operation and each error is refused.
 fn reads<A: Arch>(rt: &impl Abort, cases: &Cases) {
     let mut places = Places::letters(2);
     let mut labels = Places::new();

@@ -113,7 +113,7 @@ hand_on_stopped arch s t a b c r page given some part =
 pub all_written : (a b c : SinkSeen) (page text : List ℕ) → SentAll a [] b page text → WroteAll b c page → WroteAll a c text
 all_written a b c page text h w = subst (WroteAll a c) (sym h.parts) (all_then_all a b c h.prefix page h.wrote w)
 
--- a line has a fault
+-- a line has an error
 pub fault_normed : (arch : ArchName) (s t : SourceSeen) (a b c : SinkSeen) (r q : ReaderSeen) (page : List ℕ) (number : ℕ) (kind : LineKind)
     → Normed arch s t a b r page → GivesLine arch r q (Err kind) → number ≡ r.line → WroteAll b c page → NormedUpTo arch s t a c (Wrong number kind)
 fault_normed arch s t a b c r q page number kind given g e w = record {

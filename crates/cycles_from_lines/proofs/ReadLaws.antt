@@ -114,7 +114,7 @@ one_cycle arch line said e = rw (sym e) (last_said said)
 one_fault : (arch : ArchName) (line : List ℕ) (kind : LineKind) → Err kind ≡ line_said arch line → line_fault arch line ≡ Some kind
 one_fault arch line kind e = ap result_err (sym e)
 
--- a line that was given, without a fault
+-- a line that was given, without an error
 pub line_given : (arch : ArchName) (s t : SourceSeen) (r q : ReaderSeen) (cycles : List (List Edge)) (said : Option (List Edge)) →
     HasRead arch s t r cycles → GivesLine arch r q (Ok said) → HasRead arch s t q (cycles ++ last_cycle said)
 line_given arch s t r q cycles said h g =
@@ -142,7 +142,7 @@ line_given arch s t r q cycles said h g =
 took_pending : (arch : ArchName) (s t : SourceSeen) (r : ReaderSeen) (cycles : List (List Edge)) (h : HasRead arch s t r cycles) → 0 < length r.pending → Took s t (h.given ++ r.pending)
 took_pending arch s t r cycles h some = took_some s t (h.given ++ r.pending) h.took (omega (arith, some, length-append h.given r.pending))
 
--- lines before a fault
+-- lines before an error
 fault_first : (arch : ArchName) (s t : SourceSeen) (r : ReaderSeen) (cycles : List (List Edge)) (line : List ℕ) (later : List (List ℕ)) (kind : LineKind) (h : HasRead arch s t r cycles) →
     Took s t (h.given ++ r.pending) → lines_of (r.pending ++ unwrap_or t.left []) ≡ line ∷ later → line_fault arch line ≡ Some kind → ReadToFault arch s t cycles r.line kind
 fault_first arch s t r cycles line later kind h took e f = record {
@@ -164,7 +164,7 @@ fault_first arch s t r cycles line later kind h took e f = record {
   cycles_are = h.cycles_are;
 }
 
--- a line that was given has a fault
+-- a line that was given has an error
 pub fault_given : (arch : ArchName) (s t : SourceSeen) (r q : ReaderSeen) (cycles : List (List Edge)) (line : ℕ) (kind : LineKind) →
     HasRead arch s t r cycles → GivesLine arch r q (Err kind) → line ≡ r.line → ReadToFault arch s t cycles line kind
 fault_given arch s t r q cycles line kind h g e =
@@ -308,7 +308,7 @@ none_left : (left : Option (List ℕ)) → IsAtEnd left → unwrap_or left [] �
 none_left None h = refl
 none_left (Some xs) h = h
 
--- with one that has a fault
+-- with one that has an error
 pub fault_last : (arch : ArchName) (s t : SourceSeen) (r : ReaderSeen) (cycles : List (List Edge)) (kind : LineKind) →
     HasRead arch s t r cycles → 0 < length r.pending → Ended t → Without 10 r.pending → Err kind ≡ line_said arch r.pending → ReadToFault arch s t cycles r.line kind
 fault_last arch s t r cycles kind h some at_end one e =
@@ -318,7 +318,7 @@ fault_last arch s t r cycles kind h some at_end one e =
     ∙ ap (λ ls. ls ++ last_line (unended r.pending)) (ended_none r.pending one) ∙ ap last_line (unended_all r.pending one) ∙ some_last r.pending some)
     (one_fault arch r.pending kind e)
 
--- sound lines come before the first line that has a fault
+-- sound lines come before the first line that has an error
 sound_prefix : (arch : ArchName) (xs ys : List (List ℕ)) → are_sound arch xs ≡ true → take_while (is_sound arch) (xs ++ ys) ≡ xs ++ take_while (is_sound arch) ys
 sound_prefix arch [] ys h = refl
 sound_prefix arch (x ∷ xs) ys h =
@@ -326,7 +326,7 @@ sound_prefix arch (x ∷ xs) ys h =
     (λ e. take_while-cons (is_sound arch) x (xs ++ ys) ∙ rw e (ap (λ ls. x ∷ ls) (sound_prefix arch xs ys (rw e at h))))
     (λ e. let k = rw e at h in absurd (cc))
 
--- the cycles that were given come before the first fault
+-- the cycles that were given come before the first error
 pub record Before (arch : ArchName) (s t : SourceSeen) (cycles : List (List Edge)) : Type 0 where
   pub text : List ℕ
   pub read : ReadSome s t text
@@ -346,7 +346,7 @@ took_cycle arch s t r cycles h some = by_given h.given h.cycles_are (took_some s
     by_given [] e k = absurd (some (e ∙ ap (cycles_of arch) ended_nil))
     by_given (b ∷ given) e k = k (omega arith)
 
--- the cycles that were given, if there are any, come before the first fault of the source
+-- the cycles that were given, if there are any, come before the first error of the source
 pub given_before : (arch : ArchName) (s t : SourceSeen) (r : ReaderSeen) (cycles : List (List Edge)) → HasRead arch s t r cycles → (cycles ≡ [] → ⊥) → Before arch s t cycles
 given_before arch s t r cycles h some =
     let later = lines_of (r.pending ++ unwrap_or t.left []) in
@@ -362,7 +362,7 @@ given_before arch s t r cycles h some =
           ∙ ap (λ cs. cs ++ cycles_of arch (take_while (is_sound arch) later)) (sym h.cycles_are);
     }
 
--- the cycles of a source without a fault come before its first fault
+-- the cycles of a source without an error come before its first error
 pub all_before : (arch : ArchName) (s t : SourceSeen) (cycles : List (List Edge)) → ReadAll arch s t cycles → Before arch s t cycles
 all_before arch s t cycles h = record {
   text = h.text;

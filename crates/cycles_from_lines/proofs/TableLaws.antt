@@ -201,7 +201,7 @@ none_held table other e f n = map_push family_view table other ∙ rw (e, f, n) 
 pub part_read : (arch : ArchName) (s t : SourceSeen) (r : ReaderSeen) (cycles : List (List Edge)) → HasRead arch s t r cycles → ReadsPart s t
 part_read arch s t r cycles h = record { text = h.given ++ r.pending; took = h.took; few = subst (λ n. n ≤ MAX_INPUT) h.taken_is h.few; no_fault = h.no_fault }
 
--- a source that was read to its end was read without a fault
+-- a source that was read to its end was read without an error
 pub whole_read : (arch : ArchName) (s t : SourceSeen) (cycles : List (List Edge)) → ReadAll arch s t cycles → ReadsPart s t
 whole_read arch s t cycles h = record { text = h.text; took = inl h.took; few = h.few; no_fault = h.no_fault }
 

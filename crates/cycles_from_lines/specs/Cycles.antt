@@ -1,4 +1,4 @@
--- What a line says: a cycle, nothing, or its fault.
+-- What a line says: a cycle, nothing, or its error.
 -- Source: own; the lines are those that norm7 and classify7 of the herdtools suite read.
 use Rattle.std.specs.Prelude.{◌≡◌, ℕ, ◌+◌, ◌==◌, nat_lt, Bool, true, ◌++◌, cond, List, [], ◌∷◌, length, Option, Some, None, Result, Ok, Err, is_ok, unwrap_or}
 use Rattle.std.specs.{Result.result_err, List.{list_all, flat_map}}
@@ -22,24 +22,24 @@ after_colon (byte ∷ text) = cond (byte == 58) (Some text) (after_colon text)
 abbrev pub without_label : List ℕ → List ℕ
 without_label line = unwrap_or (after_colon line) line
 
--- a list of edges as a cycle, or the fault that it composes to none
+-- a list of edges as a cycle, or the error that it composes to none
 abbrev pub composed_or : Result (List Edge) CycleError → Result (Option (List Edge)) LineKind
 composed_or (Ok cycle) = Ok (Some cycle)
 composed_or (Err _) = Err DoesNotCompose
 
--- the cycle of an architecture that edges make, or the first fault that they have
+-- the cycle of an architecture that edges make, or the first error that they have
 abbrev pub cycle_made : ArchName → List Edge → Result (Option (List Edge)) LineKind
 cycle_made arch [] = Err Empty
 cycle_made arch (e ∷ u) =
     cond (nat_lt MAX_EDGES (length (e ∷ u))) (Err TooLong)
     (cond (are_of_arch arch (e ∷ u)) (composed_or (composed (e ∷ u))) (Err NotOfArch))
 
--- what a line says whose edges were read: the cycle that they make or their fault, or that a word in it is no edge
+-- what a line says whose edges were read: the cycle that they make or their error, or that a word in it is no edge
 abbrev pub spelled_made : ArchName → Option (List Edge) → Result (Option (List Edge)) LineKind
 spelled_made arch None = Err UnknownEdge
 spelled_made arch (Some edges) = cycle_made arch edges
 
--- the cycle that edges make, where they have no fault
+-- the cycle that edges make, where they have no error
 abbrev pub cycle_if_made : Result (Option (List Edge)) LineKind → Option (List Edge)
 cycle_if_made (Ok cycle) = cycle
 cycle_if_made (Err _) = None
@@ -53,17 +53,17 @@ abbrev pub quoted_cycle : ArchName → Option (List ℕ) → Option (List Edge)
 quoted_cycle arch None = None
 quoted_cycle arch (Some text) = cycle_spelled arch text
 
--- what a line of cycles says: its cycle, nothing where it has no byte but blanks, or the first fault that it has
+-- what a line of cycles says: its cycle, nothing where it has no byte but blanks, or the first error that it has
 unfoldable pub line_said : ArchName → List ℕ → Result (Option (List Edge)) LineKind
 line_said arch line =
     cond (is_long_line line) (Err LineTooLong)
     (cond (list_all (separates Blanks) line) (Ok None) (spelled_made arch (text_edges (without_label line))))
 
--- the fault of a line, if it has one
+-- the error of a line, if it has one
 abbrev pub line_fault : ArchName → List ℕ → Option LineKind
 line_fault arch line = result_err (line_said arch line)
 
--- a line has no fault
+-- a line has no error
 abbrev pub is_sound : ArchName → List ℕ → Bool
 is_sound arch line = is_ok (line_said arch line)
 
@@ -73,7 +73,7 @@ cycle_said (Ok (Some cycle)) = cycle ∷ []
 cycle_said (Ok None) = []
 cycle_said (Err _) = []
 
--- no line has a fault
+-- no line has an error
 abbrev pub are_sound : ArchName → List (List ℕ) → Bool
 are_sound arch lines = list_all (is_sound arch) lines
 
@@ -81,7 +81,7 @@ are_sound arch lines = list_all (is_sound arch) lines
 abbrev pub cycles_of : ArchName → List (List ℕ) → List (List Edge)
 cycles_of arch lines = flat_map (λ line. cycle_said (line_said arch line)) lines
 
--- the line of a number, counted from 1, has this fault, and it is the first that has one: these are the lines before it
+-- the line of a number, counted from 1, has this error, and it is the first that has one: these are the lines before it
 pub record FirstFault (arch : ArchName) (lines before : List (List ℕ)) (number : ℕ) (kind : LineKind) : Type 0 where
   pub line : List ℕ
   pub later : List (List ℕ)

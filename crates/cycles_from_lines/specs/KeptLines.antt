@@ -5,12 +5,12 @@ use Rattle.edges_from_text.specs.{declared.list.EdgeList.EdgeList, declared.list
 use Rattle.cycles_from_lines.specs.{declared.errors.LineKind.LineKind, Cycles.cycle_made}
 use Rattle.cycles_from_lines.specs.declared.errors.LineKind.TheVariants as kinds
 
--- what a line says, or its fault
+-- what a line says, or its error
 abbrev pub said_with : Result (Unit {0}) LineKind → Option (List Edge) → Result (Option (List Edge)) LineKind
 said_with (Ok _) cycle = Ok cycle
 said_with (Err kind) cycle = Err kind
 
--- the cycle of an architecture that edges make as they are kept, or their first fault
+-- the cycle of an architecture that edges make as they are kept, or their first error
 abbrev pub made_kept : ArchName → EdgeList → Result (Option (List Edge)) LineKind
 made_kept arch (Whole list) = cycle_made arch list.items
 made_kept arch TooLong = Err kinds.TooLong

@@ -22,7 +22,7 @@ pub record Untouched (old new : SourceSeen) (bytes : List ℕ) : Type 0 where
 abbrev pub TookUpTo : SourceSeen → SourceSeen → List ℕ → Type 0
 TookUpTo old new bytes = Took old new bytes ⊎ Untouched old new bytes
 
--- a source was read to its end, no line has a fault, and these are the cycles of its lines
+-- a source was read to its end, no line has an error, and these are the cycles of its lines
 pub record ReadAll (arch : ArchName) (old new : SourceSeen) (cycles : List (List Edge)) : Type 0 where
   pub text : List ℕ
   pub took : Took old new text
@@ -32,7 +32,7 @@ pub record ReadAll (arch : ArchName) (old new : SourceSeen) (cycles : List (List
   pub sound : are_sound arch (lines_of text) ≡ true
   pub cycles_are : cycles ≡ cycles_of arch (lines_of text)
 
--- a line has a fault, the first of what the source had, and these are the cycles of the lines before it
+-- a line has an error, the first of what the source had, and these are the cycles of the lines before it
 pub record ReadToFault (arch : ArchName) (old new : SourceSeen) (cycles : List (List Edge)) (line : ℕ) (kind : LineKind) : Type 0 where
   pub text : List ℕ
   pub before : List (List ℕ)
@@ -42,7 +42,7 @@ pub record ReadToFault (arch : ArchName) (old new : SourceSeen) (cycles : List (
   pub first : FirstFault arch (lines_of (whole_of text new)) before line kind
   pub cycles_are : cycles ≡ cycles_of arch before
 
--- a source has more bytes than are read, no line that ends among these has a fault, nor is the last of them too long
+-- a source has more bytes than are read, no line that ends among these has an error, nor is the last of them too long
 -- already, and these are the cycles of those lines; the line is the one after the last line feed among these bytes
 pub record ReadToLimit (arch : ArchName) (old new : SourceSeen) (cycles : List (List Edge)) (line : ℕ) : Type 0 where
   pub text : List ℕ
@@ -54,7 +54,7 @@ pub record ReadToLimit (arch : ArchName) (old new : SourceSeen) (cycles : List (
   pub line_is : line ≡ line_feed_count (take MAX_INPUT text) + 1
   pub cycles_are : cycles ≡ cycles_of arch (ended_lines (take MAX_INPUT text))
 
--- a source failed, no line that had ended has a fault, nor was the last one too long already, and these are the cycles of
+-- a source failed, no line that had ended has an error, nor was the last one too long already, and these are the cycles of
 -- those lines
 pub record ReadToStop (arch : ArchName) (old new : SourceSeen) (cycles : List (List Edge)) : Type 0 where
   pub text : List ℕ
@@ -72,12 +72,12 @@ ReadUpTo arch old new cycles (Wrong line kind) = ReadToFault arch old new cycles
 ReadUpTo arch old new cycles (TooMuch line) = ReadToLimit arch old new cycles line
 ReadUpTo arch old new cycles InputFault = ReadToStop arch old new cycles
 
--- a source was read so far, without a fault of its own
+-- a source was read so far, without an error of its own
 pub record ReadSome (old new : SourceSeen) (text : List ℕ) : Type 0 where
   pub took : Took old new text
   pub few : length text ≤ MAX_INPUT
   pub no_fault : new.faults ≡ old.faults
 
--- the cycles of the lines before the first that has a fault; of all lines where none has one
+-- the cycles of the lines before the first that has an error; of all lines where none has one
 abbrev pub cycles_before : ArchName → List ℕ → List (List Edge)
 cycles_before arch text = cycles_of arch (take_while (is_sound arch) (lines_of text))

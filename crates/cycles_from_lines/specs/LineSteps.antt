@@ -104,7 +104,7 @@ abbrev pub ReadsOn : ArchName → SourceSeen → SourceSeen → ReaderSeen → R
 ReadsOn arch old new before after cycle result =
     (first : SourceSeen) (cycles : List (List Edge)) → HasRead arch first old before cycles → Continues arch first new after cycles cycle result
 
--- a source was read to its end, or to the fault of its last line, of which this is the cycle
+-- a source was read to its end, or to the error of its last line, of which this is the cycle
 abbrev pub ReadToEnd : ArchName → SourceSeen → SourceSeen → List (List Edge) → Option (List Edge) → Result (Unit {0}) LinesError → Type 0
 ReadToEnd arch old new cycles cycle (Ok _) = ReadAll arch old new (cycles ++ last_cycle cycle)
 ReadToEnd arch old new cycles cycle (Err error) = ReadUpTo arch old new cycles error

@@ -53,7 +53,7 @@ pub fn quoted_cycle(arch: ArchName, quoted: Option<&[u8]>) -> Option<Cycle>
 }
 
 /// Makes `cycle` the cycle of an architecture that the edges of a line make, or finds their first
-/// fault.
+/// error.
 fn make_of(arch: ArchName, edges: &EdgeList, cycle: &mut Option<Cycle>) -> Result<(), LineKind>
     ensures { said_with result cycle.new ≡ made_kept arch edges.now }
 {

@@ -26,11 +26,11 @@ pub enum LineKind {
 /// Why the lines of a source weren't read to its end.
 #[derive(Clone, Copy, Debug, PartialEq, Eq, Error)]
 pub enum LinesError {
-    /// The line of this number, counted from 1, has a fault, and no line before it has one.
+    /// The line of this number, counted from 1, has an error, and no line before it has one.
     #[error("line {line}: {kind}")]
     Wrong { line: u64, kind: LineKind },
     /// There are more than `MAX_INPUT` bytes. The line is the one after the last line feed among the first of these,
-    /// and no line before it has a fault.
+    /// and no line before it has an error.
     #[error("line {line}: there are too many bytes")]
     TooMuch { line: u64 },
     /// The source failed.

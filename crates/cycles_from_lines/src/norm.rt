@@ -19,7 +19,7 @@ use relax_edges::ArchName;
 /// without a line feed counts if it has a byte. A line of blanks alone is passed over; else all up
 /// to its first colon is dropped, and the rest is edges, which blanks (spaces and tabs) separate.
 ///
-/// Where a line has a fault, where there are more than `MAX_INPUT` bytes, or where the source fails,
+/// Where a line has an error, where there are more than `MAX_INPUT` bytes, or where the source fails,
 /// the lines of the cycles before that are written. Where the sink fails, it has taken a prefix of
 /// them.
 pub fn norm_lines<I: Source, O: Sink>(

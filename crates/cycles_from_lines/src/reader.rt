@@ -34,7 +34,7 @@ pub(crate) enum Found {
 pub(crate) enum Line {
     /// It was, and the cycle that it says, if any, is stored where it is to be.
     Read,
-    /// It has a fault.
+    /// It has an error.
     Wrong(LineKind),
     /// It isn't pending as a whole.
     Unended,

@@ -63,12 +63,12 @@ all_at : {X : Type 0} (test : X → Bool) (before : List X) (x : X) (later : Lis
 all_at test [] x later h = (and_parts (test x) (list_all test later) h).0
 all_at test (b ∷ before) x later h = all_at test before x later (and_parts (test b) (list_all test (before ++ x ∷ later)) h).1
 
--- a line without a fault has none
+-- a line without an error has none
 no_fault : {X : Type 0} (said : Result X LineKind) (kind : LineKind) → is_ok said ≡ true → result_err said ≡ Some kind → ⊥
 no_fault (Ok x) kind h e = cc e
 no_fault (Err error) kind h e = cc h
 
--- a sound text is read to its end, where no fault comes
+-- a sound text is read to its end, where no error comes
 sound_fault : (arch : ArchName) (old new : SourceSeen) (cycles : List (List Edge)) (line : ℕ) (kind : LineKind)
     → OfItsText old.left (IsSoundText arch) → ReadToFault arch old new cycles line kind → ⊥
 sound_fault arch old new cycles line kind sound h =
@@ -255,12 +255,12 @@ check_done words asked status old new before after end (Some files) shown right 
     check_ends asked end status e
     (right_files_done (shown_of asked.form) asked.arch (machine_of asked.arch).writing old new words asked.test asked.execution before after end files h shown right none none_out)
 
--- logs that have a sum have no fault
+-- logs that have a sum have no error
 right_wrong : (logs others : List (List ℕ)) (error : LogError) → AreWholeLogs logs → logs ≡ others → logs_text others ≡ Err error → ⊥
 right_wrong logs others error right e h =
     let all : Ok right.text ≡ Err error = sym right.is ∙ (ap logs_text e ∙ h) in cc
 
--- the log of an input that has at most 2^40 bytes and no fault
+-- the log of an input that has at most 2^40 bytes and no error
 log_wrong : (old new : SourceSeen) (error : LogError) → OfItsText old.left IsRightLog → InputWrong old new error → ⊥
 log_wrong old new error right h = right_wrong (h.log ∷ []) (h.log ∷ []) error (right h.log h.text).right refl (h.is.wrong [])
 

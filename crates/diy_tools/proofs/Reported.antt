@@ -1,4 +1,4 @@
--- The names of locations, as a report finds them, and the line of words where none shows the fault.
+-- The names of locations, as a report finds them, and the line of words where none shows the error.
 use Rattle.std.proofs.Common.{◌≡◌, ℕ, ◌+◌, ◌<◌, ◌≤◌, List, [], ◌++◌, ◌∙◌, ap, arith, length, get_or, append-nil, inl, inr, subst}
 use Rattle.std.specs.Prelude.{codes, slice_get, None, Result, Ok, Err}
 use Rattle.std.specs.Result.{IsErrAnd}
@@ -21,7 +21,7 @@ letters_long k = omega (arith, length-map-range_with_len location_name 0 (k + 1)
 no_word : (words : List (List ℕ)) (word : ℕ) → length words ≤ word → slice_get words word ≡ None
 no_word words word h = slice_get_past words word h
 
--- a fault of words that no word shows has a line without a word
+-- an error of words that no word shows has a line without a word
 pub bare_line : (words : List (List ℕ)) (word : ℕ) (kind : UsageKind) → length words ≤ word
     → status_line words (Usage word kind) ≡ codes "diy: usage " ++ usage_text kind ++ codes "\n"
 bare_line words word kind h =

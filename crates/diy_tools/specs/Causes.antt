@@ -81,7 +81,7 @@ abbrev pub FilesStop : List (List ℕ) → Result Task Usage → FilesEnd → De
 FilesStop words (Ok (AsksFamilies asked)) end old new = EndsFamilies words asked.arch asked.files end old new × NothingWritten old new
 FilesStop words _ end old new = ⊥
 
--- the file of the word at a place has this fault
+-- the file of the word at a place has this error
 abbrev pub FileStops : List (List ℕ) → Result Task Usage → Option ℕ → ℕ → FileKind → Devices → Devices → Type 0
 FileStops words asked (Some file) line kind old new = FilesStop words asked (classing.Wrong file line kind) old new
 FileStops words asked None line kind old new = ⊥
@@ -91,7 +91,7 @@ abbrev pub CheckStops : List (List ℕ) → Result Task Usage → CheckEnd → D
 CheckStops words (Ok (AsksCheck asked)) end old new = EndsCheck words asked end old new × NothingWritten old new
 CheckStops words _ end old new = ⊥
 
--- the file of the word at a place has this fault
+-- the file of the word at a place has this error
 abbrev pub CheckedStops : List (List ℕ) → Result Task Usage → Option ℕ → ℕ → CheckedKind → Devices → Devices → Type 0
 CheckedStops words asked (Some file) line kind old new = CheckStops words asked (checking.Wrong file line kind) old new
 CheckedStops words asked None line kind old new = ⊥
@@ -172,7 +172,7 @@ Finishes words (Ok (AsksExecution asked)) old new = ExecutionStops asked statuse
 Finishes words (Ok (AsksCoherenceExecution asked)) old new = CoherenceExecutionStops asked statuses.Done old new
 Finishes words (Ok (AsksLines asked)) old new = OutAlone (AnswersListed asked statuses.Done) old new
 
--- norm7 has written a prefix of the lines, over lines of cycles of those before the first fault of what was read
+-- norm7 has written a prefix of the lines, over lines of cycles of those before the first error of what was read
 abbrev pub NamesPart : ArchName → Sought → SourceSeen → SourceSeen → SinkSeen → SinkSeen → Type 0
 NamesPart arch (OfEdges edges) old new before after =
     (new ≡ old) × (refused_list arch edges ≡ None) × WrotePart before after (name_line edges)
@@ -206,18 +206,18 @@ CausesAsked words asked statuses.Done old new = Finishes words asked old new
 CausesAsked words asked (statuses.Refused refusal) old new = (asked_refused asked ≡ Some refusal) × (new ≡ old)
 -- the words make no request; no device changed
 CausesAsked words asked (statuses.Usage word kind) old new = IsUsage asked word kind × (new ≡ old)
--- a line of cycles of norm7 or classify7 has this fault, the first such
+-- a line of cycles of norm7 or classify7 has this error, the first such
 CausesAsked words asked (statuses.BadText file line (texts.Line kind)) old new = (file ≡ None) × LinesStop asked (lines.Wrong line kind) old new
--- a log of msum7 has this fault, the first such
+-- a log of msum7 has this error, the first such
 CausesAsked words asked (statuses.BadText file line (texts.Log kind)) old new = SumStops words asked (sums.Wrong file line kind) old new
--- a file of classify7, or the test of mcheck7, has this fault, the first such: it is no test, or one of another architecture
+-- a file of classify7, or the test of mcheck7, has this error, the first such: it is no test, or one of another architecture
 CausesAsked words asked (statuses.BadText file line (texts.Test kind)) old new =
     FileStops words asked file line (kinds.Test kind) old new ⊎ CheckedStops words asked file line (checked.Test kind) old new
 CausesAsked words asked (statuses.BadText file line texts.WrongArch) old new =
     FileStops words asked file line kinds.WrongArch old new ⊎ CheckedStops words asked file line checked.WrongArch old new
 -- a file of classify7, the first such, is a test that quotes no cycle
 CausesAsked words asked (statuses.BadText file line texts.NoCycle) old new = FileStops words asked file line kinds.NoCycle old new
--- the execution of mcheck7 has this fault, the first such
+-- the execution of mcheck7 has this error, the first such
 CausesAsked words asked (statuses.BadText file line (texts.Exec kind)) old new = CheckedStops words asked file line (checked.Exec kind) old new
 -- a text of norm7, classify7 or msum7 has more than 2^40 bytes
 CausesAsked words asked (statuses.BadText file line texts.TooMuch) old new = PassesLimit words asked file line old new

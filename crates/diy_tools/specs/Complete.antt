@@ -17,17 +17,17 @@ use Rattle.diy_tools.specs.{Devices.Devices, Devices.DevicesSeen, Devices.device
 use Rattle.diy_tools.specs.{Memory.MayWantMemory, Refused.refused_list, TestAnswers.test_refused, WhyAnswers.why_unshown}
 use Rattle.diy_tools.specs.{CoherenceAnswers.coherence_refused}
 
--- a text has at most 2^40 bytes, and none of its lines of cycles has a fault
+-- a text has at most 2^40 bytes, and none of its lines of cycles has an error
 pub record IsSoundText (arch : ArchName) (text : List ℕ) : Type 0 where
   pub short : length text ≤ MAX_INPUT
   pub sound : are_sound arch (lines_of text) ≡ true
 
--- a log has at most 2^40 bytes and no fault
+-- a log has at most 2^40 bytes and no error
 pub record IsRightLog (log : List ℕ) : Type 0 where
   pub short : IsShort log
   pub right : AreWholeLogs (log ∷ [])
 
--- the words after the first name files that are there, each of at most 2^40 bytes, and as logs they have no fault
+-- the words after the first name files that are there, each of at most 2^40 bytes, and as logs they have no error
 pub record AreRightLogs (files : Files) (words : List (List ℕ)) : Type 0 where
   pub logs : List (List ℕ)
   pub all : 1 + length logs ≡ length words

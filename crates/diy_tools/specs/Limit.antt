@@ -19,6 +19,6 @@ StopsReading asked (BadText file line kind) = ⊤
 StopsReading asked NoMemory = MayWantMemory asked
 StopsReading asked _ = ⊥
 
--- after more than 2^40 bytes a call says that there are too many, or gives an earlier fault of theirs, or wants memory
+-- after more than 2^40 bytes a call says that there are too many, or gives an earlier error of theirs, or wants memory
 abbrev pub Limited : List (List ℕ) → Status → DevicesSeen → DevicesSeen → Type 0
 Limited words status old new = TookTooMuch (devices old) (devices new) → StopsReading (asked_of words) status

@@ -128,7 +128,7 @@ kind_text texts.WrongArch = codes "WrongArch"
 kind_text texts.NoCycle = codes "NoCycle"
 kind_text texts.TooMuch = codes "TooMuch"
 
--- a word that shows a fault, where there is one
+-- a word that shows an error, where there is one
 abbrev pub shown_word : Option (List ℕ) → List ℕ
 shown_word (Some word) = codes ": " ++ word
 shown_word None = []
@@ -152,7 +152,7 @@ file_text words (Some word) = word_at words word
 abbrev pub refusal_line : List ℕ → List ℕ
 refusal_line text = codes "diy: refused " ++ text ++ codes "\n"
 
--- the line of what is wrong with a line of a text, by the name of the text and that of the fault
+-- the line of what is wrong with a line of a text, by the name of the text and that of the error
 abbrev pub text_line : List ℕ → ℕ → List ℕ → List ℕ
 text_line file line kind = codes "diy: " ++ file ++ codes ":" ++ decimal line ++ codes ": " ++ kind ++ codes "\n"
 

@@ -55,7 +55,7 @@ value_other : (option : OptionName) (at : ℕ) (value : List ℕ) → option ≡
 value_other option at value e =
     subst (λ (o : OptionName). IsOther files_of_saying (said_by tools.Classify (before_of []) (Valued o at value))) (sym e) (arch_other (at + 1) (arch_of value))
 
--- an option of classify7 has its value after it, and the words after that have no fault
+-- an option of classify7 has its value after it, and the words after that have no error
 pub option_first : (words : List (List ℕ)) (at : ℕ) (text : List ℕ) (option : OptionName) → at < length words → slice_get words at ≡ Some text
     → option_named tools.Classify text ≡ Some option → AreFaultless tools.Classify words at → OptionFirst tools.Classify files_of_saying words at
 option_first words at text option within got named fit =

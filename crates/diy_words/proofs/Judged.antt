@@ -106,7 +106,7 @@ gives_finished tool words at notes result last e finishes =
         (ap (λ (n : Notes). n.edges) same ∙ edges_noted said)
         (ap (λ (n : Notes). nat_lt MAX_CHOICES n.choices) same ∙ choices_noted said))
 
--- the first fault among the words
+-- the first error among the words
 pub gives_fault : (tool : Tool) (words : List (List ℕ)) (usage : Usage) → Err usage ≡ notes_at_end tool words 1 no_notes
     → GivesTask (Err usage) (asked_for (Some tool) (length words) (drop 1 words))
 gives_fault tool words usage e =

@@ -235,7 +235,7 @@ all_noted said =
       any_noted (λ n. n.given.graph) is_graph refl graph_step said,
     ) refl
 
--- and what bears on the fault of the next word
+-- and what bears on the error of the next word
 before_all : (said : List Saying) → before_noted (notes_of said) ≡ before_of said
 before_all said = rw (taken_noted said, mode_noted said, why_noted said, co_noted said, exec_noted said, folder_noted said, lines_noted said) refl
 

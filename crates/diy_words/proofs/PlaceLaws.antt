@@ -30,7 +30,7 @@ pub record PlaceFirst (words : List (List ℕ)) (at : ℕ) (text : List ℕ) : T
   pub faultless : AreFaultless tools.Cross words (at + 1)
   pub first : (relaxes : List (List Edge)) → relaxes_of text ≡ Ok relaxes → places_from words at ≡ relaxes ∷ places_from words (at + 1)
 
--- a word that is no option of diycross7 spells relaxations, and the words after it have no fault
+-- a word that is no option of diycross7 spells relaxations, and the words after it have no error
 pub place_first : (words : List (List ℕ)) (at : ℕ) (text : List ℕ) → slice_get words at ≡ Some text → option_named tools.Cross text ≡ None → AreFaultless tools.Cross words at → PlaceFirst words at text
 place_first words at text got plain fit =
     of_test (begins_option text) (relaxes_of text) refl (alone_then tools.Cross same_said words at text got plain (alone_silent (begins_option text) (relaxes_of text)))
@@ -96,7 +96,7 @@ value_other opts.Accesses at value = number_other SaysAccesses (at + 1) (number_
 value_other opts.After at value = after_other (at + 1) (edges_of BlanksAndCommas value)
 value_other opts.Folder at value = folder_other (at + 1) value (nat_lt 0 (length value) && nat_le (length value) MAX_FOLDER)
 
--- an option of diycross7 has its value after it, and the words after that have no fault
+-- an option of diycross7 has its value after it, and the words after that have no error
 pub option_first : (words : List (List ℕ)) (at : ℕ) (text : List ℕ) (option : OptionName) → at < length words → slice_get words at ≡ Some text
     → option_named tools.Cross text ≡ Some option → AreFaultless tools.Cross words at → OptionFirst tools.Cross places_of_word words at
 option_first words at text option within got named fit =

@@ -42,29 +42,29 @@ code_notes notes = record {
   taken = notes.taken;
 }
 
--- the notes after a part of the words, or its fault
+-- the notes after a part of the words, or its error
 abbrev pub notes_after : Notes → Result Saying Usage → Result Notes Usage
 notes_after notes (Ok saying) = Ok (with_saying notes saying)
 notes_after notes (Err usage) = Err usage
 
--- the notes after an option at a place with its value, or its fault
+-- the notes after an option at a place with its value, or its error
 abbrev pub notes_valued : Tool → Notes → OptionName → ℕ → List ℕ → Result Notes Usage
 notes_valued tool notes option at value = notes_after notes (said_by tool (before_noted notes) (Valued option at value))
 
--- the notes after a word at a place that is no option with a value, or its fault
+-- the notes after a word at a place that is no option with a value, or its error
 abbrev pub notes_alone : Tool → Notes → ℕ → List ℕ → Result Notes Usage
 notes_alone tool notes at text = notes_after notes (said_by tool (before_noted notes) (Alone at text))
 
--- the notes after a word at a place that begins with `-` and takes no value, or its fault
+-- the notes after a word at a place that begins with `-` and takes no value, or its error
 abbrev pub notes_dashed : Tool → Notes → ℕ → List ℕ → Result Notes Usage
 notes_dashed tool notes at text = notes_after notes (dashed_said tool (before_noted notes) at text)
 
--- the notes that a call leaves, or its fault
+-- the notes that a call leaves, or its error
 abbrev pub notes_left : Result (Unit {0}) Usage → Notes → Result Notes Usage
 notes_left (Ok _) notes = Ok notes
 notes_left (Err usage) notes = Err usage
 
--- the notes after parts of the words, one after another, or the first fault
+-- the notes after parts of the words, one after another, or the first error
 abbrev pub all_notes : Result Notes Usage → List (Result Saying Usage) → Result Notes Usage
 all_notes notes [] = notes
 all_notes (Ok notes) (said ∷ rest) = all_notes (notes_after notes said) rest
@@ -78,7 +78,7 @@ sayings_from tool notes words at = said_noted tool notes (parts_of tool at (drop
 abbrev pub notes_at_end : Tool → List (List ℕ) → ℕ → Notes → Result Notes Usage
 notes_at_end tool words at notes = all_notes (Ok notes) (sayings_from tool notes words at)
 
--- a call that takes in the part of the words at a place gives the place after it, or the fault there: the notes after all words
+-- a call that takes in the part of the words at a place gives the place after it, or the error there: the notes after all words
 -- stay the same
 abbrev pub Steps : Tool → List (List ℕ) → ℕ → Notes → Notes → Result ℕ Usage → Type 0
 Steps tool words at old new (Ok next) =

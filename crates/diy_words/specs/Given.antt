@@ -61,7 +61,7 @@ HoldsTask (requests.Demo request) (AsksDemo asked) = request ≡ asked
 HoldsTask (requests.Check request) (AsksCheck asked) = request ≡ asked
 HoldsTask _ _ = ⊥
 
--- a call gives the request that words make, or their first fault
+-- a call gives the request that words make, or their first error
 abbrev pub GivesTask : Result Request Usage → Result Task Usage → Type 0
 GivesTask (Ok request) (Ok asked) = HoldsTask request asked
 GivesTask (Ok request) (Err usage) = ⊥

@@ -66,7 +66,7 @@ notes_with notes (saying ∷ rest) = notes_with (with_saying notes saying) rest
 abbrev pub notes_of : List Saying → Notes
 notes_of = notes_with no_notes
 
--- what the notes hold of what bears on the fault of the next word
+-- what the notes hold of what bears on the error of the next word
 abbrev pub before_noted : Notes → Before
 before_noted notes = record {
   taken = notes.taken;

@@ -1,4 +1,4 @@
--- The request that words make, or the first fault among them. Words are judged from left to right, an option with its
+-- The request that words make, or the first error among them. Words are judged from left to right, an option with its
 -- value; then all of them. Source: own, after the command lines of the diy tools.
 use Rattle.std.specs.{Prelude.{ℕ, ◌*◌, Bool, nat_lt, if◌then◌else◌, List, [], ◌∷◌, length, Option, Some, None, Result, Ok, Err}, Option.unwrap_or}
 use Rattle.relax_edges.specs.{declared.kinds.ArchName.ArchName, declared.kinds.ObsMode.ObsMode, declared.kinds.ObsMode.TheVariants.Accept}
@@ -109,7 +109,7 @@ abbrev pub why_with : ℕ → Option ArchName → Option (List ℕ) → List Edg
 why_with count None name edges folder = Err (record { word = count; kind = MissingArch })
 why_with count (Some arch) name edges folder = Ok (record { arch = arch; name = name; edges = edges; folder = folder })
 
--- the request of diyone7 with `-co` from what was given: a folder is a fault here too
+-- the request of diyone7 with `-co` from what was given: a folder is an error here too
 abbrev pub coherence_with : ℕ → Option ArchName → Option (List ℕ) → List Edge → Option (List ℕ) → Result CoherenceTask Usage
 coherence_with count None name edges folder = Err (record { word = count; kind = MissingArch })
 coherence_with count (Some arch) name edges (Some folder) = Err (record { word = count; kind = MissingWhy })

@@ -1,4 +1,4 @@
--- What the words say one after another, each judged by what those before it said, or the first fault among them.
+-- What the words say one after another, each judged by what those before it said, or the first error among them.
 use Rattle.std.specs.{Prelude.{Bool, true, false, List, [], ◌∷◌, ◌++◌, length, filter, is_some, Result, Ok, Err}, List.list_any}
 use Rattle.diy_words.specs.{declared.usage.Usage.Usage, declared.options.Tool.Tool, Parts.Part}
 use Rattle.diy_words.specs.Sayings.{Saying, SaysCount, SaysTest, SaysExecution, Before, said_by}
@@ -11,7 +11,7 @@ is_limited (SaysTest _) = true
 is_limited (SaysExecution _) = true
 is_limited _ = false
 
--- what bears on the fault of the next word, of all that the words before it said
+-- what bears on the error of the next word, of all that the words before it said
 abbrev pub before_of : List Saying → Before
 before_of said = record {
   taken = length (filter is_limited said);
@@ -34,12 +34,12 @@ sayings tool before [] = []
 sayings tool before (part ∷ parts) =
     said_by tool (before_of before) part ∷ sayings tool (before ++ said_in (said_by tool (before_of before) part)) parts
 
--- something said before the rest, where the rest has no fault
+-- something said before the rest, where the rest has no error
 abbrev pub said_first : Saying → Result (List Saying) Usage → Result (List Saying) Usage
 said_first saying (Ok rest) = Ok (saying ∷ rest)
 said_first saying (Err usage) = Err usage
 
--- all that words say, or the first fault among them
+-- all that words say, or the first error among them
 abbrev pub said_all : List (Result Saying Usage) → Result (List Saying) Usage
 said_all [] = Ok []
 said_all (Ok saying ∷ rest) = said_first saying (said_all rest)

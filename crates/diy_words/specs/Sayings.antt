@@ -43,7 +43,7 @@ pub data Saying : Type 0 where
   SaysPlace : List (List Edge) → Saying
   SaysCount : ℕ → Saying
 
--- what the words before a word said that bears on its fault: how many operands were taken, of those whose number is limited, and
+-- what the words before a word said that bears on its error: how many operands were taken, of those whose number is limited, and
 -- whether `-obs`, `-why`, `-co`, `-exec`, `-o` and `-list` were among them
 pub record Before : Type 0 where
   pub taken : ℕ
@@ -54,7 +54,7 @@ pub record Before : Type 0 where
   pub folder : Bool
   pub lines : Bool
 
--- a fault at a word
+-- an error at a word
 abbrev pub usage_fault : ℕ → UsageKind → Result Saying Usage
 usage_fault word kind = Err (record { word = word; kind = kind })
 
@@ -97,7 +97,7 @@ abbrev pub edges_said : ℕ → Option (List Edge) → Result Saying Usage
 edges_said at (Some es) = Ok (SaysEdges at es)
 edges_said at None = usage_fault at UnknownEdge
 
--- what is wrong with relaxations, as a fault of words
+-- what is wrong with relaxations, as an error of words
 abbrev pub relax_usage : RelaxKind → UsageKind
 relax_usage relaxing.UnknownEdge = UnknownEdge
 relax_usage relaxing.BadBracket = BadBracket

@@ -399,7 +399,7 @@ fn more_choices(choices: u32, relaxes: usize) -> u32
     (choices as u64 * relaxes as u64).min(MAX_CHOICES as u64 + 1) as u32
 }
 
-/// What is wrong with relaxations, as a fault of words.
+/// What is wrong with relaxations, as an error of words.
 fn relax_usage(kind: RelaxKind) -> UsageKind
     ensures { result ≡ relax_usage kind }
 {

@@ -12,7 +12,7 @@ use crate::usage::{Usage, UsageKind, usage_at};
 use diy_io::{MAX_FOLDER, Words};
 use relax_edges::ObsMode;
 
-/// The request that the words make, or the first fault among them: words are judged from left to
+/// The request that the words make, or the first error among them: words are judged from left to
 /// right, an option with its value, and then all of them.
 pub fn read_request(words: &Words) -> Result<Request<'_>, Usage>
     ensures given { GivesTask result (asked_of words.now) }

@@ -1,5 +1,5 @@
 -- What a list of edges makes: a cycle, or the first thing that is wrong with it.
--- Source: the diy part of the herdtools manual, "Candidate relaxations"; which fault is named is own.
+-- Source: the diy part of the herdtools manual, "Candidate relaxations"; which error is named is own.
 use Rattle.std.specs.Prelude.{ℕ, ◌+◌, cond, List, [], ◌∷◌, ◌++◌, length, Option, Some, None, Result, Ok, Err, nat_lt}
 use Rattle.relax_edges.specs.declared.{TheConstants.MAX_EDGES, edge.Edge.Edge}
 use Rattle.edge_algebra.specs.declared.errors.{CycleError.CycleError, CycleError.TheVariants.Empty, CycleError.TheVariants.TooLong}
@@ -12,12 +12,12 @@ abbrev pub counted_from : ℕ → Option ℕ → Option ℕ
 counted_from _ None = None
 counted_from at (Some i) = Some (at + i)
 
--- the list itself where each edge joins the next, cyclically, and else the fault at the first place where one doesn't
+-- the list itself where each edge joins the next, cyclically, and else the error at the first place where one doesn't
 abbrev pub unbroken : List Edge → Option ℕ → Result (List Edge) CycleError
 unbroken u None = Ok u
 unbroken u (Some at) = Err (DoesNotCompose at)
 
--- the cycle that a list of edges makes, or the first fault
+-- the cycle that a list of edges makes, or the first error
 abbrev pub composed : List Edge → Result (List Edge) CycleError
 composed [] = Err Empty
 composed (e ∷ u) =

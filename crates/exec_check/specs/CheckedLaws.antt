@@ -107,7 +107,7 @@ not_absent seen files name a m n shown there absent =
     let none : files name ≡ None = subst (λ (o : Option Files). MatchOption o (Rose m n) (λ f. f name ≡ None)) shown absent in
     let both : ◌≡◌ {A = Option (List ℕ)} (Some a) None = sym there ∙ none in cc both
 
--- what is right has no fault
+-- what is right has no error
 not_both : {X E : Type 0} (judge : List ℕ → Result X E) (a b : List ℕ) (x : X) (e : E) → a ≡ b → judge a ≡ Ok x → judge b ≡ Err e → ⊥
 not_both {X} {E} judge a b x e same right wrong =
     let both : ◌≡◌ {A = Result X E} (Ok x) (Err e) = sym right ∙ ap judge same ∙ wrong in cc both

@@ -54,7 +54,7 @@ pub record IsTestUnclosed (arch : ArchName) (w : Writing) (text : List ℕ) (clo
   pub failed : IsErr closed
 
 -- an answer to the file of a test with this text, where this is the answer to its closing: that the device failed only where the text
--- has no fault
+-- has no error
 abbrev pub TestClosedTo : ArchName → Writing → List ℕ → Result (Unit {0}) Failed → Result TestRead CheckFault → Type 0
 TestClosedTo arch w text closed (Ok test) = (test_said arch w text ≡ Ok test) × (closed ≡ Ok tt)
 TestClosedTo arch w text closed (Err faults.Missing) = ⊥

@@ -18,7 +18,7 @@ use Rattle.tests_from_files.specs.{FilesRead.Begins, FilesRead.FileFaulty, TestS
 use Rattle.exec_check.specs.declared.checked_errors.CheckedKind.TheVariants as kinds
 use Rattle.exec_check.specs.declared.checked_errors.CheckEnd.TheVariants as ends
 
--- what a text says as an execution of a test, or its first fault
+-- what a text says as an execution of a test, or its first error
 abbrev pub exec_said : TestRead → List ℕ → Result Execution ExecFault
 exec_said test text = execution_read (length test.threads) test.places text
 
@@ -62,13 +62,13 @@ pub record ExecutionShown (shown : Shown) (arch : ArchName) (w : Writing) (old n
   pub is : IsVerdict arch (number_in w.registers) judged x v
   pub wrote : done (shown_text shown judged x v)
 
--- the file of the test has this first fault, and all of it was taken, or its first bytes, one more than a test may have; no other was
+-- the file of the test has this first error, and all of it was taken, or its first bytes, one more than a test may have; no other was
 -- opened
 pub record TestWrong (arch : ArchName) (w : Writing) (old new : ShelfSeen) (words : List (List ℕ)) (test file : ℕ) (error : TestFileError) : Type 0 where
   pub place_is : file ≡ test
   pub faulty : FileFaulty (test_said arch w) old new (name_at words test) error
 
--- the file of the test is a test and was read to its end; then that of the execution has this first fault, and so much was taken of it
+-- the file of the test is a test and was read to its end; then that of the execution has this first error, and so much was taken of it
 pub record ExecWrong (arch : ArchName) (w : Writing) (old new : ShelfSeen) (words : List (List ℕ)) (test exec file : ℕ) (error : ExecFault) : Type 0 where
   pub place_is : file ≡ exec
   pub text : List ℕ
@@ -79,13 +79,13 @@ pub record ExecWrong (arch : ArchName) (w : Writing) (old new : ShelfSeen) (word
   pub fault : exec_said read shown ≡ Err error
   pub took : TookFiles old new (text ∷ take (MAX_TEST_TEXT + 1) shown ∷ [])
 
--- the one or the other, by the kind of the fault
+-- the one or the other, by the kind of the error
 abbrev pub IsWrongFile : ArchName → Writing → ShelfSeen → ShelfSeen → List (List ℕ) → ℕ → ℕ → ℕ → ℕ → CheckedKind → Type 0
 IsWrongFile arch w old new words test exec file line (kinds.Test kind) = TestWrong arch w old new words test file (record { line = line; kind = tests.Test kind })
 IsWrongFile arch w old new words test exec file line kinds.WrongArch = TestWrong arch w old new words test file (record { line = line; kind = tests.WrongArch })
 IsWrongFile arch w old new words test exec file line (kinds.Exec kind) = ExecWrong arch w old new words test exec file (record { line = line; kind = kind })
 
--- the word of the test names no file, where the files are shown, and then no fault came; none was opened
+-- the word of the test names no file, where the files are shown, and then no error came; none was opened
 pub record TestAbsent (old new : ShelfSeen) (words : List (List ℕ)) (test word : ℕ) : Type 0 where
   pub place_is : word ≡ test
   pub absent : MatchOption old.files (Rose old.faults new.faults) (λ there. there (name_at words test) ≡ None)

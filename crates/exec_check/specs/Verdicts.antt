@@ -68,7 +68,7 @@ pub record JudgesText (arch : ArchName) (register_number : List ℕ → Option �
   pub read : execution_read (length test.threads) test.places text ≡ Ok execution
   pub verdict : IsVerdict arch register_number test execution v
 
--- the verdict on the execution that a text gives, or the text's first fault, or that there was no memory, of which nothing is said
+-- the verdict on the execution that a text gives, or the text's first error, or that there was no memory, of which nothing is said
 abbrev pub Checks : ArchName → (List ℕ → Option ℕ) → TestRead → List ℕ → Result Verdict CheckError → Type 0
 Checks arch register_number test text (Ok v) = JudgesText arch register_number test text v
 Checks arch register_number test text (Err (Exec line kind)) =

@@ -16,7 +16,7 @@ line_then add x y k n (Ok items) (Ok rest) h = let e : all_added add x k items �
 line_then add x y k n (Ok items) (Err fault) h = refl
 line_then add x y k n (Err kind) others h = cc
 
--- a faulty line ends the reading with its fault, at its number
+-- a faulty line ends the reading with its error, at its number
 pub line_stops : {X : Type 0} (add : WayToAdd X) (x : Execution) (k : ℕ) (n : ℕ) (kind : ExecKind) (line : Result (List X) ExecKind) (others : Result (List (List X) × List (List ℕ)) ExecFault)
     → line_added add x k line ≡ Err kind → lines_added add x k (put_line (at_line n line) others) ≡ Err (record { line = n; kind = kind })
 line_stops add x k n kind (Ok items) others h = cc
@@ -29,7 +29,7 @@ pub one_line : {X : Type 0} (add : WayToAdd X) (told : List ℕ → List (List �
 unfolding each_line_read
 one_line add told x y k n heads more lines left head line e f h = rw (e, f) (line_then add x y k n (told head (words line)) (each_line_read told (n + 1) more left) h)
 
--- a faulty line of the first head ends the reading with its fault, at its number
+-- a faulty line of the first head ends the reading with its error, at its number
 pub one_stops : {X : Type 0} (add : WayToAdd X) (told : List ℕ → List (List ℕ) → Result (List X) ExecKind) (x : Execution) (k n : ℕ) (heads more lines left : List (List ℕ)) (head line : List ℕ) (kind : ExecKind)
     → heads ≡ head ∷ more → lines ≡ line ∷ left → line_added add x k (told head (words line)) ≡ Err kind
     → lines_added add x k (each_line_read told n heads lines) ≡ Err (record { line = n; kind = kind })

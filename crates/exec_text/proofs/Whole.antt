@@ -25,13 +25,13 @@ abbrev second_or : {A B F : Type 0} → B → Result (A × B) F → B
 second_or b (Ok p) = p.1
 second_or b (Err f) = b
 
--- lines are read without a fault: what they give is added to one execution and makes the other
+-- lines are read without an error: what they give is added to one execution and makes the other
 pub record AreRead {X : Type 0} (add : WayToAdd X) (x y : Execution) (k : ℕ) (told : Result (List (List X) × List (List ℕ)) ExecFault) (left : List (List ℕ)) : Type 0 where
   pub lists : List (List X)
   pub is : told ≡ Ok (lists, left)
   pub grown : each_added add x k lists ≡ y
 
--- lines that lead from one execution to another are read without a fault
+-- lines that lead from one execution to another are read without an error
 pub are_read : {X : Type 0} (add : WayToAdd X) (x y : Execution) (k : ℕ) (told : Result (List (List X) × List (List ℕ)) ExecFault) (left : List (List ℕ)) → lines_added add x k told ≡ Ok (y, left) → AreRead add x y k told left
 are_read add x y k (Ok told) left h = record {
   lists = told.0;
@@ -40,7 +40,7 @@ are_read add x y k (Ok told) left h = record {
 }
 are_read add x y k (Err fault) left h = cc
 
--- a fault in what is added is a fault of the lines
+-- an error in what is added is an error of the lines
 pub is_wrong : {X : Type 0} (add : WayToAdd X) (x : Execution) (k : ℕ) (told : Result (List (List X) × List (List ℕ)) ExecFault) (fault : ExecFault) → lines_added add x k told ≡ Err fault → told ≡ Err fault
 is_wrong add x k (Ok told) fault h = cc
 is_wrong add x k (Err other) fault h = let e : other ≡ fault = cc in ap (λ f. Err f) e
@@ -121,19 +121,19 @@ pub short_read : (threads : ℕ) (places : List (List ℕ)) (text : List ℕ) �
 unfolding execution_read
 short_read threads places text h = rw (le-ltb MAX_TEST_TEXT (length text) h) refl
 
--- a fault in the lines of the threads is the fault of the text
+-- an error in the lines of the threads is the error of the text
 pub threads_wrong : (threads : ℕ) (places lines : List (List ℕ)) (fault : ExecFault) → lines_added with_read (nothing_kept threads (length places)) 0 (thread_lines_read threads lines) ≡ Err fault → reads_and_writes_read threads places lines ≡ Err fault
 unfolding reads_and_writes_read
 threads_wrong threads places lines fault h = rw (is_wrong with_read (nothing_kept threads (length places)) 0 (thread_lines_read threads lines) fault h) refl
 
--- the lines of the threads are read without a fault
+-- the lines of the threads are read without an error
 pub record ThreadsRead (threads : ℕ) (places lines : List (List ℕ)) (x : Execution) (left : List (List ℕ)) : Type 0 where
   pub reads : List (List (ℕ × Option WriteAt))
   pub is : thread_lines_read threads lines ≡ Ok (reads, left)
   pub many : length reads ≡ threads
   pub x_is : record { reads = reads; orders = empty_lists (length places) } ≡ x
 
--- lines of threads that lead from nothing to an execution are read without a fault
+-- lines of threads that lead from nothing to an execution are read without an error
 pub threads_read : (threads : ℕ) (places lines : List (List ℕ)) (begun x : Execution) (left : List (List ℕ)) → begun ≡ nothing_kept threads (length places)
     → lines_added with_read begun 0 (thread_lines_read threads lines) ≡ Ok (x, left) → ThreadsRead threads places lines x left
 threads_read threads places lines begun x left begins h =
@@ -145,13 +145,13 @@ threads_read threads places lines begun x left begins h =
 pub orders_many : (threads : ℕ) (places lines : List (List ℕ)) (x : Execution) (left : List (List ℕ)) → ThreadsRead threads places lines x left → length x.orders ≡ length places
 orders_many threads places lines x left t = sym (ap (λ (y : Execution). length y.orders) t.x_is) ∙ length-replicate (length places) []
 
--- a fault in the lines of the places is the fault of the text
+-- an error in the lines of the places is the error of the text
 pub places_wrong : (threads : ℕ) (places lines : List (List ℕ)) (x : Execution) (left : List (List ℕ)) (fault : ExecFault) → ThreadsRead threads places lines x left
     → lines_added with_write x 0 (place_lines_read threads places left) ≡ Err fault → reads_and_writes_read threads places lines ≡ Err fault
 unfolding reads_and_writes_read
 places_wrong threads places lines x left fault t h = rw (t.is, is_wrong with_write x 0 (place_lines_read threads places left) fault h) refl
 
--- the lines of the threads and the places are read without a fault
+-- the lines of the threads and the places are read without an error
 pub record AllRead (threads : ℕ) (places lines : List (List ℕ)) (y : Execution) (left : List (List ℕ)) : Type 0 where
   pub reads : List (List (ℕ × Option WriteAt))
   pub orders : List (List WriteAt)
@@ -166,7 +166,7 @@ pub read_as : (threads : ℕ) (places lines left last : List (List ℕ)) (reads 
 unfolding reads_and_writes_read
 read_as threads places lines left last reads orders e f = rw (e, f) refl
 
--- lines of places that lead to an execution are read without a fault
+-- lines of places that lead to an execution are read without an error
 pub all_read : (threads : ℕ) (places lines : List (List ℕ)) (x y : Execution) (left last : List (List ℕ)) → ThreadsRead threads places lines x left
     → lines_added with_write x 0 (place_lines_read threads places left) ≡ Ok (y, last) → AllRead threads places lines y last
 all_read threads places lines x y left last t h =

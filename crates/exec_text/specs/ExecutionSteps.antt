@@ -22,17 +22,17 @@ abbrev pub each_added : {X : Type 0} → WayToAdd X → Execution → ℕ → Li
 each_added add x k [] = x
 each_added add x k (items ∷ lists) = each_added add (all_added add x k items) (k + 1) lists
 
--- an execution after what a line gives was added to its list number k, or the line's fault
+-- an execution after what a line gives was added to its list number k, or the line's error
 abbrev pub line_added : {X : Type 0} → WayToAdd X → Execution → ℕ → Result (List X) ExecKind → Result Execution ExecKind
 line_added add x k (Ok items) = Ok (all_added add x k items)
 line_added add x k (Err kind) = Err kind
 
--- an execution after what lines give was added to its lists from number k on, and the lines that are left; or their fault
+-- an execution after what lines give was added to its lists from number k on, and the lines that are left; or their error
 abbrev pub lines_added : {X : Type 0} → WayToAdd X → Execution → ℕ → Result (List (List X) × List (List ℕ)) ExecFault → Result (Execution × List (List ℕ)) ExecFault
 lines_added add x k (Ok told) = Ok (each_added add x k told.0, told.1)
 lines_added add x k (Err fault) = Err fault
 
--- a line was read, and the execution is this one; or its fault is given; or there was no memory, of which nothing is said
+-- a line was read, and the execution is this one; or its error is given; or there was no memory, of which nothing is said
 abbrev pub ReadsLine : Result (Unit {0}) LineError → Execution → Result Execution ExecKind → Type 0
 ReadsLine (Ok done) x read = read ≡ Ok x
 ReadsLine (Err (line_errors.Kind kind)) x read = read ≡ Err kind
@@ -44,7 +44,7 @@ ReadsLines (Ok rest) x read = read ≡ Ok (x, lines_of rest.now)
 ReadsLines (Err (errors.Text fault)) x read = read ≡ Err fault
 ReadsLines (Err errors.NoMemory) x read = Unit {0}
 
--- the execution is the one that a text gives, or the fault is the text's; where there was no memory, nothing is said
+-- the execution is the one that a text gives, or the error is the text's; where there was no memory, nothing is said
 abbrev pub ReadsText : Result Execution ExecError → Result Execution ExecFault → Type 0
 ReadsText (Ok x) read = read ≡ Ok x
 ReadsText (Err (errors.Text fault)) read = read ≡ Err fault
@@ -55,7 +55,7 @@ abbrev pub FirstLine : Option (Bor (List ℕ) × Bor (List ℕ)) → List ℕ �
 FirstLine None text = lines_of text ≡ []
 FirstLine (Some first) text = lines_of text ≡ first.0.now ∷ lines_of first.1.now
 
--- the error of a line at its number: its fault there, or that there is no memory
+-- the error of a line at its number: its error there, or that there is no memory
 abbrev pub AtLine : ℕ → LineError → ExecError → Type 0
 AtLine n (line_errors.Kind kind) error = error ≡ errors.Text (record { line = n; kind = kind })
 AtLine n line_errors.NoMemory error = error ≡ errors.NoMemory

@@ -52,13 +52,13 @@ read_written threads (Some parts) = read_with_source (number_of parts.0) (source
 unfoldable pub read_named : ℕ → List ℕ → Option (ℕ × Option WriteAt)
 read_named threads word = read_written threads (cut_at 64 word)
 
--- a thing before others; or the first fault, where the thing isn't there or the others have one
+-- a thing before others; or the first error, where the thing isn't there or the others have one
 abbrev pub put_first : {X F : Type 0} → F → Option X → Result (List X) F → Result (List X) F
 put_first fault None rest = Err fault
 put_first fault (Some x) (Err later) = Err later
 put_first fault (Some x) (Ok xs) = Ok (x ∷ xs)
 
--- what words name, one after another; a word that names nothing is a fault
+-- what words name, one after another; a word that names nothing is an error
 abbrev pub all_named : {X : Type 0} → ExecKind → (List ℕ → Option X) → List (List ℕ) → Result (List X) ExecKind
 all_named bad name [] = Ok []
 all_named bad name (word ∷ rest) = put_first bad (name word) (all_named bad name rest)
@@ -76,12 +76,12 @@ reads_told threads = line_read BadThread BadRead (read_named threads)
 abbrev pub writes_told : ℕ → List ℕ → List (List ℕ) → Result (List WriteAt) ExecKind
 writes_told threads = line_read BadPlace BadWrite (access_named threads)
 
--- a fault, with the number of its line
+-- an error, with the number of its line
 abbrev pub at_line : {A : Type 0} → ℕ → Result A ExecKind → Result A ExecFault
 at_line n (Ok a) = Ok a
 at_line n (Err kind) = Err (record { line = n; kind = kind })
 
--- what a line gives before what the others give, and the lines that are left; the first fault where there is one
+-- what a line gives before what the others give, and the lines that are left; the first error where there is one
 abbrev pub put_line : {X : Type 0} → Result (List X) ExecFault → Result (List (List X) × List (List ℕ)) ExecFault → Result (List (List X) × List (List ℕ)) ExecFault
 put_line (Err fault) rest = Err fault
 put_line (Ok xs) (Err fault) = Err fault

@@ -16,21 +16,21 @@ pub nothing_after : (read : ConditionRead (List TermSeen)) → remainder [] read
 nothing_after (Ok terms) = refl
 nothing_after (Err f) = refl
 
--- where a term is faulty, that is the fault of the whole
+-- where a term is faulty, that is the error of the whole
 pub stops_at_term : (known : LeftSeen → Bool) (room : ℕ) (text : List ℕ) (prefix : List TermSeen) (f : Fault) (whole : ConditionRead (List TermSeen))
     → term_read known text ≡ Err f → remainder prefix (terms_read known room text) ≡ whole → whole ≡ Err f
 unfolding terms_read
 stops_at_term known zero text prefix f whole e h = sym h ∙ rw e refl
 stops_at_term known (suc room) text prefix f whole e h = sym h ∙ rw e refl
 
--- where there is no room for a term, it is a fault where it begins
+-- where there is no room for a term, it is an error where it begins
 pub stops_at_full : (known : LeftSeen → Bool) (room : ℕ) (text : List ℕ) (prefix : List TermSeen) (t : TermSeen × List ℕ) (whole : ConditionRead (List TermSeen))
     → room ≡ 0 → term_read known text ≡ Ok t → remainder prefix (terms_read known room text) ≡ whole → whole ≡ cond_fault BadEnd (unblanked text)
 unfolding terms_read
 stops_at_full known zero text prefix t whole full e h = sym h ∙ rw e refl
 stops_at_full known (suc room) text prefix t whole full e h = absurd (omega arith)
 
--- where what follows a term is faulty, that is the fault of the whole
+-- where what follows a term is faulty, that is the error of the whole
 pub stops_at_follow : (known : LeftSeen → Bool) (room : ℕ) (text : List ℕ) (prefix : List TermSeen) (t : TermSeen × List ℕ) (f : Fault) (whole : ConditionRead (List TermSeen))
     → 0 < room → term_read known text ≡ Ok t → follow_read t.1 ≡ Err f → remainder prefix (terms_read known room text) ≡ whole → whole ≡ Err f
 unfolding terms_read

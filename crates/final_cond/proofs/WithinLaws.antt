@@ -1,4 +1,4 @@
--- A fault lies within the text that is read.
+-- An error lies within the text that is read.
 use Rattle.std.proofs.Common.{◌≡◌, ℕ, zero, suc, ◌≤◌, List, [], ◌∷◌, length, subst, arith}
 use Rattle.std.specs.{Prelude.{Bool, nat_eq, Option, Some, None, Result, Ok, Err, IfSome}, Char.{is_ascii_digit, is_ascii_alphanumeric}}
 use Rattle.list_laws.proofs.Cases.{by_test}
@@ -11,7 +11,7 @@ use Rattle.text_parts_laws.specs.{Names.is_place_byte, NumberTexts.number_of, Le
 use Rattle.text_parts_laws.specs.{ReadingSteps.◌>>=◌, Words.is_argument_byte}
 use Rattle.text_parts_laws.proofs.RunLaws.{after_run-le}
 
--- the text after what was read, or from the fault on, has at most so many bytes
+-- the text after what was read, or from the error on, has at most so many bytes
 abbrev Stays : {A : Type 0} → (A → List ℕ) → ℕ → Result A Fault → Type 0
 Stays rest n (Ok x) = length (rest x) ≤ n
 Stays rest n (Err f) = length f.rest ≤ n
@@ -146,6 +146,6 @@ parts_stay known text =
     (stays_wider (λ z. z) (length (unblanked y.1)) (length text) (end_at_start (unblanked y.1)) (let u : length (unblanked y.1) ≤ length y.1 = unblanked-le y.1 in omega arith) (end_stays (unblanked y.1)))
     (λ z m. omega arith)))
 
--- the text from a fault on is no longer than the text
+-- the text from an error on is no longer than the text
 pub fault_within : (known : LeftSeen → Bool) (text : List ℕ) (f : Fault) → parts_read known text ≡ Err f → length f.rest ≤ length text
 fault_within known text f e = subst (Stays {A = CondSeen} (λ x. []) (length text)) e (parts_stay known text)

@@ -3,7 +3,7 @@ use Rattle.std.specs.{Prelude.{◌≡◌, ℕ, List, Result, Ok, Err}, Borrow.Bo
 use Rattle.final_cond.specs.{declared.cond.Left.Left, declared.cond.Term.Term, declared.errors.CondFault.CondFault}
 use Rattle.final_cond.specs.{Conditions.{LeftSeen, TermSeen, left_view, term_view}, ConditionReading.Fault}
 
--- a fault, with the text from there on as bytes
+-- an error, with the text from there on as bytes
 abbrev pub fault_view : CondFault → Fault
 fault_view fault = record { kind = fault.kind; rest = fault.rest.now }
 

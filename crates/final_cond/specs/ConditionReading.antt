@@ -1,6 +1,6 @@
--- The reading of the text of a condition, from left to right, with the first fault that is met.
+-- The reading of the text of a condition, from left to right, with the first error that is met.
 -- Blanks may stand between the parts of the text, and never inside a word, a left side or a number.
--- Source: the litmus format of the herdtools manual; the faults and their places are own.
+-- Source: the litmus format of the herdtools manual; the errors and their places are own.
 use Rattle.std.specs.Prelude.{ℕ, zero, suc, ◌-◌, Bool, ◌&&◌, ◌==◌, cond, List, [], ◌∷◌, length, codes, Option, Some, None, Result, Ok, Err, nat_lt}
 use Rattle.std.specs.{Char.is_ascii_digit, Char.is_ascii_alphanumeric, Str.bytes_eq}
 use Rattle.final_cond.specs.declared.{cond.TheConstants.MAX_TERMS, cond.Quantifier.Quantifier, cond.Quantifier.TheVariants.Exists}
@@ -17,11 +17,11 @@ pub record Fault : Type 0 where
   pub kind : CondKind
   pub rest : List ℕ
 
--- A part is read from the start of a text: the answer is what it means and the text after it, or the fault.
+-- A part is read from the start of a text: the answer is what it means and the text after it, or the error.
 abbrev pub ConditionRead : Type 0 → Type 0
 ConditionRead A = Result (A × List ℕ) Fault
 
--- a fault where this text begins
+-- an error where this text begins
 abbrev pub cond_fault : {A : Type 0} → CondKind → List ℕ → Result A Fault
 cond_fault kind text = Err (record { kind = kind; rest = text })
 
@@ -41,7 +41,7 @@ quantifier_of word =
     (cond (bytes_eq word (codes "~exists")) (Some NotExists)
     (cond (bytes_eq word (codes "forall")) (Some Forall) None))
 
--- a part that was found, or the fault that it isn't there
+-- a part that was found, or the error that it isn't there
 abbrev pub found : {A : Type 0} → CondKind → List ℕ → Option (A × List ℕ) → ConditionRead A
 found kind text None = cond_fault kind text
 found kind text (Some part) = Ok part
@@ -152,7 +152,7 @@ and_further term further follows.Term rest = do
   others ← further rest
   Ok (before_terms term others)
 
--- at most so many terms, with `/\` between, up to the `)` after the last; a term too many is a fault where it begins
+-- at most so many terms, with `/\` between, up to the `)` after the last; a term too many is an error where it begins
 unfoldable pub terms_read : (LeftSeen → Bool) → ℕ → List ℕ → ConditionRead (List TermSeen)
 terms_read known zero text = do
   term ← term_read known text
@@ -175,7 +175,7 @@ parts_read known text = do
   end ← end_at_start (unblanked terms.1)
   Ok (record { quantifier = opening.0; terms = terms.0 })
 
--- a fault with its place in the text
+-- an error with its place in the text
 abbrev pub placed : List ℕ → Result CondSeen Fault → Result CondSeen CondError
 placed text (Ok cond) = Ok cond
 placed text (Err cond_fault) = Err (record { at = length text - length cond_fault.rest; kind = cond_fault.kind })
@@ -185,6 +185,6 @@ abbrev pub has_form : LeftSeen → Bool
 has_form (InRegister thread name) = nat_lt thread 64 && is_register_name name
 has_form (AtPlace name) = is_place_name name
 
--- the condition that a text represents, or the first fault and its place
+-- the condition that a text represents, or the first error and its place
 unfoldable pub cond_read : List ℕ → Result CondSeen CondError
 cond_read text = placed text (parts_read has_form text)

@@ -18,7 +18,7 @@ pub enum CondKind {
     BadEnd,
 }
 
-/// Why a text is no condition: its first fault.
+/// Why a text is no condition: its first error.
 #[derive(Clone, Copy, Debug, PartialEq, Eq, Error)]
 #[error("byte {at}: {kind}")]
 pub struct CondError {
@@ -28,7 +28,7 @@ pub struct CondError {
     pub kind: CondKind,
 }
 
-/// A fault in a text that is read from the left: what is faulty or missing, and the text from the
+/// An error in a text that is read from the left: what is faulty or missing, and the text from the
 /// first byte on, blanks passed over, of what comes there.
 #[derive(Clone, Copy)]
 pub struct CondFault<'a> {

@@ -250,7 +250,7 @@ fn read_parts(text: &[u8]) -> Result<Cond, CondFault<'_>>
 /// may stand anywhere but inside a word, a left side or a number.
 ///
 /// There are 1 to `MAX_TERMS` terms, threads are below 64, and names are of their forms. Else the
-/// answer is the first fault from the left, and its place.
+/// answer is the first error from the left, and its place.
 #[tactic(auto, unfolding(crate::specs::ConditionReading::cond_read))]
 pub fn read_cond(text: &str) -> Result<Cond, CondError>
     ensures ok { IfOk result (λ cond. cond_read text.now ≡ Ok (cond_view cond)) }

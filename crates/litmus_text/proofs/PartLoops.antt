@@ -46,13 +46,13 @@ pub table_is : (w : Writing) (l4 l5 : Lines) (name : List ℕ) (quoted : Option 
 unfolding table_read rest_read
 table_is w l4 l5 name quoted begun threads count c0 c r j t names n m e p f q k values u = grind (arith, rows_same)
 
--- a fault of the rows is a fault of the test
+-- an error of the rows is an error of the test
 pub table_rows_bad : (w : Writing) (l4 : Lines) (name : List ℕ) (quoted : Option (List ℕ)) (begun : Begun) (threads : ℕ) (c0 c : List ThreadColumn) (x : TextError)
     → map column_seen c0 ≡ no_columns threads → c ≡ c0 → rows_scanned w 0 (with_places begun.names (map column_seen c)) l4 ≡ Err x → table_read w name quoted begun threads l4 ≡ Err x
 unfolding table_read
 table_rows_bad w l4 name quoted begun threads c0 c x n m e = grind (arith, rows_same)
 
--- a fault of the labels is a fault of the test
+-- an error of the labels is an error of the test
 pub table_labels_bad : (w : Writing) (l4 l5 : Lines) (name : List ℕ) (quoted : Option (List ℕ)) (begun : Begun) (threads : ℕ) (c0 c r j : List ThreadColumn) (names : List (List ℕ)) (x : TextError)
     → map column_seen c0 ≡ no_columns threads → c ≡ c0 → rows_scanned w 0 (with_places begun.names (map column_seen c)) l4 ≡ Ok (with_places names (map column_seen r), l5) → j ≡ r → all_labels_judged (map column_seen j) ≡ Err x
     → table_read w name quoted begun threads l4 ≡ Err x

@@ -248,7 +248,7 @@ locations_alone : test_read X86 x86 (text (codes "X86 SB" ∷ codes "\"PodWR Fre
 unfolding reading
 locations_alone = refl
 
--- a fault in the second line of the condition
+-- an error in the second line of the condition
 bad_condition : test_read X86 x86 (text (codes "X86 SB" ∷ codes "\"PodWR Fre PodWR Fre\"" ∷ codes "{" ∷ codes "}" ∷ codes " P0          | P1          ;" ∷ codes " MOV [x],$1  | MOV [y],$1  ;" ∷ codes " MOV EAX,[y] | MOV EAX,[x] ;" ∷ codes "exists (0:EAX=0" ∷ codes "/\\ 2:EAX=0)" ∷ [])) ≡ bad BadCondition 8
 unfolding reading
 bad_condition = refl
@@ -263,17 +263,17 @@ after_condition : test_read X86 x86 (text (codes "X86 SB" ∷ codes "\"PodWR Fre
 unfolding reading
 after_condition = refl
 
--- a place that is one too many in the first line of the condition, left of a fault
+-- a place that is one too many in the first line of the condition, left of an error
 place_65 : test_read X86 x86 (text (codes "X86 SB" ∷ codes "\"PodWR Fre PodWR Fre\"" ∷ codes "{" ∷ codes "}" ∷ codes " P0          | P1          ;" ∷ codes " MOV [x],$1  | MOV [y],$1  ;" ∷ codes " MOV EAX,[y] | MOV EAX,[x] ;" ∷ codes "exists (p0=0 /\\ p1=0 /\\ p2=0 /\\ p3=0 /\\ p4=0 /\\ p5=0 /\\ p6=0 /\\ p7=0 /\\ p8=0 /\\ p9=0 /\\ p10=0 /\\ p11=0 /\\ p12=0 /\\ p13=0 /\\ p14=0 /\\ p15=0 /\\ p16=0 /\\ p17=0 /\\ p18=0 /\\ p19=0 /\\ p20=0 /\\ p21=0 /\\ p22=0 /\\ p23=0 /\\ p24=0 /\\ p25=0 /\\ p26=0 /\\ p27=0 /\\ p28=0 /\\ p29=0 /\\ p30=0 /\\ p31=0 /\\ p32=0 /\\ p33=0 /\\ p34=0 /\\ p35=0 /\\ p36=0 /\\ p37=0 /\\ p38=0 /\\ p39=0 /\\ p40=0 /\\ p41=0 /\\ p42=0 /\\ p43=0 /\\ p44=0 /\\ p45=0 /\\ p46=0 /\\ p47=0 /\\ p48=0 /\\ p49=0 /\\ p50=0 /\\ p51=0 /\\ p52=0 /\\ p53=0 /\\ p54=0 /\\ p55=0 /\\ p56=0 /\\ p57=0 /\\ p58=0 /\\ p59=0 /\\ p60=0 /\\ p61=0 /\\ p62=0 /\\ 0:EXX=0)" ∷ [])) ≡ bad TooLarge 8
 unfolding reading
 place_65 = refl
 
--- a place that is one too many in a later line, and a fault after it
+-- a place that is one too many in a later line, and an error after it
 place_65_later : test_read X86 x86 (text (codes "X86 SB" ∷ codes "\"PodWR Fre PodWR Fre\"" ∷ codes "{" ∷ codes "}" ∷ codes " P0          | P1          ;" ∷ codes " MOV [x],$1  | MOV [y],$1  ;" ∷ codes " MOV EAX,[y] | MOV EAX,[x] ;" ∷ codes "exists (p0=0 /\\ p1=0 /\\ p2=0 /\\ p3=0 /\\ p4=0 /\\ p5=0 /\\ p6=0 /\\ p7=0 /\\ p8=0 /\\ p9=0 /\\ p10=0 /\\ p11=0 /\\ p12=0 /\\ p13=0 /\\ p14=0 /\\ p15=0 /\\ p16=0 /\\ p17=0 /\\ p18=0 /\\ p19=0 /\\ p20=0 /\\ p21=0 /\\ p22=0 /\\ p23=0 /\\ p24=0 /\\ p25=0 /\\ p26=0 /\\ p27=0 /\\ p28=0 /\\ p29=0 /\\ p30=0 /\\ p31=0 /\\ p32=0 /\\ p33=0 /\\ p34=0 /\\ p35=0 /\\ p36=0 /\\ p37=0 /\\ p38=0 /\\ p39=0 /\\ p40=0 /\\ p41=0 /\\ p42=0 /\\ p43=0 /\\ p44=0 /\\ p45=0 /\\ p46=0 /\\ p47=0 /\\ p48=0 /\\ p49=0 /\\ p50=0 /\\ p51=0 /\\ p52=0 /\\ p53=0 /\\ p54=0 /\\ p55=0 /\\ p56=0 /\\ p57=0 /\\ p58=0 /\\ p59=0 /\\ p60=0 /\\ p61=0" ∷ codes "/\\ p62=0" ∷ codes "/\\ 0:EXX=0)" ∷ [])) ≡ bad BadCondition 8
 unfolding reading
 place_65_later = refl
 
--- the same without a fault
+-- the same without an error
 place_65_alone : test_read X86 x86 (text (codes "X86 SB" ∷ codes "\"PodWR Fre PodWR Fre\"" ∷ codes "{" ∷ codes "}" ∷ codes " P0          | P1          ;" ∷ codes " MOV [x],$1  | MOV [y],$1  ;" ∷ codes " MOV EAX,[y] | MOV EAX,[x] ;" ∷ codes "exists (p0=0 /\\ p1=0 /\\ p2=0 /\\ p3=0 /\\ p4=0 /\\ p5=0 /\\ p6=0 /\\ p7=0 /\\ p8=0 /\\ p9=0 /\\ p10=0 /\\ p11=0 /\\ p12=0 /\\ p13=0 /\\ p14=0 /\\ p15=0 /\\ p16=0 /\\ p17=0 /\\ p18=0 /\\ p19=0 /\\ p20=0 /\\ p21=0 /\\ p22=0 /\\ p23=0 /\\ p24=0 /\\ p25=0 /\\ p26=0 /\\ p27=0 /\\ p28=0 /\\ p29=0 /\\ p30=0 /\\ p31=0 /\\ p32=0 /\\ p33=0 /\\ p34=0 /\\ p35=0 /\\ p36=0 /\\ p37=0 /\\ p38=0 /\\ p39=0 /\\ p40=0 /\\ p41=0 /\\ p42=0 /\\ p43=0 /\\ p44=0 /\\ p45=0 /\\ p46=0 /\\ p47=0 /\\ p48=0 /\\ p49=0 /\\ p50=0 /\\ p51=0 /\\ p52=0 /\\ p53=0 /\\ p54=0 /\\ p55=0 /\\ p56=0 /\\ p57=0 /\\ p58=0 /\\ p59=0 /\\ p60=0 /\\ p61=0" ∷ codes "/\\ p62=0" ∷ codes "/\\ 0:EAX=0)" ∷ [])) ≡ bad TooLarge 9
 unfolding reading
 place_65_alone = refl

@@ -3,11 +3,11 @@ use Rattle.std.proofs.{lemmas.Grind.flat_map-append, lemmas.List.append-nil}
 use Rattle.list_laws.proofs.Errors.{before_append}
 use Rattle.litmus_text.proofs.Vocabulary.{AllByRecursion, BadTable, Bool, Column, Err, Lines, List, MAX_ROWS, Micro, Name, None, Ok, Option, RawInstr, Result, Some, TableEntry, TextError, WithPlaces, Writing, [], a_fault, an_instr, ap, append_assoc, arith, before_columns, by_test, cell_entries, cell_if, cell_read, cells_of, codes, column_by, cond, cut_at, ends, ends_rows, entries_if, entries_in, entry_if, entry_in_line, entry_or_nothing, enumerate_from, eqb-suc-zero, eqb-zero-suc, false, fault_in, fits_in_column, flat_map, instr_in, instr_or_nothing, instr_put, is_well_named, label, label_named, label_of, labels_by, length, line, map, names_added, nat_lt, ne_eqb, no_column, no_columns, nothing, number_raw, op_after, op_in, op_numbered, over_in, place, place_named, place_of, placed_in, places_by, range_with_len, read_numbered, refl, row_read, rows_read, rows_scanned, suc, sym, take, true, with_before, with_names, with_places, written_in, zero, ℕ, ◌&&◌, ◌++◌, ◌+◌, ◌<◌, ◌==◌, ◌>>=◌, ◌∙◌, ◌∷◌, ◌≡◌, ◌≤◌}
 
--- the faults of entries, with those that come before them
+-- the errors of entries, with those that come before them
 abbrev faults : List (List ℕ) → List TableEntry → List TableEntry → List TextError
 faults names b xs = flat_map (fault_in names) (with_before b xs)
 
--- the first of some faults, or what follows where there is none
+-- the first of some errors, or what follows where there is none
 abbrev pub stop : {A : Type 0} → List TextError → Result A TextError → Result A TextError
 stop [] r = r
 stop (f ∷ fs) r = Err f

@@ -24,7 +24,7 @@ raw_ranged read places labels h = grind (arith, name_ranged)
 instr_ranged : (w : Writing) (text : List ℕ) (places labels : List (List ℕ)) → RawInRange w → Ranged (instr_read w text places labels)
 instr_ranged w text places labels h = raw_ranged (w.raw (written_in text)) places labels (h (written_in text))
 
--- a fact of what is read, where it is read without a fault
+-- a fact of what is read, where it is read without an error
 abbrev pub Gives : {A : Type 0} → (A → Type 0) → Result A TextError → Type 0
 Gives P (Ok x) = P x
 Gives P (Err e) = Unit

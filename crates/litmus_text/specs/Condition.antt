@@ -1,6 +1,6 @@
 -- The condition of a test, at the end of its text. Its lines are read as one text, and an error of its form stands at the line where it begins.
 -- In what follows `n` is the number of a line, `here` the setting of the condition, and `w` says how the architecture names its registers.
--- Source: the litmus format of the herdtools manual; what is a fault, and where, is own.
+-- Source: the litmus format of the herdtools manual; what is an error, and where, is own.
 use Rattle.std.specs.Prelude.{ℕ, zero, suc, ◌-◌, ◌==◌, Bool, true, cond, ◌&&◌, nat_lt, List, [], ◌∷◌, ◌++◌, Option, Some, None, Result, Ok, Err, length, is_some, not}
 use Rattle.std.specs.List.{filter, flat_map}
 use Rattle.list_laws.specs.Errors.{with_before, unless}
@@ -20,7 +20,7 @@ pub record Setting : Type 0 where
   pub begins : ℕ
   pub text : Joined
 
--- what a part of the condition gives, or its fault, which stands at the line where the condition begins
+-- what a part of the condition gives, or its error, which stands at the line where the condition begins
 abbrev pub at_begin : {A : Type 0} → ℕ → Result A Fault → Result A TextError
 at_begin n (Ok x) = Ok x
 at_begin n (Err fault) = bad BadCondition n

@@ -19,7 +19,7 @@ abbrev pub or_line : Option ℕ → ℕ → Option ℕ
 or_line (Some n) m = Some n
 or_line None m = Some m
 
--- a place that is one too many, at a line: a fault at once where the condition begins
+-- a place that is one too many, at a line: an error at once where the condition begins
 abbrev pub over_at : ℕ → ℕ → Mentioned → Result Mentioned TextError
 over_at begins n s = cond (n == begins) (bad TooLarge n) (Ok (record s { over = or_line s.over n }))
 

@@ -1,5 +1,5 @@
 -- The initial state of a test.
--- Source: the litmus format of the herdtools manual; what is a fault, and where, is own.
+-- Source: the litmus format of the herdtools manual; what is an error, and where, is own.
 use Rattle.std.specs.{Prelude.{ℕ, ◌+◌, ◌-◌, ◌==◌, Bool, cond, ◌&&◌, nat_lt, List, [], ◌∷◌, ◌++◌, Option, Some, None, Result, Ok, codes, length}, List.list_any}
 use Rattle.std.specs.Str.{bytes_eq}
 use Rattle.relax_edges.specs.declared.kinds.Value.{Value}

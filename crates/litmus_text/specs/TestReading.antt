@@ -1,6 +1,6 @@
--- What the text of a test is read as: its parts are read one after another, each from the lines that the one before it leaves, and the first fault ends the
+-- What the text of a test is read as: its parts are read one after another, each from the lines that the one before it leaves, and the first error ends the
 -- reading. Where a part gives a pair, `.0` is what it means and `.1` the lines that are left.
--- Source: the litmus format of the herdtools manual; the limits and the order of the faults are own.
+-- Source: the litmus format of the herdtools manual; the limits and the order of the errors are own.
 use Rattle.std.specs.{Prelude.{ℕ, ◌==◌, cond, nat_lt, List, Option, Result, Ok, length, map}, List.{filter, enumerate_from}}
 use Rattle.relax_edges.specs.{declared.kinds.ArchName.ArchName, declared.kinds.Value.Value}
 use Rattle.micro_ops.specs.declared.operation.Micro.{Micro}
@@ -35,7 +35,7 @@ abbrev pub threads_of : Begun → List Column → List ThreadRead
 threads_of begun columns =
     map (λ c. record { init = values_of_thread c.0 begun.values; code = map (λ placed. placed.op) c.1.ops }) (enumerate_from 0 columns)
 
--- the test that lines are read as, or the first fault: the header, the text in quotes, the initial state after lines of the form `name=anything`, the header
+-- the test that lines are read as, or the first error: the header, the text in quotes, the initial state after lines of the form `name=anything`, the header
 -- of the table, its rows, the labels of its branches, and the condition, before which a line of locations may be
 unfoldable pub lines_read : ArchName → Writing → Lines → Result TestRead TextError
 lines_read arch w lines = do
@@ -54,7 +54,7 @@ lines_read arch w lines = do
     cond = condition.cond;
   })
 
--- the test that a text is read as, or its first fault; a text of more than MAX_TEST_TEXT bytes is too large, whatever it holds
+-- the test that a text is read as, or its first error; a text of more than MAX_TEST_TEXT bytes is too large, whatever it holds
 unfoldable pub test_read : ArchName → Writing → List ℕ → Result TestRead TextError
 test_read arch w text = cond (nat_lt MAX_TEST_TEXT (length text)) (bad TooLarge 1) (lines_read arch w (lines_from 1 text))
 

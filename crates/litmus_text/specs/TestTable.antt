@@ -1,6 +1,6 @@
 -- The table of a test: its header, its rows, and the labels in its columns. In what follows `n` is the number of a line of the text, and `w` says how the
 -- architecture writes its instructions.
--- Source: the litmus format of the herdtools manual; what is a fault, and where, is own.
+-- Source: the litmus format of the herdtools manual; what is an error, and where, is own.
 use Rattle.std.specs.Prelude.{ℕ, ◌+◌, ◌==◌, Bool, true, false, cond, not, ◌&&◌, ◌||◌, nat_lt, List, [], ◌∷◌, ◌++◌, Option, Some, None, Result, Ok, codes, option_map, count_by, length, map, take}
 use Rattle.std.specs.{List.{list_all, flat_map, enumerate_from, range_with_len}, Fmt.decimal, Str.bytes_eq}
 use Rattle.std.proofs.Math.ListN.{replicate}
@@ -82,17 +82,17 @@ with_places places value = record { places = places; value = value }
 abbrev pub fits_in_column : Column → Micro → Bool
 fits_in_column column op = not (is_access op) || nat_lt (count_by (λ placed. is_access placed.op) column.ops) MAX_ACCESSES
 
--- The rows of the table. Each row, read by itself, gives entries: an instruction or a label in the column of a thread, or a fault. Each entry is then
+-- The rows of the table. Each row, read by itself, gives entries: an instruction or a label in the column of a thread, or an error. Each entry is then
 -- judged with all entries before it: it is the error TooLarge if it names a place that is one too many of those named so far, the initial state included,
 -- or a label that is one too many in its thread, or if it is one access too many for its thread; there is room for MAX_PLACES places, and for as many labels
 -- of a thread. The first fault counts.
 
--- what stands in a line of the table: an instruction or a label in the column of a thread, with the name that it mentions, or a fault of the line
+-- what stands in a line of the table: an instruction or a label in the column of a thread, with the name that it mentions, or an error of the line
 pub data TableEntry : Type 0 where
   an_instr : (n thread : ℕ) (raw : RawInstr) → TableEntry
   a_fault : (n : ℕ) (kind : TestKind) → TableEntry
 
--- an instruction of a thread, if the text of a cell is one and the name that it mentions has its form, or a fault
+-- an instruction of a thread, if the text of a cell is one and the name that it mentions has its form, or an error
 abbrev pub entry_if : ℕ → ℕ → Option RawInstr → TableEntry
 entry_if n thread None = a_fault n BadInstruction
 entry_if n thread (Some raw) = cond (is_well_named raw.name) (an_instr n thread raw) (a_fault n BadInstruction)
@@ -114,7 +114,7 @@ entries_if w n thread text (Some parts) = entry_in_line w n thread (parts.0 ++ c
 unfoldable pub cell_entries : Writing → ℕ → ℕ → List ℕ → List TableEntry
 cell_entries w n thread text = entries_if w n thread text (cut_at 58 text)
 
--- the entries of a row of a table of so many threads: those of its cells, each in the column of the thread with its number, then a fault unless each
+-- the entries of a row of a table of so many threads: those of its cells, each in the column of the thread with its number, then an error unless each
 -- thread has one cell and the row is whole
 abbrev pub row_entries : Writing → ℕ → ℕ → Cells → List TableEntry
 row_entries w n threads row =
@@ -126,7 +126,7 @@ abbrev pub entries_before : List TableEntry → List TableEntry × Lines → Lis
 entries_before entries others = (entries ++ others.0, others.1)
 
 -- the entries of the rows after k of them, up to the line that ends them, and the lines from that one on; each row after the first MAX_ROWS is a
--- fault, and so is the end of the text
+-- error, and so is the end of the text
 unfoldable pub entries_in : Writing → ℕ → ℕ → Lines → List TableEntry × Lines
 entries_in w threads k (ends n) = (a_fault n EndMissing ∷ [], ends n)
 entries_in w threads k (line n text rest) =
@@ -196,12 +196,12 @@ column_by names thread entries = record {
   labels = labels_by thread entries;
 }
 
--- the fault of an operation after a column, if it has one: its name is one too many, so that there is no operation, or it is an access too many
+-- the error of an operation after a column, if it has one: its name is one too many, so that there is no operation, or it is an access too many
 abbrev pub over_in : ℕ → Column → Option Micro → List TextError
 over_in n column None = record { line = n; kind = TooLarge } ∷ []
 over_in n column (Some op) = cond (fits_in_column column op) [] (record { line = n; kind = TooLarge } ∷ [])
 
--- the fault of an entry, by the entries before it, if it has one
+-- the error of an entry, by the entries before it, if it has one
 abbrev pub fault_in : List (List ℕ) → List TableEntry × TableEntry → List TextError
 fault_in names (before, an_instr n thread raw) = over_in n (column_by names thread before) (op_after names thread before raw)
 fault_in names (before, a_fault n kind) = record { line = n; kind = kind } ∷ []
@@ -211,7 +211,7 @@ abbrev pub columns_by : List (List ℕ) → ℕ → List TableEntry → WithPlac
 columns_by names threads entries = with_places (places_by names entries) (map (λ thread. column_by names thread entries) (range_with_len 0 threads))
 
 -- the rows of a table of so many threads: the columns and the names of places after them, by those that were named before the table, and the lines from
--- the one that ends the rows on, or the first fault
+-- the one that ends the rows on, or the first error
 unfoldable pub rows_read : Writing → List (List ℕ) → ℕ → Lines → TextRead (WithPlaces (List Column))
 rows_read w names threads lines =
     let found = entries_in w threads 0 lines in

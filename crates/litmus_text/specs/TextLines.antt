@@ -37,10 +37,10 @@ lines_in n (piece ∷ next ∷ pieces) = line_kept n (without_return piece) (lin
 unfoldable pub lines_from : ℕ → List ℕ → Lines
 lines_from n text = lines_in n (slice_split is_line_feed text)
 
--- A part is read from the lines that are left: the answer is what it means and the lines after it, or the fault.
+-- A part is read from the lines that are left: the answer is what it means and the lines after it, or the error.
 abbrev pub TextRead : Type 0 → Type 0
 TextRead A = Result (A × Lines) TextError
 
--- a fault at a line
+-- an error at a line
 abbrev pub bad : {A : Type 0} → TestKind → ℕ → Result A TextError
 bad kind n = Err (record { line = n; kind = kind })

@@ -39,7 +39,7 @@ pub enum TestKind {
     EndMissing,
 }
 
-/// Why a text is no test: its first faulty line, and the leftmost fault in that line.
+/// Why a text is no test: its first faulty line, and the leftmost error in that line.
 #[derive(Clone, Copy, Debug, PartialEq, Eq, Error)]
 #[error("line {line}: {kind}")]
 pub struct TextError {
@@ -83,7 +83,7 @@ impl<T: Drop> From<AllocFailed<T>> for ReadError {
     }
 }
 
-/// A fault of this kind at a line.
+/// An error of this kind at a line.
 pub(crate) fn error_at_line(kind: TestKind, line: u64) -> TextError
     ensures { result ≡ record { line = line; kind = kind } }
 {

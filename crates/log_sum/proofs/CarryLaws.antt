@@ -1,4 +1,4 @@
--- What is read line by line, by the blocks: the facts of lines, the place where they end, and the fault that bytes show.
+-- What is read line by line, by the blocks: the facts of lines, the place where they end, and the error that bytes show.
 use Rattle.std.proofs.Common.{◌≡◌, ◌<◌, ℕ, zero, suc, ◌+◌, List, [], ◌∷◌, ◌++◌, length, drop, true, false, refl, sym, ap, ◌∙◌, arith, subst, append_assoc, append-nil, Some, None}
 use Rattle.std.specs.Prelude.{Option, Result, Ok, Err}
 use Rattle.text_parts_laws.specs.{Lines.{without_return, whole_lines, unended}, ReadingSteps.◌>>=◌}
@@ -19,7 +19,7 @@ abbrev said_entries : List ℕ → Option Fact → List Entry
 said_entries test None = []
 said_entries test (Some fact) = entry_of test fact ∷ []
 
--- a line without a fault says something, and the reading goes on after it
+-- a line without an error says something, and the reading goes on after it
 record Steps (seen next : LogSeen) (text : List ℕ) : Type 0 where
   said : Said
   is : log_line_said seen.place text ≡ Ok said
@@ -37,7 +37,7 @@ text_steps : (seen next : LogSeen) (text : List ℕ) → text_judged seen text �
 unfolding text_judged
 text_steps seen next text h = said_steps seen next text (log_line_said seen.place text) refl h
 
--- a line that a line feed ends, without a fault
+-- a line that a line feed ends, without an error
 record Fits (seen next : LogSeen) (line : List ℕ) : Type 0 where
   fits : is_too_long line ≡ false
   read : text_judged seen (without_return line) ≡ Ok next
@@ -69,7 +69,7 @@ facts_first line test (Some fact) statements = refl
 abbrev lines_from : LogSeen → List (List ℕ) → List LogLine
 lines_from seen lines = numbered seen.line (texts_before (ended_texts lines))
 
--- lines that were read without a fault state what the grammar says of them
+-- lines that were read without an error state what the grammar says of them
 lines_end : (seen next : LogSeen) (lines : List (List ℕ)) → HasStates seen.place → lines_judged seen lines ≡ Ok next
     → EndsAs seen.entries (goes_on seen.place seen.test (lines_from seen lines)) (ends_in seen.place seen.test (lines_from seen lines)) next
 lines_end seen next [] has h =
@@ -107,14 +107,14 @@ has_read files bytes seen h =
       ends = lines_end (between m.middle) seen (whole_lines bytes) tt (ap (λ s. lines_judged s (whole_lines bytes)) start ∙ b.is ∙ ap Ok same);
     }
 
--- a fault of the bytes so far is one that they show
+-- an error of the bytes so far is one that they show
 pub fault_shown : (files : List (List ℕ)) (bytes : List ℕ) (error : LogError) → input_judged files bytes ≡ Err error → ShowsFault files bytes error
 fault_shown files bytes error h = λ rest more. fault_stays rest more
   where
     fault_stays : (rest : List ℕ) (more : List (List ℕ)) → logs_text (files ++ (bytes ++ rest) ∷ more) ≡ Err error
     fault_stays rest more = grind (arith, judged_text, files_fault)
 
--- a line that is too long has no other fault, and no other line has this one
+-- a line that is too long has no other error, and no other line has this one
 
 number_short : (text : List (List ℕ)) → histogram_line text ≡ Err LineTooLong → ⊥
 unfolding histogram_line count_read
@@ -136,7 +136,7 @@ last_short : (seen next : LogSeen) (line : List ℕ) (error : LogError) → rest
 unfolding rest_judged last_judged
 last_short seen next line error fits h k = grind (arith, text_short)
 
--- where the bytes so far have no fault, their log has no line that is too long
+-- where the bytes so far have no error, their log has no line that is too long
 whole_short : (files : List (List ℕ)) (bytes : List ℕ) (seen : LogSeen) (error : LogError) → input_judged files bytes ≡ Ok seen
     → logs_text (files ++ bytes ∷ []) ≡ Err error → error.kind ≡ LineTooLong → ⊥
 whole_short files bytes seen error h e k = grind (arith, text_fault, file_by_lines, input_by_lines, rest_same, last_short)
@@ -158,7 +158,7 @@ long_part : (n : ℕ) → LongPart n
 long_part zero = record { text = 0 ∷ []; one = refl; long = omega arith }
 long_part (suc n) = let p = long_part n in record { text = 0 ∷ p.text; one = p.one; long = (let h : n < length p.text = p.long in omega arith) }
 
--- bytes without a fault show none: their log may end, or their line may go on and be too long
+-- bytes without an error show none: their log may end, or their line may go on and be too long
 pub none_shown : (files : List (List ℕ)) (bytes : List ℕ) (seen : LogSeen) → input_judged files bytes ≡ Ok seen → ShowsNone files bytes
 none_shown files bytes seen h error shown =
     let p = long_part 65536 in
@@ -222,7 +222,7 @@ represents_fed kept files bytes h = by_judged (input_judged files bytes) refl
           in_order = h.in_order;
         }
 
--- a refusal is a fault that the bytes so far show, at its line
+-- a refusal is an error that the bytes so far show, at its line
 pub fed_refused : (middle new : Kept) (files : List (List ℕ)) (bytes : List ℕ) (fault : Fault) (answer : SumError) → answer ≡ sum_refusal middle.progress.line fault → new.refusal ≡ Some answer
     → PieceTo middle files bytes (Err fault) → FedTo new files bytes (Err answer)
 fed_refused middle new files bytes (Wrong kind) answer e k h =

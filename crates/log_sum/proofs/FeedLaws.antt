@@ -15,7 +15,7 @@ pub record Middle {A B : Type 0} (r : Result A LogError) (next : A → Result B 
   pub is : r ≡ Ok middle
   pub then : next middle ≡ Ok y
 
--- where both have no fault, the first gives something
+-- where both have no error, the first gives something
 pub middle_of : {A B : Type 0} (r : Result A LogError) (next : A → Result B LogError) (y : B) → (r >>= next) ≡ Ok y → Middle r next y
 middle_of r next y h = grind arith
 
@@ -84,7 +84,7 @@ line_after : (old : Kept) (files : List (List ℕ)) (bytes prefix : List ℕ) (s
     → so_far files ((bytes ++ prefix) ++ 10 ∷ []) ≡ line_judged s.seen (old.held ++ prefix)
 line_after old files bytes prefix s one = grind (arith, so_far_ended, so_far_more, rest_more, input_by_lines, rest_same)
 
--- a line that was read without a fault is fed with the input before it
+-- a line that was read without an error is fed with the input before it
 pub line_fed : (old new : Kept) (files : List (List ℕ)) (bytes prefix : List ℕ) (s : IsFed old files bytes) → is_one_line prefix ≡ true → ReadOn new.progress (line_judged s.seen (old.held ++ prefix))
     → new.held ≡ [] → new.refusal ≡ old.refusal → IsFed new files (bytes ++ (prefix ++ 10 ∷ []))
 line_fed old new files bytes prefix s one h held refusal =
@@ -98,7 +98,7 @@ line_fed old new files bytes prefix s one h held refusal =
       (some_end (bytes ++ prefix) 10),
     )
 
--- the fault of a line is that of the input up to it
+-- the error of a line is that of the input up to it
 pub line_faulty : (old : Kept) (files : List (List ℕ)) (bytes prefix : List ℕ) (error : LogError) (s : IsFed old files bytes) → is_one_line prefix ≡ true → line_judged s.seen (old.held ++ prefix) ≡ Err error
     → input_judged files (bytes ++ (prefix ++ 10 ∷ [])) ≡ Err error
 line_faulty old files bytes prefix error s one h =
@@ -139,7 +139,7 @@ pub last_answered : (new : Kept) (files : List (List ℕ)) (bytes line : List �
     → last_judged seen line ≡ text_judged seen line → (fault : Fault) → JudgedTo new.progress (text_judged seen line) (Err fault) → EndTo new files bytes (Err fault)
 last_answered new files bytes line seen e f fault h = grind arith
 
--- a refusal at the end of a log is the fault at its line
+-- a refusal at the end of a log is the error at its line
 pub end_refused : (middle new : Kept) (files : List (List ℕ)) (bytes : List ℕ) (fault : Fault) (answer : SumError) → answer ≡ sum_refusal middle.progress.line fault → new.refusal ≡ Some answer
     → EndTo middle files bytes (Err fault) → EndedTo new files bytes (Err answer)
 end_refused middle new files bytes fault answer e k h = grind (arith, judged_text)
@@ -158,12 +158,12 @@ pub line_fits : (seen : LogSeen) (line : List ℕ) → length line ≤ 65536 →
 unfolding line_judged
 line_fits seen line h = grind arith
 
--- a line that is too long has that fault
+-- a line that is too long has that error
 pub line_long : (seen : LogSeen) (line : List ℕ) → 65536 < length line → line_judged seen line ≡ fault_at seen.line LineTooLong
 unfolding line_judged
 line_long seen line h = grind arith
 
--- the fault of a held line that is too long is that of the line once it has ended
+-- the error of a held line that is too long is that of the line once it has ended
 pub long_ended : (new : SumProgress) (seen : LogSeen) (line : List ℕ) (fault : Fault) → JudgedTo new (rest_judged seen line) (Err fault) → JudgedTo new (line_judged seen line) (Err fault)
 unfolding rest_judged line_judged
 long_ended new seen line fault h = grind arith

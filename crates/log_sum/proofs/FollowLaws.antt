@@ -9,12 +9,12 @@ use Rattle.log_sum.specs.LineReading.{Said, passed_over, begins, counts, a_state
 use Rattle.log_sum.specs.LogReading.{LogSeen, fact_put, fault_at, said_to, said_judged, text_judged, next_line}
 use Rattle.log_sum.proofs.{SumLaws.{rows_more, marked_put}, ReadingLaws.{facts_here, facts_elsewhere}}
 
--- the marks of a test with a fact more that has no fault
+-- the marks of a test with a fact more that has no error
 facts_marked : (facts : List Fact) (fact : Fact) → Marked (rows facts) → fact_fault facts fact ≡ None → Marked (rows (facts ++ fact ∷ []))
 unfolding fact_fault
 facts_marked facts fact m h = grind (arith, rows_more, append-nil, marked_put)
 
--- states have one mark each after a fact without a fault
+-- states have one mark each after a fact without an error
 pub entry_marked : (entries : List Entry) (test : List ℕ) (fact : Fact) → AreMarked entries → fact_fault (facts_of test entries) fact ≡ None → AreMarked (entries ++ entry_of test fact ∷ [])
 entry_marked entries test fact m h = grind (arith, bytes_eq-Decides, facts_here, facts_marked, facts_elsewhere)
 
@@ -58,12 +58,12 @@ pub text_wrong : (new : SumProgress) (seen : LogSeen) (text : List ℕ) (fault :
 unfolding text_judged
 text_wrong new seen text fault l e = grind arith
 
--- a fault of what a line says is the fault of the line
+-- an error of what a line says is the error of the line
 pub text_refused : (new : SumProgress) (seen : LogSeen) (text : List ℕ) (said : Result Said LogKind) (fault : Fault) → log_line_said seen.place text ≡ said → JudgedTo new (said_judged seen said) (Err fault) → JudgedTo new (text_judged seen text) (Err fault)
 unfolding text_judged
 text_refused new seen text said fault e h = grind arith
 
--- a line that says something without a fault is read, and the next line has the next number
+-- a line that says something without an error is read, and the next line has the next number
 pub text_read : (old new : SumProgress) (seen : LogSeen) (text : List ℕ) (said : Result Said LogKind) → log_line_said seen.place text ≡ said → ReadOn old (said_judged seen said)
     → new.tests ≡ old.tests → new.test ≡ old.test → new.place ≡ old.place → new.line ≡ next_line old.line → ReadOn new (text_judged seen text)
 unfolding text_judged

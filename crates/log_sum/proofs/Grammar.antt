@@ -84,7 +84,7 @@ fact_goes : (seen : LogSeen) (text : List ℕ) (fact : Option Fact) (texts : Lis
     ≡ gives seen.entries (fact_says (record { number = seen.line; text = text }) seen.test fact ++ statements)
 fact_goes seen text fact texts statements further = grind arith
 
--- and so after what a line says, or stops at its fault
+-- and so after what a line says, or stops at its error
 said_goes : (seen : LogSeen) (text : List ℕ) (said : Result Said LogKind) (texts : List (Option (List ℕ))) → HasStates seen.place
     → LineGoes seen.place seen.test (record { number = seen.line; text = text }) (numbered (next_line seen.line) (texts_before texts)) said
     → ((next : LogSeen) → HasStates next.place → texts_judged next texts ≡ gives next.entries (log_goes next.place next.test next.line texts))
@@ -144,6 +144,6 @@ pub judged_text : (logs : List (List ℕ)) → logs_text logs ≡ (files_judged 
 unfolding logs_text
 judged_text logs = grind (arith, files_by_blocks)
 
--- the fault of logs is that of their reading
+-- the error of logs is that of their reading
 pub text_fault : (logs : List (List ℕ)) (error : LogError) → logs_text logs ≡ Err error → files_judged nothing_seen logs ≡ Err error
 text_fault logs error h = grind (arith, judged_text)

@@ -18,7 +18,7 @@ represented_text kept files h =
     ap (λ (r : Result (List Entry) LogError). r >>= λ entries. Ok (sum_text entries)) h.whole
     ∙ ap (λ text. Ok text) (sym (sum_is kept h.before (h.tests ∙ ap sum_table (nothing_said h.before))))
 
--- the bytes so far of a log show a fault, or none
+-- the bytes so far of a log show an error, or none
 pub shown : (files : List (List ℕ)) (bytes : List ℕ) → ((error : LogError) × ShowsFault files bytes error) ⊎ ShowsNone files bytes
 shown files bytes = by_judged (input_judged files bytes) refl
   where
@@ -26,19 +26,19 @@ shown files bytes = by_judged (input_judged files bytes) refl
     by_judged (Ok seen) e = inr (none_shown files bytes seen e)
     by_judged (Err error) e = inl (error, fault_shown files bytes error e)
 
--- what is printed of whole logs is their sum, and bytes show a fault or none
+-- what is printed of whole logs is their sum, and bytes show an error or none
 pub sum_or_fault : SumOrFault
 sum_or_fault = record { written = represented_text; shown = shown }
 
--- bytes show one fault at most
+-- bytes show one error at most
 pub one_fault : (files : List (List ℕ)) (bytes : List ℕ) (one other : LogError) → ShowsFault files bytes one → ShowsFault files bytes other → one ≡ other
 one_fault files bytes one other h k = let e : ◌≡◌ {A = Result (List ℕ) LogError} (Err one) (Err other) = sym (h [] []) ∙ k [] [] in cc
 
--- a fault that bytes show stays where more bytes follow
+-- an error that bytes show stays where more bytes follow
 pub fault_stays : (files : List (List ℕ)) (bytes rest : List ℕ) (error : LogError) → ShowsFault files bytes error → ShowsFault files (bytes ++ rest) error
 fault_stays files bytes rest error h = λ after more. ap (λ log. logs_text (files ++ log ∷ more)) (append_assoc bytes rest after) ∙ h (rest ++ after) more
 
--- a fault of whole logs stays the first fault, whatever logs follow
+-- an error of whole logs stays the first error, whatever logs follow
 pub end_fault_stays : (files more : List (List ℕ)) (bytes : List ℕ) (error : LogError)
     → logs_text (files ++ bytes ∷ []) ≡ Err error → logs_text (files ++ bytes ∷ more) ≡ Err error
 end_fault_stays files more bytes error e = grind (arith, judged_text, text_fault, file_more)

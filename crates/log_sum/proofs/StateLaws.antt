@@ -100,7 +100,7 @@ separated_none form h = grind arith
 pub form_goes : {A : Type 0} (show : A → List ℕ) (xs : List A) (x : A) (form next : List ℕ) → form ≡ state_form (map show xs) → next ≡ form_with form (show x) → next ≡ state_form (map show (xs ++ x ∷ []))
 form_goes show xs x form next e f = grind (arith, form_more, map_push)
 
--- a fault that is passed on
+-- an error that is passed on
 pub fault_on : {Y Z : Type 0} (fault : Fault) (read : Result Y LogKind) (other : Result Z LogKind) → ((kind : LogKind) → read ≡ Err kind → other ≡ Err kind) → IsLineFault fault read → IsLineFault fault other
 fault_on fault read other f h = grind arith
 

@@ -1,4 +1,4 @@
--- A fault stays the first fault, whatever follows.
+-- An error stays the first error, whatever follows.
 use Rattle.std.proofs.Common.{◌≡◌, ℕ, List, [], ◌∷◌, ◌++◌, Some, None, true, refl, sym, ap, ◌∙◌, arith, append_assoc, length-append}
 use Rattle.std.specs.Prelude.{Option, Result, Ok, Err}
 use Rattle.log_sum.specs.declared.errors.{LogError.LogError, LogKind.TheVariants.LineTooLong}
@@ -35,12 +35,12 @@ long_last : (seen : LogSeen) (line : List ℕ) → is_too_long line ≡ true →
 unfolding last_judged
 long_last seen line h = grind arith
 
--- a line that goes on and is too long has that fault
+-- a line that goes on and is too long has that error
 pub long_rest : (seen : LogSeen) (line : List ℕ) → is_too_long line ≡ true → rest_judged seen line ≡ fault_at seen.line LineTooLong
 unfolding rest_judged
 long_rest seen line h = rw h refl
 
--- the fault of a line that goes on
+-- the error of a line that goes on
 pub record IsLong (seen : LogSeen) (line : List ℕ) (error : LogError) : Type 0 where
   pub long : is_too_long line ≡ true
   pub fault : ◌≡◌ {A = Result LogSeen LogError} (fault_at seen.line LineTooLong) (Err error)
@@ -63,31 +63,31 @@ any_fault : (next : LogSeen → List ℕ → Result LogSeen LogError) → Refuse
 unfolding bytes_judged
 any_fault next refuses seen bytes rest error h = grind (arith, (long_fault next refuses seen), rest_fault, goes, lines_both)
 
--- a fault of bytes stays where more bytes follow
+-- an error of bytes stays where more bytes follow
 pub bytes_fault : (seen : LogSeen) (bytes rest : List ℕ) (error : LogError) → bytes_judged seen bytes ≡ Err error → bytes_judged seen (bytes ++ rest) ≡ Err error
 unfolding bytes_judged
 bytes_fault seen bytes rest error h = any_fault rest_judged long_rest seen bytes rest error h
 
--- a fault of bytes is that of a file that begins with them
+-- an error of bytes is that of a file that begins with them
 pub file_fault : (seen : LogSeen) (bytes rest : List ℕ) (error : LogError) → bytes_judged seen bytes ≡ Err error → file_judged seen (bytes ++ rest) ≡ Err error
 unfolding file_judged
 file_fault seen bytes rest error h = ap (λ (r : Result LogSeen LogError). r >>= end_judged) (any_fault last_judged long_last seen bytes rest error h)
 
--- a fault of an input stays where more bytes follow
+-- an error of an input stays where more bytes follow
 pub input_fault : (files : List (List ℕ)) (bytes rest : List ℕ) (error : LogError) → input_judged files bytes ≡ Err error → input_judged files (bytes ++ rest) ≡ Err error
 unfolding input_judged
 input_fault files bytes rest error h = grind (arith, bytes_fault)
 
--- a fault of an input is that of all logs that begin with it
+-- an error of an input is that of all logs that begin with it
 pub files_fault : (files more : List (List ℕ)) (bytes rest : List ℕ) (error : LogError) → input_judged files bytes ≡ Err error → files_judged nothing_seen (files ++ (bytes ++ rest) ∷ more) ≡ Err error
 unfolding input_judged
 files_fault files more bytes rest error h = grind (arith, files_both, file_fault)
 
--- a fault of whole logs stays where more logs follow
+-- an error of whole logs stays where more logs follow
 pub file_more : (files more : List (List ℕ)) (bytes : List ℕ) (error : LogError) → files_judged nothing_seen (files ++ bytes ∷ []) ≡ Err error → files_judged nothing_seen (files ++ bytes ∷ more) ≡ Err error
 file_more files more bytes error h = grind (arith, files_both)
 
--- bytes of a file that is still to come have no fault
+-- bytes of a file that is still to come have no error
 pub nothing_more : (files : List (List ℕ)) → input_judged files [] ≡ files_judged nothing_seen files
 unfolding input_judged bytes_judged whole_lines unended rest_judged
 nothing_more files = grind arith

@@ -140,7 +140,7 @@ unfolding mark_in state_sum
 state_none k [] e = refl
 state_none k (r ∷ rs) e = by_test (bytes_eq r.state k) (λ f. let g = rw f at e in absurd (cc)) (λ f. rw f (state_none k rs (rw f at e)))
 
--- a test with a fact more, by its faults
+-- a test with a fact more, by its errors
 abbrev pub by_fault : Option LogKind → Summed → Result Summed LogKind
 by_fault None test = Ok test
 by_fault (Some kind) test = Err kind
@@ -177,7 +177,7 @@ known_mark : (facts : List Fact) (state : List ℕ) → option_map (λ known. kn
 unfolding summed
 known_mark facts state = grind (arith, known_is)
 
--- what is kept of a test with a fact more is what its facts with this one more give, or its fault
+-- what is kept of a test with a fact more is what its facts with this one more give, or its error
 pub fact_put_is : (facts : List Fact) (fact : Fact) → Marked (rows facts) → fact_to (summed facts) fact ≡ by_fault (fact_fault facts fact) (summed (facts ++ fact ∷ []))
 unfolding fact_to fact_fault summed
 fact_put_is facts fact h = grind (

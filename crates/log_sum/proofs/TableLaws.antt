@@ -94,12 +94,12 @@ test_at_fact entries es i name t fact s = cc ((test_at_summed entries es i name 
 test_at_differ : (entries : List Entry) (es : List (Vec ℕ Global × TestSum)) (i : ℕ) (name : List ℕ) (t : TestSum) → IsTestAt entries es i name t → Differ (names (map named_view es))
 test_at_differ entries es i name t s = subst Differ (sym (ap names s.table ∙ table_names entries)) (tests_differ entries)
 
--- a fact that has a fault
+-- a fact that has an error
 pub fact_refused : (entries : List Entry) (es : List (Vec ℕ Global × TestSum)) (i : ℕ) (name : List ℕ) (t : TestSum) (fact : Fact) (kind : LogKind) → IsTestAt entries es i name t
     → fact_to (test_view t) fact ≡ Err kind → fact_fault (facts_of name entries) fact ≡ Some kind
 fact_refused entries es i name t fact kind s e = fault_some _ _ kind (sym (test_at_fact entries es i name t fact s) ∙ e)
 
--- a fact without a fault, written to the table
+-- a fact without an error, written to the table
 pub fact_written : (entries : List Entry) (es : List (Vec ℕ Global × TestSum)) (i : ℕ) (name : List ℕ) (t u : TestSum) (fact : Fact) (new : Table) → IsTestAt entries es i name t
     → fact_to (test_view t) fact ≡ Ok (test_view u) → new.tests.entries ≡ set_value_at es i u → new.running ≡ i → WithFact entries name fact new
 fact_written entries es i name t u fact new s e w r =
@@ -122,7 +122,7 @@ same_written : (es : List (Vec ℕ Global × TestSum)) (i : ℕ) (t : TestSum) �
 same_written (e ∷ es) (suc i) t h = ap (λ rest. e ∷ rest) (same_written es i t h)
 same_written es i t h = grind arith
 
--- a fact without a fault that leaves its test as it is
+-- a fact without an error that leaves its test as it is
 pub fact_given : (entries : List Entry) (es : List (Vec ℕ Global × TestSum)) (i : ℕ) (name : List ℕ) (t : TestSum) (fact : Fact) (new : Table) → IsTestAt entries es i name t
     → fact_to (test_view t) fact ≡ Ok (test_view t) → new.tests.entries ≡ es → new.running ≡ i → WithFact entries name fact new
 fact_given entries es i name t fact new s e w r = search (arith, fact_written, same_written)

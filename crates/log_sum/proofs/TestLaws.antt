@@ -6,7 +6,7 @@ use Rattle.log_sum.specs.{Facts.{Row, a_row, is_other, same_state_mark}, Summed.
 use Rattle.log_sum.specs.SummingSteps.{known_state, count_known, marked, with_marked, with_row, fact_to}
 use Rattle.diy_io.specs.Count.{last_count}
 
--- a row whose mark isn't that of its state has that fault
+-- a row whose mark isn't that of its state has that error
 pub row_other : (test : Summed) (row : Row) (known : Option (Mark × ℕ)) → known ≡ known_state test.states row.state
     → is_other same_state_mark (option_map (λ (k : Mark × ℕ). k.0) known) row.mark ≡ true → fact_to test (a_row row) ≡ Err MarkDiffers
 unfolding fact_to

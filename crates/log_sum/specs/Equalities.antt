@@ -9,12 +9,12 @@ use Rattle.text_parts_laws.specs.Cuts.{cut_at}
 abbrev pub equality_of : List ℕ × List ℕ → List ℕ
 equality_of sides = (left_kept sides.0 ++ 61 ∷ []) ++ sides.1
 
--- equalities, and after them the one with these sides, or a fault where there are no sides
+-- equalities, and after them the one with these sides, or an error where there are no sides
 abbrev pub and_equality : List (List ℕ) → Option (List ℕ × List ℕ) → Result (List (List ℕ)) LogKind
 and_equality equalities None = Err BadState
 and_equality equalities (Some sides) = Ok (equalities ++ equality_of sides ∷ [])
 
--- equalities, and after them that of a piece, or a fault where the piece has none
+-- equalities, and after them that of a piece, or an error where the piece has none
 abbrev pub with_piece : List (List ℕ) → List ℕ → Result (List (List ℕ)) LogKind
 with_piece equalities piece = and_equality equalities (sides_read (cut_at 61 piece))
 

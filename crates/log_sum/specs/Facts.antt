@@ -109,7 +109,7 @@ says_validated NotValidated = false
 abbrev pub verdicts : List Fact → List Bool
 verdicts facts = map (λ c. says_validated c.1) (conditions facts)
 
--- a fault where this is true
+-- an error where this is true
 abbrev pub fault_if : Bool → LogKind → Option LogKind
 fault_if b kind = cond b (Some kind) None
 
@@ -118,7 +118,7 @@ abbrev pub is_other : {A : Type 0} → (A → A → Bool) → Option A → A →
 is_other same None x = false
 is_other same (Some known) x = not (same known x)
 
--- the fault of a fact after others of its test, if it has one: the test has another kind, condition or hash already, the
+-- the error of a fact after others of its test, if it has one: the test has another kind, condition or hash already, the
 -- state has the other mark already, or the sum of the counts of the mark is too large
 unfoldable pub fact_fault : List Fact → Fact → Option LogKind
 fact_fault facts (a_kind kind) = fault_if (is_other same_kind (first_of (kinds facts)) kind) KindDiffers

@@ -39,13 +39,13 @@ pub record WithFact (entries : List Entry) (test : List ℕ) (fact : Fact) (new 
   pub running : test_name_at (tests_view new) new.running ≡ Some test
 
 -- an answer to a fact of a test that follows other entries: the table has the fact too, and the test is running; or the
--- fact has this fault
+-- fact has this error
 abbrev pub FactPut : List Entry → List ℕ → Fact → Table → Result (Unit {0}) Fault → Type 0
 FactPut entries test fact new (Ok x) = WithFact entries test fact new
 FactPut entries test fact new (Err (Wrong kind)) = fact_fault (facts_of test entries) fact ≡ Some kind
 FactPut entries test fact new (Err NoMemory) = Unit {0}
 
--- an answer that is this fault, where there is memory
+-- an answer that is this error, where there is memory
 abbrev pub IsRefusedLine : LogKind → Result (Unit {0}) Fault → Type 0
 IsRefusedLine kind (Ok x) = ⊥
 IsRefusedLine kind (Err (Wrong other)) = other ≡ kind
@@ -68,7 +68,7 @@ pub record IsAtSeen (progress : SumProgress) (seen : LogSeen) : Type 0 where
   pub test : IsRunning seen.place progress.tests progress.test seen.test
   pub line : progress.line ≡ seen.line
 
--- whole files and the bytes so far of one more were read: the lines that were judged have no fault, what is kept is what they give, and
+-- whole files and the bytes so far of one more were read: the lines that were judged have no error, what is kept is what they give, and
 -- between two files the states of each test are in byte order
 pub record IsFed (kept : Kept) (files : List (List ℕ)) (bytes : List ℕ) : Type 0 where
   pub seen : LogSeen
@@ -83,13 +83,13 @@ pub record FollowsSeen (progress : SumProgress) (seen : LogSeen) : Type 0 where
   pub reading : IsAtSeen progress seen
   pub marked : AreMarked seen.entries
 
--- a reading has no fault, and what is kept has followed it
+-- a reading has no error, and what is kept has followed it
 pub record ReadOn (new : SumProgress) (read : Result LogSeen LogError) : Type 0 where
   pub seen : LogSeen
   pub is : read ≡ Ok seen
   pub follows : FollowsSeen new seen
 
--- an answer compared with a reading: what is kept has followed it, or the fault is the reading's
+-- an answer compared with a reading: what is kept has followed it, or the error is the reading's
 abbrev pub JudgedTo : SumProgress → Result LogSeen LogError → Result (Unit {0}) Fault → Type 0
 JudgedTo new read (Ok x) = ReadOn new read
 JudgedTo new read (Err (Wrong kind)) = read ≡ fault_at new.line kind
@@ -112,7 +112,7 @@ abbrev pub SaidTo : SumProgress → SumProgress → Result Said LogKind → Resu
 SaidTo old new said answer =
     (seen : LogSeen) (text : List ℕ) → FollowsSeen old seen → log_line_said seen.place text ≡ said → JudgedTo new (said_judged seen said) answer
 
--- a fault as it is answered, at the running line
+-- an error as it is answered, at the running line
 abbrev pub sum_refusal : ℕ → Fault → SumError
 sum_refusal line (Wrong kind) = sums.Log (record { line = line; kind = kind })
 sum_refusal line NoMemory = sums.NoMemory

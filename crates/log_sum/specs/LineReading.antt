@@ -35,7 +35,7 @@ condition_said kind None other = Ok other
 condition_said kind (Some condition) other =
     cond (begins_with condition.0 (quantifier kind)) (Ok (conditioned condition.0 condition.1)) (Err KindDiffers)
 
--- a line that begins a test inside a block is a fault
+-- a line that begins a test inside a block is an error
 abbrev pub no_test : Option (List ℕ × Kind) → Result Said LogKind → Result Said LogKind
 no_test (Some test) other = Err Truncated
 no_test None other = other

@@ -1,5 +1,5 @@
 -- The forms of the lines of a log.
--- Source: the logs of litmus7; what is a fault is own.
+-- Source: the logs of litmus7; what is an error is own.
 use Rattle.std.specs.{Prelude.{ℕ, ◌==◌, Bool, false, ◌||◌, ◌&&◌, cond, List, [], ◌∷◌, drop, Option, Some, None, Result, Ok, Err, codes}, Str.bytes_eq}
 use Rattle.log_sum.specs.{declared.errors.LogKind.LogKind, declared.kinds.Kind.Kind, declared.kinds.Kind.TheVariants.{Allowed, Forbidden, Required}}
 use Rattle.log_sum.specs.{declared.kinds.Mark.Mark, declared.kinds.Mark.TheVariants.{Starred, Plain}, declared.kinds.Verdict.Verdict}
@@ -69,7 +69,7 @@ abbrev pub mark_read : List ℕ → Option (Mark × List ℕ)
 mark_read (mark ∷ arrow ∷ text) = cond (arrow == 62) (mark_before (mark_written mark) text) None
 mark_read _ = None
 
--- a row by its count, its mark and its state, or the fault of the state
+-- a row by its count, its mark and its state, or the error of the state
 abbrev pub row_of : ℕ → Mark → Result (List ℕ) LogKind → Result Row LogKind
 row_of count mark (Err kind) = Err kind
 row_of count mark (Ok state) = Ok (record { state = state; mark = mark; count = count })

@@ -1,4 +1,4 @@
--- The reading of logs, line by line, as the code does it: the facts of all logs, or the first fault. `LogGrammar` says it by blocks, and
+-- The reading of logs, line by line, as the code does it: the facts of all logs, or the first error. `LogGrammar` says it by blocks, and
 -- only clauses of private functions cite this file.
 -- Source: own.
 use Rattle.std.specs.Prelude.{ℕ, cond, List, [], ◌∷◌, ◌++◌, Option, Some, None, Result, Ok, Err}
@@ -28,13 +28,13 @@ pub record LogSeen : Type 0 where
 abbrev pub nothing_seen : LogSeen
 nothing_seen = record { entries = []; test = []; place = Outside; line = 1 }
 
--- what was seen with a fact more, or the fault of that fact
+-- what was seen with a fact more, or the error of that fact
 abbrev pub fact_judged : LogSeen → Fact → Option LogKind → Result LogSeen LogError
 fact_judged seen fact (Some kind) = fault_at seen.line kind
 fact_judged seen fact None =
     Ok (record seen { entries = seen.entries ++ (record { test = seen.test; fact = fact }) ∷ [] })
 
--- what was seen with the fact of a line, if it has one, or the fault of that fact
+-- what was seen with the fact of a line, if it has one, or the error of that fact
 abbrev pub fact_put : LogSeen → Option Fact → Result LogSeen LogError
 fact_put seen None = Ok seen
 fact_put seen (Some fact) = fact_judged seen fact (fact_fault (facts_of seen.test seen.entries) fact)
@@ -48,7 +48,7 @@ abbrev pub said_to : LogSeen → Said → Result LogSeen LogError
 said_to seen said =
     fact_put (record seen { test = test_after seen.test said; place = place_after seen.place said }) (fact_said said)
 
--- what was seen, with what a line says, or the fault of the line
+-- what was seen, with what a line says, or the error of the line
 abbrev pub said_judged : LogSeen → Result Said LogKind → Result LogSeen LogError
 said_judged seen (Err kind) = fault_at seen.line kind
 said_judged seen (Ok said) = said_to seen said
@@ -65,12 +65,12 @@ text_judged seen text = said_put seen (log_line_said seen.place text)
 unfoldable pub line_judged : LogSeen → List ℕ → Result LogSeen LogError
 line_judged seen line = cond (is_too_long line) (fault_at seen.line LineTooLong) (text_judged seen (without_return line))
 
--- such lines, one after another, up to the first fault
+-- such lines, one after another, up to the first error
 abbrev pub lines_judged : LogSeen → List (List ℕ) → Result LogSeen LogError
 lines_judged seen [] = Ok seen
 lines_judged seen (line ∷ rest) = line_judged seen line >>= λ next. lines_judged next rest
 
--- a line that goes on: its one fault is that it is too long
+-- a line that goes on: its one error is that it is too long
 unfoldable pub rest_judged : LogSeen → List ℕ → Result LogSeen LogError
 rest_judged seen line = cond (is_too_long line) (fault_at seen.line LineTooLong) (Ok seen)
 
@@ -98,7 +98,7 @@ unfoldable pub file_judged : LogSeen → List ℕ → Result LogSeen LogError
 file_judged seen bytes =
     lines_judged seen (whole_lines bytes) >>= (λ next. last_judged next (unended bytes)) >>= end_judged
 
--- whole files, one after another, up to the first fault
+-- whole files, one after another, up to the first error
 abbrev pub files_judged : LogSeen → List (List ℕ) → Result LogSeen LogError
 files_judged seen [] = Ok seen
 files_judged seen (file ∷ rest) = file_judged seen file >>= λ next. files_judged next rest

@@ -38,7 +38,7 @@ abbrev pub with_equality : List (List ℕ) → Option (List ℕ × List ℕ) →
 with_equality state None = None
 with_equality state (Some sides) = with_sides state sides.0 sides.1
 
--- what is read next, where there was no fault
+-- what is read next, where there was no error
 abbrev pub and_then : Option (List (List ℕ)) → (List (List ℕ) → Option (List (List ℕ))) → Option (List (List ℕ))
 and_then None next = None
 and_then (Some state) next = next state
@@ -70,7 +70,7 @@ unfoldable pub state_form : List (List ℕ) → List ℕ
 state_form [] = []
 state_form (equality ∷ rest) = (equality ++ 59 ∷ []) ++ later_forms rest
 
--- what was read, or else the fault of a line that is wrong
+-- what was read, or else the error of a line that is wrong
 abbrev pub or_bad : {A : Type 0} → Option A → Result A LogKind
 or_bad None = Err BadState
 or_bad (Some x) = Ok x

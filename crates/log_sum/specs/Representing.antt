@@ -24,7 +24,7 @@ pub record Kept : Type 0 where
   pub held : List ℕ
   pub refusal : Option SumError
 
--- the printed sum of whole logs, or their first fault
+-- the printed sum of whole logs, or their first error
 unfoldable pub logs_text : List (List ℕ) → Result (List ℕ) LogError
 logs_text logs = all_judged logs >>= λ entries. Ok (sum_text entries)
 
@@ -40,11 +40,11 @@ test_name_at tests i = option_map (λ test. test.0) (slice_get tests i)
 abbrev pub running_line : List ℕ → ℕ
 running_line bytes = count_of (line_feed_count bytes + 1)
 
--- the bytes so far of a log after others show this fault: it is the first fault of all logs that go on so, whatever follows
+-- the bytes so far of a log after others show this error: it is the first error of all logs that go on so, whatever follows
 abbrev pub ShowsFault : List (List ℕ) → List ℕ → LogError → Type 0
 ShowsFault before bytes error = (rest : List ℕ) (more : List (List ℕ)) → logs_text (before ++ (bytes ++ rest) ∷ more) ≡ Err error
 
--- they show no fault
+-- they show no error
 abbrev pub ShowsNone : List (List ℕ) → List ℕ → Type 0
 ShowsNone before bytes = (error : LogError) → ShowsFault before bytes error → ⊥
 
@@ -61,7 +61,7 @@ abbrev pub IsInside : Option (List ℕ × Place) → SumProgress → Type 0
 IsInside None progress = progress.place ≡ Outside
 IsInside (Some block) progress = (progress.place ≡ block.1) × (test_name_at progress.tests progress.test ≡ Some block.0)
 
--- what is kept represents whole files and the bytes so far of one more: they show no fault; the tests have the facts of the files and
+-- what is kept represents whole files and the bytes so far of one more: they show no error; the tests have the facts of the files and
 -- of the lines that have ended, and the reading is at the place where these end; the bytes of the running line are held; and between
 -- two files the states of each test are in byte order
 pub record Represents (kept : Kept) (files : List (List ℕ)) (bytes : List ℕ) : Type 0 where
@@ -80,15 +80,15 @@ pub record IsBetweenLogs (kept : Kept) : Type 0 where
   pub files : List (List ℕ)
   pub represents : Represents kept files []
 
--- what an answer to a piece of a log says, where this is the input up to the end of the piece: it has no fault and is
--- represented by what is kept, or it shows exactly this first fault, or there was no memory; and a refusal is kept
+-- what an answer to a piece of a log says, where this is the input up to the end of the piece: it has no error and is
+-- represented by what is kept, or it shows exactly this first error, or there was no memory; and a refusal is kept
 abbrev pub FedTo : Kept → List (List ℕ) → List ℕ → Result (Unit {0}) SumError → Type 0
 FedTo new files bytes (Ok x) = Represents new files bytes
 FedTo new files bytes (Err (Log error)) = ShowsFault files bytes error × (new.refusal ≡ Some (Log error))
 FedTo new files bytes (Err NoMemory) = new.refusal ≡ Some NoMemory
 
--- what an answer to the end of a log says, where these are the bytes of the log: the logs with it have no fault and are
--- represented by what is kept, or they have exactly this first fault, or there was no memory; and a refusal is kept
+-- what an answer to the end of a log says, where these are the bytes of the log: the logs with it have no error and are
+-- represented by what is kept, or they have exactly this first error, or there was no memory; and a refusal is kept
 abbrev pub EndedTo : Kept → List (List ℕ) → List ℕ → Result (Unit {0}) SumError → Type 0
 EndedTo new files bytes (Ok x) = Represents new (files ++ bytes ∷ []) []
 EndedTo new files bytes (Err (Log error)) = (logs_text (files ++ bytes ∷ []) ≡ Err error) × (new.refusal ≡ Some (Log error))

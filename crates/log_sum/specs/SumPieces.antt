@@ -10,7 +10,7 @@ IsOneAnswer (Err NoMemory) answer = Unit {0}
 IsOneAnswer known answer = (answer ≡ known) ⊎ (answer ≡ Err NoMemory)
 
 -- two summers that were fed the same logs and the same bytes of one more give one answer, also at its end; the one that was
--- fed more of it, up to its end or not, gives the fault that the other gave, where there is memory; and what both keep has one sum
+-- fed more of it, up to its end or not, gives the error that the other gave, where there is memory; and what both keep has one sum
 pub record SameAnswers : Type 0 where
   pub fed :
       (one other : Kept) (files : List (List ℕ)) (bytes : List ℕ) (r s : Result (Unit {0}) SumError)

@@ -69,7 +69,7 @@ test_view test = record {
   states = states_view test.states.sums.entries;
 }
 
--- an answer to a fact of a test: the test has the fact too, or it has this fault
+-- an answer to a fact of a test: the test has the fact too, or it has this error
 abbrev pub TestTold : TestSum → TestSum → Fact → Result (Unit {0}) Fault → Type 0
 TestTold old new fact answer = GivesOr (λ _. test_view new) answer (fact_to (test_view old) fact)
 

@@ -59,7 +59,7 @@ of_kind kind = record {
   states = [];
 }
 
--- a test with a fact more, or the fault of that fact
+-- a test with a fact more, or the error of that fact
 unfoldable pub fact_to : Summed → Fact → Result Summed LogKind
 fact_to test (a_kind kind) = cond (is_other same_kind test.kind kind) (Err KindDiffers) (Ok (record test { kind = or_this test.kind kind }))
 fact_to test (a_condition text verdict) =

@@ -30,7 +30,7 @@ pub enum LogKind {
     LineTooLong,
 }
 
-/// A fault in a log, at a line, from 1; the number stops at 2^64-1.
+/// An error in a log, at a line, from 1; the number stops at 2^64-1.
 #[derive(Clone, Copy, Debug, PartialEq, Eq)]
 pub struct LogError {
     pub line: u64,

@@ -56,7 +56,7 @@ impl Summer {
 
     /// Feeds a piece of the running log, which may end anywhere.
     ///
-    /// The answer is the first fault of the bytes that were fed so far, or that there is no memory; the summer is
+    /// The answer is the first error of the bytes that were fed so far, or that there is no memory; the summer is
     /// spent then, and answers the same again.
     pub fn feed(&mut self, piece: &[u8]) -> Result<(), SumError>
         ensures fed { (files : List (List ℕ)) (bytes : List ℕ) → Represents self.old files bytes → FedTo self.new files (bytes ++ piece.now) result }
@@ -72,7 +72,7 @@ impl Summer {
 
     /// Ends the running log; what is fed next is the next log, from line 1.
     ///
-    /// The answer is the first fault of the logs that have ended, or that there is no memory; the summer is spent
+    /// The answer is the first error of the logs that have ended, or that there is no memory; the summer is spent
     /// then, and answers the same again.
     pub fn end_file(&mut self) -> Result<(), SumError>
         ensures ended { (files : List (List ℕ)) (bytes : List ℕ) → Represents self.old files bytes → EndedTo self.new files bytes result }
@@ -130,7 +130,7 @@ impl Summer {
         }
     }
 
-    /// Keeps a fault of the running line, and answers it.
+    /// Keeps an error of the running line, and answers it.
     fn refuse(&mut self, fault: Fault) -> SumError
         ensures refusal { result ≡ sum_refusal self.old.progress.line fault }
         ensures kept { self.new ≡ record self.old { refusal = Some result } }

@@ -1,4 +1,4 @@
--- Facts that have no fault in any order: they agree.
+-- Facts that have no error in any order: they agree.
 use Rattle.log_sum_laws.proofs.Vocabulary.{AllByRecursion, option_map, bytes_eq, ◌≡◌, ℕ, ◌+◌, ◌≤◌, List, [], ◌∷◌, ◌++◌, true, false, refl, sym, ◌∙◌, arith, subst, append_assoc, append-nil, zero-add, Some, None, Bool, cond, Option, nat_lt, map-append, filter-append, sum_by-append, bytes_eq-Decides, by_test, all_append, all_parts, LogKind, HashDiffers, last_count, Row, Fact, Entry, a_kind, a_row, a_condition, a_hash, kinds, rows, conditions, hashes, first_of, same_kind, same_state_mark, marked_sum, state_sum, mark_in, is_other, fault_if, fact_fault, facts_of, same_mark_is, some_or, bytes_same}
 use Rattle.log_sum_laws.proofs.{Cases.{Kind, Mark, Allowed, Plain}, Blocks.Clean}
 
@@ -78,17 +78,17 @@ fact_here name e entries h = rw h refl
 pub fact_elsewhere : (name : List ℕ) (e : Entry) (entries : List Entry) → bytes_eq e.test name ≡ false → facts_of name (e ∷ entries) ≡ facts_of name entries
 fact_elsewhere name e entries h = rw h refl
 
--- facts of one test have no fault, one after another
+-- facts of one test have no error, one after another
 abbrev pub CleanFacts : List Fact → List Fact → Type 0
 CleanFacts before [] = Unit {0}
 CleanFacts before (fact ∷ facts) = (fact_fault before fact ≡ None) × CleanFacts (before ++ fact ∷ []) facts
 
--- entries without a fault have facts without one for each test
+-- entries without an error have facts without one for each test
 pub clean_facts : (before entries : List Entry) (name : List ℕ) → Clean before entries → CleanFacts (facts_of name before) (facts_of name entries)
 clean_facts before [] name c = tt
 clean_facts before (e ∷ entries) name c = grind (arith, (clean_facts (before ++ e ∷ []) entries name c.1), bytes_eq-Decides, facts_both, append-nil)
 
--- entries whose facts have no fault for any test have none
+-- entries whose facts have no error for any test have none
 pub clean_all : (before entries : List Entry) → ((name : List ℕ) → CleanFacts (facts_of name before) (facts_of name entries)) → Clean before entries
 clean_all before [] c = tt
 clean_all before (e ∷ entries) c = grind (arith, (clean_all (before ++ e ∷ []) entries), bytes_same, facts_both, append-nil)
@@ -128,7 +128,7 @@ profile_of facts = record {
 pub no_other : {A : Type 0} (same : A → A → Bool) → ((x y : A) → same x y ≡ true → x ≡ y) → (o more : Option A) (d x : A) → is_other same o x ≡ false → x ≡ some_or d (or_first o (or_first (Some x) more))
 no_other same law o more d x h = grind arith
 
--- where there is no fault, its condition is false
+-- where there is no error, its condition is false
 pub none_if : (b : Bool) (kind : LogKind) → fault_if b kind ≡ None → b ≡ false
 none_if b kind h = grind arith
 
@@ -183,7 +183,7 @@ small_all : (facts more : List Fact) → CleanFacts facts more → Small facts �
 small_all facts [] c s = rw (append-nil facts) s
 small_all facts (fact ∷ more) c s = rw (sym (append_assoc facts (fact ∷ []) more)) (small_all (facts ++ fact ∷ []) more c.1 (small_one facts fact c.0 s))
 
--- facts without a fault agree
+-- facts without an error agree
 pub agrees_from_clean : (facts : List Fact) → CleanFacts [] facts → Agrees facts
 unfolding Small
 agrees_from_clean facts c = record { profile = profile_of facts; fits = fit_all [] facts c; small = small_all [] facts c (λ m. rw (marked_none m) (omega arith)) }
@@ -235,7 +235,7 @@ clean_onto p facts [] a b s = tt
 clean_onto p facts (fact ∷ more) a b s =
     (no_fault p facts fact more a b.0 s, clean_onto p (facts ++ fact ∷ []) more (all_append (FitsTo p) facts (fact ∷ []) a (b.0, tt)) b.1 (rw (append_assoc facts (fact ∷ []) more) s))
 
--- facts that agree with those before them have no fault
+-- facts that agree with those before them have no error
 pub clean_from_agrees : (facts more : List Fact) → Agrees (facts ++ more) → CleanFacts facts more
 unfolding Small
 clean_from_agrees facts more g = grind (arith, (all_parts (FitsTo g.profile) facts more g.fits), (clean_onto g.profile facts more))

@@ -10,12 +10,12 @@ seen_at entries test place line = record { entries = entries; test = test; place
 abbrev pub entry : List ℕ → Fact → Entry
 entry test fact = record { test = test; fact = fact }
 
--- entries have no fault after others
+-- entries have no error after others
 abbrev pub Clean : List Entry → List Entry → Type 0
 Clean before [] = Unit {0}
 Clean before (e ∷ entries) = (fact_fault (facts_of e.test before) e.fact ≡ None) × Clean (before ++ e ∷ []) entries
 
--- entries without a fault together have none one list after another
+-- entries without an error together have none one list after another
 pub clean_parts : (before one two : List Entry) → Clean before (one ++ two) → Clean before one × Clean (before ++ one) two
 clean_parts before [] two c = (tt, rw (append-nil before) c)
 clean_parts before (e ∷ one) two c = grind (arith, (clean_parts (before ++ e ∷ []) one two c.1), append_assoc)

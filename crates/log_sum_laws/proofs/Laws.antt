@@ -205,7 +205,7 @@ replace before logs after text n i =
     ∙ ap Ok (ap sum_text (append_assoc p.prefix (reprinted p.mid) p.back) ∙ sum_same p.prefix p.mid p.back r ∙ ap sum_text (sym (append_assoc p.prefix p.mid p.back)))
     ∙ sym (text_of (before ++ (logs ++ after)) (seen_at ((p.prefix ++ p.mid) ++ p.back) [] Outside 1) old)
 
--- parts of logs without a fault
+-- parts of logs without an error
 part_mid : (before logs after : List (List ℕ)) → NoFault (before ++ (logs ++ after)) → NoFault logs
 part_mid before logs after n =
     let all = seen_of (before ++ (logs ++ after)) n.text n.is in
@@ -241,7 +241,7 @@ represent_between _ _ (a_sum text parts leaves files logs below sum rest) before
 all_represent : (files logs : List (List ℕ)) → Represent files logs → NoFault logs → logs_text files ≡ logs_text logs
 all_represent files logs s n = grind (arith, (append-nil logs), (append-nil files), (represent_between files logs s [] []))
 
--- a printed sum is a log without a fault, whose sum it is
+-- a printed sum is a log without an error, whose sum it is
 pub sums_are_logs : SumsAreLogs
 sums_are_logs = record { same = sum_again }
 

@@ -6,7 +6,7 @@ use Rattle.log_sum.proofs.RepresentingLaws as proved
 pub represented_text : (kept : Kept) (files : List (List ℕ)) → Represents kept files [] → logs_text files ≡ Ok (kept_text kept)
 represented_text kept files represents = proved.represented_text kept files represents
 
--- a fault of whole logs stays the first fault, whatever logs follow
+-- an error of whole logs stays the first error, whatever logs follow
 pub end_fault_stays : (files more : List (List ℕ)) (bytes : List ℕ) (error : LogError)
     → logs_text (files ++ bytes ∷ []) ≡ Err error → logs_text (files ++ bytes ∷ more) ≡ Err error
 end_fault_stays files more bytes error e = proved.end_fault_stays files more bytes error e

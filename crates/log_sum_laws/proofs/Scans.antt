@@ -1,8 +1,8 @@
--- What logs say is the same after any entries, where it has no fault there.
+-- What logs say is the same after any entries, where it has no error there.
 use Rattle.log_sum_laws.proofs.Vocabulary.{◌≡◌, ℕ, List, [], ◌∷◌, ◌++◌, refl, sym, ap, ◌∙◌, arith, subst, append_assoc, append-nil, Result, Ok, Err, LogError, Entry, LogSeen, text_judged, line_judged, lines_judged, last_judged, end_judged, file_judged, files_judged, ◌>>=◌, without_return}
 use Rattle.log_sum_laws.proofs.{Cases.Outside, Blocks.seen_at, Blocks.Clean, Blocks.clean_parts}
 
--- entries without a fault, and others without a fault after them, have none together
+-- entries without an error, and others without an error after them, have none together
 pub clean_both : (before one two : List Entry) → Clean before one → Clean (before ++ one) two → Clean before (one ++ two)
 clean_both before [] two c d = rw (append-nil before) at d
 clean_both before (e ∷ one) two c d = (c.0, clean_both (before ++ e ∷ []) one two c.1 (rw (sym (append_assoc before (e ∷ []) one)) at d))
@@ -14,7 +14,7 @@ pub record Scanned (read : LogSeen → Result LogSeen LogError) (s t : LogSeen) 
   pub clean : Clean s.entries given
   pub again : (before : List Entry) → Clean before given → read (record s { entries = before }) ≡ Ok (record t { entries = before ++ given })
 
--- a reading that has no fault gives entries so
+-- a reading that has no error gives entries so
 abbrev pub Scans : (LogSeen → Result LogSeen LogError) → Type 0
 Scans read = (s t : LogSeen) → read s ≡ Ok t → Scanned read s t
 

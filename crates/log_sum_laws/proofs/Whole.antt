@@ -193,7 +193,7 @@ file_keeps : (bytes : List ℕ) (s t : LogSeen) → Keeps s → file_judged s by
 unfolding file_judged whole_lines unended
 file_keeps bytes s t k e = grind (arith, (lines_keep (whole_lines bytes) s), but_last_lines, (split_lacks 10 bytes), (last_keeps (unended bytes)), last_line)
 
--- whole files without a fault keep that so
+-- whole files without an error keep that so
 pub files_keep : (files : List (List ℕ)) (s t : LogSeen) → Keeps s → files_judged s files ≡ Ok t → Keeps t
 files_keep [] s t k e = let same : s ≡ t = cc in subst Keeps same k
 files_keep (file ∷ files) s t k e = grind (arith, (files_keep files), file_keeps)

@@ -12,12 +12,12 @@ pub record KeepsSumLimits (entries : List Entry) : Type 0 where
   pub states : (test : List ℕ) → length (summed (facts_of test entries)).states ≤ last_count
   pub hashes : (test hash : List ℕ) → (summed (facts_of test entries)).hash ≡ Some hash → without_return hash ≡ hash
 
--- logs have no fault
+-- logs have no error
 pub record NoFault (logs : List (List ℕ)) : Type 0 where
   pub text : List ℕ
   pub is : logs_text logs ≡ Ok text
 
--- a text is the printed sum of logs without a fault, and keeps the limits
+-- a text is the printed sum of logs without an error, and keeps the limits
 pub record IsSum (logs : List (List ℕ)) (text : List ℕ) : Type 0 where
   pub entries : List Entry
   pub judged : all_judged logs ≡ Ok entries
@@ -30,7 +30,7 @@ pub data Represent : List (List ℕ) → List (List ℕ) → Type 0 where
   a_log : (log : List ℕ) (files logs : List (List ℕ)) (rest : Represent files logs) → Represent (log ∷ files) (log ∷ logs)
   a_sum : (text : List ℕ) (parts leaves files logs : List (List ℕ)) (below : Represent parts leaves) (sum : IsSum parts text) (rest : Represent files logs) → Represent (text ∷ files) (leaves ++ logs)
 
--- a printed sum is a log without a fault, whose sum it is
+-- a printed sum is a log without an error, whose sum it is
 pub record SumsAreLogs : Type 0 where
   pub same : (logs : List (List ℕ)) (text : List ℕ) → IsSum logs text → logs_text (text ∷ []) ≡ Ok text
 

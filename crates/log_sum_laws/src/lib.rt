@@ -3,7 +3,7 @@
 
 ghost use Rattle.log_sum_laws.specs.Laws.{SumsAreLogs, SumOfSums};
 
-/// What a sum prints is read as a log without a fault, and its sum is itself.
+/// What a sum prints is read as a log without an error, and its sum is itself.
 ///
 /// It has to keep the limits of a log: a line may become too long in the sum, where its logs had
 /// the state in fewer bytes.
@@ -12,7 +12,7 @@ pub fn sums_are_logs()
     ensures { SumsAreLogs }
 {}
 
-/// Where logs have no fault together, printed sums of parts of them sum up to the same bytes as the
+/// Where logs have no error together, printed sums of parts of them sum up to the same bytes as the
 /// logs: of two parts, of one part between other logs, and in any tree over the logs in their order.
 #[tactic(auto, using(crate::proofs::Laws::sum_of_sums))]
 pub fn sum_of_sums()

@@ -16,11 +16,11 @@ input_said old new done feeding s sum is wrote = record {
   wrote = wrote;
 }
 
--- an input is at a fault
+-- an input is at an error
 input_stopped : (old new : SourceSeen) (fault : LogFault) → LogFaulty old new [] fault × (new.faults ≡ old.faults) → InputStopped old new (λ log bytes. IsFaulty [] log bytes fault)
 input_stopped old new fault f = record { log = f.0.log; text = f.0.text; bytes = f.0.bytes; taken = f.0.taken; is = f.0.is; no_fault = f.1 }
 
--- an input with a fault
+-- an input with an error
 pub input_faulty : (old new : SourceSeen) (a : SinkSeen) (fault : LogFault) → LogFaulty old new [] fault × (new.faults ≡ old.faults)
     → InputSummed old new a a (sum_end_at None fault)
 input_faulty old new a (Wrong error) f = (input_stopped old new (Wrong error) f, refl)

@@ -99,7 +99,7 @@ reads_whole old mid new feeding logs piece r took none end same =
       no_fault = same ∙ r.no_fault;
     }
 
--- bytes that were fed show no fault, and are at most 2^40
+-- bytes that were fed show no error, and are at most 2^40
 reads_none : (feeding : Feeding) (logs : List (List ℕ)) (bytes : List ℕ) → ReadsLogs feeding logs bytes → ShowsNone logs bytes
 reads_none feeding logs bytes reads = reads.represents.no_fault
 

@@ -101,7 +101,7 @@ at_word old mid feeding words first place name s word = record { count = s.count
 begun_same : (old mid : Option Files) (before : List (List ℕ)) (name bytes : List ℕ) → mid ≡ old → IsBegun mid before name bytes → IsBegun old before name bytes
 begun_same old mid before name bytes files b = subst (λ o. IsBegun o before name bytes) files b
 
--- the files end at a fault of a log
+-- the files end at an error of a log
 files_stopped : (old mid new : ShelfSeen) (feeding : Feeding) (words : List (List ℕ)) (first place : ℕ) (name : List ℕ) (fault : LogFault)
     → (s : FilesSoFar old mid feeding words first place) → mid.files ≡ old.files → slice_get words place ≡ Some name
     → LogFileFaulty mid new s.logs name fault → FileStopped old new words first place (λ before log bytes. IsFaulty before log bytes fault)

@@ -10,18 +10,18 @@ use Rattle.msum7_files.specs.{declared.feeding.LogFault.TheVariants.{Wrong, TooM
 use Rattle.msum7_files.specs.{declared.feeding.ReadFault.TheVariants.{Log, Device}, Logs.{IsShort, AreWholeLogs, PrefixWrong, UpToFault, IsWrongLog}}
 use Rattle.msum7_files.specs.FileFeeding.{ReadsLogs, IsFaultOfLogs, IsEndFault, ReadWhole, ReadPart, LogFailed, ReadTo, LogSummed, LogFaulty, IsFaulty, SummedTo}
 
--- logs that were fed without a fault
+-- logs that were fed without an error
 pub are_right : (feeding : Feeding) (logs : List (List ℕ)) → ReadsLogs feeding logs [] → AreWholeLogs logs
 are_right feeding logs reads = record { text = _; is = represented_text feeding.summer logs reads.represents }
 
--- logs without a fault show none
+-- logs without an error show none
 pub right_shows_none : (before : List (List ℕ)) (log : List ℕ) → AreWholeLogs (before ++ log ∷ []) → ShowsNone before log
 right_shows_none before log right error shown =
     let whole : logs_text (before ++ (log ++ []) ∷ []) ≡ logs_text (before ++ log ∷ []) = ap (λ l. logs_text (before ++ l ∷ [])) (append-nil log) in
     let wrong : ◌≡◌ {A = Result (List ℕ) LogError} (Err error) (Ok right.text) = sym (shown [] []) ∙ whole ∙ right.is in
     cc
 
--- a fault that the bytes taken of a log show
+-- an error that the bytes taken of a log show
 prefix_wrong : (before : List (List ℕ)) (log bytes : List ℕ) (error : LogError) → AreWholeLogs before → UpToFault before log bytes
     → PrefixWrong before bytes error → IsWrongLog before log bytes error
 prefix_wrong before log bytes error right u w =
@@ -39,7 +39,7 @@ faulty before log bytes (Wrong error) right up_to is = prefix_wrong before log b
 faulty before log bytes (TooMuch line) right up_to is = record { right_before = right; up_to = up_to; full = is }
 faulty before log bytes NoMemory right up_to is = tt
 
--- a log of which a part was read has a fault
+-- a log of which a part was read has an error
 pub part_faulty : (old new : SourceSeen) (feeding : Feeding) (before : List (List ℕ)) (fault : LogFault) → ReadsLogs feeding before []
     → ReadPart old new before fault → LogFaulty old new before fault × (new.faults ≡ old.faults)
 part_faulty old new feeding before fault reads part = (
@@ -73,7 +73,7 @@ end_wrong before log (Wrong error) right short none is = record {
 end_wrong before log (TooMuch line) right short none is = absurd is
 end_wrong before log NoMemory right short none is = tt
 
--- a log that was read whole has a fault at its end
+-- a log that was read whole has an error at its end
 pub end_faulty : (old new : SourceSeen) (feeding read : Feeding) (before : List (List ℕ)) (fault : LogFault) → ReadsLogs feeding before []
     → (whole : ReadWhole old new read before) → IsEndFault before whole.log fault → LogFaulty old new before fault × (new.faults ≡ old.faults)
 end_faulty old new feeding read before fault reads whole is =
@@ -140,7 +140,7 @@ closed_failed old mid new feeding before s same rose falls =
       fed = inr (refl, s.reads);
     }
 
--- a log with a fault is closed
+-- a log with an error is closed
 pub closed_faulty : (old mid new : SourceSeen) (before : List (List ℕ)) (fault : LogFault) → LogFaulty old mid before fault
     → new.taken ≡ mid.taken → LogFaulty old new before fault
 closed_faulty old mid new before fault f same = record { log = f.log; text = f.text; bytes = f.bytes; taken = ap count_of same ∙ f.taken; is = f.is }
@@ -168,7 +168,7 @@ pub part_summed : (old new : SourceSeen) (feeding read : Feeding) (before : List
 part_summed old new feeding read before (Log fault) reads part = part_faulty old new feeding before fault reads part
 part_summed old new feeding read before Device reads failed = failed
 
--- the summing of a log that answers a fault of the log
+-- the summing of a log that answers an error of the log
 pub summed_refused : (old new : SourceSeen) (feeding : Feeding) (logs : List (List ℕ)) (r : Result (Unit {0}) ReadFault) (fault : LogFault)
     → SummedTo old new feeding logs r → r ≡ Err (Log fault) → LogFaulty old new logs fault × (new.faults ≡ old.faults)
 summed_refused old new feeding logs r fault h e = let P : Result (Unit {0}) ReadFault → Type 0 = λ r. SummedTo old new feeding logs r in subst P e h

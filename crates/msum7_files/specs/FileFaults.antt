@@ -1,4 +1,4 @@
--- The faults of logs.
+-- The errors of logs.
 use Rattle.std.specs.Prelude.{ℕ, Option}
 use Rattle.log_sum.specs.declared.errors.SumError.{SumError}
 use Rattle.log_sum.specs.declared.errors.SumError.TheVariants as sums
@@ -6,12 +6,12 @@ use Rattle.msum7_files.specs.declared.{feeding.LogFault.LogFault, feeding.LogFau
 use Rattle.msum7_files.specs.declared.{feeding.LogFault.TheVariants.NoMemory, sum_end.SumEnd.SumEnd}
 use Rattle.msum7_files.specs.declared.sum_end.SumEnd.TheVariants as ends
 
--- the fault of a log where a summer refuses it
+-- the error of a log where a summer refuses it
 abbrev pub sum_fault : SumError → LogFault
 sum_fault (sums.Log error) = Wrong error
 sum_fault sums.NoMemory = NoMemory
 
--- the end where a log has a fault
+-- the end where a log has an error
 abbrev pub sum_end_at : Option ℕ → LogFault → SumEnd
 sum_end_at file (Wrong error) = ends.Wrong file error.line error.kind
 sum_end_at file (TooMuch line) = ends.TooMuch file line

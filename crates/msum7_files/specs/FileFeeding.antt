@@ -87,13 +87,13 @@ pub record LogSummed (old new : SourceSeen) (feeding : Feeding) (before : List (
   pub reads : ReadsLogs feeding (before ++ log ∷ []) []
   pub no_fault : new.faults ≡ old.faults
 
--- what a fault says of a log after others, where these bytes were taken of the log
+-- what an error says of a log after others, where these bytes were taken of the log
 abbrev pub IsFaulty : List (List ℕ) → List ℕ → List ℕ → LogFault → Type 0
 IsFaulty before log taken (Wrong error) = IsWrongLog before log taken error
 IsFaulty before log taken (TooMuch line) = IsTooMuch before log taken line
 IsFaulty before log taken NoMemory = Unit {0}
 
--- a log has a fault
+-- a log has an error
 pub record LogFaulty (old new : SourceSeen) (before : List (List ℕ)) (fault : LogFault) : Type 0 where
   pub log : List ℕ
   pub text : IsText old.left log
@@ -107,7 +107,7 @@ SummedTo old new feeding before (Ok x) = LogSummed old new feeding before
 SummedTo old new feeding before (Err (Log fault)) = LogFaulty old new before fault × (new.faults ≡ old.faults)
 SummedTo old new feeding before (Err Device) = LogFailed old new feeding before
 
--- an answer to a log that is closed: it is known before the closing, unless the log has no fault and the closing fails
+-- an answer to a log that is closed: it is known before the closing, unless the log has no error and the closing fails
 abbrev pub ClosedTo : SourceSeen → SourceSeen → Feeding → List (List ℕ) → Result (Unit {0}) ReadFault → Type 0
 ClosedTo old new feeding before (Ok x) = LogSummed old new feeding before
 ClosedTo old new feeding before (Err (Log fault)) = LogFaulty old new before fault

@@ -27,7 +27,7 @@ pub record FileSummed (old new : ShelfSeen) (feeding : Feeding) (before : List (
   pub no_fault : new.faults ≡ old.faults
   pub took : TookFiles old new (log ∷ [])
 
--- a file has a fault
+-- a file has an error
 pub record LogFileFaulty (old new : ShelfSeen) (before : List (List ℕ)) (name : List ℕ) (fault : LogFault) : Type 0 where
   pub log : List ℕ
   pub text : IsFile old.files name log

@@ -17,11 +17,11 @@ IsShort log = length log ≤ 2 ^ 40
 abbrev pub max_piece : ℕ
 max_piece = 4096
 
--- logs have no fault
+-- logs have no error
 abbrev pub AreWholeLogs : List (List ℕ) → Type 0
 AreWholeLogs logs = NoFault logs
 
--- a prefix of a log's bytes, of at most 2^40, shows this fault after whole logs: all logs that begin so have it, whatever follows
+-- a prefix of a log's bytes, of at most 2^40, shows this error after whole logs: all logs that begin so have it, whatever follows
 pub record PrefixWrong (logs : List (List ℕ)) (bytes : List ℕ) (error : LogError) : Type 0 where
   pub prefix : List ℕ
   pub rest : List ℕ
@@ -29,7 +29,7 @@ pub record PrefixWrong (logs : List (List ℕ)) (bytes : List ℕ) (error : LogE
   pub short : IsShort prefix
   pub wrong : ShowsFault logs prefix error
 
--- the bytes of a log are more than 2^40, of which the first 2^40 show no fault, and this is the line after them
+-- the bytes of a log are more than 2^40, of which the first 2^40 show no error, and this is the line after them
 pub record PrefixFull (logs : List (List ℕ)) (bytes : List ℕ) (line : ℕ) : Type 0 where
   pub prefix : List ℕ
   pub rest : List ℕ
@@ -39,7 +39,7 @@ pub record PrefixFull (logs : List (List ℕ)) (bytes : List ℕ) (line : ℕ) :
   pub no_fault : ShowsNone logs prefix
   pub number : line ≡ line_feed_count prefix + 1
 
--- what was taken of a log until its fault was seen: at most 2^40 bytes that show none, and then one piece at most
+-- what was taken of a log until its error was seen: at most 2^40 bytes that show none, and then one piece at most
 pub record UpToFault (before : List (List ℕ)) (log taken : List ℕ) : Type 0 where
   pub rest : List ℕ
   pub parts : log ≡ taken ++ rest
@@ -50,7 +50,7 @@ pub record UpToFault (before : List (List ℕ)) (log taken : List ℕ) : Type 0 
   pub no_fault : ShowsNone before earlier
   pub one : length piece ≤ max_piece
 
--- the first fault of logs is one of the log after these: the bytes that were taken of it show the fault, or its end does, where all
+-- the first error of logs is one of the log after these: the bytes that were taken of it show the error, or its end does, where all
 -- its bytes were taken
 pub record IsWrongLog (before : List (List ℕ)) (log taken : List ℕ) (error : LogError) : Type 0 where
   pub right_before : AreWholeLogs before
@@ -58,7 +58,7 @@ pub record IsWrongLog (before : List (List ℕ)) (log taken : List ℕ) (error :
   pub up_to : UpToFault before log taken
   pub shown : ((taken ≡ log) × IsShort log) ⊎ PrefixWrong before taken error
 
--- more than 2^40 bytes were taken of the log after these, of which the first 2^40 show no fault, and this is the line after them
+-- more than 2^40 bytes were taken of the log after these, of which the first 2^40 show no error, and this is the line after them
 pub record IsTooMuch (before : List (List ℕ)) (log taken : List ℕ) (line : ℕ) : Type 0 where
   pub right_before : AreWholeLogs before
   pub up_to : UpToFault before log taken

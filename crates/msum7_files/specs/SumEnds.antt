@@ -32,7 +32,7 @@ pub record InputStopped (old new : SourceSeen) (Is : List ℕ → List ℕ → T
   pub is : Is log bytes
   pub no_fault : new.faults ≡ old.faults
 
--- the input is a log with this first fault, and no more was taken
+-- the input is a log with this first error, and no more was taken
 abbrev pub InputWrong : SourceSeen → SourceSeen → LogError → Type 0
 InputWrong old new error = InputStopped old new (λ log bytes. IsWrongLog [] log bytes error)
 
@@ -40,7 +40,7 @@ InputWrong old new error = InputStopped old new (λ log bytes. IsWrongLog [] log
 abbrev pub InputTooMuch : SourceSeen → SourceSeen → ℕ → Type 0
 InputTooMuch old new line = InputStopped old new (λ log bytes. IsTooMuch [] log bytes line)
 
--- a fault of a kind, at a line
+-- an error of a kind, at a line
 abbrev pub log_error_at : ℕ → LogKind → LogError
 log_error_at line kind = record { line = line; kind = kind }
 
@@ -95,15 +95,15 @@ pub record FileStopped (old new : ShelfSeen) (words : List (List ℕ)) (first pl
   pub is : Is before log bytes
   pub took : TookFiles old new (before ++ bytes ∷ [])
 
--- the log that the word at a place names has the first fault of the logs, and no more was opened or taken
+-- the log that the word at a place names has the first error of the logs, and no more was opened or taken
 abbrev pub LogFileWrong : ShelfSeen → ShelfSeen → List (List ℕ) → ℕ → ℕ → LogError → Type 0
 LogFileWrong old new words first place error = FileStopped old new words first place (λ before log bytes. IsWrongLog before log bytes error)
 
--- the log that the word at a place names has more than 2^40 bytes, those before it have no fault, and no more was opened or taken
+-- the log that the word at a place names has more than 2^40 bytes, those before it have no error, and no more was opened or taken
 abbrev pub FileTooMuch : ShelfSeen → ShelfSeen → List (List ℕ) → ℕ → ℕ → ℕ → Type 0
 FileTooMuch old new words first place line = FileStopped old new words first place (λ before log bytes. IsTooMuch before log bytes line)
 
--- the word at a place names no file, where the files are known, and then no fault came; the logs before it have no fault, and no
+-- the word at a place names no file, where the files are known, and then no error came; the logs before it have no error, and no
 -- more was opened
 pub record LogFileMissing (old new : ShelfSeen) (words : List (List ℕ)) (first place : ℕ) : Type 0 where
   pub before : List (List ℕ)
@@ -114,7 +114,7 @@ pub record LogFileMissing (old new : ShelfSeen) (words : List (List ℕ)) (first
   pub no_fault : IfSome old.files (λ there. new.faults ≡ old.faults)
   pub took : TookFiles old new before
 
--- these are the first bytes of the log of a name, at most 2^40, and show no fault after other logs
+-- these are the first bytes of the log of a name, at most 2^40, and show no error after other logs
 pub record IsBegun (files : Option Files) (before : List (List ℕ)) (name bytes : List ℕ) : Type 0 where
   pub log : List ℕ
   pub text : IsFile files name log

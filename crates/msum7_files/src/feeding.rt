@@ -63,7 +63,7 @@ fn fault_of(error: SumError) -> LogFault
 }
 
 impl LogFault {
-    /// The end where a log has a fault.
+    /// The end where a log has an error.
     pub(crate) fn end_at(self, file: Option<usize>) -> SumEnd
         ensures { result ≡ sum_end_at file self }
     {

@@ -66,7 +66,7 @@ fn sum_log<H: Shelf>(feeding: &mut Feeding, shelf: &mut H, buf: &mut [u8]) -> Re
     Ok(())
 }
 
-// Sums the open file, and closes it. A fault of the log is the answer even where the closing fails.
+// Sums the open file, and closes it. An error of the log is the answer even where the closing fails.
 fn sum_open<H: Shelf>(feeding: &mut Feeding, shelf: &mut H, buf: &mut [u8]) -> Result<(), ReadFault>
     requires reading { IsReading (H.seen shelf.old).mode }
     requires some { 0 < length buf.old }

@@ -56,7 +56,7 @@ pub record IsAtPlace (asked : Asked) (files : Option Files) (words : List (List 
   pub cycles : List (List Edge)
   pub read : ReadFiles asked files words before texts cycles
 
--- the file of a place has this first fault, those before it have none, and of it one byte more than a test may have was taken
+-- the file of a place has this first error, those before it have none, and of it one byte more than a test may have was taken
 -- at most; no more was opened or taken
 pub record FileWrong (asked : Asked) (old new : ShelfSeen) (words : List (List ℕ)) (places : List ℕ) (place : ℕ) (error : FileError) : Type 0 where
   pub texts : List (List ℕ)
@@ -66,7 +66,7 @@ pub record FileWrong (asked : Asked) (old new : ShelfSeen) (words : List (List �
   pub fault : said_on asked text ≡ Err error
   pub took : TookFiles old new (texts ++ take (MAX_TEST_TEXT + 1) text ∷ [])
 
--- the word at a place names no file, where the files are shown, and then no fault came; those before it have no fault, and no more
+-- the word at a place names no file, where the files are shown, and then no error came; those before it have no error, and no more
 -- was opened
 pub record FileMissing (asked : Asked) (old new : ShelfSeen) (words : List (List ℕ)) (places : List ℕ) (place : ℕ) : Type 0 where
   pub texts : List (List ℕ)
@@ -84,7 +84,7 @@ pub record ShelfFailed (asked : Asked) (old new : ShelfSeen) (words : List (List
   pub place_is : IsAtPlace asked old.files words places place texts
   pub took : TookFiles old new texts ⊎ ((bytes : List ℕ) × Begins old.files (name_at words place) bytes × TookFiles old new (texts ++ bytes ∷ []))
 
--- a fault at a line of a file
+-- an error at a line of a file
 abbrev pub file_error_at : ℕ → FileKind → FileError
 file_error_at line kind = record { line = line; kind = kind }
 

@@ -38,7 +38,7 @@ pub record FileIs {X E : Type 0} (judge : List ℕ → Result X E) (old new : Sh
   pub took : TookFiles old new (text ∷ [])
   pub no_fault : new.faults ≡ old.faults
 
--- the text of a file is judged to have this fault, and all of it was taken, or its first bytes, one more than a test may have
+-- the text of a file is judged to have this error, and all of it was taken, or its first bytes, one more than a test may have
 pub record FileFaulty {X E : Type 0} (judge : List ℕ → Result X E) (old new : ShelfSeen) (name : List ℕ) (error : E) : Type 0 where
   pub text : List ℕ
   pub named : IsFile old.files name text

@@ -20,7 +20,7 @@ pub record JudgesFirstBytes {X E : Type 0} (judge : List ℕ → Result X E) : T
   pub same : (text : List ℕ) → judge (take (MAX_TEST_TEXT + 1) text) ≡ judge text
   pub short : (text : List ℕ) (x : X) → judge text ≡ Ok x → length text ≤ MAX_TEST_TEXT
 
--- a judgement refuses each text that has more bytes than a test may have, with one fault, and judges the others by g
+-- a judgement refuses each text that has more bytes than a test may have, with one error, and judges the others by g
 abbrev pub RefusesLong : {X E : Type 0} → (List ℕ → Result X E) → E → (List ℕ → Result X E) → Type 0
 RefusesLong judge fault g = (text : List ℕ) → judge text ≡ cond (nat_lt MAX_TEST_TEXT (length text)) (Err fault) (g text)
 
@@ -55,7 +55,7 @@ right_short {X} {E} judge g fault h text x right = of_test (nat_lt MAX_TEST_TEXT
 pub judges_first_bytes : {X E : Type 0} (judge g : List ℕ → Result X E) (fault : E) → RefusesLong judge fault g → JudgesFirstBytes judge
 judges_first_bytes judge g fault h = record { same = same_judged judge g fault h; short = right_short judge g fault h }
 
--- and so does one that goes further and takes no fault back
+-- and so does one that goes further and takes no error back
 pub judges_further : {X Y E F : Type 0} (judge : List ℕ → Result X E) (further : Result X E → Result Y F)
     → ((e : E) (y : Y) → further (Err e) ≡ Ok y → ⊥) → JudgesFirstBytes judge → JudgesFirstBytes (λ text. further (judge text))
 judges_further {X} {Y} {E} {F} judge further kept h = record {
@@ -126,7 +126,7 @@ file_unclosed judge j old new name text judged closed f x r failed same right =
           );
     }
 
--- and one that has a fault, whether or not its closing failed
+-- and one that has an error, whether or not its closing failed
 pub file_faulty : {X E : Type 0} (judge : List ℕ → Result X E) → JudgesFirstBytes judge → (old new : ShelfSeen) (name text judged : List ℕ)
     (closed : Result (Unit {0}) Failed) (error : E) → FileRead old new name text closed → judged ≡ text → judge judged ≡ Err error
     → FileFaulty judge old new name error

@@ -1,4 +1,4 @@
--- What the text of a file says: the cycle that a test of an architecture quotes, or its first fault.
+-- What the text of a file says: the cycle that a test of an architecture quotes, or its first error.
 -- Source: own.
 use Rattle.std.specs.Prelude.{ℕ, List, Option, None, Some, Result, Ok, Err}
 use Rattle.relax_edges.specs.declared.{edge.Edge.Edge, kinds.ArchName.ArchName}
@@ -16,24 +16,24 @@ abbrev pub classified_kind : TestFileKind → FileKind
 classified_kind (tests.Test kind) = Test kind
 classified_kind tests.WrongArch = WrongArch
 
--- the fault of the text of a test as that of a file
+-- the error of the text of a test as that of a file
 abbrev pub test_error : TestFileError → FileError
 test_error error = record { line = error.line; kind = classified_kind error.kind }
 
--- the fault of a test that quotes no cycle, at the line where tests quote it
+-- the error of a test that quotes no cycle, at the line where tests quote it
 abbrev pub no_cycle : FileError
 no_cycle = record { line = 2; kind = NoCycle }
 
--- the cycle that a test quotes, or the fault of one that quotes none
+-- the cycle that a test quotes, or the error of one that quotes none
 abbrev pub cycle_or_fault : Option (List Edge) → Result (List Edge) FileError
 cycle_or_fault None = Err no_cycle
 cycle_or_fault (Some cycle) = Ok cycle
 
--- what a test says, or the fault of a text that is none
+-- what a test says, or the error of a text that is none
 abbrev pub cycle_of_test : ArchName → Result TestRead TestFileError → Result (List Edge) FileError
 cycle_of_test arch (Ok test) = cycle_or_fault (quoted_cycle arch test.quoted)
 cycle_of_test arch (Err error) = Err (test_error error)
 
--- what a text says on an architecture: the faults of a text that is no test come first, then its cycle
+-- what a text says on an architecture: the errors of a text that is no test come first, then its cycle
 unfoldable pub text_said : ArchName → Writing → List ℕ → Result (List Edge) FileError
 text_said arch w text = cycle_of_test arch (test_said arch w text)

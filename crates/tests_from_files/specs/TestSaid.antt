@@ -1,4 +1,4 @@
--- What a text is as a test of an architecture: the test, or the text's first fault.
+-- What a text is as a test of an architecture: the test, or the text's first error.
 -- Source: own.
 use Rattle.std.specs.Prelude.{◌≡◌, ⊤, ℕ, Bool, true, false, cond, nat_lt, List, length, Result, Ok, Err}
 use Rattle.relax_edges.specs.declared.kinds.ArchName.{ArchName}
@@ -9,7 +9,7 @@ use Rattle.litmus_text.specs.TestReading.{TestRead, test_read, arch_in_text}
 use Rattle.tests_from_files.specs.declared.errors.{NoTest.NoTest, NoTest.TheVariants.Wrong, NoTest.TheVariants.NoMemory, TestFileError.TestFileError}
 use Rattle.tests_from_files.specs.declared.errors.{TestFileKind.TestFileKind, TestFileKind.TheVariants.Test, TestFileKind.TheVariants.WrongArch}
 
--- a fault of this kind at a line
+-- an error of this kind at a line
 abbrev pub wrong : TestFileKind → ℕ → Result TestRead TestFileError
 wrong kind line = Err (record { line = line; kind = kind })
 
@@ -22,12 +22,12 @@ is_arch archs.RISCV archs.RISCV = true
 is_arch archs.ARM archs.ARM = true
 is_arch _ _ = false
 
--- the test that was read, or the fault of a text that is none
+-- the test that was read, or the error of a text that is none
 abbrev pub read_said : Result TestRead TextError → Result TestRead TestFileError
 read_said (Ok test) = Ok test
 read_said (Err error) = wrong (Test error.kind) error.line
 
--- what a text is, where its header names this architecture, or has a fault
+-- what a text is, where its header names this architecture, or has an error
 abbrev pub headed_said : ArchName → Writing → List ℕ → Result ArchName TextError → Result TestRead TestFileError
 headed_said arch w text (Ok named) = cond (is_arch named arch) (read_said (test_read arch w text)) (wrong WrongArch 1)
 headed_said arch w text (Err error) = wrong (Test error.kind) error.line

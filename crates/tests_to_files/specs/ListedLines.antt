@@ -21,7 +21,7 @@ pub record StopsAtLine (listed : List Edge → Type 0) (given : Option (List Edg
   pub so_far : AreListedTo listed given last cycles
   pub part : WrotePart old new (name_lines cycles)
 
--- what is written of the lines of a listing that goes on after a cycle, where there is one: all of them, with no fault; or a
+-- what is written of the lines of a listing that goes on after a cycle, where there is one: all of them, with no error; or a
 -- prefix of the first ones, where the sink failed
 pub record EndsLines (plan : Plan) (after : Option (List Edge)) (old new : SinkSeen) (result : Result (Unit {0}) Failed) : Type 0 where
   pub given : Option (List Edge)

@@ -39,7 +39,7 @@ pub record StopsAtAll (listed : List Edge → Type 0) (folder : Option (List ℕ
   pub all : AreAllListed listed given cycles
   pub part : PutPart old new (test_files folder text cycles) (all_path folder) (file_lines 0 cycles)
 
--- what a listing after a cycle that is given leaves: all files and the line, with no fault; all files and a prefix of the
+-- what a listing after a cycle that is given leaves: all files and the line, with no error; all files and a prefix of the
 -- line, where the sink failed; or files up to the one at which the shelf failed, and the sink as it was
 abbrev pub EndsAfter : {Sink : Type 0} → (Sink → SinkSeen) → Plan → Option (List Edge) → ListingEnd → ShelfSeen → ShelfSeen → Sink → Sink → Type 0
 EndsAfter seen plan given Done old new out out' =

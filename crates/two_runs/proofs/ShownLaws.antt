@@ -57,12 +57,12 @@ pub undecided : (a : Puts) (arch : ArchName) (w : Writing) (name : List ℕ) (es
 undecided a arch w name es need same law named code needs =
     subst (λ (n : ArchName). BytesUndecided n w (test_text n w name (test_of a (name_in w.registers) es Avoid)) es need.event) (sym same) (law name es need named code needs)
 
--- a fault that is given is that of the text
+-- an error that is given is that of the text
 pub gives_fault : {X : Type 0} (view : X → TestRead) (read : Result TestRead TextError) (error : ReadError) (fault : TextError) → error ≡ errors.Text fault
     → GivesInMemory view (Err error) read → read ≡ Err fault
 gives_fault view read error fault e gives = subst (λ (error : ReadError). GivesInMemory view (Err error) read) e gives
 
--- a text that is read has no fault
+-- a text that is read has no error
 pub no_fault : (arch : ArchName) (w : Writing) (text : List ℕ) (fault : TextError) → IsRead arch w text → test_read arch w text ≡ Err fault → ⊥
 no_fault arch w text fault read e = apart read.0 (sym read.1 ∙ e)
   where

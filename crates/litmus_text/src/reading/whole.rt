@@ -28,7 +28,7 @@ pub(crate) struct Head<'a> {
     pub(crate) quoted: Option<&'a [u8]>,
 }
 
-/// The architecture that the header of a text names. The fault is BadHeader or EndMissing.
+/// The architecture that the header of a text names. The error is BadHeader or EndMissing.
 #[tactic(auto, unfolding(crate::specs::TestReading::arch_in_text))]
 pub fn arch_of(bytes: &[u8]) -> Result<ArchName, TextError>
     ensures { GivesTest (λ arch. arch) result (arch_in_text bytes.now) }
@@ -198,7 +198,7 @@ fn read_lines<A: Arch>(alloc: Global, text: Text<'_>) -> Result<ReadTest<A>, Rea
 }
 
 /// The test that a text is, as a test of the architecture. A text that is none is answered with its
-/// first faulty line, and the leftmost fault in that line.
+/// first faulty line, and the leftmost error in that line.
 ///
 /// A text of more than `MAX_TEST_TEXT` bytes is TooLarge at line 1, whatever it holds.
 #[tactic(auto, unfolding(crate::specs::TestReading::test_read))]

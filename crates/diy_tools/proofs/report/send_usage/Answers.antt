@@ -1,4 +1,4 @@
--- That `send_usage` sends the line of words that make no request, where no word shows the fault.
+-- That `send_usage` sends the line of words that make no request, where no word shows the error.
 use Rattle.std.proofs.Common.{arith, sym}
 use Rattle.diy_tools.proofs.Reported.{bare_line}
 use Rattle.diy_tools.proofs.report.send_usage.Goals as goal

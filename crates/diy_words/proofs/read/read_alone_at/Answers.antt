@@ -1,4 +1,4 @@
--- That `read_alone_at` takes in a word by itself, or gives its fault.
+-- That `read_alone_at` takes in a word by itself, or gives its error.
 use Rattle.std.proofs.Common.{◌+◌, arith}
 use Rattle.diy_words.specs.CodeNotes.{code_notes}
 use Rattle.diy_words.proofs.Judged.{taken, faulty, alone_first}

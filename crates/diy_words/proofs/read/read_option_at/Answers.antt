@@ -1,4 +1,4 @@
--- That `read_option_at` takes in an option with its value, or gives the fault.
+-- That `read_option_at` takes in an option with its value, or gives the error.
 use Rattle.std.proofs.Common.{◌≡◌, ◌+◌, arith, length, sym, ap}
 use Rattle.diy_words.specs.{Notes.before_noted, CodeNotes.notes_after, CodeNotes.code_notes}
 use Rattle.diy_words.proofs.Judged.{taken, faulty, value_first, unvalued_last}

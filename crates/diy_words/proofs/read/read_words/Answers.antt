@@ -1,4 +1,4 @@
--- That `read_words` gives the request that the notes after all words make, or the first fault.
+-- That `read_words` gives the request that the notes after all words make, or the first error.
 use Rattle.std.proofs.{Common.◌∙◌, Common.arith, Common.subst, lemmas.Result.err_from_is_err_and}
 use Rattle.diy_words.specs.CodeNotes.{GivesAtEnd, code_notes}
 use Rattle.diy_words.proofs.Judged.{gives_finished, gives_fault}

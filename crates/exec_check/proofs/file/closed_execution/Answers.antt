@@ -1,4 +1,4 @@
--- That `closed_execution` gives a fault of the text whatever the closing of its file gave.
+-- That `closed_execution` gives an error of the text whatever the closing of its file gave.
 use Rattle.exec_check.proofs.CheckedFileLaws.{exec_wrong, exec_unclosed}
 use Rattle.exec_check.proofs.file.closed_execution.Goals as goal
 

@@ -1,4 +1,4 @@
--- That `closed_test` gives a fault of the text whatever the closing of its file gave.
+-- That `closed_test` gives an error of the text whatever the closing of its file gave.
 use Rattle.exec_check.proofs.CheckedFileLaws.{test_wrong, test_unclosed}
 use Rattle.exec_check.proofs.file.closed_test.Goals as goal
 

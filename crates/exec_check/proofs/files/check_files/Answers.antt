@@ -1,4 +1,4 @@
--- That `check_files` writes what is to be shown, or ends at the first file with a fault.
+-- That `check_files` writes what is to be shown, or ends at the first file with an error.
 use Rattle.std.proofs.Common.{sym, subst}
 use Rattle.diy_io.specs.{Shelf.ShelfSeen, Wrote.SinkSeen, Wrote.WroteAll, Wrote.WrotePart}
 use Rattle.relax_edges.specs.declared.kinds.ArchName.{ArchName}

@@ -1,4 +1,4 @@
--- What is read of the places' lines is their reading, fault or not.
+-- What is read of the places' lines is their reading, error or not.
 use Rattle.std.proofs.Common.{◌≡◌, ◌+◌, [], map, drop, length, sym, ap, ◌∙◌, arith}
 use Rattle.std.specs.Prelude.{slice_index_or}
 use Rattle.exec_meaning.specs.KeptExecutions.{with_write}

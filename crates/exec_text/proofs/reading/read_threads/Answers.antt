@@ -1,4 +1,4 @@
--- What is read of the threads' lines is their reading, fault or not.
+-- What is read of the threads' lines is their reading, error or not.
 use Rattle.std.proofs.Common.{◌≡◌, ◌+◌, ◌-◌, map, sym, ap, ◌∙◌, arith}
 use Rattle.std.specs.List.{range_with_len}
 use Rattle.exec_meaning.specs.KeptExecutions.{with_read}

@@ -1,4 +1,4 @@
--- That the place of a fault that `read_cond` finds lies within the text.
+-- That the place of an error that `read_cond` finds lies within the text.
 use Rattle.final_cond.specs.{ConditionAnswers.fault_view, ConditionReading.has_form}
 use Rattle.final_cond.proofs.WithinLaws.{fault_within}
 use Rattle.final_cond.proofs.read.read_cond.Goals as goal

@@ -1,4 +1,4 @@
--- That `read_terms` reads the terms of a condition, or finds the first fault.
+-- That `read_terms` reads the terms of a condition, or finds the first error.
 use Rattle.std.proofs.{Common.{◌≡◌, ◌≢◌, ◌≤◌, ◌+◌, ◌-◌, ◌++◌, ℕ, false, nat_eq, refl, ◌∷◌, [], map, length, ◌∙◌, sym, arith}, lemmas.Bool.{eqb-true, eqb-false}}
 use Rattle.std.proofs.{lemmas.List.map_push, lemmas.Result.err_from_is_err_and}
 use Rattle.final_cond.specs.{declared.cond.TheConstants.MAX_TERMS, Conditions.term_view, ConditionAnswers.{fault_view, term_and_rest}}

@@ -1,4 +1,4 @@
--- `read_file` reads the open file to its end, or until a fault is seen, and feeds what it reads.
+-- `read_file` reads the open file to its end, or until an error is seen, and feeds what it reads.
 use Rattle.std.proofs.{Common.{take, refl, arith, ◌∙◌}, lemmas.Result.err_from_is_err_and}
 use Rattle.msum7_files.specs.LogFiles.{log_seen}
 use Rattle.msum7_files.proofs.{FeedingLaws.{reads_nothing, reads_more, reads_part, reads_failed, short_piece}, FileLaws.{gave_took, gave_whole, gave_mode}}

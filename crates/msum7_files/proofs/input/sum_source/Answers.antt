@@ -1,4 +1,4 @@
--- `sum_source` reads the log that the input is to its end, or until a fault is seen, and feeds what it reads.
+-- `sum_source` reads the log that the input is to its end, or until an error is seen, and feeds what it reads.
 use Rattle.std.proofs.{Common.take, Common.arith, lemmas.Result.err_from_is_err_and}
 use Rattle.diy_io.specs.Taken.{SourceSeen}
 use Rattle.msum7_files.proofs.FeedingLaws.{reads_nothing, took_of, reads_more, read_end, reads_part, reads_failed, short_piece}

@@ -1,4 +1,4 @@
--- That `classify_files` writes the families of the files' cycles, or ends at the first file with a fault.
+-- That `classify_files` writes the families of the files' cycles, or ends at the first file with an error.
 use Rattle.std.proofs.Common.{◌∙◌, ℕ, get_or, sym, subst, arith, refl}
 use Rattle.diy_io.specs.{Shelf.ShelfSeen, Wrote.SinkSeen}
 use Rattle.tests_from_files.specs.declared.classified_errors.FilesEnd.{FilesEnd}

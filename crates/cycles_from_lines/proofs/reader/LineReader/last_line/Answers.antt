@@ -1,4 +1,4 @@
--- That `last_line` gives what the last line says, or its fault.
+-- That `last_line` gives what the last line says, or its error.
 use Rattle.std.proofs.Common.{ap, sym, subst, ◌∙◌}
 use Rattle.cycles_from_lines.specs.{Cycles.line_said, LineReading.ReadToFault}
 use Rattle.cycles_from_lines.proofs.ReadLaws.{said_last, fault_last, some_if}

@@ -1,4 +1,4 @@
--- That `take_after` takes in the cycle of `-after`, or gives the fault of its edges.
+-- That `take_after` takes in the cycle of `-after`, or gives the error of its edges.
 use Rattle.std.proofs.Common.{◌≡◌, Some, [], subst}
 use Rattle.std.specs.Option.{option_map}
 use Rattle.edges_from_text.specs.{declared.read.Separators.TheVariants.BlanksAndCommas, KeptEdges.{edges_added, kept_edges}, Spelled.edges_of}

@@ -1,4 +1,4 @@
--- A cell of the header that isn't that of the next thread is a fault, and so is one of a thread too many.
+-- A cell of the header that isn't that of the next thread is an error, and so is one of a thread too many.
 use Rattle.litmus_text.proofs.{Vocabulary.{Err, ap, pieces_left, sym, ◌∙◌}, TableLoops.{heads_bad, heads_full}}
 use Rattle.litmus_text.proofs.reading.table.count_heads.Goals as goal
 

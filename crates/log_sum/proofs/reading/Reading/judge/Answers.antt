@@ -1,4 +1,4 @@
--- `Reading::judge` reads a line as the definitions do, or answers its fault.
+-- `Reading::judge` reads a line as the definitions do, or answers its error.
 use Rattle.std.proofs.{Common.{refl, sym, ap, ◌∙◌, subst}, lemmas.Result.err_from_is_err_and}
 use Rattle.log_sum.specs.{declared.kinds.Place.Place, SumViews.{said_read, progress_view, IsLineFault}, LineReading.log_line_said}
 use Rattle.log_sum.proofs.FollowLaws.{text_wrong, text_refused, text_read}

@@ -1,4 +1,4 @@
--- `Reading::put` keeps what a line says, or answers its fault: one case for each thing that a line may say.
+-- `Reading::put` keeps what a line says, or answers its error: one case for each thing that a line may say.
 use Rattle.std.proofs.Common.{◌≡◌, None, refl, sym, ap, ◌∙◌, inl, inr, subst}
 use Rattle.std.specs.Prelude.{Ok, Result}
 use Rattle.log_sum.specs.{declared.errors.LogKind.LogKind, SumViews.{said_read, row_code_said, progress_view}, Facts.{a_kind, a_condition, a_hash}}

@@ -1,4 +1,4 @@
--- `StateReader::put_in_order` gives the set of the equalities, or the fault that two of them have one left side.
+-- `StateReader::put_in_order` gives the set of the equalities, or the error that two of them have one left side.
 use Rattle.std.proofs.Common.{ap, sym, ◌∙◌}
 use Rattle.log_sum.specs.{SumViews.texts_of, Equalities.has_left_twice, LogStates.or_bad}
 use Rattle.log_sum.proofs.SetLaws.{set_twice, set_in_order}

@@ -1,4 +1,4 @@
--- `Summer::end_file` answers the first fault of the logs that have ended.
+-- `Summer::end_file` answers the first error of the logs that have ended.
 use Rattle.std.proofs.Common.{ap}
 use Rattle.log_sum.specs.Representing.{Kept}
 use Rattle.log_sum.proofs.{FeedLaws.end_refused, CarryLaws.fed_represents, CarryLaws.represents_fed}

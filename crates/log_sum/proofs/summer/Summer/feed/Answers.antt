@@ -1,4 +1,4 @@
--- `Summer::feed` answers the first fault of the bytes that were fed so far.
+-- `Summer::feed` answers the first error of the bytes that were fed so far.
 use Rattle.std.proofs.Common.{ap}
 use Rattle.log_sum.specs.Representing.{Kept}
 use Rattle.log_sum.proofs.CarryLaws.{fed_represents, represents_fed, fed_refused}

@@ -1,4 +1,4 @@
--- `Table::put_condition` adds a condition to the facts of the running test, or answers its fault.
+-- `Table::put_condition` adds a condition to the facts of the running test, or answers its error.
 use Rattle.std.proofs.{Common.refl, Common.sym, lemmas.Result.err_from_is_err_and}
 use Rattle.log_sum.specs.Facts.{a_condition}
 use Rattle.log_sum.proofs.TableLaws.{none_there, fact_refused, fact_written}

@@ -1,4 +1,4 @@
--- `Table::put_hash` adds a hash to the facts of the running test, or answers its fault.
+-- `Table::put_hash` adds a hash to the facts of the running test, or answers its error.
 use Rattle.std.proofs.Common.{refl, sym}
 use Rattle.log_sum.specs.Facts.{a_hash}
 use Rattle.log_sum.proofs.TableLaws.{none_there, fact_answered}

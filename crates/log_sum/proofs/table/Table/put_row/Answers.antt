@@ -1,4 +1,4 @@
--- `Table::put_row` adds a row to the facts of the running test, or answers its fault.
+-- `Table::put_row` adds a row to the facts of the running test, or answers its error.
 use Rattle.std.proofs.Common.{refl, sym}
 use Rattle.log_sum.specs.SumViews.{row_code_said}
 use Rattle.log_sum.proofs.TableLaws.{none_there, row_answered}

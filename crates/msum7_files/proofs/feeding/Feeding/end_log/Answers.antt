@@ -1,4 +1,4 @@
--- `Feeding::end_log` answers a fault that the end of a log shows.
+-- `Feeding::end_log` answers an error that the end of a log shows.
 use Rattle.std.proofs.Common.{sym, subst}
 use Rattle.msum7_files.specs.FileFeeding.{IsEndFault}
 use Rattle.msum7_files.proofs.FeedingLaws.{log_refused}

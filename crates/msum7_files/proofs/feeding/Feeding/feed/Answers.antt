@@ -1,4 +1,4 @@
--- `Feeding::feed` answers a fault that a piece shows, or that the log goes past 2^40 bytes.
+-- `Feeding::feed` answers an error that a piece shows, or that the log goes past 2^40 bytes.
 use Rattle.std.proofs.Common.{◌++◌, take, sym, subst, arith}
 use Rattle.msum7_files.specs.FileFeeding.{IsFaultOfLogs}
 use Rattle.msum7_files.proofs.FeedingLaws.{piece_refused, piece_full}
