@@ -1,12 +1,11 @@
 -- The text of a barrier is sought from the first text on.
 use Rattle.std.proofs.Common.{ℕ, ◌≤◌, ◌≡◌, ◌-◌, true, cond, List, [], ◌∷◌, Option, Some, get_or, take, drop, length, sym, ap, ◌∙◌, subst, arith}
-use Rattle.std.specs.List.{list_all}
 use Rattle.std.proofs.lemmas.Bool.{and_parts, leb-true, eq-eqb, ne_eqb}
+use Rattle.std.specs.List.{list_all}
 use Rattle.micro_ops.specs.declared.operation.Barrier.{Barrier}
 use Rattle.arch_trait.specs.declared.arch.TheConstants.{MAX_INSTRUCTION_TEXT}
 use Rattle.arch_instructions_laws.specs.Kinds.{barrier_number}
-use Rattle.arch_instructions.specs.declared.fixed.BarrierText.{BarrierText}
-use Rattle.arch_instructions.specs.FixedTexts.{barrier_text, is_short}
+use Rattle.arch_instructions.specs.{declared.fixed.BarrierText.BarrierText, FixedTexts.{barrier_text, is_short}}
 use Rattle.list_laws.proofs.Elements.{rest-cons}
 
 -- the first text is the barrier's

@@ -1,18 +1,16 @@
 -- What the code sees of the operands that it prints, the text of operands with commas between, and a quick test of kinds.
 -- Source: own.
-use Rattle.std.specs.Prelude.{ℕ, ◌+◌, ◌≤◌, ◌≡◌, Bool, true, nat_le, List, [], ◌∷◌, ◌++◌, None, Some, take, length}
+use Rattle.std.specs.{Prelude.{ℕ, ◌+◌, ◌≤◌, ◌≡◌, Bool, true, nat_le, List, [], ◌∷◌, ◌++◌, None, Some, take, length}, List.list_all}
 use Rattle.micro_ops.specs.declared.operation.Micro.{Micro}
 use Rattle.micro_ops.specs.declared.operation.Micro.TheVariants as ops
 use Rattle.arch_trait.specs.declared.arch.TheConstants.{MAX_INSTRUCTION_TEXT}
-use Rattle.arch_instructions_laws.specs.declared.kind.{Kind.Kind, Operand.Operand}
+use Rattle.arch_instructions_laws.specs.{declared.kind.Kind.Kind, declared.kind.Operand.Operand, Kinds.operands_of}
+use Rattle.arch_instructions_laws.specs.{ClearTables.{is_piece_good, most_in, most_of}, Tables.{PieceText, FormText, after_hole, given_operands, piece_text}}
 use Rattle.arch_instructions_laws.specs.declared.kind.Kind.TheVariants as kinds
 use Rattle.arch_instructions_laws.specs.declared.kind.Operand.TheVariants as operands
-use Rattle.arch_instructions.specs.declared.{operand_list.OperandList.OperandList, print.Separator.Separator, print.Separator.TheVariants.Blank}
-use Rattle.arch_instructions.specs.declared.{print.Separator.TheVariants.Comma, sorts.Sort.Sort}
+use Rattle.arch_instructions.specs.{declared.operand_list.OperandList.OperandList, declared.print.Separator.Separator}
+use Rattle.arch_instructions.specs.{declared.print.Separator.TheVariants.{Blank, Comma}, declared.sorts.Sort.Sort}
 use Rattle.arch_instructions.specs.declared.sorts.Sort.TheVariants as sorts
-use Rattle.arch_instructions_laws.specs.{Kinds.operands_of, ClearTables.is_piece_good, ClearTables.most_in, ClearTables.most_of}
-use Rattle.arch_instructions_laws.specs.Tables.{PieceText, FormText, after_hole, given_operands, piece_text}
-use Rattle.std.specs.List.{list_all}
 
 -- the operands that a list has
 abbrev pub listed_operands : OperandList → List Operand

@@ -1,19 +1,17 @@
 -- The cut of a cycle at one location by its place, and the accesses of the cut resolution.
 use Rattle.std.proofs.Common.{◌≡◌, ℕ, zero, suc, ◌+◌, ◌-◌, ◌<◌, ◌≤◌, true, false, cond, List, [], ◌∷◌, length, take, Some, refl, sym, ◌∙◌, ap, arith, add-one}
-use Rattle.std.specs.{Prelude.◌==◌, Prelude.if◌then◌else◌, List.position_from}
 use Rattle.std.proofs.lemmas.Bool.{ne_eqb}
+use Rattle.std.specs.{Prelude.{◌==◌, if◌then◌else◌}, List.position_from}
 use Rattle.list_laws.proofs.Cases.{by_test, by_less}
-use Rattle.relax_edges.specs.declared.{kinds.Dir.Dir, kinds.Mark.Mark, kinds.Kind.Kind, edge.Edge.Edge}
-use Rattle.relax_edges.specs.declared.kinds.Kind.TheVariants as kinds
+use Rattle.relax_edges.specs.{declared.kinds.Dir.Dir, declared.kinds.Mark.Mark, declared.kinds.Kind.Kind, declared.edge.Edge.Edge}
 use Rattle.relax_edges.specs.EdgeTable.{kind_of, source_of, source_mark, is_external}
-use Rattle.cycle_events.specs.{Resolution.edge_at, Resolution.slot_of, Values.value_of}
+use Rattle.relax_edges.specs.declared.kinds.Kind.TheVariants as kinds
+use Rattle.cycle_events.specs.{Resolution.{edge_at, slot_of}, Values.value_of}
 use Rattle.cycle_events.proofs.{Threads.slot_in, Locations.ends_with}
-use Rattle.arch_trait.specs.declared.{link.Link.Link, link.Link.TheVariants.Plain, step.Step.Step}
-use Rattle.arch_trait.specs.Links.{edge_link}
-use Rattle.tests_force_cycles.specs.{CycleSteps.event_link, CycleSteps.event_step, TestOf.plain}
-use Rattle.co_tests_laws.specs.CutResolution.{cut_of, cut_open, is_ordering, orders_by}
-use Rattle.co_tests_laws.specs.CoherenceTests.{writes_in}
-use Rattle.co_tests_laws.proofs.{Opened.same_at, Opened.source_same, Opened.source_mark_same, Events.IsLoop}
+use Rattle.arch_trait.specs.{declared.link.Link.Link, declared.link.Link.TheVariants.Plain, declared.step.Step.Step, Links.edge_link}
+use Rattle.tests_force_cycles.specs.{CycleSteps.{event_link, event_step}, TestOf.plain}
+use Rattle.co_tests_laws.specs.{CutResolution.{cut_of, cut_open, is_ordering, orders_by}, CoherenceTests.writes_in}
+use Rattle.co_tests_laws.proofs.{Opened.{same_at, source_same, source_mark_same}, Events.IsLoop}
 use Rattle.co_tests_laws.proofs.Values.{Cut, IsCut, one_location, written, value_early, value_late, later_cut, first_cut, none_diff}
 use Rattle.co_tests.specs.Shape.{HasShape}
 

@@ -1,38 +1,32 @@
 -- That a coherence test has the parts of its definition, and can be printed.
 use Rattle.std.proofs.Common.{◌≡◌, ℕ, ◌+◌, ◌<◌, ◌≤◌, Bool, true, false, not, cond, nat_lt, List, [], ◌∷◌, ◌++◌, length, get_or, map, Option, Some, None, Result, Ok, Err, refl, sym, ◌∙◌, ap, subst, arith, slice_get}
-use Rattle.std.specs.{Prelude.◌||◌, Prelude.nat_le, Prelude.OnOk, Option.option_map, Option.option_or}
-use Rattle.std.specs.List.{All, list_all, list_any, filter, position_from}
-use Rattle.std.proofs.lemmas.Bool.{ltb-false, leb-false, leb-true, ne_eqb}
-use Rattle.std.proofs.lemmas.{List.length-map, List.get_or-map, List.Sums.count_by-le-length, Option.slice_get-get_or}
+use Rattle.std.proofs.{lemmas.Bool.{ltb-false, leb-false, leb-true, ne_eqb}, lemmas.List.{length-map, get_or-map}, lemmas.List.Sums.count_by-le-length}
+use Rattle.std.proofs.lemmas.Option.{slice_get-get_or}
+use Rattle.std.specs.{Prelude.{◌||◌, nat_le, OnOk}, Option.{option_map, option_or}, List.{All, list_all, list_any, filter, position_from}}
 use Rattle.list_laws.specs.Numbers.{upto}
 use Rattle.list_laws.proofs.Cases.{by_test}
-use Rattle.relax_edges.specs.declared.{kinds.ObsMode.TheVariants.Avoid, edge.Edge.Edge}
-use Rattle.relax_edges.specs.EdgeTable.{is_diff, is_of_arch}
+use Rattle.relax_edges.specs.{declared.kinds.ObsMode.TheVariants.Avoid, declared.edge.Edge.Edge, EdgeTable.{is_diff, is_of_arch}}
 use Rattle.edge_algebra_laws.specs.{Composable.IsCycle, Rotation.rotated}
 use Rattle.edge_algebra_laws.proofs.Composing.{rotated_cycle}
-use Rattle.cycle_events.specs.Resolution.{external_count, events_in, move_count, turned}
+use Rattle.cycle_events.specs.{Resolution.{external_count, events_in, move_count, turned}, Values.write_count}
 use Rattle.cycle_events.proofs.Turning.{turn_of, external_count-rotated}
-use Rattle.cycle_events.specs.Values.{write_count}
 use Rattle.accesses_force_cycles.proofs.Lists.{image_of}
 use Rattle.arrayvec.specs.ArrayVec.{ArrayVec}
-use Rattle.final_cond.specs.declared.cond.{Cond.Cond, Quantifier.Quantifier, Quantifier.TheVariants.Exists}
+use Rattle.final_cond.specs.{declared.cond.Cond.Cond, declared.cond.Quantifier.Quantifier, declared.cond.Quantifier.TheVariants.Exists}
 use Rattle.final_cond.specs.Conditions.{TermSeen, cond_view, term_view}
-use Rattle.arch_trait.specs.declared.{code.Code.Code, step.Step.Step}
-use Rattle.arch_trait.specs.{Codes.IsFormedCode, Codes.thread_code_of, Laws.IsArch, Links.branches, PlaceNames.letters, SeenTests.TestSeen}
-use Rattle.arch_trait.specs.Threads.{Puts, ThreadCode, compiled, shape_of}
+use Rattle.arch_trait.specs.{declared.code.Code.Code, declared.step.Step.Step, Codes.{IsFormedCode, thread_code_of}, Laws.IsArch, Links.branches}
+use Rattle.arch_trait.specs.{PlaceNames.letters, SeenTests.TestSeen, Threads.{Puts, ThreadCode, compiled, shape_of}}
 use Rattle.arch_trait_laws.proofs.CodeLaws.{is_formed}
 use Rattle.litmus_text.specs.Tests.{IsPrintable}
-use Rattle.tests_force_cycles.specs.CycleSteps.{event_step}
-use Rattle.tests_force_cycles.specs.TestOf.{plain, is_named_location, last_term, last_terms, load_terms}
+use Rattle.tests_force_cycles.specs.{CycleSteps.event_step, TestOf.{plain, is_named_location, last_term, last_terms, load_terms}}
 use Rattle.tests_force_cycles.proofs.{Headline.room_left, StepsAt.by_steps}
-use Rattle.test_maker.specs.{Made.AreOfArch, Refusals.foreign_edge, Refusals.is_crowded}
-use Rattle.test_maker.specs.declared.refusal.{Refusal.Refusal, Refusal.TheVariants.TooManyRegisters}
-use Rattle.co_tests_laws.specs.{CutResolution.cut_open, CutResolution.is_ordering, CoRefusals.crowded_thread, CoRefusals.is_no_coherence}
+use Rattle.test_maker.specs.{Made.AreOfArch, Refusals.{foreign_edge, is_crowded}, declared.refusal.Refusal.Refusal}
+use Rattle.test_maker.specs.declared.refusal.Refusal.TheVariants.{TooManyRegisters}
+use Rattle.co_tests_laws.specs.{CutResolution.{cut_open, is_ordering}, CoRefusals.{crowded_thread, is_no_coherence}}
 use Rattle.co_tests_laws.specs.CoherenceTests.{HasCoherenceTest, coherence_steps, coherence_test_of, writes_in}
-use Rattle.co_tests_laws.proofs.Values.{IsCut, one_location, one_move, write_count_is}
-use Rattle.co_tests_laws.proofs.{Events.unobserved, Fits.IsLoopOf, Fits.loop_thread}
+use Rattle.co_tests_laws.proofs.{Values.{IsCut, one_location, one_move, write_count_is}, Events.unobserved, Fits.{IsLoopOf, loop_thread}}
 use Rattle.co_tests_laws.proofs.Accepted.{accepted_has_test, writes_rotated, all_rotated, any_rotated}
-use Rattle.co_tests.specs.{Made.MakesOfArch, Made.MakesTurned, Made.refusal_of_arch, Shape.HasShape, Terms.last_of_writes, Threads.PutsThreads}
+use Rattle.co_tests.specs.{Made.{MakesOfArch, MakesTurned, refusal_of_arch}, Shape.HasShape, Terms.last_of_writes, Threads.PutsThreads}
 use Rattle.test_maker.proofs.Printing.{ArePlaced, formed_printable}
 
 -- where a test passes nowhere there is no first place

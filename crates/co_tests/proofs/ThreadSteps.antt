@@ -3,16 +3,15 @@ use Rattle.std.proofs.Common.{◌≡◌, ℕ, ◌+◌, ◌<◌, ◌≤◌, ◌==
 use Rattle.std.proofs.lemmas.List.{length-map, map-append}
 use Rattle.std.specs.List.{filter}
 use Rattle.list_laws.specs.Numbers.{upto}
-use Rattle.list_laws.proofs.{Counts.count_upto-le, Ranks.filter_yes, Ranks.length-filter-upto}
-use Rattle.relax_edges.specs.declared.{kinds.ObsMode.TheVariants.Avoid, edge.Edge.Edge}
-use Rattle.relax_edges.specs.EdgeTable.{is_external}
+use Rattle.list_laws.proofs.{Counts.count_upto-le, Ranks.{filter_yes, length-filter-upto}}
+use Rattle.relax_edges.specs.{declared.kinds.ObsMode.TheVariants.Avoid, declared.edge.Edge.Edge, EdgeTable.is_external}
 use Rattle.cycle_events.specs.Resolution.{edge_at, events_in, external_count, thread_of}
 use Rattle.cycle_events.proofs.Threads.{thread_end, thread_out, thread_up}
 use Rattle.arch_trait.specs.declared.step.Step.{Step}
-use Rattle.tests_force_cycles.specs.{CycleSteps.event_step, CycleSteps.thread_steps, TestOf.plain}
+use Rattle.tests_force_cycles.specs.{CycleSteps.{event_step, thread_steps}, TestOf.plain}
 use Rattle.tests_force_cycles.proofs.StepsAt.{steps-count, thread_steps_at}
 use Rattle.co_tests_laws.specs.{CutResolution.cut_open, CoherenceTests.coherence_steps}
-use Rattle.co_tests_laws.proofs.{Opened.opened-threads, Opened.opened_events, Events.none_observed}
+use Rattle.co_tests_laws.proofs.{Opened.{opened-threads, opened_events}, Events.none_observed}
 use Rattle.test_maker.proofs.Ranges.{filter_until, filter_none}
 
 -- the accesses of a thread among the first events

@@ -1,16 +1,12 @@
 -- What the calls of the maker of coherence tests give.
 -- Source: own.
-use Rattle.std.specs.Prelude.{ℕ, ◌≡◌, nat_lt, List, Option, Some, None, Result, Ok, Err}
-use Rattle.std.specs.Option.{option_or}
+use Rattle.std.specs.{Prelude.{ℕ, ◌≡◌, nat_lt, List, Option, Some, None, Result, Ok, Err}, Option.option_or}
 use Rattle.relax_edges.specs.declared.edge.Edge.{Edge}
 use Rattle.cycle_events.specs.Resolution.{external_count, turned}
 use Rattle.arch_trait.specs.{Threads.Puts, SeenTests.TestSeen}
-use Rattle.litmus_text.specs.declared.test.Test.{Test}
-use Rattle.litmus_text.specs.Tests.{test_seen}
-use Rattle.test_maker.specs.declared.refusal.Refusal.{Refusal}
-use Rattle.test_maker.specs.declared.refusal.Refusal.TheVariants.{TooFewThreads, NotCoherence, ManyWrites}
-use Rattle.co_tests_laws.specs.CoherenceTests.{coherence_test_of, writes_in}
-use Rattle.co_tests_laws.specs.CoRefusals.{coherence_refusal_of, crowded_thread, is_no_coherence, reason_if}
+use Rattle.litmus_text.specs.{declared.test.Test.Test, Tests.test_seen}
+use Rattle.test_maker.specs.{declared.refusal.Refusal.Refusal, declared.refusal.Refusal.TheVariants.{TooFewThreads, NotCoherence, ManyWrites}}
+use Rattle.co_tests_laws.specs.{CoherenceTests.{coherence_test_of, writes_in}, CoRefusals.{coherence_refusal_of, crowded_thread, is_no_coherence, reason_if}}
 
 -- a call makes the coherence test of a cycle, which has no reason against it, or gives the first reason why it has none
 abbrev pub MakesSeen : Puts → (ℕ → List ℕ) → List Edge → TestSeen → Result (Unit {0}) Refusal → Type 0

@@ -1,8 +1,6 @@
 -- Of which cycles the code makes coherence tests: for clauses of private functions.
-use Rattle.std.specs.Prelude.{◌≡◌, ◌≤◌, true, false, List}
-use Rattle.std.specs.List.{list_any}
-use Rattle.relax_edges.specs.declared.edge.Edge.{Edge}
-use Rattle.relax_edges.specs.EdgeTable.{is_diff}
+use Rattle.std.specs.{Prelude.{◌≡◌, ◌≤◌, true, false, List}, List.list_any}
+use Rattle.relax_edges.specs.{declared.edge.Edge.Edge, EdgeTable.is_diff}
 use Rattle.edge_algebra_laws.specs.Composable.{IsCycle}
 use Rattle.cycle_events.specs.Resolution.{ends_outside, external_count}
 use Rattle.co_tests_laws.specs.{CutResolution.is_ordering, CoherenceTests.writes_in}

@@ -1,9 +1,7 @@
 -- The terms of the condition of a coherence test: for clauses of private functions.
-use Rattle.std.specs.Prelude.{ℕ, ◌==◌, if◌then◌else◌, List, [], ◌∷◌, map}
-use Rattle.std.specs.List.{zip}
+use Rattle.std.specs.{Prelude.{ℕ, ◌==◌, if◌then◌else◌, List, [], ◌∷◌, map}, List.zip}
 use Rattle.final_cond.specs.Conditions.{TermSeen, AtPlace}
-use Rattle.arch_trait.specs.declared.step.Step.{Step}
-use Rattle.arch_trait.specs.PlaceNames.{location_name}
+use Rattle.arch_trait.specs.{declared.step.Step.Step, PlaceNames.location_name}
 use Rattle.tests_force_cycles.specs.{CycleSteps.numbers_read, TestOf.load_term}
 
 -- the last value of the one place, where it has two writes

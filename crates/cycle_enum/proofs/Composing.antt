@@ -1,8 +1,7 @@
 -- When a list that grows edge by edge is a cycle.
 use Rattle.std.proofs.Common.{◌≡◌, ◌<◌, ℕ, true, false, List, [], ◌∷◌, ◌++◌, length, get_or, suc, take, drop, ◌&&◌, refl, sym, ap, ◌∙◌, arith}
-use Rattle.relax_edges.specs.declared.edge.Edge.{Edge}
-use Rattle.std.proofs.{lemmas.Bool.and_parts, lemmas.Bool.true≢false, lemmas.List.take-append-drop, Math.Seq.drop-cons}
-use Rattle.relax_edges.specs.JoinedEdges.{is_joined}
+use Rattle.std.proofs.{lemmas.Bool.{and_parts, true≢false}, lemmas.List.take-append-drop, Math.Seq.drop-cons}
+use Rattle.relax_edges.specs.{declared.edge.Edge.Edge, JoinedEdges.is_joined}
 use Rattle.edge_algebra_laws.specs.Composable.{IsCycle, last_joins}
 use Rattle.edge_algebra_laws.proofs.Composing.{joined_parts, joined_prefix}
 

@@ -1,17 +1,15 @@
 -- Which edges a walk passes over after a list.
 use Rattle.std.proofs.Common.{◌≡◌, inl, inr, ℕ, ◌+◌, ◌<◌, ◌&&◌, map, option_map, slice_index_or, true, false, Option, Some, None, List, [], ◌∷◌, sym, ◌∙◌, arith}
+use Rattle.std.proofs.lemmas.Bool.{cases_Bool, true≢false}
 use Rattle.std.specs.Prelude.{IfSome}
 use denote.Ref.{Bor}
-use Rattle.std.proofs.lemmas.Bool.{cases_Bool, true≢false}
-use Rattle.relax_edges.specs.declared.{kinds.Dir.Dir, kinds.Mark.Mark, order.TheConstants.EDGES, edge.Edge.Edge}
-use Rattle.relax_edges.specs.EdgeTable.{same_dir, same_mark, source_of, source_mark}
-use Rattle.relax_edges.specs.Order.{rank_of}
+use Rattle.relax_edges.specs.{declared.kinds.Dir.Dir, declared.kinds.Mark.Mark, declared.order.TheConstants.EDGES, declared.edge.Edge.Edge}
+use Rattle.relax_edges.specs.{EdgeTable.{same_dir, same_mark, source_of, source_mark}, Order.rank_of}
 use Rattle.edge_algebra_laws.proofs.{Ordering.by_rank, RankLaws.rank_below}
 use Rattle.edge_algebra_laws.specs.Composable.{last_joins}
 use Rattle.cycle_enum_laws.specs.Search.{IsListCandidate, IsNextEdge, NoneBetween, OccursIn}
 use Rattle.cycle_enum_laws.proofs.Candidates.{unused_nowhere, unjoined_next, none_smaller}
-use Rattle.cycle_enum.specs.declared.letter.Letter.{Letter}
-use Rattle.cycle_enum.specs.Letters.{NoLetter, IsFirstLetter, IsLetterFrom, OccursAndLeaves, least_rank}
+use Rattle.cycle_enum.specs.{declared.letter.Letter.Letter, Letters.{NoLetter, IsFirstLetter, IsLetterFrom, OccursAndLeaves, least_rank}}
 
 -- a letter that leaves another access is passed over
 module _ (relaxes : List (List Edge)) (dir : Dir) (mark : Mark) (from : ℕ) where

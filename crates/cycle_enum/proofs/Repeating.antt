@@ -2,14 +2,12 @@
 use Rattle.std.proofs.Common.{◌≡◌, ◌<◌, inl, inr, ℕ, ◌+◌, List, [], ◌∷◌, ◌++◌, length, refl, sym, ◌∙◌, ap, subst, ◌-◌, take, get_or, map, arith, append_assoc, length-append}
 use Rattle.std.proofs.lemmas.List.{append-nil, nil_from_length, take-append-le, get_or_append_left, take_all, length-take-le, get_or-take, take-take, map-append, length-map, get_or_default}
 use Rattle.std.proofs.{Math.Seq.get_or-append_seam, lemmas.Bool.cases_lt}
-use Rattle.relax_edges.specs.declared.edge.Edge.{Edge}
-use Rattle.relax_edges.specs.Order.{rank_of}
+use Rattle.relax_edges.specs.{declared.edge.Edge.Edge, Order.rank_of}
 use Rattle.edge_algebra_laws.specs.CycleOrder.{Above, IsNormal}
 use Rattle.cycle_enum_laws.specs.Search.{LeadsNowhere}
-use Rattle.cycle_enum.specs.declared.prefix.{Repeat.Repeat, Repeat.TheVariants.First, Repeat.TheVariants.Less}
+use Rattle.cycle_enum.specs.{declared.prefix.Repeat.Repeat, declared.prefix.Repeat.TheVariants.{First, Less}}
 use Rattle.cycle_enum.specs.Repeats.{IsAtLeast, RepeatsFirst, IsRepeat, HasRepeats}
-use Rattle.edge_algebra_laws.proofs.Ordering.{above_irreflexive, above_one_way, above_longer, above_before, by_rank}
-use Rattle.edge_algebra_laws.proofs.Rotating.{before, remainder, cuts}
+use Rattle.edge_algebra_laws.proofs.{Ordering.{above_irreflexive, above_one_way, above_longer, above_before, by_rank}, Rotating.{before, remainder, cuts}}
 
 -- a list is at least itself
 at_least_same : (u : List Edge) → IsAtLeast u u

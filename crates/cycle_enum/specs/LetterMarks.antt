@@ -1,8 +1,7 @@
 -- Which edges are marked in a table by rank.
 -- Source: own.
 use Rattle.std.specs.Prelude.{◌≡◌, ◌↔◌, ◌⊎◌, ℕ, Bool, true, false, List, get_or}
-use Rattle.relax_edges.specs.declared.edge.Edge.{Edge}
-use Rattle.relax_edges.specs.Order.{rank_of}
+use Rattle.relax_edges.specs.{declared.edge.Edge.Edge, Order.rank_of}
 use Rattle.cycle_enum_laws.specs.Search.{IsIn, OccursIn}
 
 -- whether the edge of a rank is marked

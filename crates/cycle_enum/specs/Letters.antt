@@ -1,13 +1,10 @@
 -- The letters of a walk: the edges that occur in its relaxations.
 -- Source: own.
-use Rattle.std.specs.Prelude.{◌≡◌, ◌<◌, ◌&&◌, ◌≤◌, ◌+◌, ℕ, Bool, true, Option, Some, None, List, [], ◌∷◌, length, get_or}
-use Rattle.std.specs.List.{AllByRecursion}
-use Rattle.relax_edges.specs.declared.{order.TheConstants.EDGES, edge.Edge.Edge, kinds.Dir.Dir, kinds.Mark.Mark}
-use Rattle.relax_edges.specs.EdgeTable.{same_dir, same_mark, source_of, source_mark}
-use Rattle.relax_edges.specs.Order.{rank_of}
+use Rattle.std.specs.{Prelude.{◌≡◌, ◌<◌, ◌&&◌, ◌≤◌, ◌+◌, ℕ, Bool, true, Option, Some, None, List, [], ◌∷◌, length, get_or}, List.AllByRecursion}
+use Rattle.relax_edges.specs.{declared.order.TheConstants.EDGES, declared.edge.Edge.Edge, declared.kinds.Dir.Dir, declared.kinds.Mark.Mark}
+use Rattle.relax_edges.specs.{EdgeTable.{same_dir, same_mark, source_of, source_mark}, Order.rank_of}
 use Rattle.cycle_enum_laws.specs.Search.{OccursIn, IsSingle}
-use Rattle.cycle_enum.specs.LetterMarks.{MarksExactly}
-use Rattle.cycle_enum.specs.declared.letter.Letter.{Letter}
+use Rattle.cycle_enum.specs.{LetterMarks.MarksExactly, declared.letter.Letter.Letter}
 
 -- no letter has rank `from` or more, and below `to`
 abbrev pub NoLetter : (Edge → Type 0) → ℕ → ℕ → Type 0

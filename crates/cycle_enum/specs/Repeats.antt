@@ -1,11 +1,10 @@
 -- How the end of a list of edges repeats its beginning, by which a walk knows whether a normal form may begin with the list.
 -- Source: own; the repeats are those of the algorithm of Fredricksen, Kessler and Maiorana, which lists necklaces.
 use Rattle.std.specs.Prelude.{◌≡◌, ◌<◌, ◌+◌, ◌⊎◌, ⊤, ℕ, List, [], ◌∷◌, ◌++◌, length, take, get_or}
-use Rattle.relax_edges.specs.declared.edge.Edge.{Edge}
-use Rattle.relax_edges.specs.Order.{rank_of}
+use Rattle.relax_edges.specs.{declared.edge.Edge.Edge, Order.rank_of}
 use Rattle.edge_algebra_laws.specs.CycleOrder.{Above, IsNormal}
 use Rattle.cycle_enum_laws.specs.Search.{LeadsNowhere}
-use Rattle.cycle_enum.specs.declared.prefix.{Repeat.Repeat, Repeat.TheVariants.First, Repeat.TheVariants.Less}
+use Rattle.cycle_enum.specs.{declared.prefix.Repeat.Repeat, declared.prefix.Repeat.TheVariants.{First, Less}}
 
 -- a list is a prefix of u, or above it
 abbrev pub IsAtLeast : List Edge → List Edge → Type 0

@@ -1,15 +1,12 @@
 -- The bare edge of an edge: a communication, or program order, that joins the same accesses. The bare edges of a cycle resolve as
 -- the cycle does.
 use Rattle.std.proofs.Common.{◌≡◌, ℕ, ◌%◌, Bool, ◌==◌, ◌&&◌, true, false, cond, List, [], ◌∷◌, ◌++◌, length, map, take, drop, filter, refl, sym, ◌∙◌, ap, arith}
-use Rattle.std.specs.Prelude.{Option, Some, None, unwrap_or, count_by}
-use Rattle.std.specs.{List.find, List.list_any, Option.option_map}
-use Rattle.std.proofs.{Math.Path.fun_ext, Math.ListN.get_or-map, lemmas.List.Sums.sum_by-cons}
-use Rattle.std.proofs.lemmas.List.{length-map, take-map, drop-map, map-append}
+use Rattle.std.proofs.{Math.Path.fun_ext, Math.ListN.get_or-map, lemmas.List.Sums.sum_by-cons, lemmas.List.{length-map, take-map, drop-map, map-append}}
+use Rattle.std.specs.{Prelude.{Option, Some, None, unwrap_or, count_by}, List.{find, list_any}, Option.option_map}
 use Rattle.relax_edges.specs.declared.kinds.Dir.TheVariants as dirs
-use Rattle.relax_edges.specs.declared.{kinds.Kind.Kind, edge.Edge.Edge}
+use Rattle.relax_edges.specs.{declared.kinds.Kind.Kind, declared.edge.Edge.Edge, EdgeTable.{kind_of, source_of, is_external, is_diff, same_dir}}
 use Rattle.relax_edges.specs.declared.kinds.Kind.TheVariants as kinds
 use Rattle.relax_edges.specs.declared.edge.Edge.TheVariants as edges
-use Rattle.relax_edges.specs.EdgeTable.{kind_of, source_of, is_external, is_diff, same_dir}
 use Rattle.list_laws.specs.Numbers.{upto}
 use Rattle.edge_algebra_laws.specs.Rotation.{rotated}
 use Rattle.cycle_events.specs.Resolution.{external_count, move_count, edge_at, ends_outside, turned, thread_of, moves_before, location_of, events_in, moves_in, is_coherence_only}

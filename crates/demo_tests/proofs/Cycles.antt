@@ -1,14 +1,12 @@
 -- The printed text of the test of a cycle, under the cycle's name, is short.
-use Rattle.std.proofs.Common.{◌≡◌, ◌≤◌, List, length, None, arith}
-use Rattle.std.proofs.lemmas.Bool.Decides.{nat_tests}
-use Rattle.relax_edges.specs.declared.{kinds.ObsMode.ObsMode, edge.Edge.Edge}
+use Rattle.std.proofs.{Common.{◌≡◌, ◌≤◌, List, length, None, arith}, lemmas.Bool.Decides.nat_tests}
+use Rattle.relax_edges.specs.{declared.kinds.ObsMode.ObsMode, declared.edge.Edge.Edge}
 use Rattle.edge_algebra_laws.specs.Composable.{IsCycle}
 use Rattle.cycle_names.specs.CycleNames.{name_of}
 use Rattle.cycle_names.proofs.NameLaws.{names_of_cycles}
 use Rattle.cycle_events.specs.Resolution.{turned}
-use Rattle.arch_trait.specs.{Cells.WritesCells, Cells.MakesOneAccess, Laws.IsArch, Threads.Puts, Writing.Writing, Writing.WritesBack}
-use Rattle.litmus_text.specs.declared.limits.TheConstants.{MAX_TEST_TEXT}
-use Rattle.litmus_text.specs.Printable.{IsTestName}
+use Rattle.arch_trait.specs.{Cells.{WritesCells, MakesOneAccess}, Laws.IsArch, Threads.Puts, Writing.{Writing, WritesBack}}
+use Rattle.litmus_text.specs.{declared.limits.TheConstants.MAX_TEST_TEXT, Printable.IsTestName}
 use Rattle.test_maker.specs.{CycleText.cycle_text, Refusals.refusal_of}
 use Rattle.test_maker.proofs.HavingTests.{accepted_has_test}
 use Rattle.bytes_force_cycles.proofs.Readable.{readable}

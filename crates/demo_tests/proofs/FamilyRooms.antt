@@ -1,19 +1,16 @@
 -- Threads of at most two accesses need no more registers than an architecture has.
 use Rattle.std.proofs.Common.{◌≡◌, ℕ, suc, ◌+◌, ◌≤◌, Bool, true, false, ◌&&◌, cond, List, [], ◌∷◌, length, map, filter, Some, None, nat_le, refl, ◌∙◌, ap, arith}
-use Rattle.std.specs.{List.AllByRecursion, List.list_all, List.position_from, Option.option_map}
-use Rattle.std.proofs.lemmas.{Bool.and_parts, Bool.leb-true, Bool.le-ltb, List.length-map, List.Sums.count_by-le-length}
+use Rattle.std.proofs.{lemmas.Bool.{and_parts, leb-true, le-ltb}, lemmas.List.length-map, lemmas.List.Sums.count_by-le-length}
+use Rattle.std.specs.{List.{AllByRecursion, list_all, position_from}, Option.option_map}
 use Rattle.list_laws.proofs.{Elements.all_append, Cases.by_test, Numbers.length-map-upto}
-use Rattle.relax_edges.specs.declared.{kinds.ObsMode.TheVariants.Accept, edge.Edge.Edge}
+use Rattle.relax_edges.specs.{declared.kinds.ObsMode.TheVariants.Accept, declared.edge.Edge.Edge}
 use Rattle.list_laws.specs.Numbers.{upto}
-use Rattle.cycle_events.specs.{Resolution.events_in, Resolution.external_count, Resolution.move_count, Values.is_observed, Values.write_count}
+use Rattle.cycle_events.specs.{Resolution.{events_in, external_count, move_count}, Values.{is_observed, write_count}}
 use Rattle.program_meaning.specs.Intended.{observed_locations}
-use Rattle.arch_trait.specs.declared.step.{Shape.Shape, Step.Step}
-use Rattle.arch_trait.specs.Links.{is_addr}
+use Rattle.arch_trait.specs.{declared.step.Shape.Shape, declared.step.Step.Step, Links.is_addr}
 use Rattle.arch_trait.specs.Threads.{Puts, is_load_dir, is_store_dir, places_in, shape_of, visits}
-use Rattle.tests_force_cycles.specs.CycleSteps.{cycle_steps, event_step, observing, observer_steps, thread_steps}
-use Rattle.tests_force_cycles.specs.TestOf.{plain}
-use Rattle.test_maker.specs.declared.refusal.Refusal.TheVariants.{TooManyRegisters}
-use Rattle.test_maker.specs.Refusals.{crowded_thread, is_crowded}
+use Rattle.tests_force_cycles.specs.{CycleSteps.{cycle_steps, event_step, observing, observer_steps, thread_steps}, TestOf.plain}
+use Rattle.test_maker.specs.{declared.refusal.Refusal.TheVariants.TooManyRegisters, Refusals.{crowded_thread, is_crowded}}
 
 -- a thread of at most two loads and two stores, of which at most two have an address dependency, at at most two places has
 -- registers enough on an architecture

@@ -1,13 +1,11 @@
 -- The edges that replace those of a family's cycle are of the architecture, and their bare edges are the family's.
-use Rattle.std.proofs.Common.{◌≡◌, Bool, true, false, not, List, [], ◌∷◌, refl, sym, ◌∙◌, ap}
+use Rattle.std.proofs.{Common.{◌≡◌, Bool, true, false, not, List, [], ◌∷◌, refl, sym, ◌∙◌, ap}, lemmas.Bool.{and_parts, and_from, not-true, true≢false}}
 use Rattle.std.specs.{Prelude.MatchBool, List.list_all}
-use Rattle.std.proofs.lemmas.Bool.{and_parts, and_from, not-true, true≢false}
-use Rattle.relax_edges.specs.declared.{kinds.ArchName.ArchName, kinds.Dir.Dir, kinds.Kind.Kind, kinds.Mark.TheVariants.Plain}
-use Rattle.relax_edges.specs.declared.{kinds.Reach.TheVariants.Internal, kinds.Reach.TheVariants.External, kinds.Sd.TheVariants.Same}
-use Rattle.relax_edges.specs.declared.{kinds.Sd.TheVariants.Diff, edge.Edge.Edge}
+use Rattle.relax_edges.specs.{declared.kinds.ArchName.ArchName, declared.kinds.Dir.Dir, declared.kinds.Kind.Kind, declared.kinds.Mark.TheVariants.Plain}
+use Rattle.relax_edges.specs.{declared.kinds.Reach.TheVariants.{Internal, External}, declared.kinds.Sd.TheVariants.{Same, Diff}, declared.edge.Edge.Edge}
+use Rattle.relax_edges.specs.EdgeTable.{kind_of, source_of, target_of, source_mark, target_mark, is_of_arch, same_dir, same_mark, is_external, is_diff}
 use Rattle.relax_edges.specs.declared.kinds.Kind.TheVariants as kinds
 use Rattle.relax_edges.specs.declared.edge.Edge.TheVariants as edges
-use Rattle.relax_edges.specs.EdgeTable.{kind_of, source_of, target_of, source_mark, target_mark, is_of_arch, same_dir, same_mark, is_external, is_diff}
 use Rattle.demo_tests.specs.Filled.{IsFilled, is_choice}
 use Rattle.demo_tests.proofs.BareCycles.{bare, bare_edges}
 use Rattle.edge_algebra_laws.proofs.Joining.{same_dir_is}

@@ -1,12 +1,10 @@
 -- The lines of the summary, piece by piece.
 use Rattle.std.proofs.Common.{◌≡◌, ◌≤◌, ◌<◌, ℕ, ◌-◌, List, [], ◌∷◌, ◌++◌, length, get_or, take, drop, Ok, refl, subst, arith}
-use Rattle.std.specs.{Prelude.codes, Prelude.Result, Fmt.decimal}
+use Rattle.std.specs.{Prelude.{codes, Result}, Fmt.decimal}
 use Rattle.list_laws.proofs.Elements.{rest-cons}
-use Rattle.diy_io.specs.declared.errors.Failed.{Failed}
-use Rattle.diy_io.specs.{Page.Sends, PageLaws.sends_then, PageLaws.sent_nothing, Wrote.SinkSeen}
+use Rattle.diy_io.specs.{declared.errors.Failed.Failed, Page.Sends, PageLaws.{sends_then, sent_nothing}, Wrote.SinkSeen}
 use Rattle.cycle_names.specs.declared.family.Family.{Family}
-use Rattle.demo_tests.specs.declared.tally.TestTally.{TestTally}
-use Rattle.demo_tests.specs.DemoText.{tally_line, family_line, family_lines}
+use Rattle.demo_tests.specs.{declared.tally.TestTally.TestTally, DemoText.{tally_line, family_line, family_lines}}
 
 -- a line by its pieces
 pub line_is : (word tests lines bytes : List ℕ) (tally : TestTally) → tests ≡ decimal tally.tests → lines ≡ decimal tally.lines → bytes ≡ decimal tally.bytes

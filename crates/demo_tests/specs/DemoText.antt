@@ -1,13 +1,10 @@
 -- The summary that the demonstration writes.
 -- Source: own.
-use Rattle.std.specs.Prelude.{ℕ, ◌==◌, if◌then◌else◌, List, [], ◌∷◌, ◌++◌, codes}
-use Rattle.std.specs.Fmt.{decimal}
-use Rattle.cycle_names.specs.declared.family.Family.{Family}
-use Rattle.cycle_names.specs.Families.{all_families, family_word}
+use Rattle.std.specs.{Prelude.{ℕ, ◌==◌, if◌then◌else◌, List, [], ◌∷◌, ◌++◌, codes}, Fmt.decimal}
+use Rattle.cycle_names.specs.{declared.family.Family.Family, Families.{all_families, family_word}}
 use Rattle.list_laws.specs.Numbers.{upto}
 use Rattle.arch_trait.specs.{Threads.Puts, Writing.Writing}
-use Rattle.demo_tests.specs.declared.tally.TestTally.{TestTally}
-use Rattle.demo_tests.specs.Tallies.{numbered_text, tally_of_tests, family_tallies}
+use Rattle.demo_tests.specs.{declared.tally.TestTally.TestTally, Tallies.{numbered_text, tally_of_tests, family_tallies}}
 
 -- a line of the summary: a word, and the numbers of tests, lines and bytes counted under it
 unfoldable pub tally_line : List ℕ → TestTally → List ℕ

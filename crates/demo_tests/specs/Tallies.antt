@@ -1,16 +1,13 @@
 -- The tests of the demonstration by their numbers, and what is counted of them.
 -- Source: own.
-use Rattle.std.specs.Prelude.{ℕ, zero, suc, ◌%◌, ◌==◌, List, length, map, filter, slice_index_or}
-use Rattle.std.specs.List.{sum_by}
-use Rattle.relax_edges.specs.declared.{kinds.ArchName.ArchName, kinds.ObsMode.TheVariants.Accept, edge.Edge.Edge}
-use Rattle.cycle_names.specs.declared.family.Family.TheVariants.{Other}
-use Rattle.cycle_names.specs.{Families.all_families, Families.family_edges, CycleNames.name_of}
+use Rattle.std.specs.{Prelude.{ℕ, zero, suc, ◌%◌, ◌==◌, List, length, map, filter, slice_index_or}, List.sum_by}
+use Rattle.relax_edges.specs.{declared.kinds.ArchName.ArchName, declared.kinds.ObsMode.TheVariants.Accept, declared.edge.Edge.Edge}
+use Rattle.cycle_names.specs.{declared.family.Family.TheVariants.Other, Families.{all_families, family_edges}, CycleNames.name_of}
 use Rattle.list_laws.specs.Numbers.{upto}
 use Rattle.arch_trait.specs.{Threads.Puts, Writing.Writing}
 use Rattle.diy_io.specs.Sink.{line_feed_count}
 use Rattle.test_maker.specs.CycleText.{cycle_text}
-use Rattle.demo_tests.specs.declared.tally.TestTally.{TestTally}
-use Rattle.demo_tests.specs.{Draws.first_seed, FilledLinks.links_filled, FilledLinks.seed_after}
+use Rattle.demo_tests.specs.{declared.tally.TestTally.TestTally, Draws.first_seed, FilledLinks.{links_filled, seed_after}}
 
 -- the place in the table of the family of a test with this number: the families take turns
 abbrev pub family_tally_place : ℕ → ℕ

@@ -1,11 +1,8 @@
 -- Files by the memory that they have.
 use Rattle.std.proofs.Common.{◌≡◌, ℕ, ◌+◌, ◌<◌, List, [], ◌∷◌, ◌++◌, ◌-◌, length, get_or, set, map, refl, sym, ap, ◌∙◌, subst, arith, All}
-use Rattle.std.proofs.lemmas.List.{map-set, get_or-map, length-map, map-append}
-use Rattle.diy_io.specs.declared.mem_files.Entry.{Entry}
-use Rattle.diy_io.specs.MemFiles.{NamedFile, MemFilesState, file_name_at, bytes_at}
+use Rattle.std.proofs.{lemmas.List.{map-set, get_or-map, length-map, map-append}, lemmas.List.Elements.All-get_or}
+use Rattle.diy_io.specs.{declared.mem_files.Entry.Entry, MemFiles.{NamedFile, MemFilesState, file_name_at, bytes_at}, MemEntries.{file_view, IsSpare}}
 use Rattle.std.specs.Prelude.{Option, IfSome, MatchOption, Result, OnOk, OnErr, Ok, Err, Some, None, Bool, true, false, is_err, is_ok, if◌then◌else◌}
-use Rattle.std.proofs.lemmas.List.Elements.{All-get_or}
-use Rattle.diy_io.specs.MemEntries.{file_view, IsSpare}
 
 abbrev pub state_of : List NamedFile → ℕ → ℕ → MemFilesState
 state_of files room names = record { files = files; room = room; names = names }

@@ -1,8 +1,7 @@
 -- Files that words name, and what stays true of them where no file changed.
-use Rattle.std.proofs.Common.{◌≡◌, ℕ, List, [], Some, None, sym, subst}
+use Rattle.std.proofs.{Common.{◌≡◌, ℕ, List, [], Some, None, sym, subst}, lemmas.Option.get_or_from_slice_get}
 use Rattle.std.specs.Prelude.{IfSome, MatchOption, slice_get}
-use Rattle.std.proofs.lemmas.Option.{get_or_from_slice_get}
-use Rattle.diy_io.specs.{Count.Rose, Shelf.ShelfSeen, Opened.IsFile, Opened.name_at}
+use Rattle.diy_io.specs.{Count.Rose, Shelf.ShelfSeen, Opened.{IsFile, name_at}}
 
 -- the word that is found at a place
 pub named_word : (words : List (List ℕ)) (place : ℕ) (name : List ℕ) → slice_get words place ≡ Some name → name ≡ name_at words place

@@ -1,11 +1,9 @@
 -- Files by their names, and by their places in a list.
 use Rattle.std.proofs.Common.{◌≡◌, ℕ, zero, suc, ◌+◌, ◌<◌, Bool, true, false, cond, List, [], ◌∷◌, ◌++◌, length, get_or, set, refl, ap, ◌∙◌, arith, Some, None, zero-add}
-use Rattle.std.specs.{Prelude.Option, Prelude.IfSome, Prelude.find, Option.option_map, List.position_from, Str.bytes_eq}
-use Rattle.std.proofs.{Math.Path.fun_ext, lemmas.Option.none-some, lemmas.Option.same_Some, lemmas.List.Folds.find-append}
-use Rattle.std.proofs.{lemmas.Slice.Eq.bytes_eq-Decides}
+use Rattle.std.proofs.{Math.Path.fun_ext, lemmas.Option.{none-some, same_Some}, lemmas.List.Folds.find-append, lemmas.Slice.Eq.bytes_eq-Decides}
+use Rattle.std.specs.{Prelude.{Option, IfSome, find}, Option.option_map, List.position_from, Str.bytes_eq}
 use Rattle.list_laws.proofs.Cases.{eq_swap}
-use Rattle.diy_io.specs.Shelf.{with_file}
-use Rattle.diy_io.specs.MemFiles.{NamedFile, has_name, file_place, file_name_at, bytes_at, files_named}
+use Rattle.diy_io.specs.{Shelf.with_file, MemFiles.{NamedFile, has_name, file_place, file_name_at, bytes_at, files_named}}
 
 -- a test is passed first at a place, which has the number i where the list begins at k
 pub record FirstAt (t : NamedFile → Bool) (k : ℕ) (xs : List NamedFile) (i : ℕ) : Type 0 where

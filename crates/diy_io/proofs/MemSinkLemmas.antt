@@ -1,6 +1,5 @@
 -- What a sink of bounded room keeps.
-use Rattle.std.proofs.Common.{◌≡◌, ℕ, ◌+◌, ◌≤◌, List, ◌++◌, length, take, arith, length-append}
-use Rattle.std.proofs.{lemmas.List.take_all, Math.Seq.take-append-add}
+use Rattle.std.proofs.{Common.{◌≡◌, ℕ, ◌+◌, ◌≤◌, List, ◌++◌, length, take, arith, length-append}, lemmas.List.take_all, Math.Seq.take-append-add}
 
 -- a text that fits is kept whole
 pub took_all : (room : ℕ) (taken text : List ℕ) → length taken + length text ≤ room → take room (taken ++ text) ≡ taken ++ text

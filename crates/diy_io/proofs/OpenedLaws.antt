@@ -1,8 +1,7 @@
 -- Files of a shelf that are opened one after another.
 use Rattle.std.proofs.Common.{◌≡◌, ◌≤◌, ◌<◌, ◌+◌, ℕ, suc, All, List, [], ◌∷◌, ◌++◌, length, refl, sym, ap, ◌∙◌, subst, arith, Some, None, length-append}
-use Rattle.std.specs.{Prelude.Option, Prelude.IfSome, Prelude.IsSome, Option.option_and_then}
-use Rattle.diy_io.specs.{Count.count_of, Count.last_count, Count.next_count, Opened.IsFile, Opened.TookFiles, Opened.last_taken}
-use Rattle.diy_io.specs.Shelf.{Files, ShelfSeen, left_to_read, Opened}
+use Rattle.std.specs.{Prelude.{Option, IfSome, IsSome}, Option.option_and_then}
+use Rattle.diy_io.specs.{Count.{count_of, last_count, next_count}, Opened.{IsFile, TookFiles, last_taken}, Shelf.{Files, ShelfSeen, left_to_read, Opened}}
 
 one_text : (shown : Option (List ℕ)) (bytes : List ℕ) → IsSome shown → IfSome shown (λ whole. whole ≡ bytes) → shown ≡ Some bytes
 one_text None bytes there text = cc

@@ -1,14 +1,13 @@
 -- What the calls of a shelf in memory do to what it shows.
 use Rattle.std.proofs.Common.{◌≡◌, ◌≤◌, ◌<◌, ℕ, ◌+◌, List, [], ◌∷◌, ◌++◌, length, take, drop, set, min, refl, sym, ap, ◌∙◌, subst, arith, Some, None, length-drop, length-append}
+use Rattle.std.proofs.{lemmas.List.{take-append-drop, drop_all, drop-drop, get_or-set_same, length-take-le, take-append-le, take-take}, lemmas.Option.same_Some}
 use Rattle.std.specs.Prelude.{Result, OnErr}
-use Rattle.std.proofs.lemmas.List.{take-append-drop, drop_all, drop-drop, get_or-set_same, length-take-le, take-append-le, take-take}
-use Rattle.std.proofs.lemmas.Option.{same_Some}
 use Rattle.diy_io.specs.Count.{next_count, count_of}
 use Rattle.diy_io.specs.Shelf.{Idle, Reading, Writing, name_written, IsWriting, with_more, Opened, NotThere, Stopped, Gave, Created, AppendedPart}
-use Rattle.diy_io.specs.declared.mem_shelf.{Work.Work, MemShelf.TheInside.Inside}
-use Rattle.diy_io.specs.declared.mem_shelf.Work.TheVariants as works
+use Rattle.diy_io.specs.{declared.mem_shelf.Work.Work, declared.mem_shelf.MemShelf.TheInside.Inside}
 use Rattle.diy_io.specs.MemFiles.{MemFilesState, NamedFile, file_place, file_name_at, bytes_at, files_named}
 use Rattle.diy_io.specs.MemShelf.{MemShelfState, mem_shelf_seen, mode_of, IsPlace, IsAt}
+use Rattle.diy_io.specs.declared.mem_shelf.Work.TheVariants as works
 use Rattle.diy_io.proofs.FilesLaws.{place_inside, name_there, bytes_there, bytes_not_there, files_put, files_added, place_stays, place_added}
 
 -- the place of a file that was found

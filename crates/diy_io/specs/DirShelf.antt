@@ -1,7 +1,6 @@
 -- A shelf over the files of the system.
 use Rattle.std.specs.Prelude.{ℕ, List, None}
-use Rattle.diy_io.specs.Shelf.{Mode, Idle, Reading, Writing, ShelfSeen}
-use Rattle.diy_io.specs.declared.dir_shelf.AtFile.{AtFile}
+use Rattle.diy_io.specs.{Shelf.{Mode, Idle, Reading, Writing, ShelfSeen}, declared.dir_shelf.AtFile.AtFile}
 use Rattle.diy_io.specs.declared.dir_shelf.AtFile.TheVariants as at_files
 
 -- the mode, by the name of the file that is read or written

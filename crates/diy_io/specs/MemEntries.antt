@@ -1,8 +1,6 @@
 -- The memory of files in memory.
-use Rattle.std.specs.Prelude.{ℕ, ◌+◌, ◌≤◌, All, vec_len, vec_capacity, ◌≡◌, []}
-use Rattle.std.specs.declared.{vec.Vec.Vec, alloc.Global.Global}
-use Rattle.diy_io.specs.declared.mem_files.Entry.{Entry}
-use Rattle.diy_io.specs.MemFiles.{NamedFile}
+use Rattle.std.specs.{Prelude.{ℕ, ◌+◌, ◌≤◌, All, vec_len, vec_capacity, ◌≡◌, []}, declared.vec.Vec.Vec, declared.alloc.Global.Global}
+use Rattle.diy_io.specs.{declared.mem_files.Entry.Entry, MemFiles.NamedFile}
 
 -- a file by its name and its bytes
 abbrev pub file_view : Entry → NamedFile

@@ -1,9 +1,7 @@
 -- A shelf in memory that fails at chosen calls.
 use Rattle.std.specs.Prelude.{◌≡◌, ◌≤◌, ◌/◌, ℕ, List, [], drop, take, length, min, Some}
-use Rattle.diy_io.specs.Count.{next_count}
-use Rattle.diy_io.specs.Shelf.{Mode, Idle, Reading, Writing, ShelfSeen, name_written}
-use Rattle.diy_io.specs.MemFiles.{NamedFile, MemFilesState, file_place, file_name_at, bytes_at, files_named, with_bytes}
-use Rattle.diy_io.specs.declared.mem_shelf.Work.{Work}
+use Rattle.diy_io.specs.{Count.next_count, Shelf.{Mode, Idle, Reading, Writing, ShelfSeen, name_written}}
+use Rattle.diy_io.specs.{MemFiles.{NamedFile, MemFilesState, file_place, file_name_at, bytes_at, files_named, with_bytes}, declared.mem_shelf.Work.Work}
 use Rattle.diy_io.specs.declared.mem_shelf.Work.TheVariants as works
 
 -- what it holds, what it is at, the numbers of the calls that fail, the number of the next call, and its counts

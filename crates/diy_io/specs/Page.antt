@@ -1,8 +1,7 @@
 -- A page in memory, and what it means that a text goes to a sink by way of it.
 -- Source: own.
 use Rattle.std.specs.Prelude.{◌≡◌, ℕ, List, [], ◌∷◌, ◌++◌, take, Result, OnOk, OnErr}
-use Rattle.diy_io.specs.declared.{errors.Failed.Failed, page.TheConstants.PAGE_ROOM}
-use Rattle.diy_io.specs.Wrote.{SinkSeen, WroteAll, WrotePart}
+use Rattle.diy_io.specs.{declared.errors.Failed.Failed, declared.page.TheConstants.PAGE_ROOM, Wrote.{SinkSeen, WroteAll, WrotePart}}
 
 -- bytes and then a text, as far as there is room for so many bytes in all
 unfoldable pub put_within : ℕ → List ℕ → List ℕ → List ℕ

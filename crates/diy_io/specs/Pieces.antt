@@ -1,6 +1,5 @@
 -- Pieces of a text, one after another.
-use Rattle.std.specs.Prelude.{ℕ, List, [], ◌++◌, fold}
-use Rattle.std.specs.Borrow.{Bor}
+use Rattle.std.specs.{Prelude.{ℕ, List, [], ◌++◌, fold}, Borrow.Bor}
 
 -- the text that the pieces make together
 abbrev pub joined_text : List (Bor (List ℕ)) → List ℕ

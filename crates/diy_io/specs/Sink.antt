@@ -1,6 +1,5 @@
 -- What a sink shows of the bytes that it has taken, and what it means that this grew by a text.
-use Rattle.std.specs.Prelude.{◌≡◌, ℕ, ◌+◌, ◌==◌, List, ◌++◌, length, count_by, Option, None, Some}
-use Rattle.std.specs.Option.{option_map}
+use Rattle.std.specs.{Prelude.{◌≡◌, ℕ, ◌+◌, ◌==◌, List, ◌++◌, length, count_by, Option, None, Some}, Option.option_map}
 use Rattle.diy_io.specs.Count.{count_of}
 
 -- how many bytes and how many line feeds a sink has taken

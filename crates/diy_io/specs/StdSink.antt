@@ -1,8 +1,6 @@
 -- A sink over a writer of the standard library.
-use Rattle.std.specs.Prelude.{ℕ, List, ◌++◌, ◌≡◌, Option}
-use Rattle.std.specs.Io.KnownBytes.{Appends}
-use Rattle.diy_io.specs.{Sink.shown_nothing, Wrote.SinkSeen}
-use Rattle.diy_io.specs.declared.std_sink.StdSink.{StdSink}
+use Rattle.std.specs.{Prelude.{ℕ, List, ◌++◌, ◌≡◌, Option}, Io.KnownBytes.Appends}
+use Rattle.diy_io.specs.{Sink.shown_nothing, Wrote.SinkSeen, declared.std_sink.StdSink.StdSink}
 
 -- the writer below
 abbrev pub writer_of : {W : Type 0} → StdSink W → W

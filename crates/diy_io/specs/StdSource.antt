@@ -1,7 +1,6 @@
 -- A source over a reader of the standard library.
 use Rattle.std.specs.Prelude.{ℕ, None}
-use Rattle.diy_io.specs.Taken.{SourceSeen}
-use Rattle.diy_io.specs.declared.std_source.StdSource.{StdSource}
+use Rattle.diy_io.specs.{Taken.SourceSeen, declared.std_source.StdSource.StdSource}
 
 -- the reader below
 abbrev pub reader_of : {R : Type 0} → StdSource R → R

@@ -1,8 +1,6 @@
 -- What a source shows, and what it means that bytes were taken from it.
-use Rattle.std.specs.Prelude.{◌≡◌, ◌≤◌, ℕ, ◌+◌, List, length, Option, Result, IfOk, OnOk, OnErr}
-use Rattle.std.specs.Io.KnownBytes.{Consumes, ReadConsumes}
-use Rattle.diy_io.specs.declared.errors.Failed.{Failed}
-use Rattle.diy_io.specs.Count.{count_of, Rose}
+use Rattle.std.specs.{Prelude.{◌≡◌, ◌≤◌, ℕ, ◌+◌, List, length, Option, Result, IfOk, OnOk, OnErr}, Io.KnownBytes.{Consumes, ReadConsumes}}
+use Rattle.diy_io.specs.{declared.errors.Failed.Failed, Count.{count_of, Rose}}
 
 -- the bytes that are still to come, where the source shows them, how many bytes were taken, and the count of faults
 pub record SourceSeen : Type 0 where

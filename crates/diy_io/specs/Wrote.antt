@@ -1,8 +1,6 @@
 -- What a function that writes a text to a sink says of it.
 use Rattle.std.specs.Prelude.{◌≡◌, ◌≤◌, ℕ, List, Result, OnOk, OnErr}
-use Rattle.diy_io.specs.declared.errors.Failed.{Failed}
-use Rattle.diy_io.specs.Count.{Rose}
-use Rattle.diy_io.specs.Sink.{Tally, Shown, Grew, GrewByPrefix, shown_tally}
+use Rattle.diy_io.specs.{declared.errors.Failed.Failed, Count.Rose, Sink.{Tally, Shown, Grew, GrewByPrefix, shown_tally}}
 
 -- what a sink shows, and its count of faults
 pub record SinkSeen : Type 0 where

@@ -1,47 +1,42 @@
 -- The cause of a status, and which tools may want memory, from what is answered.
 use Rattle.std.proofs.Common.{◌≡◌, ◌<◌, ◌+◌, ◌^◌, ℕ, List, [], ◌∷◌, length, Option, Some, None, Ok, Err, refl, sym, ap, subst, arith, inl, inr, ◌∙◌}
 use Rattle.std.specs.Prelude.{Result, ◌⊎◌}
-use Rattle.relax_edges.specs.declared.{edge.Edge.Edge, kinds.ArchName.ArchName}
+use Rattle.relax_edges.specs.{declared.edge.Edge.Edge, declared.kinds.ArchName.ArchName}
 use Rattle.cycles_from_lines.specs.declared.errors.LinesError.TheVariants as lines
-use Rattle.cycles_from_lines.specs.declared.errors.{NormError.NormError, ClassifyError.ClassifyError}
+use Rattle.cycles_from_lines.specs.{declared.errors.NormError.NormError, declared.errors.ClassifyError.ClassifyError, Classified.Classifies}
+use Rattle.cycles_from_lines.specs.Normed.{Norms, name_line}
 use Rattle.cycles_from_lines.specs.declared.errors.NormError.TheVariants as norms
 use Rattle.cycles_from_lines.specs.declared.errors.ClassifyError.TheVariants as classifies
-use Rattle.cycles_from_lines.specs.{Classified.Classifies, Normed.Norms, Normed.name_line}
 use Rattle.tests_from_files.specs.declared.classified_errors.FilesEnd.{FilesEnd}
 use Rattle.tests_from_files.specs.declared.classified_errors.FilesEnd.TheVariants as classing
 use Rattle.tests_from_files.specs.declared.classified_errors.FileKind.TheVariants as kinds
 use Rattle.exec_check.specs.declared.checked_errors.CheckEnd.{CheckEnd}
 use Rattle.exec_check.specs.declared.checked_errors.CheckEnd.TheVariants as checking
 use Rattle.exec_check.specs.declared.checked_errors.CheckedKind.TheVariants as checked
-use Rattle.diy_io.specs.{Count.Rose, Count.count_of, Shelf.ShelfSeen, Taken.SourceSeen, Wrote.SinkSeen, Wrote.WroteAll, Wrote.WrotePart}
-use Rattle.diy_words.specs.declared.{usage.Usage.Usage, usage.UsageKind.TheVariants.UnknownName, request.Demo.Demo, request.Check.Check}
-use Rattle.diy_words.specs.Requests.{Task, TestTask, WhyTask, ListTask, Sought, asked_of}
-use Rattle.diy_words.specs.Requests.{AsksTest, AsksWhy, AsksCoherence, CoherenceTask, AsksName, AsksList, AsksFamilies, AsksSum, AsksCross, AsksDemo, AsksCheck, AsksExecution, AsksCoherenceExecution, AsksLines, OfEdges, OfName, OfLines, CrossTask}
-use Rattle.tests_to_files.specs.declared.ending.ListingEnd.{ListingEnd}
+use Rattle.diy_io.specs.{Count.{Rose, count_of}, Shelf.ShelfSeen, Taken.SourceSeen, Wrote.{SinkSeen, WroteAll, WrotePart}}
+use Rattle.diy_words.specs.{declared.usage.Usage.Usage, declared.usage.UsageKind.TheVariants.UnknownName, declared.request.Demo.Demo}
+use Rattle.diy_words.specs.declared.request.Check.{Check}
+use Rattle.diy_words.specs.Requests.{Task, TestTask, WhyTask, ListTask, Sought, asked_of, AsksTest, AsksWhy, AsksCoherence, CoherenceTask, AsksName, AsksList, AsksFamilies, AsksSum, AsksCross, AsksDemo, AsksCheck, AsksExecution, AsksCoherenceExecution, AsksLines, OfEdges, OfName, OfLines, CrossTask}
+use Rattle.tests_to_files.specs.{declared.ending.ListingEnd.ListingEnd, ListingEnds.{StopsAtTest, StopsAtAll}, Plans.{IsPlanned, planned_text}}
 use Rattle.tests_to_files.specs.declared.ending.ListingEnd.TheVariants as listings
-use Rattle.tests_to_files.specs.{ListingEnds.StopsAtTest, ListingEnds.StopsAtAll, Plans.IsPlanned, Plans.planned_text}
 use Rattle.msum7_files.specs.declared.sum_end.SumEnd.{SumEnd}
 use Rattle.msum7_files.specs.declared.sum_end.SumEnd.TheVariants as sums
 use Rattle.program_meaning.specs.Executions.{Execution}
 use Rattle.litmus_text.specs.TestReading.{TestRead}
 use Rattle.two_runs.specs.{IntendedRuns.intended_by, CoherenceRuns.incoherent_by}
-use Rattle.diy_tools.specs.Devices.{OutAlone}
-use Rattle.diy_tools.specs.{ExecutionAnswers.PrintsRun, ExecutionAnswers.AnswersRun, ListAnswers.AnswersListed, ArchMachines.Machine, Memory.MayWantMemory}
+use Rattle.diy_tools.specs.{Devices.{OutAlone, Devices, DevicesSeen, devices}, ExecutionAnswers.{PrintsRun, AnswersRun}}
+use Rattle.diy_tools.specs.{ListAnswers.{AnswersListed, EndsAsked, plan_asked}, ArchMachines.{Machine, machine_of}, Memory.{MayWantMemory, NeverWantsMemory}}
+use Rattle.diy_tools.specs.{declared.status.Status.Status, declared.status.Device.TheVariants.{Input, Out, Shelf}, Refused.refused_list}
+use Rattle.diy_tools.specs.{Statuses.{norm_status, classify_status, listing_status}, PrintAnswers.{AnswersEdges, Prints}}
+use Rattle.diy_tools.specs.{TestAnswers.{asked_text, test_name, test_refused}, WhyAnswers.{AnswersRuns, WritesRuns, why_unshown}}
+use Rattle.diy_tools.specs.{CoherenceAnswers.{coherence_refused, incoherent_text}, NameAnswers.{AnswersName, AnswersSought}}
+use Rattle.diy_tools.specs.{FamilyAnswers.{AnswersClassify, EndsFamilies, files_status}, CrossAnswers.{AnswersCross, EndsCrossed}, DemoAnswers.demo_asked}
+use Rattle.diy_tools.specs.{CheckAnswers.{EndsCheck, check_status}, SumAnswers.{EndsInput, EndsSum, sum_status}, Answers.{Answers, AnswersAsked}}
+use Rattle.diy_tools.specs.Causes.{Causes, CausesAsked, RoseFar}
 use Rattle.test_maker.specs.declared.refusal.Refusal.{Refusal}
-use Rattle.diy_tools.specs.declared.status.{Status.Status, Device.TheVariants.Input, Device.TheVariants.Out}
-use Rattle.diy_tools.specs.declared.status.{Device.TheVariants.Shelf}
 use Rattle.diy_tools.specs.declared.status.Status.TheVariants as statuses
 use Rattle.diy_tools.specs.declared.status.TextKind.TheVariants as texts
 use Rattle.diy_tools.proofs.Opened.{file_opened, file_far, input_far}
-use Rattle.diy_tools.specs.{Devices.Devices, Devices.DevicesSeen, Devices.devices, Refused.refused_list, Statuses.norm_status}
-use Rattle.diy_tools.specs.{Statuses.classify_status, Statuses.listing_status, PrintAnswers.AnswersEdges, PrintAnswers.Prints, TestAnswers.asked_text}
-use Rattle.diy_tools.specs.{TestAnswers.test_name, TestAnswers.test_refused, ArchMachines.machine_of, WhyAnswers.AnswersRuns, WhyAnswers.WritesRuns}
-use Rattle.diy_tools.specs.{WhyAnswers.why_unshown, CoherenceAnswers.coherence_refused, CoherenceAnswers.incoherent_text, NameAnswers.AnswersName}
-use Rattle.diy_tools.specs.{NameAnswers.AnswersSought, FamilyAnswers.AnswersClassify, FamilyAnswers.EndsFamilies, FamilyAnswers.files_status}
-use Rattle.diy_tools.specs.{ListAnswers.EndsAsked, ListAnswers.plan_asked, CrossAnswers.AnswersCross, CrossAnswers.EndsCrossed}
-use Rattle.diy_tools.specs.{DemoAnswers.demo_asked, CheckAnswers.EndsCheck, CheckAnswers.check_status, SumAnswers.EndsInput, SumAnswers.EndsSum}
-use Rattle.diy_tools.specs.{SumAnswers.sum_status, Answers.Answers, Answers.AnswersAsked, Memory.NeverWantsMemory, Causes.Causes, Causes.CausesAsked}
-use Rattle.diy_tools.specs.{Causes.RoseFar}
 
 -- devices that are the same one by one are the same
 same_devices : (old new : Devices) → new.input ≡ old.input → new.out ≡ old.out → new.shelf ≡ old.shelf → new ≡ old

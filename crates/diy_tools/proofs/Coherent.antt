@@ -2,17 +2,14 @@
 use Rattle.std.proofs.Common.{◌≡◌, ℕ, List, Option, refl, sym, subst, Ok}
 use Rattle.std.specs.Prelude.{Result}
 use Rattle.relax_edges.specs.declared.kinds.ArchName.{ArchName}
-use Rattle.edges_from_text.specs.declared.list.EdgeList.{EdgeList}
-use Rattle.edges_from_text.specs.KeptEdges.{kept_edges}
+use Rattle.edges_from_text.specs.{declared.list.EdgeList.EdgeList, KeptEdges.kept_edges}
 use Rattle.diy_io.specs.{Shelf.ShelfSeen, Taken.SourceSeen, Wrote.SinkSeen}
-use Rattle.diy_words.specs.declared.{request.Coherence.Coherence, usage.Usage.Usage}
-use Rattle.diy_words.specs.declared.request.Request.TheVariants as requests
-use Rattle.diy_words.specs.Given.{GivesTask}
+use Rattle.diy_words.specs.{declared.request.Coherence.Coherence, declared.usage.Usage.Usage, Given.GivesTask}
 use Rattle.diy_words.specs.Requests.{Task, CoherenceTask, AsksCoherence, asked_of}
+use Rattle.diy_words.specs.declared.request.Request.TheVariants as requests
 use Rattle.co_tests_laws.specs.CoRefusals.{coherence_refusal_of, coherence_text}
-use Rattle.diy_tools.specs.declared.status.Status.{Status}
-use Rattle.diy_tools.specs.{Answers.Answers, Answers.AnswersAsked, ArchMachines.machine_of, CoherenceAnswers.AnswersCoherence, Devices.devices}
-use Rattle.diy_tools.specs.{PrintAnswers.AnswersEdges, TestAnswers.test_name}
+use Rattle.diy_tools.specs.{declared.status.Status.Status, Answers.{Answers, AnswersAsked}, ArchMachines.machine_of, CoherenceAnswers.AnswersCoherence}
+use Rattle.diy_tools.specs.{Devices.devices, PrintAnswers.AnswersEdges, TestAnswers.test_name}
 use Rattle.diy_tools.specs.KeptRequests.{AnswersIncoherence, edges_kept, name_kept, refused_incoherent}
 use Rattle.diy_tools.proofs.Running.{edges_answered, kept_so}
 

@@ -1,56 +1,46 @@
 -- That what can be done is done, from what is answered.
-use Rattle.std.proofs.Common.{◌≡◌, ◌≤◌, ◌<◌, ◌+◌, ◌^◌, ◌++◌, ℕ, suc, Bool, true, List, [], ◌∷◌, length, get_or, Option}
-use Rattle.std.proofs.Common.{Some, None, Ok, Err, refl, sym, ap, subst, arith, inl, inr, ◌∙◌, length-append}
-use Rattle.std.specs.Prelude.{Result, ◌⊎◌, MatchOption, map, slice_get, slice_index_or, unwrap_or, is_ok}
-use Rattle.std.specs.{List.list_all, Result.result_err, Io.KnownBytes.Consumes}
-use Rattle.std.proofs.lemmas.Bool.{and_parts}
-use Rattle.std.proofs.lemmas.Option.{slice_get-get_or, slice_get_within, get_or_from_slice_get, same_Some}
-use Rattle.relax_edges.specs.declared.{edge.Edge.Edge, kinds.ArchName.ArchName}
-use Rattle.cycles_from_lines.specs.declared.errors.{LineKind.LineKind, LinesError.LinesError, NormError.NormError, ClassifyError.ClassifyError}
+use Rattle.std.proofs.Common.{◌≡◌, ◌≤◌, ◌<◌, ◌+◌, ◌^◌, ◌++◌, ℕ, suc, Bool, true, List, [], ◌∷◌, length, get_or, Option, Some, None, Ok, Err, refl, sym, ap, subst, arith, inl, inr, ◌∙◌, length-append}
+use Rattle.std.proofs.{lemmas.Bool.and_parts, lemmas.Option.{slice_get-get_or, slice_get_within, get_or_from_slice_get, same_Some}}
+use Rattle.std.specs.{Prelude.{Result, ◌⊎◌, MatchOption, map, slice_get, slice_index_or, unwrap_or, is_ok}, List.list_all, Result.result_err}
+use Rattle.std.specs.Io.KnownBytes.{Consumes}
+use Rattle.relax_edges.specs.{declared.edge.Edge.Edge, declared.kinds.ArchName.ArchName}
+use Rattle.cycles_from_lines.specs.{declared.errors.LineKind.LineKind, declared.errors.LinesError.LinesError, declared.errors.NormError.NormError}
+use Rattle.cycles_from_lines.specs.{declared.errors.ClassifyError.ClassifyError, Classified.Classifies, Cycles.{is_sound, line_said}, Normed.{Norms, name_line}}
+use Rattle.cycles_from_lines.specs.LineReading.{ReadUpTo, ReadToFault, ReadToLimit, whole_of}
 use Rattle.cycles_from_lines.specs.declared.errors.LinesError.TheVariants as lines
 use Rattle.cycles_from_lines.specs.declared.errors.NormError.TheVariants as norms
 use Rattle.cycles_from_lines.specs.declared.errors.ClassifyError.TheVariants as classifies
-use Rattle.cycles_from_lines.specs.{Classified.Classifies, Cycles.is_sound, Cycles.line_said, Normed.Norms, Normed.name_line}
-use Rattle.cycles_from_lines.specs.LineReading.{ReadUpTo, ReadToFault, ReadToLimit, whole_of}
-use Rattle.tests_from_files.specs.declared.classified_errors.{FileError.FileError, FilesEnd.FilesEnd}
-use Rattle.tests_from_files.specs.declared.classified_errors.FilesEnd.TheVariants as classing
+use Rattle.tests_from_files.specs.{declared.classified_errors.FileError.FileError, declared.classified_errors.FilesEnd.FilesEnd}
 use Rattle.tests_from_files.specs.FilesEnds.{AreNamed, FileWrong, FilesClassified, IsAtPlace, SayCycles, said_on}
-use Rattle.diy_io.specs.{Opened.name_at, Count.Rose, Shelf.Files, Shelf.ShelfSeen, Taken.SourceSeen, Wrote.SinkSeen, Opened.IsFile}
-use Rattle.tests_from_files.specs.FilesEnds as classed
-use Rattle.exec_check.specs.declared.checked_errors.CheckEnd.{CheckEnd}
-use Rattle.exec_check.specs.declared.checked_errors.CheckEnd.TheVariants as checking
-use Rattle.exec_check.specs.{FilesChecked.AreTestAndExecution, FilesChecked.FilesChecked, CheckedLaws.right_files_done}
+use Rattle.tests_from_files.specs.declared.classified_errors.FilesEnd.TheVariants as classing
+use Rattle.diy_io.specs.{Opened.{name_at, IsFile}, Count.Rose, Shelf.{Files, ShelfSeen}, Taken.SourceSeen, Wrote.SinkSeen}
 use Rattle.diy_io.specs.declared.source.TheConstants.{MAX_INPUT}
-use Rattle.diy_words.specs.declared.{usage.Usage.Usage, request.Demo.Demo, request.Check.Check}
-use Rattle.diy_words.specs.Requests.{Task, ListTask, Sought, asked_of}
-use Rattle.diy_words.specs.Requests.{AsksTest, AsksWhy, AsksCoherence, WhyTask, AsksName, AsksList, AsksFamilies, AsksSum, AsksCross, AsksDemo, AsksCheck, AsksExecution, AsksCoherenceExecution, AsksLines, OfEdges, OfName, OfLines, CrossTask}
+use Rattle.tests_from_files.specs.FilesEnds as classed
+use Rattle.exec_check.specs.{declared.checked_errors.CheckEnd.CheckEnd, FilesChecked.{AreTestAndExecution, FilesChecked}, CheckedLaws.right_files_done}
+use Rattle.exec_check.specs.declared.checked_errors.CheckEnd.TheVariants as checking
+use Rattle.diy_words.specs.{declared.usage.Usage.Usage, declared.request.Demo.Demo, declared.request.Check.Check}
+use Rattle.diy_words.specs.Requests.{Task, ListTask, Sought, asked_of, AsksTest, AsksWhy, AsksCoherence, WhyTask, AsksName, AsksList, AsksFamilies, AsksSum, AsksCross, AsksDemo, AsksCheck, AsksExecution, AsksCoherenceExecution, AsksLines, OfEdges, OfName, OfLines, CrossTask}
 use Rattle.tests_to_files.specs.declared.ending.ListingEnd.{ListingEnd}
 use Rattle.tests_to_files.specs.declared.ending.ListingEnd.TheVariants as listings
-use Rattle.log_sum.specs.declared.errors.LogError.{LogError}
-use Rattle.log_sum.specs.Representing.{logs_text}
-use Rattle.msum7_files.specs.declared.sum_end.SumEnd.{SumEnd}
-use Rattle.msum7_files.specs.declared.sum_end.SumEnd.TheVariants as sums
-use Rattle.msum7_files.specs.Logs.{IsText, IsShort, IsTooMuch, AreWholeLogs}
+use Rattle.log_sum.specs.{declared.errors.LogError.LogError, Representing.logs_text}
+use Rattle.msum7_files.specs.{declared.sum_end.SumEnd.SumEnd, Logs.{IsText, IsShort, IsTooMuch, AreWholeLogs}}
 use Rattle.msum7_files.specs.SumEnds.{AreLogs, IsAtWord, FilesSummed, InputWrong, FileTooMuch, LogFileMissing}
+use Rattle.msum7_files.specs.declared.sum_end.SumEnd.TheVariants as sums
 use Rattle.msum7_files.specs.SumEnds as summed
 use Rattle.program_meaning.specs.Executions.{Execution}
 use Rattle.litmus_text.specs.TestReading.{TestRead}
 use Rattle.two_runs.specs.{IntendedRuns.intended_by, CoherenceRuns.incoherent_by}
-use Rattle.diy_tools.specs.{ExecutionAnswers.AnswersRun, ListAnswers.AnswersListed, ArchMachines.Machine, Memory.MayWantMemory}
-use Rattle.test_maker.specs.declared.refusal.Refusal.{Refusal}
-use Rattle.diy_tools.specs.declared.status.{Status.Status, Device.TheVariants.Out, Device.TheVariants.Shelf}
-use Rattle.diy_tools.proofs.Opened.{long_taken}
-use Rattle.diy_tools.specs.{Devices.Devices, Devices.DevicesSeen, Devices.devices, Refused.refused_list, Statuses.norm_status}
-use Rattle.diy_tools.specs.{Statuses.classify_status, Statuses.listing_status, PrintAnswers.AnswersEdges, PrintAnswers.Prints, TestAnswers.asked_text}
-use Rattle.diy_tools.specs.{TestAnswers.test_name, TestAnswers.test_refused, WhyAnswers.AnswersRuns, WhyAnswers.WritesRuns, WhyAnswers.why_unshown}
-use Rattle.diy_tools.specs.{CoherenceAnswers.coherence_refused, CoherenceAnswers.incoherent_text, FamilyAnswers.AnswersClassify}
-use Rattle.diy_tools.specs.{FamilyAnswers.files_status, FamilyAnswers.read_on, NameAnswers.AnswersName, NameAnswers.AnswersSought}
-use Rattle.diy_tools.specs.{ListAnswers.EndsAsked, CrossAnswers.AnswersCross, CrossAnswers.EndsCrossed, DemoAnswers.demo_asked}
-use Rattle.diy_tools.specs.{CheckAnswers.check_status, CheckAnswers.shown_of, ArchMachines.machine_of, SumAnswers.EndsInput, SumAnswers.EndsSum, SumAnswers.sum_status}
-use Rattle.diy_tools.specs.{Answers.Answers, Answers.AnswersAsked}
-use Rattle.diy_tools.specs.declared.status.Status.TheVariants as statuses
+use Rattle.diy_tools.specs.{ExecutionAnswers.AnswersRun, ListAnswers.{AnswersListed, EndsAsked}, ArchMachines.{Machine, machine_of}, Memory.MayWantMemory}
+use Rattle.diy_tools.specs.{declared.status.Status.Status, declared.status.Device.TheVariants.{Out, Shelf}, Devices.{Devices, DevicesSeen, devices}}
+use Rattle.diy_tools.specs.{Refused.refused_list, Statuses.{norm_status, classify_status, listing_status}, PrintAnswers.{AnswersEdges, Prints}}
+use Rattle.diy_tools.specs.{TestAnswers.{asked_text, test_name, test_refused}, WhyAnswers.{AnswersRuns, WritesRuns, why_unshown}}
+use Rattle.diy_tools.specs.{CoherenceAnswers.{coherence_refused, incoherent_text}, FamilyAnswers.{AnswersClassify, files_status, read_on}}
+use Rattle.diy_tools.specs.{NameAnswers.{AnswersName, AnswersSought}, CrossAnswers.{AnswersCross, EndsCrossed}, DemoAnswers.demo_asked}
+use Rattle.diy_tools.specs.{CheckAnswers.{check_status, shown_of}, SumAnswers.{EndsInput, EndsSum, sum_status}, Answers.{Answers, AnswersAsked}}
 use Rattle.diy_tools.specs.Complete.{Complete, CanBeDone, CanName, CanSum, CanClassify, AreRightTests, IsSoundText, IsRightLog, AreRightLogs, OfItsText, OfItsFiles, NoFaults, IsDone}
-use Rattle.diy_tools.proofs.Caused.{by_print, listing_failed, crossing_failed, of_files}
+use Rattle.test_maker.specs.declared.refusal.Refusal.{Refusal}
+use Rattle.diy_tools.proofs.{Opened.long_taken, Caused.{by_print, listing_failed, crossing_failed, of_files}}
+use Rattle.diy_tools.specs.declared.status.Status.TheVariants as statuses
 
 -- what was taken of a source and what is left of it are a text that it can have
 whole_can : (old new : Option (List ℕ)) (text : List ℕ) → Consumes old new text → IsText old (text ++ unwrap_or new [])

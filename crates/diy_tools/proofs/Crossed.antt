@@ -1,19 +1,15 @@
 -- What the writing of the tests of choices leaves, as the answers see it.
 use Rattle.std.proofs.Common.{◌≡◌, ℕ, List, Option, Ok, refl, sym, ap, subst, inl, inr}
 use Rattle.std.specs.{Option.option_map, Prelude.Result}
-use Rattle.relax_edges.specs.declared.{edge.Edge.Edge, kinds.ArchName.ArchName, kinds.ObsMode.ObsMode}
+use Rattle.relax_edges.specs.{declared.edge.Edge.Edge, declared.kinds.ArchName.ArchName, declared.kinds.ObsMode.ObsMode}
 use Rattle.diy_io.specs.{Shelf.ShelfSeen, Wrote.SinkSeen}
-use Rattle.diy_words.specs.declared.{request.Cross.Cross, usage.Usage.Usage}
+use Rattle.diy_words.specs.{declared.request.Cross.Cross, declared.usage.Usage.Usage, Given.GivesTask, Requests.{Task, AsksCross, IsCrossing, places_of}}
 use Rattle.diy_words.specs.declared.request.Request.TheVariants as requests
-use Rattle.diy_words.specs.Given.{GivesTask}
-use Rattle.diy_words.specs.Requests.{Task, AsksCross, IsCrossing, places_of}
-use Rattle.tests_to_files.specs.declared.ending.ListingEnd.{ListingEnd}
+use Rattle.tests_to_files.specs.{declared.ending.ListingEnd.ListingEnd, GivenCycles.EndsGiven, Plans.named_text}
 use Rattle.tests_to_files.specs.declared.ending.ListingEnd.TheVariants as ends
-use Rattle.tests_to_files.specs.{GivenCycles.EndsGiven, Plans.named_text}
 use Rattle.diycross7_cycles.specs.Choices.{crossed}
-use Rattle.diy_tools.specs.declared.status.{Status.Status, Status.TheVariants.NoMemory}
-use Rattle.diy_tools.specs.{CrossAnswers.AnswersChoices, KeptRequests.AnswersCrossing, ArchMachines.Machine, ArchMachines.machine_of}
-use Rattle.diy_tools.specs.{Statuses.listing_status}
+use Rattle.diy_tools.specs.{declared.status.Status.Status, declared.status.Status.TheVariants.NoMemory, CrossAnswers.AnswersChoices}
+use Rattle.diy_tools.specs.{KeptRequests.AnswersCrossing, ArchMachines.{Machine, machine_of}, Statuses.listing_status}
 
 -- what holds of a sink holds of what it shows
 given_seen : {Sink : Type 0} (seen : Sink → SinkSeen) (folder : Option (List ℕ)) (text : List Edge → List ℕ) (cycles : List (List Edge)) (end : ListingEnd) (old new : ShelfSeen) (out after : Sink)

@@ -1,16 +1,15 @@
 -- Where a test is printed, its bytes force the cycle.
 use Rattle.std.proofs.Common.{◌≡◌, ℕ, Bool, true, false, cond, nat_lt, List, [], ◌∷◌, ◌++◌, length, Option, Some, None, refl, sym, ap, subst, inl, inr, Ok, Err, ◌∙◌}
-use Rattle.std.specs.{Option.option_or}
-use Rattle.std.specs.Prelude.{IfSome, Result, ◌⊎◌, if◌then◌else◌}
 use Rattle.std.proofs.lemmas.Bool.{ltb-false}
-use Rattle.relax_edges.specs.declared.{TheConstants.MAX_EDGES, kinds.ArchName.ArchName, kinds.ObsMode.ObsMode, edge.Edge.Edge}
+use Rattle.std.specs.{Option.option_or, Prelude.{IfSome, Result, ◌⊎◌, if◌then◌else◌}}
+use Rattle.relax_edges.specs.{declared.TheConstants.MAX_EDGES, declared.kinds.ArchName.ArchName, declared.kinds.ObsMode.ObsMode, declared.edge.Edge.Edge}
 use Rattle.relax_edges.specs.declared.kinds.ArchName.TheVariants as archs
 use Rattle.edge_algebra_laws.specs.Composable.{IsCycle, first_break}
 use Rattle.edge_algebra_laws.proofs.Composing.{unbroken_cycle}
 use Rattle.edge_algebra.specs.declared.errors.CycleError.TheVariants as composing
 use Rattle.edge_algebra.specs.Compose.{composed, unbroken}
 use Rattle.cycle_events.specs.Resolution.{turned}
-use Rattle.arch_trait.specs.{Cells.WritesCells, Cells.MakesOneAccess, Laws.IsArch, Threads.Puts, Writing.WritesBack}
+use Rattle.arch_trait.specs.{Cells.{WritesCells, MakesOneAccess}, Laws.IsArch, Threads.Puts, Writing.WritesBack}
 use Rattle.arch_x86.specs.InCells as x86_cells
 use Rattle.arch_x86.specs.Laws as x86_laws
 use Rattle.arch_x86.specs.ReadsBack as x86_back
@@ -27,33 +26,28 @@ use Rattle.arch_arm.specs.InCells as arm_cells
 use Rattle.arch_arm.specs.Laws as arm_laws
 use Rattle.arch_arm.specs.ReadsBack as arm_back
 use Rattle.litmus_text.specs.Printable.{IsTestName}
-use Rattle.diy_words.specs.declared.usage.Usage.{Usage}
-use Rattle.diy_words.specs.TestNames.{is_name}
+use Rattle.diy_words.specs.{declared.usage.Usage.Usage, TestNames.is_name}
 use Rattle.diy_words.specs.Requests.{Task, TestTask, ListTask, AsksTest, AsksWhy, WhyTask, AsksCoherence, CoherenceTask, AsksName, AsksList, AsksFamilies, AsksSum, AsksCross, AsksDemo, AsksCheck, AsksExecution, AsksCoherenceExecution, AsksLines, CrossTask, asked_of}
 use Rattle.cycle_names.specs.CycleNames.{name_of}
 use Rattle.diy_words.proofs.RequestForm.{asked_form}
-use Rattle.test_maker.specs.declared.refusal.Refusal.{Refusal}
-use Rattle.test_maker.specs.{Refusals.foreign_edge, Refusals.refusal_of, CycleText.cycle_text}
+use Rattle.test_maker.specs.{declared.refusal.Refusal.Refusal, Refusals.{foreign_edge, refusal_of}, CycleText.cycle_text}
 use Rattle.bytes_force_cycles.specs.PrintedHeadline.{BytesForce}
 use Rattle.test_maker.proofs.HavingTests.{accepted_has_test, neither}
 use Rattle.demo_tests.proofs.Cycles.{cycle_named}
 use Rattle.bytes_force_cycles.proofs.Printed.{printed_force}
-use Rattle.diy_tools.specs.declared.status.{Status.Status, Status.TheVariants.NoMemory}
+use Rattle.diy_tools.specs.{declared.status.Status.Status, declared.status.Status.TheVariants.NoMemory, WhyAnswers.{AnswersRuns, AnswersWhy, WritesRuns}}
+use Rattle.diy_tools.specs.{ArchMachines.{Machine, machine_of}, PrintAnswers.AnswersEdges}
+use Rattle.diy_tools.specs.{CoherenceAnswers.{AnswersCoherence, incoherence_refused, incoherent_text}, TestAnswers.{asked_text, test_name}}
+use Rattle.diy_tools.specs.{CrossAnswers.AnswersCross, ListAnswers.{AnswersList, plan_asked}, Answers.{Answers, AnswersAsked}}
+use Rattle.diy_tools.specs.{Devices.{Devices, DevicesSeen, devices}, ExecutionAnswers.{AnswersRun, AnswersExecution, AnswersCoherenceExecution}}
+use Rattle.diy_tools.specs.{Headline.{Headline, HeadlineAsked, PrintsIntended, PrintsIncoherent}, Refused.{refused_list, refused_of, refused_composing}}
 use Rattle.test_maker.specs.declared.refusal.Refusal.TheVariants as refusals
-use Rattle.diy_tools.specs.{WhyAnswers.AnswersRuns, WhyAnswers.AnswersWhy, WhyAnswers.WritesRuns, ArchMachines.Machine, ArchMachines.machine_of}
-use Rattle.diy_tools.specs.{PrintAnswers.AnswersEdges, CoherenceAnswers.AnswersCoherence, CoherenceAnswers.incoherence_refused}
-use Rattle.diy_tools.specs.{CoherenceAnswers.incoherent_text, TestAnswers.asked_text, TestAnswers.test_name, CrossAnswers.AnswersCross}
-use Rattle.diy_tools.specs.{ListAnswers.AnswersList, Answers.Answers, Answers.AnswersAsked, Devices.Devices, Devices.DevicesSeen, Devices.devices}
 use Rattle.two_runs.specs.{IntendedRuns.intended_by, CoherenceRuns.incoherent_by}
-use Rattle.tests_to_files.specs.Plans.{IsPlanned, planned_text}
-use Rattle.diy_tools.specs.{ExecutionAnswers.AnswersRun, ExecutionAnswers.AnswersExecution, ExecutionAnswers.AnswersCoherenceExecution, ListAnswers.plan_asked}
-use Rattle.diy_tools.specs.{Headline.Headline, Headline.HeadlineAsked, Headline.PrintsIntended, Headline.PrintsIncoherent}
-use Rattle.diy_tools.specs.Refused.{refused_list, refused_of, refused_composing}
-use Rattle.co_tests_laws.specs.{CoRefusals.coherence_refusal_of, CoRefusals.coherence_text, Incoherence.BytesShowIncoherence}
+use Rattle.tests_to_files.specs.{Plans.{IsPlanned, planned_text}, WantedLaws.wanted_has_test}
+use Rattle.co_tests_laws.specs.{CoRefusals.{coherence_refusal_of, coherence_text}, Incoherence.BytesShowIncoherence}
 use Rattle.co_tests_laws.proofs.{Accepted.accepted_has_test as accepted_has_loop, Printed.printed_show}
 use Rattle.diycross7_cycles.specs.Laws.{IsCrossed}
 use Rattle.diycross7_cycles.proofs.Crossing.{crosses_all}
-use Rattle.tests_to_files.specs.WantedLaws.{wanted_has_test}
 use Rattle.diy_tools.proofs.TestNames.{words_name}
 
 -- what the law over the bytes asks of an architecture

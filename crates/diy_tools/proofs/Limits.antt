@@ -1,41 +1,34 @@
 -- What is answered after more than 2^40 bytes, from what is answered.
 use Rattle.std.proofs.Common.{◌≡◌, ◌≤◌, ◌<◌, ◌+◌, ◌^◌, ℕ, List, [], ◌∷◌, length, Option, None, Some, Ok, Err, sym, ap, subst, arith, inl, inr}
 use Rattle.std.specs.Prelude.{Result, ◌⊎◌}
-use Rattle.diy_tools.proofs.{Caused.of_files, Opened.IsWithin, Opened.files_within, Opened.failed_within}
-use Rattle.relax_edges.specs.declared.{edge.Edge.Edge, kinds.ArchName.ArchName}
+use Rattle.diy_tools.proofs.{Caused.of_files, Opened.{IsWithin, files_within, failed_within}}
+use Rattle.relax_edges.specs.{declared.edge.Edge.Edge, declared.kinds.ArchName.ArchName}
 use Rattle.cycles_from_lines.specs.declared.errors.LinesError.TheVariants as lines
-use Rattle.cycles_from_lines.specs.declared.errors.{NormError.NormError, ClassifyError.ClassifyError}
+use Rattle.cycles_from_lines.specs.{declared.errors.NormError.NormError, declared.errors.ClassifyError.ClassifyError, Classified.Classifies, Normed.Norms}
+use Rattle.cycles_from_lines.specs.LineReading.{TookUpTo}
 use Rattle.cycles_from_lines.specs.declared.errors.NormError.TheVariants as norms
 use Rattle.cycles_from_lines.specs.declared.errors.ClassifyError.TheVariants as classifies
-use Rattle.cycles_from_lines.specs.{Classified.Classifies, Normed.Norms, LineReading.TookUpTo}
 use Rattle.tests_from_files.specs.declared.classified_errors.FilesEnd.{FilesEnd}
 use Rattle.tests_from_files.specs.declared.classified_errors.FilesEnd.TheVariants as classing
 use Rattle.tests_from_files.proofs.FewLaws.{classified_few}
-use Rattle.exec_check.specs.declared.checked_errors.CheckEnd.{CheckEnd}
+use Rattle.exec_check.specs.{declared.checked_errors.CheckEnd.CheckEnd, CheckedLaws.checked_few}
 use Rattle.exec_check.specs.declared.checked_errors.CheckEnd.TheVariants as checking
-use Rattle.exec_check.specs.CheckedLaws.{checked_few}
-use Rattle.diy_io.specs.declared.source.TheConstants.{MAX_INPUT}
-use Rattle.diy_io.specs.{Count.count_of, Shelf.ShelfSeen, Taken.SourceSeen, Wrote.SinkSeen}
-use Rattle.diy_words.specs.declared.{usage.Usage.Usage, request.Check.Check}
-use Rattle.diy_words.specs.Requests.{Task, ListTask, Sought, asked_of}
-use Rattle.diy_words.specs.Requests.{AsksTest, AsksWhy, AsksCoherence, AsksName, AsksList, AsksFamilies, AsksSum, AsksCross, AsksDemo, AsksCheck, AsksExecution, AsksCoherenceExecution, AsksLines, CrossTask, OfEdges, OfName, OfLines}
-use Rattle.tests_to_files.specs.declared.ending.ListingEnd.{ListingEnd}
+use Rattle.diy_io.specs.{declared.source.TheConstants.MAX_INPUT, Count.count_of, Shelf.ShelfSeen, Taken.SourceSeen, Wrote.SinkSeen}
+use Rattle.diy_words.specs.{declared.usage.Usage.Usage, declared.request.Check.Check}
+use Rattle.diy_words.specs.Requests.{Task, ListTask, Sought, asked_of, AsksTest, AsksWhy, AsksCoherence, AsksName, AsksList, AsksFamilies, AsksSum, AsksCross, AsksDemo, AsksCheck, AsksExecution, AsksCoherenceExecution, AsksLines, CrossTask, OfEdges, OfName, OfLines}
+use Rattle.tests_to_files.specs.{declared.ending.ListingEnd.ListingEnd, ListingEnds.{StopsAtTest, StopsAtAll}, Plans.{IsPlanned, planned_text}}
 use Rattle.tests_to_files.specs.declared.ending.ListingEnd.TheVariants as listings
-use Rattle.tests_to_files.specs.{ListingEnds.StopsAtTest, ListingEnds.StopsAtAll, Plans.IsPlanned, Plans.planned_text}
-use Rattle.msum7_files.specs.declared.sum_end.SumEnd.{SumEnd}
+use Rattle.msum7_files.specs.{declared.sum_end.SumEnd.SumEnd, SumEnds.InputSummed}
 use Rattle.msum7_files.specs.declared.sum_end.SumEnd.TheVariants as sums
-use Rattle.msum7_files.specs.SumEnds.{InputSummed}
 use Rattle.test_maker.specs.declared.refusal.Refusal.{Refusal}
-use Rattle.diy_tools.specs.declared.status.{Status.Status, TextKind.TextKind, Device.TheVariants.Out, Device.TheVariants.Shelf}
+use Rattle.diy_tools.specs.{declared.status.Status.Status, declared.status.TextKind.TextKind, declared.status.Device.TheVariants.{Out, Shelf}}
+use Rattle.diy_tools.specs.{Devices.{Devices, DevicesSeen, devices}, Statuses.{norm_status, classify_status}, NameAnswers.AnswersSought}
+use Rattle.diy_tools.specs.{ListAnswers.{EndsAsked, plan_asked}, CrossAnswers.{AnswersCross, EndsCrossed}, SumAnswers.{EndsInput, EndsSum, sum_status}}
+use Rattle.diy_tools.specs.{ArchMachines.{Machine, machine_of}, TestAnswers.test_name, WhyAnswers.{AnswersRuns, WritesRuns, why_unshown}}
+use Rattle.diy_tools.specs.{CheckAnswers.{EndsCheck, checked_kind, check_status, shown_of}, Answers.{Answers, AnswersAsked}}
+use Rattle.diy_tools.specs.{Limit.{Limited, StopsReading, TookTooMuch}, FamilyAnswers.{AnswersClassify, EndsFamilies, file_kind, files_status, read_on}}
 use Rattle.diy_tools.specs.declared.status.Status.TheVariants as statuses
 use Rattle.diy_tools.specs.declared.status.TextKind.TheVariants as texts
-use Rattle.diy_tools.specs.{Devices.Devices, Devices.DevicesSeen, Devices.devices, Statuses.norm_status, Statuses.classify_status}
-use Rattle.diy_tools.specs.{NameAnswers.AnswersSought, ListAnswers.EndsAsked, ListAnswers.plan_asked, CrossAnswers.AnswersCross}
-use Rattle.diy_tools.specs.{CrossAnswers.EndsCrossed, SumAnswers.EndsInput, SumAnswers.EndsSum, SumAnswers.sum_status, ArchMachines.Machine}
-use Rattle.diy_tools.specs.{ArchMachines.machine_of, TestAnswers.test_name, WhyAnswers.AnswersRuns, WhyAnswers.WritesRuns, WhyAnswers.why_unshown}
-use Rattle.diy_tools.specs.{CheckAnswers.EndsCheck, CheckAnswers.checked_kind, CheckAnswers.check_status, CheckAnswers.shown_of, Answers.Answers, Answers.AnswersAsked}
-use Rattle.diy_tools.specs.{Limit.Limited, Limit.StopsReading, Limit.TookTooMuch}
-use Rattle.diy_tools.specs.FamilyAnswers.{AnswersClassify, EndsFamilies, file_kind, files_status, read_on}
 
 -- at most 2^40 bytes were taken of the input, as far as they are counted
 abbrev InputWithin : SourceSeen → SourceSeen → Type 0

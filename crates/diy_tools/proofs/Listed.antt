@@ -1,16 +1,15 @@
 -- What a listing leaves, as the answers see it.
 use Rattle.std.proofs.Common.{◌≡◌, Option, Result, Ok, Err, sym, ap, subst}
-use Rattle.diy_io.specs.declared.errors.Failed.{Failed}
-use Rattle.relax_edges.specs.declared.{edge.Edge.Edge, kinds.ArchName.ArchName}
-use Rattle.diy_io.specs.{Shelf.ShelfSeen, Wrote.SinkSeen}
+use Rattle.diy_io.specs.{declared.errors.Failed.Failed, Shelf.ShelfSeen, Wrote.SinkSeen}
+use Rattle.relax_edges.specs.{declared.edge.Edge.Edge, declared.kinds.ArchName.ArchName}
 use Rattle.diy_words.specs.Requests.{ListTask}
-use Rattle.tests_to_files.specs.declared.{ending.ListingEnd.ListingEnd, listing.Listing.Listing}
+use Rattle.tests_to_files.specs.{declared.ending.ListingEnd.ListingEnd, declared.listing.Listing.Listing, ListedLines.EndsLines}
+use Rattle.tests_to_files.specs.{ListingEnds.{EndsAfter, EndsListing}, Plans.{Plan, plan_of, plan_in}}
 use Rattle.tests_to_files.specs.declared.ending.ListingEnd.TheVariants as ends
-use Rattle.tests_to_files.specs.{ListedLines.EndsLines, ListingEnds.EndsAfter, ListingEnds.EndsListing, Plans.Plan, Plans.plan_of, Plans.plan_in}
 use Rattle.std.specs.Prelude.{List}
-use Rattle.diy_tools.specs.declared.status.{Status.Status, Device.TheVariants.Out}
+use Rattle.diy_tools.specs.{declared.status.Status.Status, declared.status.Device.TheVariants.Out, ListAnswers.{AnswersList, AnswersListed}}
+use Rattle.diy_tools.specs.{KeptRequests.{EndsOn, EndsLinesOn, asked_listing}, ArchMachines.machine_of, Statuses.listing_status}
 use Rattle.diy_tools.specs.declared.status.Status.TheVariants as statuses
-use Rattle.diy_tools.specs.{ListAnswers.AnswersList, ListAnswers.AnswersListed, KeptRequests.EndsOn, KeptRequests.EndsLinesOn, KeptRequests.asked_listing, ArchMachines.machine_of, Statuses.listing_status}
 
 -- what holds of a sink holds of what it shows
 after_seen : {Sink : Type 0} (seen : Sink → SinkSeen) (plan : Plan) (given : Option (List Edge)) (end : ListingEnd) (old new : ShelfSeen) (out after : Sink)

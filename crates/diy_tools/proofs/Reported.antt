@@ -1,14 +1,11 @@
 -- The names of locations, as a report finds them, and the line of words where none shows the error.
 use Rattle.std.proofs.Common.{◌≡◌, ℕ, ◌+◌, ◌<◌, ◌≤◌, List, [], ◌++◌, ◌∙◌, ap, arith, length, get_or, append-nil, inl, inr, subst}
-use Rattle.std.specs.Prelude.{codes, slice_get, None, Result, Ok, Err}
-use Rattle.std.specs.Result.{IsErrAnd}
-use Rattle.std.proofs.lemmas.{Option.slice_get_past, List.FromFn.get_or-map-range_with_len, List.FromFn.length-map-range_with_len}
+use Rattle.std.proofs.{lemmas.Option.slice_get_past, lemmas.List.FromFn.{get_or-map-range_with_len, length-map-range_with_len}}
+use Rattle.std.specs.{Prelude.{codes, slice_get, None, Result, Ok, Err}, Result.IsErrAnd}
 use Rattle.arch_trait.specs.PlaceNames.{letters, location_name}
 use Rattle.diy_words.specs.declared.usage.UsageKind.{UsageKind}
-use Rattle.diy_tools.specs.declared.status.Status.TheVariants.{Usage}
-use Rattle.diy_io.specs.declared.errors.Failed.{Failed}
-use Rattle.diy_io.specs.{Page.SentAll, Page.Sends, PageLaws.sent_wrote, PageLaws.unsent_wrote, Wrote.SinkSeen, Wrote.Wrote}
-use Rattle.diy_tools.specs.Report.{TakesLine, status_line, usage_line, usage_text, shown_word}
+use Rattle.diy_tools.specs.{declared.status.Status.TheVariants.Usage, Report.{TakesLine, status_line, usage_line, usage_text, shown_word}}
+use Rattle.diy_io.specs.{declared.errors.Failed.Failed, Page.{SentAll, Sends}, PageLaws.{sent_wrote, unsent_wrote}, Wrote.{SinkSeen, Wrote}}
 
 -- the last of some letters is the name of its location
 pub letter_at : (k : ℕ) → get_or (letters (k + 1)) k [] ≡ location_name k

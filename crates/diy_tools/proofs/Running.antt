@@ -1,32 +1,28 @@
 -- What `run` answers, from what its parts answer.
 use Rattle.std.proofs.Common.{◌≡◌, ℕ, true, false, nat_lt, nat_le, List, [], ◌∷◌, length, Option, Some, None, refl, sym, ap, subst, arith, Ok}
-use Rattle.std.specs.{Prelude.Result, Prelude.if◌then◌else◌, Option.option_or}
 use Rattle.std.proofs.lemmas.Bool.Decides.{nat_tests}
+use Rattle.std.specs.{Prelude.{Result, if◌then◌else◌}, Option.option_or}
 use Rattle.list_laws.proofs.{Elements.option_or-none, Cases.by_test}
-use Rattle.relax_edges.specs.declared.{TheConstants.MAX_EDGES, edge.Edge.Edge, kinds.ObsMode.ObsMode, kinds.ArchName.ArchName}
+use Rattle.relax_edges.specs.{declared.TheConstants.MAX_EDGES, declared.edge.Edge.Edge, declared.kinds.ObsMode.ObsMode, declared.kinds.ArchName.ArchName}
 use Rattle.edge_algebra.specs.Compose.{composed}
 use Rattle.diy_io.specs.{Wrote.SinkSeen, Taken.SourceSeen, Shelf.ShelfSeen}
-use Rattle.edges_from_text.specs.declared.list.{EdgeList.EdgeList, EdgeList.TheVariants.Whole, EdgeList.TheVariants.TooLong}
-use Rattle.edges_from_text.specs.KeptEdges.{kept_edges}
+use Rattle.edges_from_text.specs.{declared.list.EdgeList.EdgeList, declared.list.EdgeList.TheVariants.{Whole, TooLong}, KeptEdges.kept_edges}
 use Rattle.cycles_from_lines.specs.Normed.{name_line}
-use Rattle.diy_words.specs.declared.{request.Diy.Diy, request.Sought.Sought, usage.Usage.Usage, request.Check.Check, request.Norm.Norm}
-use Rattle.diy_words.specs.declared.{request.Why.Why}
-use Rattle.diycross7_cycles.specs.ComposedLaws.{composed_same}
-use Rattle.diy_tools.specs.{Devices.devices, KeptRequests.ChecksFiles, CheckAnswers.AnswersCheck, ArchMachines.machine_of, Refused.refused_list}
-use Rattle.test_maker.specs.Refusals.{foreign_edge}
-use Rattle.diy_tools.specs.{Refused.refused_composing, PrintAnswers.AnswersEdges, TestAnswers.test_name}
-use Rattle.diy_tools.specs.{NameAnswers.AnswersName, NameAnswers.AnswersSought, ListAnswers.AnswersList, Answers.Answers, Answers.AnswersAsked}
-use Rattle.diy_tools.specs.{WhyAnswers.AnswersRuns}
-use Rattle.test_maker.specs.CycleText.{cycle_text}
-use Rattle.diy_words.specs.declared.request.Sought.TheVariants as sought
+use Rattle.diy_words.specs.{declared.request.Diy.Diy, declared.request.Sought.Sought, declared.usage.Usage.Usage, declared.request.Check.Check}
+use Rattle.diy_words.specs.{declared.request.Norm.Norm, declared.request.Why.Why}
 use Rattle.diy_words.specs.Requests.{Task, ListTask, AsksName, AsksList, AsksCheck, OfEdges, OfName, OfLines, asked_of}
-use Rattle.diy_words.specs.Requests as words
 use Rattle.diy_words.specs.Given.{IsSought, GivesTask, list_kept}
+use Rattle.diycross7_cycles.specs.ComposedLaws.{composed_same}
+use Rattle.diy_tools.specs.Devices.{devices}
+use Rattle.diy_tools.specs.KeptRequests.{ChecksFiles, AnswersKept, refused_kept, refused_edges, refused_why, edges_kept, folder_kept, named_kept, MakesCycle}
+use Rattle.diy_tools.specs.{CheckAnswers.AnswersCheck, ArchMachines.machine_of, Refused.{refused_list, refused_composing}, PrintAnswers.AnswersEdges}
+use Rattle.diy_tools.specs.{TestAnswers.test_name, NameAnswers.{AnswersName, AnswersSought}, ListAnswers.AnswersList, Answers.{Answers, AnswersAsked}}
+use Rattle.diy_tools.specs.{WhyAnswers.AnswersRuns, declared.status.Status.Status}
+use Rattle.test_maker.specs.{Refusals.foreign_edge, CycleText.cycle_text, declared.refusal.Refusal.Refusal}
+use Rattle.diy_words.specs.declared.request.Sought.TheVariants as sought
+use Rattle.diy_words.specs.Requests as words
 use Rattle.diy_words.specs.declared.request.Request.TheVariants as requests
-use Rattle.test_maker.specs.declared.refusal.Refusal.{Refusal}
-use Rattle.diy_tools.specs.declared.status.Status.{Status}
 use Rattle.test_maker.specs.declared.refusal.Refusal.TheVariants as refusals
-use Rattle.diy_tools.specs.KeptRequests.{AnswersKept, refused_kept, refused_edges, refused_why, edges_kept, folder_kept, named_kept, MakesCycle}
 
 -- edges as they are kept are refused as those that were given, and a list of them that is kept whole is theirs
 pub record IsKeptSo (list : EdgeList) (es : List Edge) : Type 0 where

@@ -1,20 +1,18 @@
 -- What is written of two executions, as the answers see it.
 use Rattle.std.proofs.Common.{◌≡◌, ℕ, List, [], ◌∷◌, Option, Some, None, refl, sym, ap, ◌∙◌, subst, inl, inr}
 use Rattle.std.specs.Prelude.{codes}
-use Rattle.relax_edges.specs.declared.{kinds.ObsMode.TheVariants.Avoid, edge.Edge.Edge}
+use Rattle.relax_edges.specs.{declared.kinds.ObsMode.TheVariants.Avoid, declared.edge.Edge.Edge}
 use Rattle.cycle_events.specs.{Resolution.turned, Values.observer_need}
-use Rattle.diy_io.specs.{Shelf.ShelfSeen, Shelf.Idle, Wrote.SinkSeen}
+use Rattle.diy_io.specs.{Shelf.{ShelfSeen, Idle}, Wrote.SinkSeen}
 use Rattle.exec_text.specs.Written.{text_of_execution}
 use Rattle.tests_to_files.specs.Putting.{PutFiles}
 use Rattle.litmus_text.specs.TestReading.{TestRead}
 use Rattle.program_meaning.specs.Executions.{Execution}
-use Rattle.test_maker.specs.CycleText.{cycle_text}
-use Rattle.test_maker.specs.declared.refusal.Refusal.{Refusal}
+use Rattle.test_maker.specs.{CycleText.cycle_text, declared.refusal.Refusal.Refusal}
 use Rattle.two_runs.specs.Shown.{AreRunsFor, why_refused}
-use Rattle.diy_tools.specs.declared.status.{Status.Status, Device.TheVariants.Out, Device.TheVariants.Shelf}
+use Rattle.diy_tools.specs.{declared.status.Status.Status, declared.status.Device.TheVariants.{Out, Shelf}, KeptRequests.WritesInMemory, ArchMachines.Machine}
+use Rattle.diy_tools.specs.{PrintAnswers.Prints, WhyAnswers.{AnswersRuns, WritesFiles, WritesRuns, why_files, why_line, why_path}}
 use Rattle.diy_tools.specs.declared.status.Status.TheVariants as statuses
-use Rattle.diy_tools.specs.{KeptRequests.WritesInMemory, ArchMachines.Machine, PrintAnswers.Prints}
-use Rattle.diy_tools.specs.WhyAnswers.{AnswersRuns, WritesFiles, WritesRuns, why_files, why_line, why_path}
 
 -- the text that was made is that of the cycle's test without observers
 text_is : (m : Machine) (name : List ℕ) (cycle : List Edge) (text : List ℕ) (test : TestRead) (one two : Execution)

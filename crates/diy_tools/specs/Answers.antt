@@ -3,12 +3,11 @@
 use Rattle.std.specs.Prelude.{ℕ, ◌≡◌, List, Result, Ok, Err}
 use Rattle.diy_words.specs.declared.usage.Usage.{Usage}
 use Rattle.diy_words.specs.Requests.{Task, AsksTest, AsksWhy, AsksCoherence, AsksName, AsksList, AsksFamilies, AsksSum, AsksCross, AsksDemo, AsksCheck, AsksExecution, AsksCoherenceExecution, AsksLines, asked_of}
-use Rattle.diy_tools.specs.declared.status.Status.{Status}
+use Rattle.diy_tools.specs.{declared.status.Status.Status, Devices.{Devices, OutAlone, InputAndOut, ShelfAndOut, DevicesSeen, devices}, TestAnswers.AnswersTest}
+use Rattle.diy_tools.specs.{NameAnswers.AnswersSought, FamilyAnswers.AnswersClassify, ListAnswers.{AnswersList, AnswersListed}, CrossAnswers.AnswersCross}
+use Rattle.diy_tools.specs.{DemoAnswers.demo_asked, CheckAnswers.AnswersCheck, PrintAnswers.Prints, SumAnswers.AnswersSum, WhyAnswers.AnswersWhy}
+use Rattle.diy_tools.specs.{CoherenceAnswers.AnswersCoherence, ExecutionAnswers.{AnswersExecution, AnswersCoherenceExecution}}
 use Rattle.diy_tools.specs.declared.status.Status.TheVariants as statuses
-use Rattle.diy_tools.specs.Devices.{Devices, OutAlone, InputAndOut, ShelfAndOut, DevicesSeen, devices}
-use Rattle.diy_tools.specs.{TestAnswers.AnswersTest, NameAnswers.AnswersSought, FamilyAnswers.AnswersClassify, ListAnswers.AnswersList, ListAnswers.AnswersListed}
-use Rattle.diy_tools.specs.{CrossAnswers.AnswersCross, DemoAnswers.demo_asked, CheckAnswers.AnswersCheck, PrintAnswers.Prints, SumAnswers.AnswersSum}
-use Rattle.diy_tools.specs.{WhyAnswers.AnswersWhy, CoherenceAnswers.AnswersCoherence, ExecutionAnswers.AnswersExecution, ExecutionAnswers.AnswersCoherenceExecution}
 
 -- words make no request, and no device changes; or each tool answers what it is asked for, and the devices that it doesn't
 -- use stay as they were

@@ -3,34 +3,31 @@
 use Rattle.std.specs.Prelude.{◌≡◌, ◌≤◌, ◌<◌, ◌+◌, ◌^◌, ◌⊎◌, ℕ, List, [], ◌∷◌, Option, Some, None, Result, Ok, Err}
 use Rattle.relax_edges.specs.declared.kinds.ArchName.{ArchName}
 use Rattle.cycle_names.specs.Laws.{NamesNone}
-use Rattle.cycles_from_lines.specs.declared.errors.LinesError.{LinesError}
-use Rattle.cycles_from_lines.specs.declared.errors.LinesError.TheVariants as lines
-use Rattle.cycles_from_lines.specs.Classified.{ClassifiedAll, ClassifiedPart, ReadsUpTo}
+use Rattle.cycles_from_lines.specs.{declared.errors.LinesError.LinesError, Classified.{ClassifiedAll, ClassifiedPart, ReadsUpTo}}
 use Rattle.cycles_from_lines.specs.Normed.{NormedAll, NormedPart, NormedUpTo, name_line}
-use Rattle.tests_from_files.specs.declared.classified_errors.{FilesEnd.FilesEnd, FileKind.FileKind}
+use Rattle.cycles_from_lines.specs.declared.errors.LinesError.TheVariants as lines
+use Rattle.tests_from_files.specs.{declared.classified_errors.FilesEnd.FilesEnd, declared.classified_errors.FileKind.FileKind}
 use Rattle.tests_from_files.specs.declared.classified_errors.FilesEnd.TheVariants as classing
 use Rattle.tests_from_files.specs.declared.classified_errors.FileKind.TheVariants as kinds
-use Rattle.exec_check.specs.declared.checked_errors.{CheckEnd.CheckEnd, CheckedKind.CheckedKind}
+use Rattle.exec_check.specs.{declared.checked_errors.CheckEnd.CheckEnd, declared.checked_errors.CheckedKind.CheckedKind}
 use Rattle.exec_check.specs.declared.checked_errors.CheckEnd.TheVariants as checking
 use Rattle.exec_check.specs.declared.checked_errors.CheckedKind.TheVariants as checked
-use Rattle.diy_io.specs.{Count.Rose, Count.count_of, Taken.SourceSeen, Wrote.SinkSeen, Wrote.WroteAll, Wrote.WrotePart}
-use Rattle.diy_words.specs.declared.usage.{Usage.Usage, UsageKind.UsageKind, UsageKind.TheVariants.UnknownName}
+use Rattle.diy_io.specs.{Count.{Rose, count_of}, Taken.SourceSeen, Wrote.{SinkSeen, WroteAll, WrotePart}}
+use Rattle.diy_words.specs.{declared.usage.Usage.Usage, declared.usage.UsageKind.UsageKind, declared.usage.UsageKind.TheVariants.UnknownName}
 use Rattle.diy_words.specs.Requests.{Task, TestTask, CoherenceTask, Sought, WhyTask, AsksTest, AsksWhy, AsksCoherence, AsksName, AsksList, AsksFamilies, AsksSum, AsksCross, AsksDemo, AsksCheck, AsksExecution, AsksCoherenceExecution, AsksLines, OfEdges, OfName, OfLines, asked_of}
 use Rattle.tests_to_files.specs.declared.ending.ListingEnd.TheVariants as listings
-use Rattle.msum7_files.specs.declared.sum_end.SumEnd.{SumEnd}
+use Rattle.msum7_files.specs.{declared.sum_end.SumEnd.SumEnd, SumEnds.LogFileMissing}
 use Rattle.msum7_files.specs.declared.sum_end.SumEnd.TheVariants as sums
-use Rattle.msum7_files.specs.SumEnds.{LogFileMissing}
 use Rattle.two_runs.specs.{IntendedRuns.intended_by, CoherenceRuns.incoherent_by}
 use Rattle.test_maker.specs.declared.refusal.Refusal.{Refusal}
-use Rattle.diy_tools.specs.declared.status.{Status.Status, Device.TheVariants.Input, Device.TheVariants.Out}
-use Rattle.diy_tools.specs.declared.status.{Device.TheVariants.Shelf}
+use Rattle.diy_tools.specs.{declared.status.Status.Status, declared.status.Device.TheVariants.{Input, Out, Shelf}}
+use Rattle.diy_tools.specs.{Devices.{Devices, OutAlone, InputAndOut, ShelfAndOut, DevicesSeen, devices}, CheckAnswers.EndsCheck, CrossAnswers.EndsCrossed}
+use Rattle.diy_tools.specs.{DemoAnswers.demo_asked, FamilyAnswers.EndsFamilies, ListAnswers.{EndsAsked, AnswersListed}, Memory.MayWantMemory}
+use Rattle.diy_tools.specs.{NameAnswers.PrintsNamed, Refused.refused_list, SumAnswers.EndsSum, TestAnswers.{asked_text, test_name, test_refused}}
+use Rattle.diy_tools.specs.{ArchMachines.machine_of, WhyAnswers.{WritesRuns, why_unshown}, CoherenceAnswers.{coherence_refused, incoherent_text}}
+use Rattle.diy_tools.specs.ExecutionAnswers.{PrintsRun}
 use Rattle.diy_tools.specs.declared.status.Status.TheVariants as statuses
 use Rattle.diy_tools.specs.declared.status.TextKind.TheVariants as texts
-use Rattle.diy_tools.specs.Devices.{Devices, OutAlone, InputAndOut, ShelfAndOut, DevicesSeen, devices}
-use Rattle.diy_tools.specs.{CheckAnswers.EndsCheck, CrossAnswers.EndsCrossed, DemoAnswers.demo_asked, FamilyAnswers.EndsFamilies}
-use Rattle.diy_tools.specs.{ListAnswers.EndsAsked, ListAnswers.AnswersListed, Memory.MayWantMemory, NameAnswers.PrintsNamed, Refused.refused_list, SumAnswers.EndsSum}
-use Rattle.diy_tools.specs.{TestAnswers.asked_text, TestAnswers.test_name, TestAnswers.test_refused, ArchMachines.machine_of, WhyAnswers.WritesRuns}
-use Rattle.diy_tools.specs.{WhyAnswers.why_unshown, CoherenceAnswers.coherence_refused, CoherenceAnswers.incoherent_text, ExecutionAnswers.PrintsRun}
 
 -- standard output is as it was, and no file changed
 pub record NothingWritten (old new : Devices) : Type 0 where

@@ -1,15 +1,13 @@
 -- What diyone7 answers with the option -co.
 -- Source: own.
-use Rattle.std.specs.{Prelude.ℕ, Prelude.List, Prelude.Option, Option.option_or}
+use Rattle.std.specs.{Prelude.{ℕ, List, Option}, Option.option_or}
 use Rattle.relax_edges.specs.declared.edge.Edge.{Edge}
 use Rattle.diy_io.specs.Wrote.{SinkSeen}
 use Rattle.diy_words.specs.Requests.{CoherenceTask}
 use Rattle.arch_trait.specs.Threads.{Puts}
 use Rattle.co_tests_laws.specs.CoRefusals.{coherence_refusal_of, coherence_text}
 use Rattle.test_maker.specs.declared.refusal.Refusal.{Refusal}
-use Rattle.diy_tools.specs.declared.status.Status.{Status}
-use Rattle.diy_tools.specs.{ArchMachines.machine_of, PrintAnswers.AnswersEdges, Refused.refused_list}
-use Rattle.diy_tools.specs.{TestAnswers.test_name}
+use Rattle.diy_tools.specs.{declared.status.Status.Status, ArchMachines.machine_of, PrintAnswers.AnswersEdges, Refused.refused_list, TestAnswers.test_name}
 
 -- the first reason why a list of edges has no coherence test on an architecture
 abbrev pub incoherence_refused : Puts → List Edge → Option Refusal

@@ -1,21 +1,19 @@
 -- Where words ask for what can be done and no device fails, it is done.
 -- Source: own.
 use Rattle.std.specs.Prelude.{◌≡◌, ◌≤◌, ◌+◌, ◌⊎◌, ⊤, ℕ, true, List, ◌∷◌, [], length, Option, Some, None, Result, Ok, Err}
-use Rattle.relax_edges.specs.declared.{edge.Edge.Edge, kinds.ArchName.ArchName}
+use Rattle.relax_edges.specs.{declared.edge.Edge.Edge, declared.kinds.ArchName.ArchName}
 use Rattle.tests_from_files.specs.FilesEnds.{ReadFiles}
 use Rattle.exec_check.specs.FilesChecked.{AreTestAndExecution}
 use Rattle.cycle_names.specs.Laws.{NamesNone}
 use Rattle.cycles_from_lines.specs.Cycles.{are_sound}
 use Rattle.text_parts_laws.specs.Lines.{lines_of}
-use Rattle.diy_io.specs.declared.source.TheConstants.{MAX_INPUT}
-use Rattle.diy_io.specs.{Count.Rose, Shelf.Files}
-use Rattle.diy_words.specs.declared.{usage.Usage.Usage, request.Check.Check}
+use Rattle.diy_io.specs.{declared.source.TheConstants.MAX_INPUT, Count.Rose, Shelf.Files}
+use Rattle.diy_words.specs.{declared.usage.Usage.Usage, declared.request.Check.Check}
 use Rattle.diy_words.specs.Requests.{Task, Sought, AsksTest, AsksWhy, AsksCoherence, AsksName, AsksList, AsksFamilies, AsksSum, AsksCross, AsksDemo, AsksCheck, AsksExecution, AsksCoherenceExecution, AsksLines, OfEdges, OfName, OfLines, asked_of}
-use Rattle.msum7_files.specs.{Logs.IsText, Logs.IsShort, Logs.AreWholeLogs, SumEnds.AreLogs}
-use Rattle.diy_tools.specs.declared.status.{Status.Status, Status.TheVariants.Done, Status.TheVariants.NoMemory}
-use Rattle.diy_tools.specs.{Devices.Devices, Devices.DevicesSeen, Devices.devices, FamilyAnswers.read_on, ArchMachines.machine_of}
-use Rattle.diy_tools.specs.{Memory.MayWantMemory, Refused.refused_list, TestAnswers.test_refused, WhyAnswers.why_unshown}
-use Rattle.diy_tools.specs.{CoherenceAnswers.coherence_refused}
+use Rattle.msum7_files.specs.{Logs.{IsText, IsShort, AreWholeLogs}, SumEnds.AreLogs}
+use Rattle.diy_tools.specs.{declared.status.Status.Status, declared.status.Status.TheVariants.{Done, NoMemory}, Devices.{Devices, DevicesSeen, devices}}
+use Rattle.diy_tools.specs.{FamilyAnswers.read_on, ArchMachines.machine_of, Memory.MayWantMemory, Refused.refused_list, TestAnswers.test_refused}
+use Rattle.diy_tools.specs.{WhyAnswers.why_unshown, CoherenceAnswers.coherence_refused}
 
 -- a text has at most 2^40 bytes, and none of its lines of cycles has an error
 pub record IsSoundText (arch : ArchName) (text : List ℕ) : Type 0 where

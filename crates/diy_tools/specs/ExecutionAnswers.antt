@@ -6,12 +6,11 @@ use Rattle.diy_words.specs.Requests.{TestTask, CoherenceTask}
 use Rattle.program_meaning.specs.Executions.{Execution}
 use Rattle.litmus_text.specs.TestReading.{TestRead}
 use Rattle.exec_text.specs.Written.{text_of_execution}
-use Rattle.two_runs.specs.{IntendedRuns.IsRunOf, IntendedRuns.intended_by, CoherenceRuns.incoherent_by}
+use Rattle.two_runs.specs.{IntendedRuns.{IsRunOf, intended_by}, CoherenceRuns.incoherent_by}
 use Rattle.test_maker.specs.declared.refusal.Refusal.{Refusal}
-use Rattle.diy_tools.specs.declared.status.Status.{Status}
+use Rattle.diy_tools.specs.{declared.status.Status.Status, ArchMachines.{Machine, machine_of}, PrintAnswers.Prints, TestAnswers.{asked_text, test_refused}}
+use Rattle.diy_tools.specs.CoherenceAnswers.{incoherent_text, coherence_refused}
 use Rattle.diy_tools.specs.declared.status.Status.TheVariants as statuses
-use Rattle.diy_tools.specs.{ArchMachines.Machine, ArchMachines.machine_of, PrintAnswers.Prints, TestAnswers.asked_text, TestAnswers.test_refused}
-use Rattle.diy_tools.specs.{CoherenceAnswers.incoherent_text, CoherenceAnswers.coherence_refused}
 
 -- An execution of what the text of a test is read as is printed: the one that is meant by the test. What is printed is read as that
 -- execution.

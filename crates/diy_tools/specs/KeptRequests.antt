@@ -1,39 +1,29 @@
 -- What only private functions cite: requests as they are kept, and the parts of a test, of a listing and of a sum.
-use Rattle.std.specs.Prelude.{ℕ, ◌≡◌, ◌⊎◌, List, [], Option, Some, None, Result, Ok, Err}
-use Rattle.std.specs.{Borrow.Bor, Option.option_map, Option.option_or}
+use Rattle.std.specs.{Prelude.{ℕ, ◌≡◌, ◌⊎◌, List, [], Option, Some, None, Result, Ok, Err}, Borrow.Bor, Option.{option_map, option_or}}
 use Rattle.arrayvec.specs.ArrayString.{ArrayString}
-use Rattle.relax_edges.specs.declared.{edge.Edge.Edge, kinds.ArchName.ArchName, kinds.ObsMode.ObsMode}
-use Rattle.edges_from_text.specs.declared.list.{EdgeList.EdgeList, EdgeList.TheVariants.Whole, EdgeList.TheVariants.TooLong}
+use Rattle.relax_edges.specs.{declared.edge.Edge.Edge, declared.kinds.ArchName.ArchName, declared.kinds.ObsMode.ObsMode}
+use Rattle.edges_from_text.specs.{declared.list.EdgeList.EdgeList, declared.list.EdgeList.TheVariants.{Whole, TooLong}}
 use Rattle.cycles_from_lines.specs.Normed.{name_line}
-use Rattle.diy_io.specs.{Shelf.ShelfSeen, Taken.SourceSeen, Wrote.SinkSeen}
-use Rattle.diy_words.specs.declared.{request.Sought.Sought, usage.Usage.Usage, request.Check.Check, request.Cross.Cross, request.DiyOne.DiyOne}
-use Rattle.diy_words.specs.declared.{request.Coherence.Coherence, request.Why.Why}
-use Rattle.diy_words.specs.declared.request.Sought.TheVariants as sought
-use Rattle.tests_to_files.specs.declared.{ending.ListingEnd.ListingEnd, listing.Listing.Listing}
-use Rattle.tests_to_files.specs.{ListedLines.EndsLines, ListingEnds.EndsListing, Plans.plan_of, Plans.plan_in}
-use Rattle.diy_io.specs.declared.errors.Failed.{Failed}
-use Rattle.two_runs.specs.{IntendedRuns.intended_by, CoherenceRuns.incoherent_by}
-use Rattle.diy_tools.specs.{ExecutionAnswers.AnswersRun, PrintAnswers.Prints}
-use Rattle.msum7_files.specs.declared.sum_end.SumEnd.{SumEnd}
-use Rattle.msum7_files.specs.SumEnds.{InputSummed, FilesSummed}
-use Rattle.test_maker.specs.{CycleText.cycle_text, Refusals.refusal_of}
-use Rattle.test_maker.specs.declared.refusal.Refusal.{Refusal}
-use Rattle.diy_tools.specs.declared.status.Status.{Status}
-use Rattle.test_maker.specs.declared.refusal.Refusal.TheVariants as refusals
+use Rattle.diy_io.specs.{Shelf.ShelfSeen, Taken.SourceSeen, Wrote.SinkSeen, declared.errors.Failed.Failed}
+use Rattle.diy_words.specs.{declared.request.Sought.Sought, declared.usage.Usage.Usage, declared.request.Check.Check, declared.request.Cross.Cross}
+use Rattle.diy_words.specs.{declared.request.DiyOne.DiyOne, declared.request.Coherence.Coherence, declared.request.Why.Why}
 use Rattle.diy_words.specs.Requests.{Task, ListTask, AsksCross}
-use Rattle.tests_from_files.specs.declared.classified_errors.FilesEnd.{FilesEnd}
-use Rattle.exec_check.specs.declared.checked_errors.CheckEnd.{CheckEnd}
-use Rattle.diy_tools.specs.{CheckAnswers.EndsChecked, CheckAnswers.check_status, CheckAnswers.shown_of, CrossAnswers.AnswersCross, CrossAnswers.AnswersChoices}
-use Rattle.diy_tools.specs.{FamilyAnswers.EndsNamed, FamilyAnswers.files_status, ArchMachines.Machine, ArchMachines.machine, ArchMachines.machine_of}
-use Rattle.diy_tools.specs.{NameAnswers.AnswersLines, NameAnswers.AnswersName, PrintAnswers.AnswersEdges, TestAnswers.test_name, Devices.DevicesSeen}
-use Rattle.diy_tools.specs.{Devices.devices, SumAnswers.sum_status, SumAnswers.AnswersSum}
-use Rattle.diy_tools.specs.Refused.{refused_list}
+use Rattle.diy_words.specs.declared.request.Sought.TheVariants as sought
+use Rattle.tests_to_files.specs.{declared.ending.ListingEnd.ListingEnd, declared.listing.Listing.Listing, ListedLines.EndsLines, ListingEnds.EndsListing}
+use Rattle.tests_to_files.specs.Plans.{plan_of, plan_in}
+use Rattle.two_runs.specs.{IntendedRuns.intended_by, CoherenceRuns.incoherent_by, declared.shown.TwoRuns.TwoRuns, Shown.why_refused}
+use Rattle.diy_tools.specs.{ExecutionAnswers.AnswersRun, PrintAnswers.{Prints, AnswersEdges}, declared.status.Status.Status}
+use Rattle.diy_tools.specs.{CheckAnswers.{EndsChecked, check_status, shown_of}, CrossAnswers.{AnswersCross, AnswersChoices}}
+use Rattle.diy_tools.specs.{FamilyAnswers.{EndsNamed, files_status}, ArchMachines.{Machine, machine, machine_of}, NameAnswers.{AnswersLines, AnswersName}}
+use Rattle.diy_tools.specs.{TestAnswers.test_name, Devices.{DevicesSeen, devices}, SumAnswers.{sum_status, AnswersSum}, Refused.refused_list}
 use Rattle.diy_tools.specs.WhyAnswers.{WritesFiles, AnswersRuns, why_files, why_line}
+use Rattle.msum7_files.specs.{declared.sum_end.SumEnd.SumEnd, SumEnds.{InputSummed, FilesSummed}}
+use Rattle.test_maker.specs.{CycleText.cycle_text, Refusals.refusal_of, declared.refusal.Refusal.Refusal}
+use Rattle.test_maker.specs.declared.refusal.Refusal.TheVariants as refusals
+use Rattle.tests_from_files.specs.declared.classified_errors.FilesEnd.{FilesEnd}
+use Rattle.exec_check.specs.{declared.checked_errors.CheckEnd.CheckEnd, FilesChecked.FilesChecked}
 use Rattle.arch_trait.specs.{Threads.Puts, Writing.Writing}
-use Rattle.exec_check.specs.FilesChecked.{FilesChecked}
 use Rattle.exec_text.specs.Written.{text_of_execution}
-use Rattle.two_runs.specs.declared.shown.TwoRuns.{TwoRuns}
-use Rattle.two_runs.specs.Shown.{why_refused}
 use Rattle.co_tests_laws.specs.CoRefusals.{coherence_refusal_of, coherence_text}
 use Rattle.diy_tools.specs.declared.status.Status.TheVariants as statuses
 

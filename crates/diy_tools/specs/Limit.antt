@@ -2,10 +2,9 @@
 -- Source: own.
 use Rattle.std.specs.Prelude.{ℕ, ◌+◌, ◌^◌, ◌<◌, ◌⊎◌, ⊤, List, Result}
 use Rattle.diy_io.specs.Count.{count_of}
-use Rattle.diy_words.specs.declared.usage.Usage.{Usage}
-use Rattle.diy_words.specs.Requests.{Task, asked_of}
-use Rattle.diy_tools.specs.declared.status.{Status.Status, Status.TheVariants.BadText, Status.TheVariants.NoMemory}
-use Rattle.diy_tools.specs.{Devices.Devices, Devices.DevicesSeen, Devices.devices, Memory.MayWantMemory}
+use Rattle.diy_words.specs.{declared.usage.Usage.Usage, Requests.{Task, asked_of}}
+use Rattle.diy_tools.specs.{declared.status.Status.Status, declared.status.Status.TheVariants.{BadText, NoMemory}, Devices.{Devices, DevicesSeen, devices}}
+use Rattle.diy_tools.specs.Memory.{MayWantMemory}
 
 -- more than 2^40 bytes were taken: of the input, as far as they are counted, or of the last file that was opened since
 abbrev pub TookTooMuch : Devices → Devices → Type 0

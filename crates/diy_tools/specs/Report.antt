@@ -1,7 +1,6 @@
 -- The line on standard error for a status.
 -- Source: own.
-use Rattle.std.specs.Prelude.{ℕ, ⊤, ◌⊎◌, List, [], ◌++◌, codes, slice_get, unwrap_or, Option, Some, None}
-use Rattle.std.specs.Fmt.{decimal}
+use Rattle.std.specs.{Prelude.{ℕ, ⊤, ◌⊎◌, List, [], ◌++◌, codes, slice_get, unwrap_or, Option, Some, None}, Fmt.decimal}
 use Rattle.arch_trait.specs.PlaceNames.{location_name}
 use Rattle.diy_io.specs.Wrote.{SinkSeen, WroteAll, WrotePart}
 use Rattle.cycles_from_lines.specs.declared.errors.LineKind.{LineKind}
@@ -14,11 +13,10 @@ use Rattle.log_sum.specs.declared.errors.LogKind.{LogKind}
 use Rattle.log_sum.specs.declared.errors.LogKind.TheVariants as logs
 use Rattle.diy_words.specs.declared.usage.UsageKind.{UsageKind}
 use Rattle.diy_words.specs.declared.usage.UsageKind.TheVariants as usages
-use Rattle.test_maker.specs.declared.refusal.Refusal.{Refusal}
-use Rattle.diy_tools.specs.declared.status.{Status.Status, TextKind.TextKind, Device.Device}
+use Rattle.test_maker.specs.{declared.refusal.Refusal.Refusal, Made.NamesLocation}
+use Rattle.diy_tools.specs.{declared.status.Status.Status, declared.status.TextKind.TextKind, declared.status.Device.Device}
 use Rattle.diy_tools.specs.declared.status.Status.TheVariants as statuses
 use Rattle.test_maker.specs.declared.refusal.Refusal.TheVariants as refusals
-use Rattle.test_maker.specs.Made.{NamesLocation}
 use Rattle.diy_tools.specs.declared.status.TextKind.TheVariants as texts
 use Rattle.diy_tools.specs.declared.status.Device.TheVariants as devices
 

@@ -1,21 +1,19 @@
 -- What diyone7 answers with the option -why.
 -- Source: own.
-use Rattle.std.specs.Prelude.{◌≡◌, ◌⊎◌, ℕ, List, [], ◌∷◌, ◌++◌, codes, Option, Some, None}
-use Rattle.std.specs.Option.{option_or}
-use Rattle.relax_edges.specs.declared.{kinds.ObsMode.TheVariants.Avoid, edge.Edge.Edge}
+use Rattle.std.specs.{Prelude.{◌≡◌, ◌⊎◌, ℕ, List, [], ◌∷◌, ◌++◌, codes, Option, Some, None}, Option.option_or}
+use Rattle.relax_edges.specs.{declared.kinds.ObsMode.TheVariants.Avoid, declared.edge.Edge.Edge}
 use Rattle.cycle_events.specs.{Resolution.turned, Values.observer_need}
-use Rattle.diy_io.specs.{Shelf.ShelfSeen, Wrote.SinkSeen, Wrote.WroteAll, Wrote.WrotePart}
+use Rattle.diy_io.specs.{Shelf.ShelfSeen, Wrote.{SinkSeen, WroteAll, WrotePart}}
 use Rattle.diy_words.specs.Requests.{WhyTask}
 use Rattle.exec_text.specs.Written.{text_of_execution}
-use Rattle.tests_to_files.specs.{ListedFiles.path_of, ListedFiles.stem_named, GivenCycles.PutUpTo, Putting.PutFiles}
+use Rattle.tests_to_files.specs.{ListedFiles.{path_of, stem_named}, GivenCycles.PutUpTo, Putting.PutFiles}
 use Rattle.litmus_text.specs.TestReading.{TestRead}
 use Rattle.program_meaning.specs.Executions.{Execution}
-use Rattle.test_maker.specs.CycleText.{cycle_text}
+use Rattle.test_maker.specs.{CycleText.cycle_text, declared.refusal.Refusal.Refusal}
 use Rattle.two_runs.specs.Shown.{AreRunsFor, why_refused}
-use Rattle.test_maker.specs.declared.refusal.Refusal.{Refusal}
-use Rattle.diy_tools.specs.declared.status.{Status.Status, Device.TheVariants.Out, Device.TheVariants.Shelf}
+use Rattle.diy_tools.specs.{declared.status.Status.Status, declared.status.Device.TheVariants.{Out, Shelf}, ArchMachines.{Machine, machine_of}}
+use Rattle.diy_tools.specs.{Refused.refused_list, TestAnswers.test_name}
 use Rattle.diy_tools.specs.declared.status.Status.TheVariants as statuses
-use Rattle.diy_tools.specs.{ArchMachines.Machine, ArchMachines.machine_of, Refused.refused_list, TestAnswers.test_name}
 
 -- the path of a file of a test, by its ending
 abbrev pub why_path : Option (List ℕ) → List ℕ → List ℕ → List ℕ

@@ -1,9 +1,7 @@
 -- The cycles of all choices of one relaxation at each place.
 -- Source: diycross, the diy part of the herdtools manual; which of equal cycles is kept is own.
-use Rattle.std.specs.Prelude.{Bool, not, ◌&&◌, is_ok, is_none, List, [], ◌∷◌, length, map, filter}
-use Rattle.std.specs.List.{flat_map, list_any}
-use Rattle.relax_edges.specs.declared.{kinds.ObsMode.ObsMode, edge.Edge.Edge}
-use Rattle.relax_edges.specs.Relaxations.{is_same}
+use Rattle.std.specs.{Prelude.{Bool, not, ◌&&◌, is_ok, is_none, List, [], ◌∷◌, length, map, filter}, List.{flat_map, list_any}}
+use Rattle.relax_edges.specs.{declared.kinds.ObsMode.ObsMode, declared.edge.Edge.Edge, Relaxations.is_same}
 use Rattle.list_laws.specs.Numbers.{upto}
 use Rattle.edge_algebra_laws.specs.Rotation.{rotated}
 use Rattle.edge_algebra.specs.Compose.{composed}

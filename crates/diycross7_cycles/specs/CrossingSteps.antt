@@ -1,7 +1,6 @@
 -- How the cycles of all choices are found, one after another.
 -- Source: own.
-use Rattle.std.specs.Prelude.{Bool, cond, List, [], ◌∷◌, ◌++◌, map, fold}
-use Rattle.std.specs.List.{flat_map, list_any}
+use Rattle.std.specs.{Prelude.{Bool, cond, List, [], ◌∷◌, ◌++◌, map, fold}, List.{flat_map, list_any}}
 use Rattle.relax_edges.specs.declared.edge.Edge.{Edge}
 use Rattle.cycle_enum_laws.specs.Listing.{concatenated}
 use Rattle.diycross7_cycles.specs.Choices.{choices, is_turn}

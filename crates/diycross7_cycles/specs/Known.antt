@@ -2,8 +2,7 @@
 -- Source: own.
 use Rattle.std.specs.Prelude.{⊤, List, [], ◌∷◌}
 use Rattle.relax_edges.specs.declared.edge.Edge.{Edge}
-use Rattle.diycross7_cycles.specs.declared.normal_form.NormalForm.{NormalForm}
-use Rattle.diycross7_cycles.specs.NormalForms.{IsNormalForm}
+use Rattle.diycross7_cycles.specs.{declared.normal_form.NormalForm.NormalForm, NormalForms.IsNormalForm}
 
 -- the normal forms of some cycles, in order
 abbrev pub AreNormalForms : List (List Edge) → List NormalForm → Type 0

@@ -1,8 +1,7 @@
 -- The normal form of a cycle, by the ranks of its edges.
 -- Source: own.
 use Rattle.std.specs.Prelude.{◌≡◌, ℕ, List, map}
-use Rattle.relax_edges.specs.declared.edge.Edge.{Edge}
-use Rattle.relax_edges.specs.Order.{rank_of}
+use Rattle.relax_edges.specs.{declared.edge.Edge.Edge, Order.rank_of}
 use Rattle.edge_algebra_laws.specs.CycleOrder.{IsLeast}
 
 -- the ranks of the normal form of a cycle

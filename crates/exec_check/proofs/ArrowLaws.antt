@@ -1,17 +1,14 @@
 -- The bold arrows are those of the edges of the quoted cycle that stand.
 use Rattle.std.proofs.Common.{◌≡◌, ℕ, zero, suc, arith, Bool, true, false, List, [], ◌∷◌, map, Option, Some, None, slice_get, refl, sym, ap, subst, ◌∙◌}
-use Rattle.std.specs.Prelude.{◌↔◌}
-use Rattle.std.specs.{List.Contains, List.enumerate_from}
 use Rattle.std.proofs.lemmas.Option.{same_Some}
-use Rattle.relax_edges.specs.declared.{kinds.ArchName.ArchName, edge.Edge.Edge}
+use Rattle.std.specs.{Prelude.◌↔◌, List.{Contains, enumerate_from}}
+use Rattle.relax_edges.specs.{declared.kinds.ArchName.ArchName, declared.edge.Edge.Edge}
 use Rattle.litmus_text.specs.{TestReading.TestRead, ReadPrograms.program_read}
 use Rattle.cycle_events.specs.Resolution.{event_after}
 use Rattle.program_meaning.specs.{Executions.Execution, Programs.Program, Standing.event_name}
 use Rattle.exec_meaning.specs.StandingEdges.{EdgeStands}
-use Rattle.exec_check.specs.declared.verdict.Verdict.{Verdict}
-use Rattle.exec_check.specs.Verdicts.{AreJudged, JudgesEdges, JudgesFurther, judged_cycle}
-use Rattle.exec_check.specs.Graphs.{Arrow, arrow_of, standing_arrows, standing_edges}
-use Rattle.exec_check.specs.GraphLaws.{IsOfStandingEdge, StandingArrowsLaw}
+use Rattle.exec_check.specs.{declared.verdict.Verdict.Verdict, Verdicts.{AreJudged, JudgesEdges, JudgesFurther, judged_cycle}}
+use Rattle.exec_check.specs.{Graphs.{Arrow, arrow_of, standing_arrows, standing_edges}, GraphLaws.{IsOfStandingEdge, StandingArrowsLaw}}
 use Rattle.exec_check.proofs.Members.{In, in_filter, in_map, in_numbered, in_of, in_to, of_filter, of_map, of_numbered}
 
 -- number i of the edges is that of the judged edges

@@ -2,19 +2,17 @@
 use Rattle.std.proofs.Common.{◌≡◌, ℕ, List, [], ◌∷◌, ◌+◌, take, refl, ◌∙◌, subst, inl, inr}
 use Rattle.std.specs.Prelude.{Ok, Err}
 use Rattle.diy_io.specs.{Count.Rose, Shelf.ShelfSeen, Wrote.SinkSeen, Opened.name_at}
-use Rattle.diy_io.proofs.FileNameLaws.{absent_before, quiet_before, file_before}
-use Rattle.diy_io.proofs.OpenedLaws.{took_no_more, took_one_more}
+use Rattle.diy_io.proofs.{FileNameLaws.{absent_before, quiet_before, file_before}, OpenedLaws.{took_no_more, took_one_more}}
 use Rattle.relax_edges.specs.declared.kinds.ArchName.{ArchName}
 use Rattle.arch_trait.specs.Writing.{Writing}
-use Rattle.litmus_text.specs.declared.limits.TheConstants.{MAX_TEST_TEXT}
-use Rattle.litmus_text.specs.TestReading.{TestRead}
+use Rattle.litmus_text.specs.{declared.limits.TheConstants.MAX_TEST_TEXT, TestReading.TestRead}
 use Rattle.program_meaning.specs.Executions.{Execution}
-use Rattle.exec_check.specs.declared.{verdict.Judged.Judged, shown.Shown.Shown, checked_errors.CheckFault.CheckFault}
-use Rattle.exec_check.specs.{Graphs.shown_text, CheckingSteps.TestFileTo, CheckingSteps.ExecFileTo, CheckingSteps.check_end}
-use Rattle.tests_from_files.specs.{FilesRead.FileFailed, FilesRead.FileIs, TestSaid.test_said, FailedFiles.failed_after}
+use Rattle.exec_check.specs.{declared.verdict.Judged.Judged, declared.shown.Shown.Shown, declared.checked_errors.CheckFault.CheckFault, Graphs.shown_text}
+use Rattle.exec_check.specs.CheckingSteps.{TestFileTo, ExecFileTo, check_end}
+use Rattle.exec_check.specs.FilesChecked.{exec_said, IsTest, BothRead, ExecutionShown, ExecUnread, FilesChecked}
+use Rattle.tests_from_files.specs.{FilesRead.{FileFailed, FileIs}, TestSaid.test_said, FailedFiles.failed_after}
 use Rattle.exec_check.specs.declared.checked_errors.CheckedKind.TheVariants as kinds
 use Rattle.exec_check.specs.declared.checked_errors.CheckFault.TheVariants as faults
-use Rattle.exec_check.specs.FilesChecked.{exec_said, IsTest, BothRead, ExecutionShown, ExecUnread, FilesChecked}
 
 -- the file of the test isn't what is wanted
 pub test_refused : (shown : Shown) (arch : ArchName) (w : Writing) (old new : ShelfSeen) (words : List (List ℕ)) (test exec : ℕ) (a : SinkSeen) (fault : CheckFault)

@@ -1,24 +1,22 @@
 -- What each of the two files gives, by what was read of it.
-use Rattle.std.proofs.Common.{◌≡◌, ℕ, List, refl, sym, subst}
+use Rattle.std.proofs.{Common.{◌≡◌, ℕ, List, refl, sym, subst}, lemmas.Bool.false≢true}
 use Rattle.std.specs.Prelude.{Result, Ok, Err, IsErr, IsErrAnd}
-use Rattle.std.proofs.lemmas.Bool.{false≢true}
-use Rattle.diy_io.specs.Shelf.{ShelfSeen}
-use Rattle.diy_io.specs.declared.errors.Failed.{Failed}
+use Rattle.diy_io.specs.{Shelf.ShelfSeen, declared.errors.Failed.Failed}
 use Rattle.relax_edges.specs.declared.kinds.ArchName.{ArchName}
 use Rattle.arch_trait.specs.{PlaceNames.number_in, Writing.Writing}
 use Rattle.litmus_text.specs.TestReading.{TestRead}
-use Rattle.exec_check.specs.declared.{errors.CheckError.CheckError, verdict.Judged.Judged, checked_errors.CheckFault.CheckFault}
-use Rattle.exec_check.specs.declared.errors.CheckError.TheVariants as checks
+use Rattle.exec_check.specs.{declared.errors.CheckError.CheckError, declared.verdict.Judged.Judged, declared.checked_errors.CheckFault.CheckFault}
 use Rattle.exec_check.specs.{Verdicts.Checks, CheckedLaws.executions_by_first_bytes, FilesChecked.exec_said}
-use Rattle.tests_from_files.specs.declared.errors.{NoTest.NoTest, TestFileError.TestFileError, TestFileKind.TestFileKind}
+use Rattle.exec_check.specs.CheckingSteps.{TestFileTo, TestClosedTo, ExecFileTo, ExecClosedTo, IsJudged, test_fault, checked_test_kind, exec_fault}
+use Rattle.exec_check.specs.declared.errors.CheckError.TheVariants as checks
+use Rattle.tests_from_files.specs.{declared.errors.NoTest.NoTest, declared.errors.TestFileError.TestFileError, declared.errors.TestFileKind.TestFileKind}
+use Rattle.tests_from_files.specs.{FilesRead.{FileRead, FileFaulty}, TestSaid.{SaysTestInMemory, test_said}}
+use Rattle.tests_from_files.specs.FirstBytes.{file_is, file_unclosed, file_faulty, tests_by_first_bytes}
 use Rattle.tests_from_files.specs.declared.errors.NoTest.TheVariants as no_tests
 use Rattle.tests_from_files.specs.declared.errors.TestFileKind.TheVariants as tests
-use Rattle.tests_from_files.specs.{FilesRead.FileRead, FilesRead.FileFaulty, TestSaid.SaysTestInMemory, TestSaid.test_said}
 use Rattle.diy_io.proofs.FileFaultLaws.{is_fault}
-use Rattle.tests_from_files.specs.FirstBytes.{file_is, file_unclosed, file_faulty, tests_by_first_bytes}
 use Rattle.exec_check.specs.declared.checked_errors.CheckedKind.TheVariants as kinds
 use Rattle.exec_check.specs.declared.checked_errors.CheckFault.TheVariants as faults
-use Rattle.exec_check.specs.CheckingSteps.{TestFileTo, TestClosedTo, ExecFileTo, ExecClosedTo, IsJudged, test_fault, checked_test_kind, exec_fault}
 
 -- the file of a test was read, and this is the answer to its text and to its closing
 pub test_closed : (arch : ArchName) (w : Writing) (old new : ShelfSeen) (name text judged : List ℕ) (closed : Result (Unit {0}) Failed)

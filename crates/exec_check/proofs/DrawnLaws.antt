@@ -1,20 +1,17 @@
 -- What is drawn are the nodes, and the pairs of each relation are the pairs of nodes between which it holds.
 use Rattle.std.proofs.Common.{◌≡◌, ◌<◌, ℕ, suc, ◌+◌, arith, Bool, true, false, ◌==◌, ◌&&◌, List, [], ◌∷◌, length, map, Option, Some, None, slice_get, refl, sym, ap, subst, ◌∙◌, inl, inr}
-use Rattle.std.specs.Prelude.{◌↔◌, ◌⊎◌, cond, nat_lt, not}
-use Rattle.std.specs.{Bool.Decides, List.Contains, List.enumerate_from, List.filter, List.flat_map, List.list_any, List.prefix_len}
-use Rattle.std.proofs.lemmas.{Bool.and_parts, Bool.and_from, Bool.eqb-true, Bool.eq-eqb, Bool.lt-ltb, Bool.ltb-true, Option.same_Some}
+use Rattle.std.proofs.{lemmas.Bool.{and_parts, and_from, eqb-true, eq-eqb, lt-ltb, ltb-true}, lemmas.Option.same_Some}
+use Rattle.std.specs.{Prelude.{◌↔◌, ◌⊎◌, cond, nat_lt, not}, Bool.Decides, List.{Contains, enumerate_from, filter, flat_map, list_any, prefix_len}}
 use Rattle.list_laws.specs.Numbers.{upto}
 use Rattle.relax_edges.specs.declared.kinds.Dir.{Dir}
 use Rattle.relax_edges.specs.declared.kinds.Dir.TheVariants as dirs
 use Rattle.litmus_text.specs.{TestReading.TestRead, ReadPrograms.program_read}
-use Rattle.program_meaning.specs.declared.WriteAt.{WriteAt}
-use Rattle.program_meaning.specs.{Accesses.Access, Accesses.Visit, Accesses.at_name, Accesses.got_from, Accesses.reads_by}
-use Rattle.program_meaning.specs.{Deciding.name, Executions.Execution, Executions.same_write, Interleavings.writes_by, Interleavings.writes_to, Standing.NamedAccess, Programs.accesses_in, Programs.visits_in}
-use Rattle.program_meaning.specs.Coherence.{coherence_place, from_one, order_at, order_place, placed_by, source_at}
+use Rattle.program_meaning.specs.{declared.WriteAt.WriteAt, Accesses.{Access, Visit, at_name, got_from, reads_by}, Deciding.name}
+use Rattle.program_meaning.specs.{Executions.{Execution, same_write}, Interleavings.{writes_by, writes_to}, Standing.NamedAccess}
+use Rattle.program_meaning.specs.{Programs.{accesses_in, visits_in}, Coherence.{coherence_place, from_one, order_at, order_place, placed_by, source_at}}
 use Rattle.program_meaning.proofs.Names.{at_name_of, same_write-refl, same_write-true}
-use Rattle.exec_meaning.specs.declared.seen.SeenAccess.{SeenAccess}
-use Rattle.exec_meaning.specs.SeenAccesses.{seen_access, seen_in, seen_in_thread}
-use Rattle.exec_check.specs.declared.drawn.{Drawn.Drawn, Point.TheVariants.At, Point.TheVariants.Initial, Relation.Relation}
+use Rattle.exec_meaning.specs.{declared.seen.SeenAccess.SeenAccess, SeenAccesses.{seen_access, seen_in, seen_in_thread}}
+use Rattle.exec_check.specs.{declared.drawn.Drawn.Drawn, declared.drawn.Point.TheVariants.{At, Initial}, declared.drawn.Relation.Relation}
 use Rattle.exec_check.specs.declared.drawn.Relation.TheVariants.{Po, Rf, Co, Fr}
 use Rattle.exec_check.specs.Graphs.{access_drawn, drawn_in, initial_places, initial_write, is_initial, is_reached, pairs_by, reads_initial, relates}
 use Rattle.exec_check.specs.GraphLaws.{Node, InitialWrite, TheAccess, IsDrawn, IsFirstWrite, IsNodeIn, ReadsInitial, FollowsInThread, IsReadFrom, FollowsInOrder, IsOverwritten, ListsPairs, drawn_as, NodesLaw, EndsLaw, PoPairsLaw, RfPairsLaw, CoPairsLaw, FrPairsLaw}

@@ -1,18 +1,17 @@
 -- The lines of a graph, appended one after another.
 use Rattle.std.proofs.Common.{◌≡◌, ◌≤◌, ◌<◌, ℕ, zero, suc, ◌+◌, ◌-◌, ◌==◌, Bor, Bool, true, false, cond, List, [], ◌∷◌, ◌++◌, length, map, take, drop, get_or, Some, slice_get, refl, sym, ap, ◌∙◌, subst, arith, append_assoc, append-nil, length-append}
-use Rattle.std.specs.{Prelude.codes, Fmt.decimal, List.enumerate_from, List.filter, List.flat_map, List.list_any}
-use Rattle.std.proofs.lemmas.{List.drop_all, List.take_all, List.Elements.filter-append, List.Folds.flat_map-map, Option.slice_get-get_or, Bool.eq-eqb, Bool.ne_eqb, Grind.flat_map-append}
+use Rattle.std.proofs.{lemmas.List.{drop_all, take_all}, lemmas.List.Elements.filter-append, lemmas.List.Folds.flat_map-map, lemmas.Option.slice_get-get_or}
+use Rattle.std.proofs.{lemmas.Bool.{eq-eqb, ne_eqb}, lemmas.Grind.flat_map-append}
+use Rattle.std.specs.{Prelude.codes, Fmt.decimal, List.{enumerate_from, filter, flat_map, list_any}}
 use Rattle.list_laws.proofs.{Cases.by_same, Elements.drop_given}
-use Rattle.diy_io.specs.declared.page.TheConstants.{LINE_ROOM}
-use Rattle.diy_io.specs.{Page.page_after, PageLaws.page_fits, Pieces.joined_text, SinkLaws.flat_map_more}
+use Rattle.diy_io.specs.{declared.page.TheConstants.LINE_ROOM, Page.page_after, PageLaws.page_fits, Pieces.joined_text, SinkLaws.flat_map_more}
 use Rattle.diy_io.proofs.PiecesLemmas.{joined_text_more}
 use Rattle.list_laws.specs.Numbers.{upto}
 use Rattle.exec_meaning.specs.declared.seen.SeenAccess.{SeenAccess}
-use Rattle.relax_edges.specs.declared.edge.Edge.{Edge}
-use Rattle.exec_check.specs.{Verdicts.answer_word, Graphs.access_name, Graphs.arrow_line, Graphs.arrow_of, Graphs.condition_line, Graphs.initial_places, Graphs.kind_look, Graphs.lap_word}
-use Rattle.exec_check.specs.Graphs.{pairs_by, quoted_byte, reads_initial, standing_edges, standing_lines}
+use Rattle.relax_edges.specs.{declared.edge.Edge.Edge, WordParts.word_of, EdgeTable.kind_of}
+use Rattle.exec_check.specs.Verdicts.{answer_word}
+use Rattle.exec_check.specs.Graphs.{access_name, arrow_line, arrow_of, condition_line, initial_places, kind_look, lap_word, pairs_by, quoted_byte, reads_initial, standing_edges, standing_lines}
 use Rattle.final_cond.specs.{Conditions.CondSeen, CondText.cond_text}
-use Rattle.relax_edges.specs.{WordParts.word_of, EdgeTable.kind_of}
 use Rattle.cycle_events.specs.Resolution.{event_after}
 use Rattle.program_meaning.specs.Standing.{event_name}
 

@@ -1,12 +1,10 @@
 -- What the verdict on an execution says of the graph.
 use Rattle.std.proofs.Common.{◌≡◌, List, Option, Some, None, true, false}
 use Rattle.std.specs.Prelude.{ℕ, Bool}
-use Rattle.relax_edges.specs.declared.{kinds.ArchName.ArchName, edge.Edge.Edge}
+use Rattle.relax_edges.specs.{declared.kinds.ArchName.ArchName, declared.edge.Edge.Edge}
 use Rattle.litmus_text.specs.{TestReading.TestRead, ReadPrograms.program_read}
-use Rattle.program_meaning.specs.{Executions.Execution, Programs.Program, Programs.IsCandidate}
-use Rattle.exec_check.specs.declared.verdict.Verdict.{Verdict}
-use Rattle.exec_check.specs.Verdicts.{IsVerdict, JudgesEdges, JudgesFurther, judged_cycle}
-use Rattle.exec_check.specs.CheckingSteps.{AreEdgesOf}
+use Rattle.program_meaning.specs.{Executions.Execution, Programs.{Program, IsCandidate}}
+use Rattle.exec_check.specs.{declared.verdict.Verdict.Verdict, Verdicts.{IsVerdict, JudgesEdges, JudgesFurther, judged_cycle}, CheckingSteps.AreEdgesOf}
 
 edges_of_judged : (cycle : Option (List Edge)) (p : Program) (x : Execution) (judged : List (Edge × Bool)) → JudgesEdges cycle p x judged → AreEdgesOf cycle judged
 edges_of_judged None p x judged h = h

@@ -1,20 +1,19 @@
 -- What only private functions cite: what each of the two files gives.
 -- Source: own.
 use Rattle.std.specs.Prelude.{◌≡◌, ⊤, ℕ, Bool, List, [], map, Option, Some, None, Result, Ok, Err, IsErr}
-use Rattle.diy_io.specs.declared.errors.Failed.{Failed}
-use Rattle.diy_io.specs.{Shelf.ShelfSeen, Opened.FileAbsent}
-use Rattle.relax_edges.specs.declared.{kinds.ArchName.ArchName, edge.Edge.Edge}
+use Rattle.diy_io.specs.{declared.errors.Failed.Failed, Shelf.ShelfSeen, Opened.FileAbsent}
+use Rattle.relax_edges.specs.{declared.kinds.ArchName.ArchName, declared.edge.Edge.Edge}
 use Rattle.arch_trait.specs.{PlaceNames.number_in, Writing.Writing}
 use Rattle.litmus_text.specs.TestReading.{TestRead}
-use Rattle.exec_check.specs.declared.{errors.CheckError.CheckError, verdict.Judged.Judged, verdict.Verdict.Verdict, checked_errors.CheckedKind.CheckedKind}
-use Rattle.exec_check.specs.declared.{checked_errors.CheckFault.CheckFault, checked_errors.CheckEnd.CheckEnd}
+use Rattle.exec_check.specs.{declared.errors.CheckError.CheckError, declared.verdict.Judged.Judged, declared.verdict.Verdict.Verdict}
+use Rattle.exec_check.specs.{declared.checked_errors.CheckedKind.CheckedKind, declared.checked_errors.CheckFault.CheckFault}
+use Rattle.exec_check.specs.{declared.checked_errors.CheckEnd.CheckEnd, Verdicts.{IsVerdict, Checks, verdict_text}, FilesChecked.exec_said}
 use Rattle.exec_check.specs.declared.errors.CheckError.TheVariants as checks
-use Rattle.exec_check.specs.{Verdicts.IsVerdict, Verdicts.Checks, Verdicts.verdict_text, FilesChecked.exec_said}
-use Rattle.tests_from_files.specs.declared.errors.{FileFault.FileFault, NoTest.NoTest, TestFileKind.TestFileKind}
+use Rattle.tests_from_files.specs.{declared.errors.FileFault.FileFault, declared.errors.NoTest.NoTest, declared.errors.TestFileKind.TestFileKind}
+use Rattle.tests_from_files.specs.{FilesRead.{FileFailed, FileIs, FileFaulty}, TestSaid.test_said}
 use Rattle.tests_from_files.specs.declared.errors.FileFault.TheVariants as reads
 use Rattle.tests_from_files.specs.declared.errors.NoTest.TheVariants as no_tests
 use Rattle.tests_from_files.specs.declared.errors.TestFileKind.TheVariants as tests
-use Rattle.tests_from_files.specs.{FilesRead.FileFailed, FilesRead.FileIs, FilesRead.FileFaulty, TestSaid.test_said}
 use Rattle.exec_check.specs.declared.checked_errors.CheckedKind.TheVariants as kinds
 use Rattle.exec_check.specs.declared.checked_errors.CheckFault.TheVariants as faults
 use Rattle.exec_check.specs.declared.checked_errors.CheckEnd.TheVariants as ends

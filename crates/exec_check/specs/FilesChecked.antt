@@ -1,20 +1,16 @@
 -- How a call ended that checks an execution of a test, both in files, and what it did to its devices.
 -- Source: own.
 use Rattle.std.specs.Prelude.{◌≡◌, ◌⊎◌, ◌+◌, ℕ, List, [], ◌∷◌, length, take, Option, Some, None, IfSome, MatchOption, Result, Ok, Err}
-use Rattle.diy_io.specs.{Count.Rose, Shelf.Files, Shelf.ShelfSeen, Wrote.SinkSeen, Wrote.WroteAll, Wrote.WrotePart, Opened.IsFile, Opened.TookFiles}
-use Rattle.diy_io.specs.{Opened.name_at}
+use Rattle.diy_io.specs.{Count.Rose, Shelf.{Files, ShelfSeen}, Wrote.{SinkSeen, WroteAll, WrotePart}, Opened.{IsFile, TookFiles, name_at}}
 use Rattle.relax_edges.specs.declared.kinds.ArchName.{ArchName}
 use Rattle.arch_trait.specs.{PlaceNames.number_in, Writing.Writing}
-use Rattle.litmus_text.specs.declared.limits.TheConstants.{MAX_TEST_TEXT}
-use Rattle.litmus_text.specs.TestReading.{TestRead}
+use Rattle.litmus_text.specs.{declared.limits.TheConstants.MAX_TEST_TEXT, TestReading.TestRead}
 use Rattle.program_meaning.specs.Executions.{Execution}
-use Rattle.exec_text.specs.declared.errors.ExecFault.{ExecFault}
-use Rattle.exec_text.specs.ExecutionText.{execution_read}
-use Rattle.exec_check.specs.declared.{verdict.Verdict.Verdict, shown.Shown.Shown, checked_errors.CheckedKind.CheckedKind, checked_errors.CheckEnd.CheckEnd}
-use Rattle.exec_check.specs.{Verdicts.IsVerdict, Graphs.shown_text}
-use Rattle.tests_from_files.specs.declared.errors.TestFileError.{TestFileError}
+use Rattle.exec_text.specs.{declared.errors.ExecFault.ExecFault, ExecutionText.execution_read}
+use Rattle.exec_check.specs.{declared.verdict.Verdict.Verdict, declared.shown.Shown.Shown, declared.checked_errors.CheckedKind.CheckedKind}
+use Rattle.exec_check.specs.{declared.checked_errors.CheckEnd.CheckEnd, Verdicts.IsVerdict, Graphs.shown_text}
+use Rattle.tests_from_files.specs.{declared.errors.TestFileError.TestFileError, FilesRead.{Begins, FileFaulty}, TestSaid.test_said}
 use Rattle.tests_from_files.specs.declared.errors.TestFileKind.TheVariants as tests
-use Rattle.tests_from_files.specs.{FilesRead.Begins, FilesRead.FileFaulty, TestSaid.test_said}
 use Rattle.exec_check.specs.declared.checked_errors.CheckedKind.TheVariants as kinds
 use Rattle.exec_check.specs.declared.checked_errors.CheckEnd.TheVariants as ends
 

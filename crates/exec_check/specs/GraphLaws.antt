@@ -3,17 +3,14 @@
 -- The laws hold of every execution. In one that is no candidate a write may be missing in the order, and has the place 0 there, and a read may have
 -- no source, and counts as one of the initial value.
 -- Source: own.
-use Rattle.std.specs.Prelude.{ℕ, ◌≡◌, ◌↔◌, ◌+◌, ◌<◌, true, List, length, Option, Some, None, slice_get}
-use Rattle.std.specs.List.{Contains}
-use Rattle.relax_edges.specs.declared.{kinds.ArchName.ArchName, edge.Edge.Edge}
+use Rattle.std.specs.{Prelude.{ℕ, ◌≡◌, ◌↔◌, ◌+◌, ◌<◌, true, List, length, Option, Some, None, slice_get}, List.Contains}
+use Rattle.relax_edges.specs.{declared.kinds.ArchName.ArchName, declared.edge.Edge.Edge}
 use Rattle.relax_edges.specs.declared.kinds.Dir.TheVariants as dirs
 use Rattle.litmus_text.specs.{TestReading.TestRead, ReadPrograms.program_read}
-use Rattle.program_meaning.specs.{Accesses.Access, Accesses.at_name, Executions.Execution}
-use Rattle.program_meaning.specs.Coherence.{coherence_place, order_at, source_at}
-use Rattle.program_meaning.specs.Programs.{Program, accesses_in, visits_in}
-use Rattle.program_meaning.specs.Standing.{NamedAccess, ComesBefore, access_at}
+use Rattle.program_meaning.specs.{Accesses.{Access, at_name}, Executions.Execution, Coherence.{coherence_place, order_at, source_at}}
+use Rattle.program_meaning.specs.{Programs.{Program, accesses_in, visits_in}, Standing.{NamedAccess, ComesBefore, access_at}}
 use Rattle.exec_meaning.specs.{SeenAccesses.seen_access, StandingEdges.EdgeStands}
-use Rattle.exec_check.specs.declared.{drawn.Drawn.Drawn, drawn.Relation.Relation, verdict.Verdict.Verdict}
+use Rattle.exec_check.specs.{declared.drawn.Drawn.Drawn, declared.drawn.Relation.Relation, declared.verdict.Verdict.Verdict}
 use Rattle.exec_check.specs.Graphs.{Arrow, access_drawn, co_pairs, drawn_in, fr_pairs, initial_write, pairs_by, po_pairs, relates, rf_pairs, standing_arrows}
 use Rattle.exec_check.specs.Verdicts.{IsVerdict, judged_cycle}
 

@@ -2,26 +2,23 @@
 -- are read, the relations between them, the edges of the quoted cycle that stand, and the condition.
 -- Source: own; the relations are the usual ones of axiomatic memory models, and the words of the accesses those of the literature.
 use Rattle.std.specs.Prelude.{ℕ, ◌+◌, ◌-◌, ◌*◌, ◌/◌, ◌%◌, ◌==◌, ◌&&◌, ◌||◌, zero, suc, Bool, true, false, cond, count_by, nat_lt, List, [], ◌∷◌, ◌++◌, codes, length, map, Option, Some, None, slice_index_or}
-use Rattle.std.specs.{Fmt.decimal, List.enumerate_from, List.filter, List.flat_map, List.list_any}
+use Rattle.std.specs.{Fmt.decimal, List.{enumerate_from, filter, flat_map, list_any}}
 use Rattle.list_laws.specs.Numbers.{upto}
-use Rattle.relax_edges.specs.declared.{kinds.Dir.Dir, kinds.Mark.Mark, kinds.Kind.Kind, edge.Edge.Edge}
+use Rattle.relax_edges.specs.{declared.kinds.Dir.Dir, declared.kinds.Mark.Mark, declared.kinds.Kind.Kind, declared.edge.Edge.Edge, WordParts.word_of}
+use Rattle.relax_edges.specs.EdgeTable.{kind_of}
 use Rattle.relax_edges.specs.declared.kinds.Dir.TheVariants as dirs
 use Rattle.relax_edges.specs.declared.kinds.Mark.TheVariants as marks
 use Rattle.relax_edges.specs.declared.kinds.Com.TheVariants as coms
 use Rattle.relax_edges.specs.declared.kinds.Kind.TheVariants as edges
-use Rattle.relax_edges.specs.{WordParts.word_of, EdgeTable.kind_of}
 use Rattle.cycle_events.specs.Resolution.{event_after}
 use Rattle.final_cond.specs.{Conditions.CondSeen, CondText.cond_text}
 use Rattle.litmus_text.specs.{TestReading.TestRead, ReadPrograms.program_read}
-use Rattle.program_meaning.specs.declared.WriteAt.{WriteAt}
-use Rattle.program_meaning.specs.{Accesses.write, Accesses.is_read, Executions.Execution, Interleavings.writes_to, Standing.event_name}
-use Rattle.exec_meaning.specs.declared.seen.SeenAccess.{SeenAccess}
-use Rattle.exec_meaning.specs.SeenAccesses.{seen_in}
-use Rattle.exec_check.specs.declared.{verdict.Verdict.Verdict, drawn.Point.Point, drawn.Drawn.Drawn, drawn.Relation.Relation, shown.Shown.Shown}
-use Rattle.exec_check.specs.declared.drawn.Point.TheVariants.{Initial, At}
-use Rattle.exec_check.specs.declared.drawn.Relation.TheVariants.{Po, Rf, Co, Fr}
-use Rattle.exec_check.specs.declared.shown.Shown.TheVariants as shows
+use Rattle.program_meaning.specs.{declared.WriteAt.WriteAt, Accesses.{write, is_read}, Executions.Execution, Interleavings.writes_to, Standing.event_name}
+use Rattle.exec_meaning.specs.{declared.seen.SeenAccess.SeenAccess, SeenAccesses.seen_in}
+use Rattle.exec_check.specs.{declared.verdict.Verdict.Verdict, declared.drawn.Point.Point, declared.drawn.Drawn.Drawn, declared.drawn.Relation.Relation}
+use Rattle.exec_check.specs.{declared.shown.Shown.Shown, declared.drawn.Point.TheVariants.{Initial, At}, declared.drawn.Relation.TheVariants.{Po, Rf, Co, Fr}}
 use Rattle.exec_check.specs.Verdicts.{answer_word, verdict_text}
+use Rattle.exec_check.specs.declared.shown.Shown.TheVariants as shows
 
 -- what is read is the initial value
 abbrev pub is_initial : Option WriteAt → Bool

@@ -3,18 +3,16 @@
 -- Source: own.
 use Rattle.std.specs.Prelude.{ℕ, ◌≡◌, ◌↔◌, ◌+◌, Bool, true, false, IsTrue, List, [], ◌∷◌, ◌++◌, codes, length, map, slice_get, Option, Some, None, Result, Ok, Err}
 use Rattle.std.specs.{Fmt.decimal, Result.result_ok}
-use Rattle.relax_edges.specs.declared.{kinds.ArchName.ArchName, edge.Edge.Edge}
-use Rattle.relax_edges.specs.WordParts.{word_of}
+use Rattle.relax_edges.specs.{declared.kinds.ArchName.ArchName, declared.edge.Edge.Edge, WordParts.word_of}
 use Rattle.cycle_events.specs.Resolution.{resolution_of}
 use Rattle.cycles_from_lines.specs.Cycles.{quoted_cycle}
 use Rattle.final_cond.specs.States.{Meets}
 use Rattle.litmus_text.specs.{TestReading.TestRead, ReadPrograms.program_read}
-use Rattle.program_meaning.specs.{Executions.Execution, Programs.Program, Programs.IsCandidate, Programs.IsCoherentIn}
+use Rattle.program_meaning.specs.{Executions.Execution, Programs.{Program, IsCandidate, IsCoherentIn}}
 use Rattle.tests_force_cycles.specs.FinalStates.{final_state}
 use Rattle.exec_meaning.specs.StandingEdges.{EdgeStands}
 use Rattle.exec_text.specs.ExecutionText.{execution_read}
-use Rattle.exec_check.specs.declared.{errors.CheckError.CheckError, errors.CheckError.TheVariants.Exec, errors.CheckError.TheVariants.NoMemory}
-use Rattle.exec_check.specs.declared.{verdict.Verdict.Verdict}
+use Rattle.exec_check.specs.{declared.errors.CheckError.CheckError, declared.errors.CheckError.TheVariants.{Exec, NoMemory}, declared.verdict.Verdict.Verdict}
 
 -- the resolution of a cycle, if there is the cycle and it has one
 abbrev pub resolved_cycle : Option (List Edge) → Option (List Edge)

@@ -1,14 +1,12 @@
 -- Which edges stand in an execution, by the accesses that were found.
 use Rattle.std.proofs.Common.{◌≡◌, ℕ, ◌<◌, slice_get, Bool, true, false, List, length, Option, Some, None, sym, ap, subst, ◌∙◌}
-use Rattle.std.specs.Prelude.{◌↔◌, IsTrue, option_map}
 use Rattle.std.proofs.lemmas.Option.{get_or_from_slice_get, same_Some}
-use Rattle.relax_edges.specs.declared.{kinds.Reach.TheVariants.Internal, kinds.Com.TheVariants.Rf, edge.Edge.Edge}
+use Rattle.std.specs.Prelude.{◌↔◌, IsTrue, option_map}
+use Rattle.relax_edges.specs.{declared.kinds.Reach.TheVariants.Internal, declared.kinds.Com.TheVariants.Rf, declared.edge.Edge.Edge}
 use Rattle.relax_edges.specs.declared.edge.Edge.TheVariants as edges
 use Rattle.cycle_events.specs.Resolution.{IsResolved, edge_at, event_after}
 use Rattle.cycle_events.proofs.Around.{source_after}
-use Rattle.program_meaning.specs.declared.WriteAt.{WriteAt}
-use Rattle.program_meaning.specs.{Accesses.Access, Accesses.Visit, Accesses.at_name, Executions.Execution, Programs.Program, Programs.accesses_in}
-use Rattle.program_meaning.specs.{Programs.visits_in}
+use Rattle.program_meaning.specs.{declared.WriteAt.WriteAt, Accesses.{Access, Visit, at_name}, Executions.Execution, Programs.{Program, accesses_in, visits_in}}
 use Rattle.program_meaning.specs.Standing.{NamedAccess, IsEvent, Stands, event_name}
 use Rattle.exec_meaning.specs.StandingEdges.{EdgeStands, named, stands, stands_if}
 use Rattle.exec_meaning.proofs.EdgeLaws.{stands_means, stands_from}

@@ -1,18 +1,15 @@
 -- The final state of an execution, as a list of pairs.
 use Rattle.std.proofs.Common.{◌≡◌, ℕ, zero, suc, ◌+◌, ◌<◌, append_assoc, length-take, true, false, ◌==◌, List, [], ◌∷◌, ◌++◌, length, map, take, get_or, Option, Some, None, slice_get, refl, sym, ap, ◌∙◌, arith}
-use Rattle.std.specs.{Prelude.option_map, Prelude.option_and_then, List.position_from, Str.bytes_eq}
-use Rattle.std.proofs.lemmas.{Bool.eq-eqb, Bool.Decides.nat_tests}
-use Rattle.std.proofs.lemmas.List.{take_more, map_push, length-map, append-nil}
+use Rattle.std.proofs.{lemmas.Bool.eq-eqb, lemmas.Bool.Decides.nat_tests, lemmas.List.{take_more, map_push, length-map, append-nil}}
+use Rattle.std.specs.{Prelude.{option_map, option_and_then}, List.position_from, Str.bytes_eq}
 use Rattle.list_laws.proofs.Cases.{by_test}
-use Rattle.relax_edges.specs.declared.kinds.{Value.Value, Value.TheVariants.Num}
-use Rattle.final_cond.specs.Conditions.{LeftSeen, InRegister, AtPlace}
-use Rattle.final_cond.specs.States.{FinalState, same_left_seen, value_in_state}
+use Rattle.relax_edges.specs.{declared.kinds.Value.Value, declared.kinds.Value.TheVariants.Num}
+use Rattle.final_cond.specs.{Conditions.{LeftSeen, InRegister, AtPlace}, States.{FinalState, same_left_seen, value_in_state}}
 use Rattle.micro_ops.specs.RunThreads.{EndedRun, value_in_run}
 use Rattle.arch_trait.specs.PlaceNames.{number_in}
-use Rattle.program_meaning.specs.{Accesses.Access, Executions.Execution, Coherence.final_value}
-use Rattle.program_meaning.specs.Programs.{Program, runs_of, held_at_last, accesses_in}
+use Rattle.program_meaning.specs.{Accesses.Access, Executions.Execution, Coherence.final_value, Programs.{Program, runs_of, held_at_last, accesses_in}}
 use Rattle.tests_force_cycles.specs.FinalStates.{final_state}
-use Rattle.exec_meaning.specs.{EndedRuns.ended_run, Finals.registers_at, Finals.all_registers, Finals.places_at}
+use Rattle.exec_meaning.specs.{EndedRuns.ended_run, Finals.{registers_at, all_registers, places_at}}
 
 -- the first of two values, where it is there, and else the second
 abbrev or_else : Option Value → Option Value → Option Value

@@ -1,9 +1,8 @@
 -- A list of lists in which one list changes.
-use Rattle.std.proofs.Common.{◌≡◌, ℕ, ◌<◌, List, [], ◌∷◌, ◌++◌, length, map, get_or, set, slice_get, sym, ap, subst, ◌∙◌, arith}
+use Rattle.std.proofs.{Common.{◌≡◌, ℕ, ◌<◌, List, [], ◌∷◌, ◌++◌, length, map, get_or, set, slice_get, sym, ap, subst, ◌∙◌, arith}, lemmas.List.map-set}
+use Rattle.std.proofs.{Math.ListN.get_or-map, Math.Seq.map-set_same, lemmas.Option.slice_get-get_or}
 use Rattle.std.specs.Prelude.{unwrap_or, Option}
-use Rattle.std.proofs.{lemmas.List.map-set, Math.ListN.get_or-map, Math.Seq.map-set_same, lemmas.Option.slice_get-get_or}
-use Rattle.program_meaning.specs.declared.WriteAt.{WriteAt}
-use Rattle.program_meaning.specs.Executions.{Execution}
+use Rattle.program_meaning.specs.{declared.WriteAt.WriteAt, Executions.Execution}
 use Rattle.exec_meaning.specs.KeptExecutions.{added_to_list, with_read, with_write}
 
 -- the list is one element longer

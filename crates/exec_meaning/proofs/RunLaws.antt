@@ -1,19 +1,15 @@
 -- The runs of a test's threads, and the accesses that they make.
 use Rattle.std.proofs.Common.{◌≡◌, ℕ, zero, suc, ◌+◌, ◌≤◌, true, false, List, [], ◌∷◌, ◌++◌, length, map, take, Option, Some, None, slice_get, refl, sym, ap, subst, ◌∙◌, arith}
+use Rattle.std.proofs.{lemmas.List.{take_more, take_all, map_push, length-map}, lemmas.Simd.map-map}
+use Rattle.std.proofs.{lemmas.Option.{get_or_from_slice_get, slice_get_within, same_Some}, Math.Bool.and-false}
 use Rattle.std.specs.Prelude.{option_map}
-use Rattle.std.proofs.lemmas.List.{take_more, take_all, map_push, length-map}
-use Rattle.std.proofs.{lemmas.Simd.map-map, lemmas.Option.get_or_from_slice_get, lemmas.Option.slice_get_within, lemmas.Option.same_Some}
-use Rattle.std.proofs.{Math.Bool.and-false}
 use Rattle.relax_edges.specs.declared.kinds.Value.{Value}
-use Rattle.micro_ops.specs.declared.operation.Micro.{Micro}
+use Rattle.micro_ops.specs.{declared.operation.Micro.Micro, Running.{Point, At, Past, Wants, Stuck, exec, beginning, outcome, runs, Outcome, NoRule}}
+use Rattle.micro_ops.specs.{RunThreads.{EndedRun, goes_on, CausedBy}, RunLaws.stops_for_good}
 use Rattle.micro_ops.specs.declared.run.RunError.TheVariants as errors
-use Rattle.micro_ops.specs.Running.{Point, At, Past, Wants, Stuck, exec, beginning, outcome, runs, Outcome, NoRule}
-use Rattle.micro_ops.specs.{RunThreads.EndedRun, RunThreads.goes_on, RunThreads.CausedBy, RunLaws.stops_for_good}
-use Rattle.litmus_text.specs.{TestReading.ThreadRead, TestReading.TestRead, ReadPrograms.thread_read, ReadPrograms.program_read}
-use Rattle.program_meaning.specs.declared.WriteAt.{WriteAt}
-use Rattle.program_meaning.specs.{Accesses.Access, Accesses.visits_of, Accesses.accesses_of, Executions.Execution, Executions.IsExecutionOf}
-use Rattle.program_meaning.specs.{Deciding.has_ended, Deciding.all_ended}
-use Rattle.program_meaning.specs.Programs.{Program, run_of, runs_of, made_in, IsCandidate, visits_in, accesses_in}
+use Rattle.litmus_text.specs.{TestReading.{ThreadRead, TestRead}, ReadPrograms.{thread_read, program_read}}
+use Rattle.program_meaning.specs.{declared.WriteAt.WriteAt, Accesses.{Access, visits_of, accesses_of}, Executions.{Execution, IsExecutionOf}}
+use Rattle.program_meaning.specs.{Deciding.{has_ended, all_ended}, Programs.{Program, run_of, runs_of, made_in, IsCandidate, visits_in, accesses_in}}
 use Rattle.program_meaning.proofs.Runs.{runs-count, accesses-count, all_ended_means, all_ended_from}
 use Rattle.exec_meaning.specs.EndedRuns.{ended_run, IsRun, IsRunIn}
 

@@ -1,18 +1,14 @@
 -- The accesses of an execution, seen one after another.
 use Rattle.std.proofs.Common.{◌≡◌, ℕ, zero, suc, ◌+◌, ◌≤◌, ◌<◌, List, [], ◌∷◌, ◌++◌, length, drop, map, get_or, Some, slice_get, refl, sym, ap, ◌∙◌, append_assoc, arith}
-use Rattle.std.specs.{List.enumerate_from, List.flat_map, Prelude.option_map}
-use Rattle.std.proofs.lemmas.{List.drop_all, List.append-nil, List.length-map, Option.slice_get-get_or}
+use Rattle.std.proofs.{lemmas.List.{drop_all, append-nil, length-map}, lemmas.Option.slice_get-get_or}
+use Rattle.std.specs.{List.{enumerate_from, flat_map}, Prelude.option_map}
 use Rattle.list_laws.proofs.Elements.{drop_given}
-use Rattle.relax_edges.specs.declared.kinds.{Dir.Dir, Mark.Mark}
-use Rattle.micro_ops.specs.declared.operation.{Barrier.Barrier, Item.Item}
+use Rattle.relax_edges.specs.{declared.kinds.Dir.Dir, declared.kinds.Mark.Mark}
+use Rattle.micro_ops.specs.{declared.operation.Barrier.Barrier, declared.operation.Item.Item, RunThreads.EndedRun}
 use Rattle.micro_ops.specs.declared.operation.Item.TheVariants as items
-use Rattle.program_meaning.specs.Accesses.{Access, Barred, Visit, visits_from, visits_of, accesses_of}
-use Rattle.program_meaning.specs.Executions.{Execution}
-use Rattle.exec_meaning.specs.declared.seen.SeenAccess.{SeenAccess}
+use Rattle.program_meaning.specs.{Accesses.{Access, Barred, Visit, visits_from, visits_of, accesses_of}, Executions.Execution}
 use Rattle.program_meaning.specs.Programs.{Program, accesses_in, runs_of, visits_in}
-use Rattle.micro_ops.specs.RunThreads.{EndedRun}
-use Rattle.exec_meaning.specs.EndedRuns.{ended_run}
-use Rattle.exec_meaning.specs.SeenAccesses.{seen_access, seen_in, seen_in_thread}
+use Rattle.exec_meaning.specs.{declared.seen.SeenAccess.SeenAccess, EndedRuns.ended_run, SeenAccesses.{seen_access, seen_in, seen_in_thread}}
 use Rattle.exec_meaning.proofs.RunLaws.{visits_are}
 
 -- visits with their numbers, from one on, as they are seen

@@ -1,10 +1,9 @@
 -- The runs of a test's threads, as far as they came to their ends.
 -- Source: own.
 use Rattle.std.specs.Prelude.{◌≡◌, false, List, [], ◌∷◌, map, Option, Some, None}
-use Rattle.micro_ops.specs.declared.operation.Item.{Item}
+use Rattle.micro_ops.specs.{declared.operation.Item.Item, Running.{Outcome, Ended}, RunThreads.{EndedRun, value_in_run}}
 use Rattle.micro_ops.specs.declared.operation.Item.TheVariants as items
-use Rattle.program_meaning.specs.{Accesses.Access, Deciding.has_ended, Deciding.all_ended}
-use Rattle.micro_ops.specs.{Running.Outcome, Running.Ended, RunThreads.EndedRun, RunThreads.value_in_run}
+use Rattle.program_meaning.specs.{Accesses.Access, Deciding.{has_ended, all_ended}}
 
 -- the outcome of a run that came to its end
 abbrev pub ended_run : EndedRun → Outcome

@@ -2,8 +2,7 @@
 -- Source: own.
 use Rattle.std.specs.Prelude.{ℕ, ◌++◌, List, [], ◌∷◌, Option, slice_get, slice_set, unwrap_or}
 use Rattle.std.proofs.Math.ListN.{replicate}
-use Rattle.program_meaning.specs.declared.WriteAt.{WriteAt}
-use Rattle.program_meaning.specs.Executions.{Execution}
+use Rattle.program_meaning.specs.{declared.WriteAt.WriteAt, Executions.Execution}
 
 -- this many empty lists
 abbrev pub empty_lists : {X : Type 0} → ℕ → List (List X)

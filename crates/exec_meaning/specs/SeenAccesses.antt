@@ -1,10 +1,9 @@
 -- The accesses of an execution, each with what the execution says of it.
 -- Source: own.
-use Rattle.std.specs.Prelude.{ℕ, List, map}
-use Rattle.std.specs.List.{enumerate_from, flat_map}
+use Rattle.std.specs.{Prelude.{ℕ, List, map}, List.{enumerate_from, flat_map}}
 use Rattle.relax_edges.specs.declared.kinds.Mark.{Mark}
-use Rattle.program_meaning.specs.Accesses.{Access, Visit, accesses_of}
-use Rattle.program_meaning.specs.{Executions.Execution, Coherence.source_at, Coherence.coherence_place, Deciding.name, Programs.Program, Programs.visits_in}
+use Rattle.program_meaning.specs.{Accesses.{Access, Visit, accesses_of}, Executions.Execution, Coherence.{source_at, coherence_place}, Deciding.name}
+use Rattle.program_meaning.specs.Programs.{Program, visits_in}
 use Rattle.exec_meaning.specs.declared.seen.SeenAccess.{SeenAccess}
 
 -- an access by its thread and its number there: what it does, its mark, the write that it reads, if it is a read, and its coherence

@@ -1,25 +1,22 @@
 -- When an edge of a cycle stands in an execution of a program, and the tests by which that is decided.
 -- Source: own.
-use Rattle.std.specs.Prelude.{ℕ, ◌+◌, ◌==◌, ◌&&◌, Bool, true, false, not, nat_lt, List, [], ◌∷◌, Option, Some, None, option_map}
-use Rattle.std.specs.List.{list_all}
-use Rattle.relax_edges.specs.declared.{kinds.Sd.Sd, kinds.Sd.TheVariants.Same, kinds.Sd.TheVariants.Diff, kinds.Reach.Reach}
-use Rattle.relax_edges.specs.declared.{kinds.Reach.TheVariants.Internal, kinds.Reach.TheVariants.External, kinds.Com.Com, kinds.Pick.Pick}
-use Rattle.relax_edges.specs.declared.{kinds.FenceKind.FenceKind, kinds.DepKind.DepKind, kinds.Kind.Kind, edge.Edge.Edge}
+use Rattle.std.specs.{Prelude.{ℕ, ◌+◌, ◌==◌, ◌&&◌, Bool, true, false, not, nat_lt, List, [], ◌∷◌, Option, Some, None, option_map}, List.list_all}
+use Rattle.relax_edges.specs.{declared.kinds.Sd.Sd, declared.kinds.Sd.TheVariants.{Same, Diff}, declared.kinds.Reach.Reach}
+use Rattle.relax_edges.specs.{declared.kinds.Reach.TheVariants.{Internal, External}, declared.kinds.Com.Com, declared.kinds.Pick.Pick}
+use Rattle.relax_edges.specs.{declared.kinds.FenceKind.FenceKind, declared.kinds.DepKind.DepKind, declared.kinds.Kind.Kind, declared.edge.Edge.Edge}
+use Rattle.relax_edges.specs.EdgeTable.{source_of, target_of, reach_of, sd_of, kind_of, source_mark, target_mark, same_dir, same_mark}
 use Rattle.relax_edges.specs.declared.kinds.Com.TheVariants as coms
 use Rattle.relax_edges.specs.declared.kinds.Pick.TheVariants as picks
 use Rattle.relax_edges.specs.declared.kinds.FenceKind.TheVariants as fences
 use Rattle.relax_edges.specs.declared.kinds.DepKind.TheVariants as deps
 use Rattle.relax_edges.specs.declared.kinds.Kind.TheVariants as edges
-use Rattle.relax_edges.specs.EdgeTable.{source_of, target_of, reach_of, sd_of, kind_of, source_mark, target_mark, same_dir, same_mark}
 use Rattle.micro_ops.specs.declared.operation.Barrier.{Barrier}
 use Rattle.micro_ops.specs.declared.operation.Barrier.TheVariants as barriers
 use Rattle.cycle_events.specs.Resolution.{edge_at, event_after}
 use Rattle.exec_meaning.specs.declared.edges.Tie.{Tie}
 use Rattle.exec_meaning.specs.declared.edges.Tie.TheVariants as ties
-use Rattle.program_meaning.specs.declared.WriteAt.{WriteAt}
-use Rattle.program_meaning.specs.Accesses.{Access, Barred, Visit, at_name}
-use Rattle.program_meaning.specs.{Executions.Execution, Executions.same_write, Coherence.coherence_place, Coherence.source_at, Programs.Program}
-use Rattle.program_meaning.specs.{Programs.accesses_in, Programs.visits_in}
+use Rattle.program_meaning.specs.{declared.WriteAt.WriteAt, Accesses.{Access, Barred, Visit, at_name}, Executions.{Execution, same_write}}
+use Rattle.program_meaning.specs.{Coherence.{coherence_place, source_at}, Programs.{Program, accesses_in, visits_in}}
 use Rattle.program_meaning.specs.Standing.{AccessAt, NamedAccess, access_at, IsEvent, Stands, mask_of, is_in_mask}
 
 -- edge i of a cycle stands in an execution of a program: event i and the one after it are there, and the edge stands from

@@ -1,14 +1,11 @@
 -- The text that is written of an execution is read as that execution.
-use Rattle.std.proofs.Common.{◌≡◌, ◌≤◌, ◌+◌, ℕ, List, [], ◌∷◌, ◌++◌, map, length, true, refl, sym, ap, ◌∙◌, arith, length-append}
-use Rattle.std.specs.Prelude.{Option, Some, Ok}
-use Rattle.std.specs.List.{All, AllByRecursion, enumerate_from, flat_map, list_all, range_with_len, zip}
-use Rattle.std.proofs.lemmas.{List.length-map, List.Elements.All-head, List.Elements.All-tail, List.FromFn.length-enumerate_from, Bool.and_parts}
+use Rattle.std.proofs.{Common.{◌≡◌, ◌≤◌, ◌+◌, ℕ, List, [], ◌∷◌, ◌++◌, map, length, true, refl, sym, ap, ◌∙◌, arith, length-append}, lemmas.List.length-map}
+use Rattle.std.proofs.{lemmas.List.Elements.{All-head, All-tail}, lemmas.List.FromFn.length-enumerate_from, lemmas.Bool.and_parts}
+use Rattle.std.specs.{Prelude.{Option, Some, Ok}, List.{All, AllByRecursion, enumerate_from, flat_map, list_all, range_with_len, zip}}
 use Rattle.list_laws.proofs.Elements.{all_append}
 use Rattle.text_parts_laws.specs.{Names.is_place_name, Words.words}
-use Rattle.litmus_text.specs.TestText.{with_line_feed}
-use Rattle.litmus_text.specs.declared.limits.TheConstants.{MAX_TEST_TEXT}
-use Rattle.program_meaning.specs.declared.WriteAt.{WriteAt}
-use Rattle.program_meaning.specs.Executions.{Execution}
+use Rattle.litmus_text.specs.{TestText.with_line_feed, declared.limits.TheConstants.MAX_TEST_TEXT}
+use Rattle.program_meaning.specs.{declared.WriteAt.WriteAt, Executions.Execution}
 use Rattle.exec_text.specs.declared.errors.ExecKind.TheVariants.{BadThread, BadRead, BadPlace, BadWrite}
 use Rattle.exec_text.specs.ExecutionText.{access_named, line_read, reads_and_writes_read, each_line_read, place_head, read_named, thread_head}
 use Rattle.exec_text.specs.Written.{access_word, place_line, read_word, text_of_execution, thread_line}

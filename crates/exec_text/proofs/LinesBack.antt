@@ -1,17 +1,14 @@
 -- A line that is written has the words of which it is made, and gives what these name; the lines of a text that is written are
 -- those of which it is made.
 use Rattle.std.proofs.Common.{◌≡◌, ◌≤◌, ℕ, List, [], ◌∷◌, ◌++◌, map, length, true, refl, ap, ◌∙◌, arith, append_assoc, length-append}
-use Rattle.std.specs.Prelude.{Bool, ◌&&◌, nat_le, nat_lt, codes, Option, Some, Ok}
-use Rattle.std.specs.List.{AllByRecursion, list_all, flat_map}
-use Rattle.std.proofs.lemmas.{Bool.Decides.nat_tests, List.append-nil}
+use Rattle.std.proofs.{lemmas.Bool.Decides.nat_tests, lemmas.List.append-nil}
+use Rattle.std.specs.{Prelude.{Bool, ◌&&◌, nat_le, nat_lt, codes, Option, Some, Ok}, List.{AllByRecursion, list_all, flat_map}}
 use Rattle.list_laws.proofs.Elements.{list_all-weaker}
 use Rattle.text_parts_laws.specs.{Blanks.is_inked, Words.words, Lines.lines_of, Cuts.CutParts}
 use Rattle.litmus_text.specs.TestText.{with_line_feed}
-use Rattle.text_parts_laws.proofs.{OrderLaws.bytes_same, WordLaws.words_both, WordLaws.one_word, CutLaws.all_both, CutLaws.without_class}
-use Rattle.text_parts_laws.proofs.{LineLaws.class_kept}
-use Rattle.exec_text.specs.declared.errors.ExecKind.{ExecKind}
-use Rattle.exec_text.specs.{ExecutionText.all_named, ExecutionText.line_read, Written.line_of}
-use Rattle.exec_text.proofs.{Appending.further, FirstLines.line_none, FirstLines.line_cut, WordsBack.IsWord, WordsBack.is_graphic}
+use Rattle.text_parts_laws.proofs.{OrderLaws.bytes_same, WordLaws.{words_both, one_word}, CutLaws.{all_both, without_class}, LineLaws.class_kept}
+use Rattle.exec_text.specs.{declared.errors.ExecKind.ExecKind, ExecutionText.{all_named, line_read}, Written.line_of}
+use Rattle.exec_text.proofs.{Appending.further, FirstLines.{line_none, line_cut}, WordsBack.{IsWord, is_graphic}}
 
 -- a byte of a line: a blank or a graphic character
 abbrev pub is_printed : ℕ → Bool

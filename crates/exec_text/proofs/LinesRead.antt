@@ -2,12 +2,11 @@
 use Rattle.std.proofs.Common.{◌≡◌, ℕ, ◌+◌, List, [], ◌∷◌, refl, sym, ap, subst}
 use Rattle.std.specs.Prelude.{Result, Ok, Err}
 use Rattle.program_meaning.specs.Executions.{Execution}
-use Rattle.exec_text.specs.declared.{errors.ExecKind.ExecKind, errors.ExecFault.ExecFault, errors.ExecKind.TheVariants.EndMissing}
-use Rattle.exec_text.specs.declared.{errors.ExecError.ExecError, reading.LineError.LineError}
-use Rattle.text_parts_laws.specs.Words.{words}
-use Rattle.exec_text.specs.ExecutionText.{put_line, at_line, each_line_read}
-use Rattle.exec_text.specs.declared.reading.LineError.TheVariants as line_errors
+use Rattle.exec_text.specs.{declared.errors.ExecKind.ExecKind, declared.errors.ExecFault.ExecFault, declared.errors.ExecKind.TheVariants.EndMissing}
+use Rattle.exec_text.specs.{declared.errors.ExecError.ExecError, declared.reading.LineError.LineError, ExecutionText.{put_line, at_line, each_line_read}}
 use Rattle.exec_text.specs.ExecutionSteps.{WayToAdd, AtLine, ReadsLine, ReadsLines, all_added, each_added, line_added, lines_added}
+use Rattle.text_parts_laws.specs.Words.{words}
+use Rattle.exec_text.specs.declared.reading.LineError.TheVariants as line_errors
 
 -- a line that is read adds what it names, and the others add theirs
 pub line_then : {X : Type 0} (add : WayToAdd X) (x y : Execution) (k : ℕ) (n : ℕ) (line : Result (List X) ExecKind) (others : Result (List (List X) × List (List ℕ)) ExecFault)

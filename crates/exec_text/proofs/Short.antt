@@ -1,16 +1,11 @@
 -- The text that is written of an execution isn't too long, where it has no more threads, places, reads and writes than tests have.
 use Rattle.std.proofs.Common.{◌≡◌, ◌≤◌, ◌<◌, ◌+◌, ◌*◌, ℕ, List, [], ◌∷◌, ◌++◌, map, length, true, ap, arith, length-append, suc-mul}
-use Rattle.std.specs.Prelude.{codes, Option, Some, None}
-use Rattle.std.specs.Fmt.{decimal}
-use Rattle.std.specs.List.{All, enumerate_from, flat_map, list_all, zip}
-use Rattle.std.proofs.lemmas.{Grind.flat_map-append, List.Elements.All-head, List.Elements.All-map, List.Elements.All-tail, List.length-map}
-use Rattle.std.proofs.lemmas.{Bool.and_parts}
+use Rattle.std.proofs.{lemmas.Grind.flat_map-append, lemmas.List.Elements.{All-head, All-map, All-tail}, lemmas.List.length-map, lemmas.Bool.and_parts}
+use Rattle.std.specs.{Prelude.{codes, Option, Some, None}, Fmt.decimal, List.{All, enumerate_from, flat_map, list_all, zip}}
 use Rattle.text_parts_laws.specs.Names.{is_place_name}
-use Rattle.text_parts_laws.proofs.{LengthLaws.pieces_short, NameLaws.place_name_short, NumberLaws.two_digits, NumberLaws.ten_digits}
-use Rattle.litmus_text.specs.TestText.{with_line_feed}
-use Rattle.litmus_text.specs.declared.limits.TheConstants.{MAX_TEST_TEXT, MAX_THREADS, MAX_ACCESSES}
-use Rattle.program_meaning.specs.declared.WriteAt.{WriteAt}
-use Rattle.program_meaning.specs.Executions.{Execution}
+use Rattle.text_parts_laws.proofs.{LengthLaws.pieces_short, NameLaws.place_name_short, NumberLaws.{two_digits, ten_digits}}
+use Rattle.litmus_text.specs.{TestText.with_line_feed, declared.limits.TheConstants.{MAX_TEST_TEXT, MAX_THREADS, MAX_ACCESSES}}
+use Rattle.program_meaning.specs.{declared.WriteAt.WriteAt, Executions.Execution}
 use Rattle.exec_text.specs.ExecutionText.{place_head, thread_head}
 use Rattle.exec_text.specs.Written.{access_word, line_of, place_line, read_word, source_word, text_of_execution, thread_line}
 use Rattle.exec_text.specs.ExecutionReadBack.{AccessFits, ExecutionFits, ReadFits, SourceFits}

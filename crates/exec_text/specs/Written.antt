@@ -2,12 +2,9 @@
 -- place with its writes in coherence order. Numbers are decimal, there is one blank between the words of a line, and each line
 -- ends with a line feed.
 -- Source: own.
-use Rattle.std.specs.Prelude.{ℕ, List, ◌∷◌, ◌++◌, map, codes, Option, Some, None}
-use Rattle.std.specs.Fmt.{decimal}
-use Rattle.std.specs.List.{enumerate_from, flat_map, join_by, zip}
+use Rattle.std.specs.{Prelude.{ℕ, List, ◌∷◌, ◌++◌, map, codes, Option, Some, None}, Fmt.decimal, List.{enumerate_from, flat_map, join_by, zip}}
 use Rattle.litmus_text.specs.TestText.{with_line_feed}
-use Rattle.program_meaning.specs.declared.WriteAt.{WriteAt}
-use Rattle.program_meaning.specs.Executions.{Execution}
+use Rattle.program_meaning.specs.{declared.WriteAt.WriteAt, Executions.Execution}
 use Rattle.exec_text.specs.ExecutionText.{thread_head, place_head}
 
 -- the word for an access, `T.N`: its thread and its number there

@@ -1,9 +1,8 @@
 -- Registers in an array, named by a list from its end.
 use Rattle.std.proofs.Common.{ℕ, suc, ◌≡◌, ◌==◌, ◌<◌, true, false, List, length, drop, set, get_or, replicate, ◌∙◌, sym, ap, eqb-true, drop_of_length-le, le_refl, arith}
-use Rattle.std.proofs.{lemmas.Bool.eqb-false, lemmas.List.get_or-set_same, lemmas.List.get_or-set_other, Math.Seq.drop-cons}
+use Rattle.std.proofs.{lemmas.Bool.eqb-false, lemmas.List.{get_or-set_same, get_or-set_other}, Math.Seq.drop-cons}
 use Rattle.relax_edges.specs.declared.kinds.Value.{Value}
-use Rattle.micro_ops.specs.declared.held.Held.{Held}
-use Rattle.micro_ops.specs.{Machine.num, Machine.written, Machines.held_by_register, Running.starting}
+use Rattle.micro_ops.specs.{declared.held.Held.Held, Machine.{num, written}, Machines.held_by_register, Running.starting}
 
 -- functions that are equal everywhere
 pub same_function : {A : Type 0} (f g : ℕ → A) → ((n : ℕ) → f n ≡ g n) → f ≡ g

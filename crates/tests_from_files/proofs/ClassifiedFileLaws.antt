@@ -1,16 +1,13 @@
 -- What one file gives, by what was read of it.
-use Rattle.std.proofs.Common.{◌≡◌, ℕ, List, refl, sym, subst}
+use Rattle.std.proofs.{Common.{◌≡◌, ℕ, List, refl, sym, subst}, lemmas.Bool.false≢true}
 use Rattle.std.specs.Prelude.{Result, Ok, Err, IsErr, IsErrAnd}
-use Rattle.std.proofs.lemmas.Bool.{false≢true}
-use Rattle.diy_io.specs.Shelf.{ShelfSeen}
-use Rattle.diy_io.specs.declared.errors.Failed.{Failed}
+use Rattle.diy_io.specs.{Shelf.ShelfSeen, declared.errors.Failed.Failed}
 use Rattle.relax_edges.specs.declared.edge.Edge.{Edge}
-use Rattle.tests_from_files.specs.{FilesRead.FileRead, FirstBytes.file_is, FirstBytes.file_unclosed, FirstBytes.file_faulty, FilesEnds.Asked}
-use Rattle.tests_from_files.specs.{FilesEnds.said_on, Read.SaysCycleInMemory, Read.ClosedTo, Read.CycleTo}
+use Rattle.tests_from_files.specs.{FilesRead.FileRead, FirstBytes.{file_is, file_unclosed, file_faulty}, FilesEnds.{Asked, said_on}}
+use Rattle.tests_from_files.specs.{Read.{SaysCycleInMemory, ClosedTo, CycleTo}, declared.classified_errors.CycleFault.CycleFault}
+use Rattle.tests_from_files.specs.{declared.classified_errors.CycleFault.TheVariants.{Missing, Device, Text}, declared.classified_errors.TextFault.TextFault}
+use Rattle.tests_from_files.specs.declared.classified_errors.TextFault.TheVariants.{Wrong, NoMemory}
 use Rattle.diy_io.proofs.FileFaultLaws.{is_fault}
-use Rattle.tests_from_files.specs.declared.classified_errors.{CycleFault.CycleFault, CycleFault.TheVariants.Missing, CycleFault.TheVariants.Device}
-use Rattle.tests_from_files.specs.declared.classified_errors.{CycleFault.TheVariants.Text, TextFault.TextFault, TextFault.TheVariants.Wrong}
-use Rattle.tests_from_files.specs.declared.classified_errors.{TextFault.TheVariants.NoMemory}
 use Rattle.tests_from_files.proofs.QuotedCycleLaws.{said_by_first}
 
 -- a file was read, and this is the answer to its text and to its closing

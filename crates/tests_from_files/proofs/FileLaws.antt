@@ -1,13 +1,11 @@
 -- A file that is opened, read and closed.
 use Rattle.std.proofs.Common.{◌≡◌, ℕ, List, [], ◌∷◌, ap, ◌∙◌, subst, arith, inr}
 use Rattle.std.specs.Prelude.{OnOk, OnErr, Result, Ok, Err}
-use Rattle.diy_io.specs.{Count.count_of, Count.Rose, Opened.TookFiles}
-use Rattle.diy_io.specs.Shelf.{ShelfSeen, CountsStay, Finished, Opened, Stopped}
-use Rattle.diy_io.specs.declared.errors.Failed.{Failed}
+use Rattle.diy_io.specs.{Count.{count_of, Rose}, Opened.TookFiles, Shelf.{ShelfSeen, CountsStay, Finished, Opened, Stopped}, declared.errors.Failed.Failed}
 use Rattle.diy_io.proofs.OpenedLaws.{opened_text, opened_took}
-use Rattle.tests_from_files.specs.declared.errors.{FileFault.FileFault, FileFault.TheVariants.Missing, FileFault.TheVariants.NoMemory}
+use Rattle.tests_from_files.specs.{declared.errors.FileFault.FileFault, declared.errors.FileFault.TheVariants.{Missing, NoMemory}, FilesRead.FileTo}
+use Rattle.tests_from_files.specs.OpenFiles.{TookBytes, FileReadWhole, OpenTo}
 use Rattle.tests_from_files.specs.declared.errors.FileFault.TheVariants as faults
-use Rattle.tests_from_files.specs.{FilesRead.FileTo, OpenFiles.TookBytes, OpenFiles.FileReadWhole, OpenFiles.OpenTo}
 
 -- what was taken before the file was closed
 closed_took : (old mid new : ShelfSeen) (bytes : List ℕ) → TookBytes old mid bytes → new.files ≡ mid.files → CountsStay mid new → TookBytes old new bytes

@@ -1,8 +1,7 @@
 -- A file that is open and read.
 use Rattle.std.proofs.Common.{◌≡◌, ◌≤◌, ◌<◌, ◌+◌, ℕ, List, [], ◌++◌, length, take, refl, sym, ap, ◌∙◌, subst, arith, length-append, append-nil}
-use Rattle.std.proofs.{KnownBytes.Consumes-trans, KnownBytes.Consumes-whole, lemmas.List.take_all, lemmas.List.take_at}
-use Rattle.diy_io.specs.Count.{count_of, Rose}
-use Rattle.diy_io.specs.Shelf.{ShelfSeen, Gave, IsReading, Stopped, left_to_read}
+use Rattle.std.proofs.{KnownBytes.{Consumes-trans, Consumes-whole}, lemmas.List.{take_all, take_at}}
+use Rattle.diy_io.specs.{Count.{count_of, Rose}, Shelf.{ShelfSeen, Gave, IsReading, Stopped, left_to_read}}
 use Rattle.litmus_text.specs.declared.limits.TheConstants.{MAX_TEST_TEXT}
 use Rattle.tests_from_files.specs.OpenFiles.{FileReadSoFar, FileReadWhole, FileReadPart}
 use Rattle.diy_io.proofs.ConsumedLaws.{prefix_of}

@@ -1,8 +1,7 @@
 -- What a call that reads a file took of it, and what it did to its shelf.
 -- Source: own.
 use Rattle.std.specs.Prelude.{◌≡◌, ◌≤◌, ◌⊎◌, ◌+◌, ⊤, ℕ, List, [], ◌∷◌, ◌++◌, length, take, Option, OnOk, OnErr, Result, Ok, Err}
-use Rattle.diy_io.specs.{Count.Rose, Shelf.Files, Shelf.ShelfSeen, Opened.FileAbsent, Opened.IsFile, Opened.TookFiles}
-use Rattle.diy_io.specs.declared.errors.Failed.{Failed}
+use Rattle.diy_io.specs.{Count.Rose, Shelf.{Files, ShelfSeen}, Opened.{FileAbsent, IsFile, TookFiles}, declared.errors.Failed.Failed}
 use Rattle.litmus_text.specs.declared.limits.TheConstants.{MAX_TEST_TEXT}
 use Rattle.tests_from_files.specs.declared.errors.FileFault.{FileFault}
 use Rattle.tests_from_files.specs.declared.errors.FileFault.TheVariants as faults

@@ -1,11 +1,8 @@
 -- What only private functions cite: the text of a file that is open, as it is read.
-use Rattle.std.specs.Prelude.{◌≡◌, ◌≤◌, ◌+◌, ⊤, ℕ, List, ◌++◌, length, take, IfSome, OnOk, OnErr, Result, Ok, Err}
-use Rattle.std.specs.Io.KnownBytes.{Consumes}
-use Rattle.diy_io.specs.Count.{count_of, Rose}
-use Rattle.diy_io.specs.Shelf.{Idle, IsReading, ShelfSeen, left_to_read}
-use Rattle.diy_io.specs.declared.errors.Failed.{Failed}
+use Rattle.std.specs.{Prelude.{◌≡◌, ◌≤◌, ◌+◌, ⊤, ℕ, List, ◌++◌, length, take, IfSome, OnOk, OnErr, Result, Ok, Err}, Io.KnownBytes.Consumes}
+use Rattle.diy_io.specs.{Count.{count_of, Rose}, Shelf.{Idle, IsReading, ShelfSeen, left_to_read}, declared.errors.Failed.Failed}
 use Rattle.litmus_text.specs.declared.limits.TheConstants.{MAX_TEST_TEXT}
-use Rattle.tests_from_files.specs.declared.errors.{FileFault.FileFault, ReadFault.ReadFault}
+use Rattle.tests_from_files.specs.{declared.errors.FileFault.FileFault, declared.errors.ReadFault.ReadFault}
 use Rattle.tests_from_files.specs.declared.errors.FileFault.TheVariants as faults
 use Rattle.tests_from_files.specs.declared.errors.ReadFault.TheVariants as reads
 

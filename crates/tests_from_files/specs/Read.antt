@@ -1,15 +1,12 @@
 -- What only private functions cite: what one file gives.
 use Rattle.std.specs.Prelude.{◌≡◌, ⊤, ℕ, List, Result, Ok, Err, IsErr}
-use Rattle.diy_io.specs.declared.errors.Failed.{Failed}
-use Rattle.diy_io.specs.{Shelf.ShelfSeen, Opened.FileAbsent}
+use Rattle.diy_io.specs.{declared.errors.Failed.Failed, Shelf.ShelfSeen, Opened.FileAbsent}
 use Rattle.relax_edges.specs.declared.edge.Edge.{Edge}
-use Rattle.tests_from_files.specs.declared.{errors.FileFault.FileFault, classified_errors.FileError.FileError}
-use Rattle.tests_from_files.specs.declared.{classified_errors.CycleFault.CycleFault, classified_errors.CycleFault.TheVariants.Missing}
-use Rattle.tests_from_files.specs.declared.{classified_errors.CycleFault.TheVariants.Device, classified_errors.CycleFault.TheVariants.Text}
-use Rattle.tests_from_files.specs.declared.{classified_errors.TextFault.TextFault, classified_errors.TextFault.TheVariants.Wrong}
-use Rattle.tests_from_files.specs.declared.{classified_errors.TextFault.TheVariants.NoMemory, classified_errors.FilesEnd.FilesEnd}
+use Rattle.tests_from_files.specs.{declared.errors.FileFault.FileFault, declared.classified_errors.FileError.FileError}
+use Rattle.tests_from_files.specs.{declared.classified_errors.CycleFault.CycleFault, declared.classified_errors.CycleFault.TheVariants.{Missing, Device, Text}}
+use Rattle.tests_from_files.specs.{declared.classified_errors.TextFault.TextFault, declared.classified_errors.TextFault.TheVariants.{Wrong, NoMemory}}
+use Rattle.tests_from_files.specs.{declared.classified_errors.FilesEnd.FilesEnd, FilesRead.{FileFailed, FileIs, FileFaulty}, FilesEnds.{Asked, said_on}}
 use Rattle.tests_from_files.specs.declared.errors.FileFault.TheVariants as reads
-use Rattle.tests_from_files.specs.{FilesRead.FileFailed, FilesRead.FileIs, FilesRead.FileFaulty, FilesEnds.Asked, FilesEnds.said_on}
 use Rattle.tests_from_files.specs.declared.classified_errors.FilesEnd.TheVariants as ends
 
 -- an answer is what a text says, or there is no memory

@@ -2,8 +2,7 @@
 use Rattle.std.proofs.Common.{◌≡◌, ◌<◌, ℕ, ◌+◌, get_or, drop, map, List, [], ◌∷◌, ◌++◌, length, refl, sym, ◌∙◌, ap, subst, append-nil, append_assoc}
 use Rattle.std.proofs.lemmas.List.{drop_more, map-append}
 use Rattle.diy_io.specs.Shelf.{ShelfSeen, Idle}
-use Rattle.tests_to_files.specs.declared.putting.File.{File}
-use Rattle.tests_to_files.specs.{GivenCycles.PutUpTo, Putting.PutFiles, Putting.PutPart, Putting.file_put}
+use Rattle.tests_to_files.specs.{declared.putting.File.File, GivenCycles.PutUpTo, Putting.{PutFiles, PutPart, file_put}}
 use Rattle.tests_to_files.proofs.Shelves.{put_nothing, put_both, put_then_part}
 
 -- the first files are there, and these are left

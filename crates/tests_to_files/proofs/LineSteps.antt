@@ -4,8 +4,7 @@ use Rattle.std.specs.Prelude.{Result, OnOk, OnErr}
 use Rattle.relax_edges.specs.declared.edge.Edge.{Edge}
 use Rattle.cycle_enum_laws.specs.Listing.{AreListedTo, IsNext, IsAnswer}
 use Rattle.cycle_enum_laws.proofs.Listings.{listed_first, listed_next, listed_none}
-use Rattle.diy_io.specs.declared.errors.Failed.{Failed}
-use Rattle.diy_io.specs.{Page.SentAll, Wrote.SinkSeen, Wrote.WrotePart, Wrote.Wrote}
+use Rattle.diy_io.specs.{declared.errors.Failed.Failed, Page.SentAll, Wrote.{SinkSeen, WrotePart, Wrote}}
 use Rattle.diy_io.specs.PageLaws.{sent_nothing, sent_both, sent_part, sent_wrote}
 use Rattle.cycles_from_lines.specs.Normed.{name_line, name_lines}
 use Rattle.cycles_from_lines.proofs.NormLaws.{name_lines_more}

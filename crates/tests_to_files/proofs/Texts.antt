@@ -1,12 +1,10 @@
 -- The text of a test that is written to its file part by part.
 use Rattle.std.proofs.Common.{◌≡◌, ◌≤◌, ◌<◌, ℕ, List, [], ◌++◌, length, sym, ap, ◌∙◌, subst, arith, append_assoc, append-nil}
 use Rattle.std.specs.Prelude.{Option, Some, None}
-use Rattle.diy_io.specs.declared.page.TheConstants.{SPILL, LINE_ROOM}
-use Rattle.diy_io.specs.{Page.page_after, PageLaws.page_fits}
+use Rattle.diy_io.specs.{declared.page.TheConstants.{SPILL, LINE_ROOM}, Page.page_after, PageLaws.page_fits}
 use Rattle.diy_io.specs.Shelf.{ShelfSeen, name_written, Appended, AppendedPart}
 use Rattle.arch_trait.specs.{Writing.Writing, SeenTests.TestSeen}
-use Rattle.litmus_text.specs.declared.parts.{TextPart.TextPart, TextPart.TheVariants.Edges}
-use Rattle.litmus_text.specs.TextParts.{text_from, PutsPart}
+use Rattle.litmus_text.specs.{declared.parts.TextPart.TextPart, declared.parts.TextPart.TheVariants.Edges, TextParts.{text_from, PutsPart}}
 use Rattle.tests_to_files.specs.Putting.{Filling, PutPart}
 use Rattle.tests_to_files.proofs.Shelves.{filling_more, filling_part, part_more}
 

@@ -1,23 +1,19 @@
 -- Which cycles a listing wants, and what its walk knows of that.
 use Rattle.std.proofs.Common.{◌≡◌, ◌<◌, ◌≤◌, ◌+◌, ◌&&◌, ◌||◌, nat_lt, nat_le, ℕ, ◌-◌, suc, Bool, true, false, cond, List, [], ◌∷◌, ◌++◌, length, get_or, Option, Some, None, refl, sym, ◌∙◌, ap, arith}
-use Rattle.std.specs.{Prelude.◌↔◌, Prelude.is_none, List.list_all}
-use Rattle.std.proofs.lemmas.Bool.{and_parts, and_from, or_right, leb-true, le-leb, lt-ltb}
-use Rattle.std.proofs.lemmas.List.{Sums.sum_by-append, Folds.list_all-append}
-use Rattle.relax_edges.specs.declared.{edge.Edge.Edge, kinds.ArchName.ArchName, kinds.ObsMode.ObsMode}
-use Rattle.relax_edges.specs.EdgeTable.{is_of_arch, is_external}
+use Rattle.std.proofs.{lemmas.Bool.{and_parts, and_from, or_right, leb-true, le-leb, lt-ltb}, lemmas.List.Sums.sum_by-append, lemmas.List.Folds.list_all-append}
+use Rattle.std.specs.{Prelude.{◌↔◌, is_none}, List.list_all}
+use Rattle.relax_edges.specs.{declared.edge.Edge.Edge, declared.kinds.ArchName.ArchName, declared.kinds.ObsMode.ObsMode, EdgeTable.{is_of_arch, is_external}}
 use Rattle.edge_algebra_laws.specs.Composable.{IsCycle}
-use Rattle.list_laws.proofs.{Cases.by_less}
+use Rattle.list_laws.proofs.Cases.{by_less}
 use Rattle.cycle_enum_laws.specs.Listing.{IsAnswer, IsListed}
 use Rattle.cycle_events.specs.Resolution.{external_count, resolution_of}
 use Rattle.arch_trait.specs.Threads.{Puts}
-use Rattle.test_maker.specs.declared.refusal.Refusal.TheVariants.{TooFewThreads}
+use Rattle.test_maker.specs.{declared.refusal.Refusal.TheVariants.TooFewThreads, Refusals.{foreign_edge, resolved_refusal, refusal_of}}
 use Rattle.test_maker.proofs.HavingTests.{neither, not_foreign}
-use Rattle.test_maker.specs.Refusals.{foreign_edge, resolved_refusal, refusal_of}
 use Rattle.diy_io.specs.Shelf.{ShelfSeen}
 use Rattle.tests_to_files.specs.Plans.{HaveTests, ends_in, ends_inside, ends_of_arch, has_few_threads, has_few_accesses, is_sought, is_wanted, may_lead}
-use Rattle.tests_to_files.specs.{InternalRuns.HasLongRun, WantedLaws.wanted_has_test, ListingEnds.WritesAll, ListingEnds.StopsAtTest}
-use Rattle.tests_to_files.specs.{ListingEnds.StopsAtAll}
-use Rattle.tests_to_files.proofs.{RunLaws.long_run_crowds, After.next_too, After.listed_too, After.all_too}
+use Rattle.tests_to_files.specs.{InternalRuns.HasLongRun, WantedLaws.wanted_has_test, ListingEnds.{WritesAll, StopsAtTest, StopsAtAll}}
+use Rattle.tests_to_files.proofs.{RunLaws.long_run_crowds, After.{next_too, listed_too, all_too}}
 
 -- a cycle that is wanted has at most so many threads, and accesses in each
 wanted_few : (puts : Puts) (mode : ObsMode) (threads : ℕ) (accesses : Option ℕ) (cycle : List Edge) → is_wanted puts mode threads accesses cycle ≡ true

@@ -1,9 +1,7 @@
 -- Internal edges one after the other: each such run of edges joins accesses of one thread.
 -- Source: own.
-use Rattle.std.specs.Prelude.{◌≡◌, ℕ, Bool, false, ◌+◌, ◌&&◌, nat_lt, if◌then◌else◌, Option, Some, None, List, [], ◌∷◌, ◌++◌, length}
-use Rattle.std.specs.List.{AllByRecursion}
-use Rattle.relax_edges.specs.declared.edge.Edge.{Edge}
-use Rattle.relax_edges.specs.EdgeTable.{is_external}
+use Rattle.std.specs.{Prelude.{◌≡◌, ℕ, Bool, false, ◌+◌, ◌&&◌, nat_lt, if◌then◌else◌, Option, Some, None, List, [], ◌∷◌, ◌++◌, length}, List.AllByRecursion}
+use Rattle.relax_edges.specs.{declared.edge.Edge.Edge, EdgeTable.is_external}
 
 -- a list has this many internal edges one after the other
 pub record HasRun (many : ℕ) (edges : List Edge) : Type 0 where

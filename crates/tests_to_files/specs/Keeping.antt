@@ -1,17 +1,14 @@
 -- What is kept of the names of a listing's files while they are written.
 -- Source: own.
-use Rattle.std.specs.Prelude.{◌≡◌, ◌≤◌, ℕ, ◌+◌, List, [], ◌∷◌, ◌++◌, length, codes, Option, Some, None, MatchOption}
-use Rattle.std.specs.Borrow.{Bor}
-use Rattle.relax_edges.specs.declared.{edge.Edge.Edge, kinds.ObsMode.ObsMode}
+use Rattle.std.specs.{Prelude.{◌≡◌, ◌≤◌, ℕ, ◌+◌, List, [], ◌∷◌, ◌++◌, length, codes, Option, Some, None, MatchOption}, Borrow.Bor}
+use Rattle.relax_edges.specs.{declared.edge.Edge.Edge, declared.kinds.ObsMode.ObsMode}
 use Rattle.edge_algebra_laws.specs.CycleOrder.{IsNormal}
 use Rattle.cycle_enum_laws.specs.Listing.{AreAllListed, AreListedTo}
 use Rattle.arch_trait.specs.{Threads.Puts, Writing.Writing}
 use Rattle.diy_io.specs.Shelf.{ShelfSeen}
-use Rattle.tests_to_files.specs.declared.{names.TheConstants.MAX_LISTED_LINE, names.TheConstants.MAX_LINES, names.Closed.Closed, names.Names.Names}
-use Rattle.tests_to_files.specs.declared.{wanted.Wanted.Wanted}
-use Rattle.tests_to_files.specs.{ListingEnds.StopsAtTest, Putting.PutFiles, Putting.PutPart, Putting.Filling}
-use Rattle.tests_to_files.specs.ListedFiles.{file_number, all_path, file_lines, test_files}
-use Rattle.tests_to_files.specs.Plans.{HaveTests, folder_in, folder_of, named_text}
+use Rattle.tests_to_files.specs.{declared.names.TheConstants.{MAX_LISTED_LINE, MAX_LINES}, declared.names.Closed.Closed, declared.names.Names.Names}
+use Rattle.tests_to_files.specs.{declared.wanted.Wanted.Wanted, ListingEnds.StopsAtTest, Putting.{PutFiles, PutPart, Filling}}
+use Rattle.tests_to_files.specs.{ListedFiles.{file_number, all_path, file_lines, test_files}, Plans.{HaveTests, folder_in, folder_of, named_text}}
 
 -- the lines that are kept are those of the listed cycles up to one, and the number of the next one is kept
 pub record KeptTo (listed : List Edge → Type 0) (given : Option (List Edge)) (lines : List ℕ) (cycle : List Edge) (number : ℕ) : Type 0 where

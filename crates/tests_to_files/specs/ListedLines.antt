@@ -3,10 +3,9 @@
 use Rattle.std.specs.Prelude.{List, Option, Result, OnOk, OnErr}
 use Rattle.relax_edges.specs.declared.edge.Edge.{Edge}
 use Rattle.cycle_enum_laws.specs.Listing.{AreAllListed, AreListedTo}
-use Rattle.diy_io.specs.declared.errors.Failed.{Failed}
-use Rattle.diy_io.specs.Wrote.{SinkSeen, WroteAll, WrotePart}
+use Rattle.diy_io.specs.{declared.errors.Failed.Failed, Wrote.{SinkSeen, WroteAll, WrotePart}}
 use Rattle.cycles_from_lines.specs.Normed.{name_lines}
-use Rattle.tests_to_files.specs.{Plans.Plan, Plans.IsPlanned, ListingEnds.BeginsAfter}
+use Rattle.tests_to_files.specs.{Plans.{Plan, IsPlanned}, ListingEnds.BeginsAfter}
 
 -- the lines of all listed cycles after one that is given are written, in order
 pub record WritesLines (listed : List Edge → Type 0) (given : Option (List Edge)) (old new : SinkSeen) : Type 0 where

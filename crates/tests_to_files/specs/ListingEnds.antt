@@ -4,11 +4,10 @@ use Rattle.std.specs.Prelude.{◌≡◌, ◌⊎◌, ⊤, ℕ, List, [], ◌∷�
 use Rattle.relax_edges.specs.declared.edge.Edge.{Edge}
 use Rattle.edge_algebra_laws.specs.CycleOrder.{IsLeast}
 use Rattle.cycle_enum_laws.specs.Listing.{AreAllListed, AreListedTo, IsNext}
-use Rattle.diy_io.specs.{Shelf.ShelfSeen, Wrote.SinkSeen, Wrote.WroteAll, Wrote.WrotePart}
-use Rattle.tests_to_files.specs.declared.ending.ListingEnd.{ListingEnd}
-use Rattle.tests_to_files.specs.declared.ending.ListingEnd.TheVariants.{Done, ShelfFault, OutFault}
-use Rattle.tests_to_files.specs.ListedFiles.{file_of, path_of, all_path, file_lines, test_files, count_line}
-use Rattle.tests_to_files.specs.{Plans.Plan, Plans.IsPlanned, Plans.planned_text, Putting.PutFiles, Putting.PutPart}
+use Rattle.diy_io.specs.{Shelf.ShelfSeen, Wrote.{SinkSeen, WroteAll, WrotePart}}
+use Rattle.tests_to_files.specs.{declared.ending.ListingEnd.ListingEnd, declared.ending.ListingEnd.TheVariants.{Done, ShelfFault, OutFault}}
+use Rattle.tests_to_files.specs.{ListedFiles.{file_of, path_of, all_path, file_lines, test_files, count_line}, Plans.{Plan, IsPlanned, planned_text}}
+use Rattle.tests_to_files.specs.Putting.{PutFiles, PutPart}
 
 -- a listing goes on after the normal form of a cycle, where there is one
 abbrev pub BeginsAfter : Option (List Edge) → Option (List Edge) → Type 0

@@ -1,19 +1,16 @@
 -- What a listing asks for: which cycles have a test in it, and what their tests are.
 -- Source: own, after diy.
-use Rattle.std.specs.Prelude.{◌≡◌, ℕ, Bool, true, ◌&&◌, ◌||◌, not, nat_le, is_none, List, [], ◌∷◌, length, Option, Some, None}
-use Rattle.std.specs.{List.list_all, Borrow.Bor, Option.option_map}
-use Rattle.relax_edges.specs.declared.{edge.Edge.Edge, kinds.ArchName.ArchName, kinds.ObsMode.ObsMode}
-use Rattle.relax_edges.specs.EdgeTable.{is_external, is_of_arch}
+use Rattle.std.specs.{Prelude.{◌≡◌, ℕ, Bool, true, ◌&&◌, ◌||◌, not, nat_le, is_none, List, [], ◌∷◌, length, Option, Some, None}, List.list_all, Borrow.Bor}
+use Rattle.std.specs.Option.{option_map}
+use Rattle.relax_edges.specs.{declared.edge.Edge.Edge, declared.kinds.ArchName.ArchName, declared.kinds.ObsMode.ObsMode, EdgeTable.{is_external, is_of_arch}}
 use Rattle.list_laws.specs.Numbers.{upto}
 use Rattle.cycle_enum_laws.specs.Listing.{IsListed}
 use Rattle.cycle_names.specs.CycleNames.{name_of}
 use Rattle.cycle_events.specs.Resolution.{external_count, turned, events_in}
 use Rattle.arch_trait.specs.{Threads.Puts, Writing.Writing}
 use Rattle.test_maker.specs.{Refusals.refusal_of, CycleText.cycle_text}
-use Rattle.cycle_enum.specs.declared.limits.Limits.{Limits}
-use Rattle.cycle_enum.specs.Walking.{Walking}
-use Rattle.tests_to_files.specs.ListedFiles.{path_of, file_of, test_files}
-use Rattle.tests_to_files.specs.declared.{listing.Listing.Listing, wanted.Wanted.Wanted}
+use Rattle.cycle_enum.specs.{declared.limits.Limits.Limits, Walking.Walking}
+use Rattle.tests_to_files.specs.{ListedFiles.{path_of, file_of, test_files}, declared.listing.Listing.Listing, declared.wanted.Wanted.Wanted}
 
 -- a cycle has at most so many threads: so many of its edges lead to another one
 abbrev pub has_few_threads : ℕ → List Edge → Bool

@@ -1,7 +1,6 @@
 -- What it means that files were written on a shelf, or that it failed at one of them.
 -- Source: own.
-use Rattle.std.specs.Prelude.{◌≡◌, ◌⊎◌, ℕ, List, [], ◌∷◌, ◌++◌}
-use Rattle.std.specs.Option.{option_map}
+use Rattle.std.specs.{Prelude.{◌≡◌, ◌⊎◌, ℕ, List, [], ◌∷◌, ◌++◌}, Option.option_map}
 use Rattle.tests_to_files.specs.declared.putting.File.{File}
 use Rattle.diy_io.specs.Shelf.{Files, ShelfSeen, Idle, Writing, with_file, CountsStay, Faulted}
 

@@ -1,11 +1,9 @@
 -- A test that is made and ready to be printed.
 -- Source: own.
-use Rattle.std.specs.Prelude.{◌≡◌, ℕ, List, length}
-use Rattle.std.specs.List.{All}
-use Rattle.relax_edges.specs.declared.{edge.Edge.Edge, kinds.ArchName.ArchName, kinds.ObsMode.ObsMode}
+use Rattle.std.specs.{Prelude.{◌≡◌, ℕ, List, length}, List.All}
+use Rattle.relax_edges.specs.{declared.edge.Edge.Edge, declared.kinds.ArchName.ArchName, declared.kinds.ObsMode.ObsMode}
 use Rattle.arch_trait.specs.{Threads.Puts, Writing.Writing}
-use Rattle.litmus_text.specs.declared.test.Test.{Test}
-use Rattle.litmus_text.specs.{KeptCells.TableSeen, KeptCells.HoldsTable, Tests.IsPrintable, Tests.test_seen, TestText.test_text}
+use Rattle.litmus_text.specs.{declared.test.Test.Test, KeptCells.{TableSeen, HoldsTable}, Tests.{IsPrintable, test_seen}, TestText.test_text}
 use Rattle.test_maker.specs.CycleText.{cycle_text}
 
 -- a test is that of a cycle on an architecture with so many registers, it can be printed, and its table is kept

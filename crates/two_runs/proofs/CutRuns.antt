@@ -1,22 +1,18 @@
 -- The execution that is made of a cycle over one location, cut at an edge.
 use Rattle.std.proofs.Common.{◌≡◌, ◌<◌, ◌+◌, ◌==◌, ◌&&◌, ℕ, zero, suc, true, false, List, [], ◌∷◌, ◌++◌, map, length, Some, None, refl, sym, ap, ◌∙◌, arith, append-nil, eqb-true}
-use Rattle.std.specs.{Prelude.Bool, List.find, Option.option_map}
 use Rattle.std.proofs.lemmas.Bool.{and_parts}
-use Rattle.relax_edges.specs.declared.{kinds.Dir.Dir, kinds.ObsMode.TheVariants.Avoid, edge.Edge.Edge}
+use Rattle.std.specs.{Prelude.Bool, List.find, Option.option_map}
+use Rattle.relax_edges.specs.{declared.kinds.Dir.Dir, declared.kinds.ObsMode.TheVariants.Avoid, declared.edge.Edge.Edge, EdgeTable.{same_dir, source_of}}
 use Rattle.relax_edges.specs.declared.kinds.Dir.TheVariants as dirs
-use Rattle.relax_edges.specs.EdgeTable.{same_dir, source_of}
 use Rattle.list_laws.specs.Numbers.{upto}
 use Rattle.list_laws.proofs.Finds.{find_upto_first, find_upto_none}
-use Rattle.cycle_events.specs.Resolution.{edge_at, location_of, thread_of}
-use Rattle.cycle_events.specs.Values.{is_write_at, value_of, write_at}
+use Rattle.cycle_events.specs.{Resolution.{edge_at, location_of, thread_of}, Values.{is_write_at, value_of, write_at}}
 use Rattle.cycle_events.proofs.Writes.{write_at_parts}
-use Rattle.program_meaning.specs.{Accesses.reads_by, Executions.Execution, Standing.event_name}
-use Rattle.program_meaning.specs.Intended.{location_numbered, observer_reads, write_of}
+use Rattle.program_meaning.specs.{Accesses.reads_by, Executions.Execution, Standing.event_name, Intended.{location_numbered, observer_reads, write_of}}
 use Rattle.tests_force_cycles.specs.TestOf.{plain}
-use Rattle.co_tests_laws.specs.{CutResolution.cut_open}
+use Rattle.co_tests_laws.specs.CutResolution.{cut_open}
 use Rattle.co_tests_laws.proofs.Opened.{opened-length, opened-threads, opened_thread, same_at, source_same}
-use Rattle.co_tests_laws.proofs.Values.{IsCut, one_location, one_move, value_positive}
-use Rattle.co_tests_laws.proofs.Events.{IsLoop, none_observed, opened_name, thread_under}
+use Rattle.co_tests_laws.proofs.{Values.{IsCut, one_location, one_move, value_positive}, Events.{IsLoop, none_observed, opened_name, thread_under}}
 use Rattle.two_runs.specs.Runs.{cycle_reads, is_read_of, order_of, run_by}
 use Rattle.two_runs.proofs.{Fitting.IsSmallCycle, Numbering.numbered_here}
 

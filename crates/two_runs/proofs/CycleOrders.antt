@@ -5,8 +5,7 @@ use Rattle.list_laws.specs.Numbers.{upto}
 use Rattle.list_laws.proofs.Cases.{by_test}
 use Rattle.relax_edges.specs.declared.edge.Edge.{Edge}
 use Rattle.cycle_events.specs.Values.{write_count}
-use Rattle.program_meaning.specs.declared.WriteAt.{WriteAt}
-use Rattle.program_meaning.specs.{Executions.Execution, Intended.write_of}
+use Rattle.program_meaning.specs.{declared.WriteAt.WriteAt, Executions.Execution, Intended.write_of}
 use Rattle.accesses_force_cycles.specs.Exchange.{swapped}
 use Rattle.exec_meaning.specs.KeptExecutions.{with_write}
 use Rattle.two_runs.specs.Runs.{with_appended, order_of, value_there}

@@ -1,14 +1,11 @@
 -- The reads of a thread among the first events, and those of the first threads.
-use Rattle.std.proofs.Common.{◌≡◌, ℕ, ◌+◌, ◌<◌, ◌==◌, ◌&&◌, Bool, true, false, List, [], ◌∷◌, length, map, Option, refl, sym, ap, ◌∙◌}
+use Rattle.std.proofs.{Common.{◌≡◌, ℕ, ◌+◌, ◌<◌, ◌==◌, ◌&&◌, Bool, true, false, List, [], ◌∷◌, length, map, Option, refl, sym, ap, ◌∙◌}, lemmas.List.map-append}
 use Rattle.std.specs.List.{filter}
-use Rattle.std.proofs.lemmas.List.{map-append}
 use Rattle.list_laws.specs.Numbers.{upto}
-use Rattle.list_laws.proofs.{Cases.by_test, Ranks.filter_yes, Ranks.filter_no}
+use Rattle.list_laws.proofs.{Cases.by_test, Ranks.{filter_yes, filter_no}}
 use Rattle.relax_edges.specs.declared.edge.Edge.{Edge}
-use Rattle.cycle_events.specs.{Resolution.thread_of, Resolution.events_in, Resolution.location_of, Values.value_of}
-use Rattle.program_meaning.specs.declared.WriteAt.{WriteAt}
-use Rattle.program_meaning.specs.{Accesses.is_read, Executions.Execution}
-use Rattle.program_meaning.specs.Intended.{event_access, event_read, reads_in, write_of}
+use Rattle.cycle_events.specs.{Resolution.{thread_of, events_in, location_of}, Values.value_of}
+use Rattle.program_meaning.specs.{declared.WriteAt.WriteAt, Accesses.is_read, Executions.Execution, Intended.{event_access, event_read, reads_in, write_of}}
 use Rattle.exec_meaning.specs.KeptExecutions.{with_read}
 use Rattle.two_runs.specs.Runs.{with_appended, is_read_of}
 use Rattle.two_runs.proofs.GrowingLists.{added_appended, appended_none, filled_more, filled_to}

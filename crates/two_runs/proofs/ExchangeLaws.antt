@@ -1,19 +1,17 @@
 -- The law of tests: the two executions of the accesses of a cycle's test without observers are those of its program.
 use Rattle.std.proofs.Common.{◌≡◌, ℕ, List, Option, Some, refl, sym, ◌∙◌, ap, subst}
-use Rattle.relax_edges.specs.declared.{kinds.ObsMode.TheVariants.Avoid, kinds.Value.Value, edge.Edge.Edge}
-use Rattle.cycle_events.specs.{Resolution.move_count, Values.observer_need}
-use Rattle.cycle_events.specs.declared.needs.NeedsObserver.{NeedsObserver}
+use Rattle.relax_edges.specs.{declared.kinds.ObsMode.TheVariants.Avoid, declared.kinds.Value.Value, declared.edge.Edge.Edge}
+use Rattle.cycle_events.specs.{Resolution.move_count, Values.observer_need, declared.needs.NeedsObserver.NeedsObserver}
 use Rattle.final_cond.specs.Conditions.{LeftSeen}
 use Rattle.arch_trait.specs.{Laws.IsArch, Threads.Puts}
-use Rattle.program_meaning.specs.{Accesses.Access, Executions.Execution, Coherence.final_value, Programs.Program, Intended.IsNumbering}
-use Rattle.program_meaning.specs.{Intended.cycle_accesses, Intended.intended}
+use Rattle.program_meaning.specs.{Accesses.Access, Executions.Execution, Coherence.final_value, Programs.Program}
+use Rattle.program_meaning.specs.Intended.{IsNumbering, cycle_accesses, intended}
 use Rattle.accesses_force_cycles.specs.{Exchange.exchanged, Laws.IsUndecided}
 use Rattle.accesses_force_cycles.proofs.{AllStand.joined_stand, Bridge.resolves, Laws.no_condition_serves_law, Needs.refused_entry, Resolves.Resolves}
 use Rattle.tests_force_cycles.specs.{FinalStates.final_state, TestHeadline.HasCode}
-use Rattle.tests_force_cycles.proofs.{Headline.renumbered_numbers, Headline.renumbered_program, TestCodes.cycle_codes, TestCodes.cycle_program}
-use Rattle.tests_force_cycles.proofs.{TestCodes.are_codes, Tying.tied_up}
+use Rattle.tests_force_cycles.proofs.{Headline.{renumbered_numbers, renumbered_program}, TestCodes.{cycle_codes, cycle_program, are_codes}, Tying.tied_up}
 use Rattle.two_runs.specs.Undecided.{NoneTells, Undecided, TestsUndecided}
-use Rattle.two_runs.proofs.{Breaking.edge_breaks, Carried.IsCarried, Carried.carried, States.end_alike, States.one_state}
+use Rattle.two_runs.proofs.{Breaking.edge_breaks, Carried.{IsCarried, carried}, States.{end_alike, one_state}}
 
 -- whatever holds of the final state of the first execution holds of that of the second
 pub none_tells : (p : Program) (names : List (List ℕ)) (register_number : List ℕ → Option ℕ) (es : List Edge) (edge : ℕ) (one two : Execution) (C : (LeftSeen → Option Value) → Type 0) → NoneTells p names register_number es edge one two → C (final_state p names register_number one) → C (final_state p names register_number two)

@@ -1,19 +1,18 @@
 -- The law of printed tests: what is read of the text is the test without observers, except for the numbers of places.
 use Rattle.std.proofs.Common.{◌≡◌, ℕ, ◌<◌, List, length, Some, ap, subst}
 use Rattle.list_laws.specs.Numbers.{upto}
-use Rattle.relax_edges.specs.declared.{kinds.ArchName.ArchName, kinds.ObsMode.TheVariants.Avoid, edge.Edge.Edge}
-use Rattle.cycle_events.specs.{Resolution.event_before, Resolution.move_count, Values.observer_need}
-use Rattle.cycle_events.specs.declared.needs.NeedsObserver.{NeedsObserver}
-use Rattle.arch_trait.specs.{Cells.WritesCells, Cells.MakesOneAccess, Laws.IsArch, PlaceNames.letters, PlaceNames.number_in, Threads.Puts}
-use Rattle.arch_trait.specs.{Writing.Writing, Writing.WritesBack, Writing.name_in, SeenTests.TestSeen}
+use Rattle.relax_edges.specs.{declared.kinds.ArchName.ArchName, declared.kinds.ObsMode.TheVariants.Avoid, declared.edge.Edge.Edge}
+use Rattle.cycle_events.specs.{Resolution.{event_before, move_count}, Values.observer_need, declared.needs.NeedsObserver.NeedsObserver}
+use Rattle.arch_trait.specs.{Cells.{WritesCells, MakesOneAccess}, Laws.IsArch, PlaceNames.{letters, number_in}, Threads.Puts}
+use Rattle.arch_trait.specs.{Writing.{Writing, WritesBack, name_in}, SeenTests.TestSeen}
 use Rattle.litmus_text.specs.{TestReadsBack.TestReadsBack, Reread.reread, TestReading.TestRead, TestText.test_text}
 use Rattle.bytes_force_cycles.proofs.{BackLaws.reads_back, Readable.readable}
-use Rattle.program_meaning.specs.{Executions.Execution, Programs.Program, Intended.intended, Intended.location_numbered}
+use Rattle.bytes_force_cycles.proofs.Rereading.{reread_test, reread_renumbered, by_table, threads_numbered, number_of_location, numbered_same, intended_same}
+use Rattle.program_meaning.specs.{Executions.Execution, Programs.Program, Intended.{intended, location_numbered}}
 use Rattle.accesses_force_cycles.specs.Exchange.{exchanged, exchanged_order}
 use Rattle.accesses_force_cycles.proofs.Lists.{map_same}
 use Rattle.tests_force_cycles.specs.{TestHeadline.HasCode, TestPrograms.test_program, TestOf.test_of}
 use Rattle.bytes_force_cycles.specs.Readings.{program_read, place_in_test}
-use Rattle.bytes_force_cycles.proofs.Rereading.{reread_test, reread_renumbered, by_table, threads_numbered, number_of_location, numbered_same, intended_same}
 use Rattle.two_runs.specs.Undecided.{NoneTells, Undecided, BytesUndecided, PrintedUndecided}
 use Rattle.two_runs.proofs.ExchangeLaws.{tests_undecided_law}
 

@@ -1,21 +1,17 @@
 -- The executions that are made are read back from the texts that are written of them.
 use Rattle.std.proofs.Common.{◌≡◌, ◌≤◌, ◌<◌, ◌+◌, ℕ, zero, suc, List, [], ◌∷◌, map, length, refl, sym, ◌∙◌, subst, arith, length-append}
-use Rattle.std.specs.Prelude.{Bool, true, Option, Some, None}
-use Rattle.std.specs.List.{All, cons_option, filter_map, list_all}
-use Rattle.std.specs.Option.{option_map}
-use Rattle.std.proofs.lemmas.{List.Elements.All-append, List.Elements.All-cons, List.Elements.All-map, List.Elements.All-nil, List.length-map, List.Sums.length-filter}
-use Rattle.std.proofs.lemmas.{List.Sums.count_by-le-length}
-use Rattle.relax_edges.specs.declared.{kinds.ObsMode.ObsMode, edge.Edge.Edge, TheConstants.MAX_EDGES}
+use Rattle.std.proofs.{lemmas.List.Elements.{All-append, All-cons, All-map, All-nil}, lemmas.List.length-map}
+use Rattle.std.proofs.lemmas.List.Sums.{length-filter, count_by-le-length}
+use Rattle.std.specs.{Prelude.{Bool, true, Option, Some, None}, List.{All, cons_option, filter_map, list_all}, Option.option_map}
+use Rattle.relax_edges.specs.{declared.kinds.ObsMode.ObsMode, declared.edge.Edge.Edge, declared.TheConstants.MAX_EDGES}
 use Rattle.list_laws.specs.Numbers.{upto}
 use Rattle.list_laws.proofs.Numbers.{get_or-upto, length-map-upto, length-upto}
-use Rattle.cycle_events.specs.Resolution.{IsResolved, events_in, external_count, location_of, move_count, thread_of}
-use Rattle.cycle_events.proofs.{Arcs.thread_below, Sizes.external_and_moves, Sizes.thread_size_most, Threads.slot_most, Along.value_most}
+use Rattle.cycle_events.specs.{Resolution.{IsResolved, events_in, external_count, location_of, move_count, thread_of}, Values.{value_of, write_at, write_count}}
+use Rattle.cycle_events.proofs.{Arcs.thread_below, Sizes.{external_and_moves, thread_size_most}, Threads.slot_most, Along.value_most}
 use Rattle.cycle_events.proofs.{Along.write_count_most, ValueLaws.threads_and_observers, Writes.write_of as number_written}
-use Rattle.cycle_events.specs.Values.{value_of, write_at, write_count}
 use Rattle.text_parts_laws.specs.Names.{is_place_name}
 use Rattle.litmus_text.specs.declared.limits.TheConstants.{MAX_ACCESSES}
-use Rattle.program_meaning.specs.declared.WriteAt.{WriteAt}
-use Rattle.program_meaning.specs.{Accesses.is_read, Standing.event_name}
+use Rattle.program_meaning.specs.{declared.WriteAt.WriteAt, Accesses.is_read, Standing.event_name}
 use Rattle.program_meaning.specs.Intended.{event_access, event_read, location_numbered, observed_locations, observer_reads, reads_in, write_of}
 use Rattle.tests_force_cycles.proofs.StepsAt.{observed-count}
 use Rattle.exec_text.specs.ExecutionReadBack.{AccessFits, ExecutionFits, ReadFits, SourceFits}

@@ -1,20 +1,17 @@
 -- The text of an execution that is made is read as that execution, with the threads and places of the test that was read.
-use Rattle.std.proofs.Common.{◌≡◌, ◌≤◌, ◌<◌, ◌+◌, ℕ, List, [], ◌∷◌, length, true, refl, sym, ap, ◌∙◌, subst, arith}
-use Rattle.std.specs.{Prelude.Option, Prelude.Result, Prelude.Ok, List.AllByRecursion, List.list_all}
-use Rattle.std.proofs.lemmas.Bool.{and_from}
-use Rattle.relax_edges.specs.declared.{TheConstants.MAX_EDGES, kinds.ArchName.ArchName, kinds.ObsMode.ObsMode, edge.Edge.Edge}
+use Rattle.std.proofs.{Common.{◌≡◌, ◌≤◌, ◌<◌, ◌+◌, ℕ, List, [], ◌∷◌, length, true, refl, sym, ap, ◌∙◌, subst, arith}, lemmas.Bool.and_from}
+use Rattle.std.specs.{Prelude.{Option, Result, Ok}, List.{AllByRecursion, list_all}}
+use Rattle.relax_edges.specs.{declared.TheConstants.MAX_EDGES, declared.kinds.ArchName.ArchName, declared.kinds.ObsMode.ObsMode, declared.edge.Edge.Edge}
 use Rattle.list_laws.proofs.Numbers.{length-map-upto}
 use Rattle.cycle_events.specs.Resolution.{external_count, move_count}
 use Rattle.text_parts_laws.specs.Names.{is_place_name}
-use Rattle.arch_trait.specs.{Cells.WritesCells, Cells.MakesOneAccess, Laws.IsArch, PlaceNames.letters, PlaceNames.location_name, Threads.Puts}
-use Rattle.arch_trait.specs.{Writing.Writing, Writing.WritesBack, Writing.name_in, SeenTests.TestSeen}
+use Rattle.arch_trait.specs.{Cells.{WritesCells, MakesOneAccess}, Laws.IsArch, PlaceNames.{letters, location_name}, Threads.Puts}
+use Rattle.arch_trait.specs.{Writing.{Writing, WritesBack, name_in}, SeenTests.TestSeen}
 use Rattle.arch_trait_laws.proofs.NameLaws.{length-letters, location_new}
-use Rattle.litmus_text.specs.declared.errors.TextError.{TextError}
-use Rattle.litmus_text.specs.{TestReadsBack.TestReadsBack, TestReadsBack.is_in, Printable.IsTestName, Reread.reread, TestReading.TestRead}
-use Rattle.litmus_text.specs.{TestReading.test_read, TestText.test_text}
-use Rattle.bytes_force_cycles.proofs.{BackLaws.reads_back, BackLaws.numbered_in, Readable.readable, Rereading.got_is}
-use Rattle.program_meaning.specs.declared.WriteAt.{WriteAt}
-use Rattle.program_meaning.specs.{Executions.Execution, Intended.location_numbered, Programs.IsCandidate}
+use Rattle.litmus_text.specs.{declared.errors.TextError.TextError, TestReadsBack.{TestReadsBack, is_in}, Printable.IsTestName, Reread.reread}
+use Rattle.litmus_text.specs.{TestReading.{TestRead, test_read}, TestText.test_text}
+use Rattle.bytes_force_cycles.proofs.{BackLaws.{reads_back, numbered_in}, Readable.readable, Rereading.got_is}
+use Rattle.program_meaning.specs.{declared.WriteAt.WriteAt, Executions.Execution, Intended.location_numbered, Programs.IsCandidate}
 use Rattle.exec_meaning.proofs.RunLaws.{candidate_count}
 use Rattle.exec_text.specs.{ExecutionText.execution_read, ExecutionReadBack.ExecutionFits, Written.text_of_execution}
 use Rattle.exec_text.proofs.ExecutionBack.{written_reads_back}

@@ -1,24 +1,20 @@
 -- What is shown of a cycle that the mode avoid refuses because a write needs an observer: the text of its test without
 -- observers, and two executions of what that is read as.
 -- Source: own.
-use Rattle.std.specs.Prelude.{◌≡◌, ℕ, List, length, Option, Some, None, Result, Ok, Err, Vec}
-use Rattle.std.specs.Option.{option_or}
-use Rattle.std.specs.declared.alloc.Global.{Global}
-use Rattle.relax_edges.specs.declared.{kinds.ObsMode.TheVariants.Avoid, edge.Edge.Edge}
-use Rattle.cycle_events.specs.declared.{errors.ResolveError.ResolveError, needs.NeedsObserver.NeedsObserver}
-use Rattle.cycle_events.specs.{Resolution.event_before, Resolution.resolution_of, Resolution.turned, Values.observer_need}
-use Rattle.arch_trait.specs.{PlaceNames.number_in, Threads.Puts, Writing.Writing, Writing.name_in}
-use Rattle.litmus_text.specs.{TestReading.TestRead, TestReading.test_read, TestText.test_text}
+use Rattle.std.specs.{Prelude.{◌≡◌, ℕ, List, length, Option, Some, None, Result, Ok, Err, Vec}, Option.option_or, declared.alloc.Global.Global}
+use Rattle.relax_edges.specs.{declared.kinds.ObsMode.TheVariants.Avoid, declared.edge.Edge.Edge}
+use Rattle.cycle_events.specs.{declared.errors.ResolveError.ResolveError, declared.needs.NeedsObserver.NeedsObserver}
+use Rattle.cycle_events.specs.{Resolution.{event_before, resolution_of, turned}, Values.observer_need}
+use Rattle.arch_trait.specs.{PlaceNames.number_in, Threads.Puts, Writing.{Writing, name_in}}
+use Rattle.litmus_text.specs.{TestReading.{TestRead, test_read}, TestText.test_text}
 use Rattle.program_meaning.specs.{Executions.Execution, Intended.intended}
 use Rattle.accesses_force_cycles.specs.Exchange.{exchanged}
 use Rattle.tests_force_cycles.specs.{TestHeadline.HasCode, TestOf.test_of}
-use Rattle.test_maker.specs.declared.refusal.Refusal.{Refusal}
+use Rattle.test_maker.specs.{declared.refusal.Refusal.Refusal, Refusals.{crowded_thread, foreign_edge, resolve_refusal}}
 use Rattle.test_maker.specs.declared.refusal.Refusal.TheVariants as refusals
-use Rattle.test_maker.specs.Refusals.{crowded_thread, foreign_edge, resolve_refusal}
 use Rattle.exec_text.specs.{ExecutionText.execution_read, Written.text_of_execution}
 use Rattle.bytes_force_cycles.specs.Readings.{program_read, place_in_test}
-use Rattle.two_runs.specs.Undecided.{NoneTells}
-use Rattle.two_runs.specs.declared.{errors.RunError.RunError, shown.TwoRuns.TwoRuns}
+use Rattle.two_runs.specs.{Undecided.NoneTells, declared.errors.RunError.RunError, declared.shown.TwoRuns.TwoRuns}
 use Rattle.two_runs.specs.declared.errors.RunError.TheVariants as errors
 
 -- why nothing is shown of a cycle in which no write needs an observer, or one does

@@ -2,18 +2,15 @@
 -- The test without observers is the one of that mode, although there it is refused.
 -- Source: own.
 use Rattle.std.specs.Prelude.{◌≡◌, ℕ, Bool, true, List, Option, Some, Ok}
-use Rattle.relax_edges.specs.declared.{kinds.ArchName.ArchName, kinds.ObsMode.TheVariants.Avoid, kinds.Value.Value, edge.Edge.Edge}
-use Rattle.cycle_events.specs.{Resolution.event_before, Values.observer_need}
-use Rattle.cycle_events.specs.declared.needs.NeedsObserver.{NeedsObserver}
+use Rattle.relax_edges.specs.{declared.kinds.ArchName.ArchName, declared.kinds.ObsMode.TheVariants.Avoid, declared.kinds.Value.Value, declared.edge.Edge.Edge}
+use Rattle.cycle_events.specs.{Resolution.event_before, Values.observer_need, declared.needs.NeedsObserver.NeedsObserver}
 use Rattle.final_cond.specs.Conditions.{LeftSeen}
-use Rattle.arch_trait.specs.{Laws.IsArch, PlaceNames.number_in, Threads.Puts, Writing.Writing, Writing.name_in, SeenTests.TestSeen}
-use Rattle.litmus_text.specs.{Printable.IsTestName, TestReading.TestRead, TestReading.test_read, TestText.test_text}
-use Rattle.program_meaning.specs.{Executions.Execution, Programs.Program, Programs.IsCandidate, Programs.IsCoherentIn, Standing.AllStand}
-use Rattle.program_meaning.specs.{Intended.intended}
+use Rattle.arch_trait.specs.{Laws.IsArch, PlaceNames.number_in, Threads.Puts, Writing.{Writing, name_in}, SeenTests.TestSeen}
+use Rattle.litmus_text.specs.{Printable.IsTestName, TestReading.{TestRead, test_read}, TestText.test_text}
+use Rattle.program_meaning.specs.{Executions.Execution, Programs.{Program, IsCandidate, IsCoherentIn}, Standing.AllStand, Intended.intended}
 use Rattle.accesses_force_cycles.specs.Exchange.{exchanged}
 use Rattle.exec_meaning.specs.StandingEdges.{EdgeStands}
-use Rattle.tests_force_cycles.specs.{FinalStates.final_state, TestHeadline.HasCode, TestHeadline.IsRenumbered, TestPrograms.test_program}
-use Rattle.tests_force_cycles.specs.{TestOf.test_of}
+use Rattle.tests_force_cycles.specs.{FinalStates.final_state, TestHeadline.{HasCode, IsRenumbered}, TestPrograms.test_program, TestOf.test_of}
 use Rattle.bytes_force_cycles.specs.Readings.{program_read, place_in_test}
 
 -- No condition on the final state tells two executions of a program apart, and an edge of a cycle stands in the first alone:

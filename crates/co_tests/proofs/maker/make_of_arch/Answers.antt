@@ -1,6 +1,5 @@
 -- That `make_of_arch` turns a cycle into one of the shape, of the architecture too.
-use Rattle.std.proofs.Common.{◌≡◌, ◌∙◌, sym, ap, subst, false, nat_lt, arith}
-use Rattle.std.proofs.lemmas.Bool.{le-ltb}
+use Rattle.std.proofs.{Common.{◌≡◌, ◌∙◌, sym, ap, subst, false, nat_lt, arith}, lemmas.Bool.le-ltb}
 use Rattle.edge_algebra_laws.specs.Rotation.{rotated}
 use Rattle.cycle_events.specs.Resolution.{external_count, turned}
 use Rattle.test_maker.specs.Made.{AreOfArch}

@@ -1,7 +1,6 @@
 -- That the loads of a thread have registers, and that there is room for their terms.
-use Rattle.std.proofs.Common.{◌∙◌, ◌∷◌, [], sym, ap, subst, arith, length, length-append, map}
-use Rattle.std.proofs.lemmas.List.{length-map}
-use Rattle.arch_trait.specs.{Codes.AllBelow, Codes.thread_code_of, Threads.compiled}
+use Rattle.std.proofs.{Common.{◌∙◌, ◌∷◌, [], sym, ap, subst, arith, length, length-append, map}, lemmas.List.length-map}
+use Rattle.arch_trait.specs.{Codes.{AllBelow, thread_code_of}, Threads.compiled}
 use Rattle.tests_force_cycles.proofs.Terms.{reads-count}
 use Rattle.co_tests.proofs.threads.put_thread.Goals as goal
 

@@ -1,19 +1,18 @@
 -- That `put_threads` makes the code of all threads, or refuses the first that needs too many registers.
 use Rattle.std.proofs.Common.{◌≡◌, ◌<◌, ◌+◌, ◌++◌, ◌∷◌, [], arith, sym, ◌∙◌, ap, length, map, Some, length-take, length-append, take, true, false, refl}
+use Rattle.std.proofs.{lemmas.List.length-map, lemmas.List.Sums.count_by-le-length}
 use Rattle.std.specs.Option.{option_map}
-use Rattle.std.proofs.lemmas.{List.length-map, List.Sums.count_by-le-length}
 use Rattle.relax_edges.specs.EdgeTable.{is_external}
 use Rattle.cycle_events.specs.Resolution.{edge_at, external_count, thread_of}
 use Rattle.cycle_events.proofs.Threads.{thread-zero, thread_end, thread_in, thread_most, thread_out}
 use Rattle.final_cond.specs.Conditions.{term_view}
-use Rattle.arch_trait.specs.declared.step.Step.{Step}
-use Rattle.arch_trait.specs.{Codes.thread_code_of, Threads.is_load_dir, Threads.compiled, Writing.name_in}
+use Rattle.arch_trait.specs.{declared.step.Step.Step, Codes.thread_code_of, Threads.{is_load_dir, compiled}, Writing.name_in}
 use Rattle.tests_force_cycles.specs.TestOf.{plain, thread_terms}
 use Rattle.tests_force_cycles.proofs.Terms.{reads-count, thread_terms-count}
 use Rattle.test_maker.specs.declared.refusal.Refusal.TheVariants.{TooManyRegisters}
 use Rattle.co_tests_laws.specs.CoherenceTests.{coherence_steps}
 use Rattle.co_tests_laws.proofs.Fits.{loop_thread}
-use Rattle.co_tests.proofs.{Cuts.loop_at, threads.put_threads.Goals.then-is_external+in-Ok, threads.put_threads.Goals.else-is_external}
+use Rattle.co_tests.proofs.{Cuts.loop_at, threads.put_threads.Goals.{then-is_external+in-Ok, else-is_external}}
 use Rattle.co_tests.proofs.Growing.{grown_none, grown_more, grown_refused, grown_all}
 use Rattle.co_tests.proofs.ThreadSteps.{none_yet, one_more, steps_most, thread_whole, thread_within, threads_count}
 use Rattle.co_tests.proofs.threads.put_threads.Goals as goal

@@ -1,10 +1,9 @@
 -- That `answer` answers as norm7, mcheck7 and diyone7 with -co do, and that the shelf is at nothing after diyone7 with -why.
 use Rattle.std.proofs.Common.{subst, Ok}
-use Rattle.diy_words.specs.declared.request.Request.{Request}
-use Rattle.diy_words.specs.{Given.GivesTask, Requests.asked_of}
-use Rattle.diy_tools.specs.KeptRequests.{edges_kept, folder_kept, named_kept, refused_why}
-use Rattle.diy_tools.specs.ArchMachines.{machine_of}
-use Rattle.diy_tools.proofs.{Coherent.coherence_answered, Executed.execution_answered, Executed.loop_answered, Running.check_answered, Running.name_answered, Shows.runs_idle}
+use Rattle.diy_words.specs.{declared.request.Request.Request, Given.GivesTask, Requests.asked_of}
+use Rattle.diy_tools.specs.{KeptRequests.{edges_kept, folder_kept, named_kept, refused_why}, ArchMachines.machine_of}
+use Rattle.diy_tools.proofs.{Coherent.coherence_answered, Executed.{execution_answered, loop_answered}, Running.{check_answered, name_answered}}
+use Rattle.diy_tools.proofs.Shows.{runs_idle}
 use Rattle.diy_tools.proofs.tools.answer.Goals as goal
 
 pub returns-in-Ok-Name-clause-answers : goal.returns-in-Ok-Name-clause-answers

@@ -1,7 +1,6 @@
 -- That the text of the condition is appended, which is all that the page holds.
 use Rattle.std.proofs.Common.{◌≡◌, ◌++◌, ◌∙◌, subst}
-use Rattle.std.specs.Prelude.{OnOk, List, ℕ}
-use Rattle.std.specs.List.{flat_map}
+use Rattle.std.specs.{Prelude.{OnOk, List, ℕ}, List.flat_map}
 use Rattle.exec_check.specs.Graphs.{quoted_byte}
 use Rattle.exec_check.proofs.GraphLines.{short_page}
 use Rattle.exec_check.proofs.graph.push_condition_text.Goals as goal

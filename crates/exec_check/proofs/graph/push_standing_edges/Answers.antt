@@ -1,6 +1,5 @@
 -- How the text grows by the line of one edge.
-use Rattle.std.proofs.Common.{map, length, ap, arith}
-use Rattle.std.proofs.lemmas.List.{length-map}
+use Rattle.std.proofs.{Common.{map, length, ap, arith}, lemmas.List.length-map}
 use Rattle.exec_check.proofs.GraphLines.{standing_all, standing_next}
 use Rattle.exec_check.proofs.graph.push_standing_edges.Goals as goal
 

@@ -1,7 +1,6 @@
 -- The loop over an order decides whether its writes are distinct.
-use Rattle.std.proofs.Common.{◌+◌, ap, sym, ◌∙◌}
+use Rattle.std.proofs.{Common.{◌+◌, ap, sym, ◌∙◌}, lemmas.Option.slice_get-get_or}
 use Rattle.std.specs.List.{list_any}
-use Rattle.std.proofs.lemmas.Option.{slice_get-get_or}
 use Rattle.exec_meaning.proofs.Loops.{distinct_step, distinct_stops, distinct_ends, after_is}
 use Rattle.exec_meaning.proofs.candidate.are_distinct.Goals as goal
 

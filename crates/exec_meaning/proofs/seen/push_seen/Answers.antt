@@ -1,9 +1,7 @@
 -- How the accesses that are seen grow by that of one item.
-use Rattle.std.proofs.Common.{Some, ap, ◌∙◌, arith}
-use Rattle.std.proofs.lemmas.Option.{slice_get-get_or}
-use Rattle.exec_meaning.proofs.SeenLaws.{after_seen, after_passed}
+use Rattle.std.proofs.{Common.{Some, ap, ◌∙◌, arith}, lemmas.Option.slice_get-get_or}
+use Rattle.exec_meaning.proofs.{SeenLaws.{after_seen, after_passed}, seen.push_seen.Goals.{in-Access+in_ok-push-in-Access, in-Barrier}}
 use Rattle.exec_meaning.proofs.seen.push_seen.Goals as goal
-use Rattle.exec_meaning.proofs.seen.push_seen.Goals.{in-Access+in_ok-push-in-Access, in-Barrier}
 
 pub loop-item-preserved : goal.loop-item-preserved
 loop-item-preserved c =

@@ -2,8 +2,7 @@
 use Rattle.std.proofs.Common.{◌≡◌, ◌<◌, length}
 use Rattle.text_parts_laws.specs.Words.{words}
 use Rattle.exec_meaning.specs.KeptExecutions.{with_read}
-use Rattle.exec_text.specs.declared.errors.ExecKind.TheVariants.{BadRead}
-use Rattle.exec_text.specs.{ExecutionText.read_named, ExecutionText.all_named, ExecutionSteps.line_added}
+use Rattle.exec_text.specs.{declared.errors.ExecKind.TheVariants.BadRead, ExecutionText.{read_named, all_named}, ExecutionSteps.line_added}
 use Rattle.exec_text.proofs.reading.add_reads.Given as goal
 
 abbrev pub invariant-loop-word : goal.invariant-loop-word

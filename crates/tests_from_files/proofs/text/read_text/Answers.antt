@@ -1,6 +1,5 @@
 -- That `read_text` reads the file that is open to its end, or up to one byte more than a test may have.
-use Rattle.std.proofs.Common.{length, take, ap, arith, length-append}
-use Rattle.std.proofs.lemmas.List.{length-take-le}
+use Rattle.std.proofs.{Common.{length, take, ap, arith, length-append}, lemmas.List.length-take-le}
 use Rattle.tests_from_files.proofs.TextLaws.{reads_whole, reads_failed, reads_long, reads_more}
 use Rattle.tests_from_files.proofs.text.read_text.Goals as goal
 

@@ -6,8 +6,7 @@ use Rattle.program_meaning.specs.Executions.{Execution}
 use Rattle.co_tests_laws.specs.CutResolution.{cut_open}
 use Rattle.co_tests_laws.proofs.Opened.{opened-threads}
 use Rattle.two_runs.specs.Runs.{thread_reads}
-use Rattle.two_runs.proofs.GrowingLists.{filled_length, filled_none, filled_to, filled_whole}
-use Rattle.two_runs.proofs.CycleReads.{threads_more}
+use Rattle.two_runs.proofs.{GrowingLists.{filled_length, filled_none, filled_to, filled_whole}, CycleReads.threads_more}
 use Rattle.two_runs.proofs.incoherent.add_reads.Goals as goal
 
 pub loop-thread-init : goal.loop-thread-init

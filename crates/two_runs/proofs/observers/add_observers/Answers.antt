@@ -1,8 +1,7 @@
 -- All observers have their reads.
-use Rattle.std.proofs.Common.{◌≡◌, ◌++◌, Some, sym, ◌∙◌, ap, arith, get_or, length, map, slice_get}
-use Rattle.std.proofs.lemmas.Option.{slice_get-get_or}
+use Rattle.std.proofs.{Common.{◌≡◌, ◌++◌, Some, sym, ◌∙◌, ap, arith, get_or, length, map, slice_get}, lemmas.Option.slice_get-get_or}
 use Rattle.list_laws.proofs.Ranks.{unrank_upto}
-use Rattle.cycle_events.specs.{Resolution.IsResolved, Resolution.external_count, Resolution.move_count, Values.is_observed}
+use Rattle.cycle_events.specs.{Resolution.{IsResolved, external_count, move_count}, Values.is_observed}
 use Rattle.test_maker.proofs.Filling.{few_threads}
 use Rattle.program_meaning.specs.Intended.{observer_reads}
 use Rattle.two_runs.specs.Runs.{cycle_reads}

@@ -1,7 +1,6 @@
 -- The first letter that leaves the access that the last edge enters is the next one that may follow.
 use Rattle.std.proofs.Common.{◌≡◌, ◌∷◌, [], ◌&&◌, arith}
-use Rattle.relax_edges.specs.declared.edge.Edge.{Edge}
-use Rattle.relax_edges.specs.EdgeTable.{same_dir, same_mark, source_of, source_mark}
+use Rattle.relax_edges.specs.{declared.edge.Edge.Edge, EdgeTable.{same_dir, same_mark, source_of, source_mark}}
 use Rattle.edge_algebra_laws.specs.Composable.{last_joins}
 use Rattle.edge_algebra_laws.proofs.Composing.{last_joins_at}
 use Rattle.cycle_enum.proofs.Passing.{next_follows, next_joined}

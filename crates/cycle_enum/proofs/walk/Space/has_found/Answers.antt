@@ -1,6 +1,5 @@
 -- A list with which no listed cycle begins isn't listed, and the test is asked only where both pruners keep all prefixes.
-use Rattle.std.proofs.Common.{[], length, refl, IsTrue}
-use Rattle.std.proofs.lemmas.List.{append-nil}
+use Rattle.std.proofs.{Common.{[], length, refl, IsTrue}, lemmas.List.append-nil}
 use Rattle.edge_algebra_laws.proofs.Composing.{path_closed}
 use Rattle.cycle_enum_laws.proofs.Stepping.{kept_all}
 use Rattle.cycle_enum.specs.Walking.{KeepsList, Lists}

@@ -1,6 +1,5 @@
 -- No listed cycle begins with a list a prefix of which leads to none.
-use Rattle.std.proofs.Common.{◌++◌, ◌∙◌, ℕ, List, take, drop, refl, sym, subst, ap, append_assoc}
-use Rattle.std.proofs.lemmas.List.{take-append-drop}
+use Rattle.std.proofs.{Common.{◌++◌, ◌∙◌, ℕ, List, take, drop, refl, sym, subst, ap, append_assoc}, lemmas.List.take-append-drop}
 use Rattle.relax_edges.specs.declared.edge.Edge.{Edge}
 use Rattle.cycle_enum_laws.specs.Search.{LeadsNowhere}
 use Rattle.cycle_enum.specs.Walking.{Lists}

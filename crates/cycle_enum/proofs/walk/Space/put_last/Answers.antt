@@ -1,6 +1,5 @@
 -- A list at the last cycle, all of whose prefixes are kept, is cut nowhere.
-use Rattle.std.proofs.Common.{◌≡◌, ◌<◌, ◌⊎◌, [], List, inl, inr, length, refl, sym, arith, rules, IsTrue}
-use Rattle.std.proofs.lemmas.List.{append-nil}
+use Rattle.std.proofs.{Common.{◌≡◌, ◌<◌, ◌⊎◌, [], List, inl, inr, length, refl, sym, arith, rules, IsTrue}, lemmas.List.append-nil}
 use Rattle.relax_edges.specs.declared.edge.Edge.{Edge}
 use Rattle.cycle_enum_laws.specs.Asked.{KeptWhole}
 use Rattle.cycle_enum_laws.proofs.Raising.{cut_whole}

@@ -1,6 +1,5 @@
 -- That `add` adds a file of the name without bytes, for which it takes no memory.
-use Rattle.std.proofs.Common.{◌≡◌, ◌-◌, ◌<◌, [], sym, ap, ◌∙◌, arith, vec_len, get_or}
-use Rattle.std.proofs.lemmas.Option.{same_Some}
+use Rattle.std.proofs.{Common.{◌≡◌, ◌-◌, ◌<◌, [], sym, ap, ◌∙◌, arith, vec_len, get_or}, lemmas.Option.same_Some}
 use Rattle.diy_io.specs.MemEntries.{IsSpare}
 use Rattle.diy_io.proofs.EntriesLaws.{same_state, entry_added, last_spare, if_ok, from_nothing, one_less}
 use Rattle.diy_io.proofs.mem_files.MemFiles.add.Goals as goal

@@ -1,7 +1,6 @@
 -- That `put` gives a file that was there its new bytes.
-use Rattle.std.proofs.Common.{◌≡◌, refl, sym, ap, ◌∙◌, arith}
+use Rattle.std.proofs.{Common.{◌≡◌, refl, sym, ap, ◌∙◌, arith}, lemmas.Grind.common_steps}
 use Rattle.std.specs.Prelude.{Some}
-use Rattle.std.proofs.lemmas.Grind.{common_steps}
 use Rattle.diy_io.specs.MemFiles.{file_place, put_in}
 use Rattle.diy_io.proofs.EntriesLaws.{entry_set, if_some_at}
 use Rattle.diy_io.proofs.mem_files.MemFiles.put.Goals as goal

@@ -1,8 +1,7 @@
 -- That `create` begins a file that was there.
 use Rattle.std.proofs.Common.{◌≡◌, ap, sym, ◌∙◌, refl, [], Some, set}
-use Rattle.diy_io.specs.{Count.next_count, MemFiles.file_place, MemFiles.file_name_at}
-use Rattle.diy_io.proofs.EntriesLaws.{on_ok_is}
-use Rattle.diy_io.proofs.ShelfLaws.{after_begun, is_place, stays_at, begins_again}
+use Rattle.diy_io.specs.{Count.next_count, MemFiles.{file_place, file_name_at}}
+use Rattle.diy_io.proofs.{EntriesLaws.on_ok_is, ShelfLaws.{after_begun, is_place, stays_at, begins_again}}
 use Rattle.diy_io.proofs.mem_shelf.MemShelfShelf.create.Goals as goal
 
 pub invariant_of-self : goal.invariant_of-self

@@ -1,9 +1,8 @@
 -- That `open_file` opens a file that is there, and says where there is none.
 use Rattle.std.proofs.Common.{◌≡◌, ℕ, refl, sym, ap, ◌∙◌, Some, None, arith}
-use Rattle.diy_io.specs.{Count.next_count, MemFiles.file_place, MemShelf.MemShelfState, MemShelf.mode_of}
+use Rattle.diy_io.specs.{Count.next_count, MemFiles.file_place, MemShelf.{MemShelfState, mode_of}, declared.mem_shelf.MemShelf.TheInside.Inside}
 use Rattle.diy_io.specs.declared.mem_shelf.Work.TheVariants as works
-use Rattle.diy_io.specs.declared.mem_shelf.MemShelf.TheInside.{Inside}
-use Rattle.diy_io.proofs.{EntriesLaws.on_ok_at, ShelfLaws.is_place, ShelfLaws.opens, ShelfLaws.misses}
+use Rattle.diy_io.proofs.{EntriesLaws.on_ok_at, ShelfLaws.{is_place, opens, misses}}
 use Rattle.diy_io.proofs.mem_shelf.MemShelfShelf.open_file.Goals as goal
 
 -- the shelf after a file was opened

@@ -1,10 +1,8 @@
 -- That `read` gives the next bytes of the file that is read.
-use Rattle.std.proofs.Common.{◌≡◌, ◌+◌, ◌-◌, ℕ, length, take, drop, ap, ◌∙◌, sym, arith, length-drop, length-take}
-use Rattle.std.proofs.lemmas.List.{take_all}
-use Rattle.diy_io.specs.{Count.next_count, Count.count_of, MemFiles.bytes_at, MemShelf.MemShelfState, MemShelf.mode_of}
+use Rattle.std.proofs.{Common.{◌≡◌, ◌+◌, ◌-◌, ℕ, length, take, drop, ap, ◌∙◌, sym, arith, length-drop, length-take}, lemmas.List.take_all}
+use Rattle.diy_io.specs.{Count.{next_count, count_of}, MemFiles.bytes_at, MemShelf.{MemShelfState, mode_of}, declared.mem_shelf.MemShelf.TheInside.Inside}
 use Rattle.diy_io.specs.declared.mem_shelf.Work.TheVariants as works
-use Rattle.diy_io.specs.declared.mem_shelf.MemShelf.TheInside.{Inside}
-use Rattle.diy_io.proofs.{EntriesLaws.on_ok_is, ShelfLaws.gives, ShelfLaws.copied, ShelfLaws.copied_count}
+use Rattle.diy_io.proofs.{EntriesLaws.on_ok_is, ShelfLaws.{gives, copied, copied_count}}
 use Rattle.diy_io.proofs.mem_shelf.MemShelfShelf.read.Goals as goal
 
 -- the shelf after bytes were read

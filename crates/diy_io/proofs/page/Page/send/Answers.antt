@@ -1,6 +1,5 @@
 -- That `send` sends a text: whole to the page, or by way of a page that is handed on.
-use Rattle.std.proofs.Common.{◌≡◌, ◌-◌, ◌++◌, ◌∙◌, ap, length, take, drop, arith, length-drop}
-use Rattle.std.proofs.lemmas.List.{length-take-le, take-append-drop, take_all}
+use Rattle.std.proofs.{Common.{◌≡◌, ◌-◌, ◌++◌, ◌∙◌, ap, length, take, drop, arith, length-drop}, lemmas.List.{length-take-le, take-append-drop, take_all}}
 use Rattle.diy_io.proofs.PageLemmas.{put_whole, filled_unsent, filled_then}
 use Rattle.diy_io.proofs.page.Page.send.Goals as goal
 
