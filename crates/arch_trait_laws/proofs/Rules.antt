@@ -62,10 +62,6 @@ pub run_load_at : (d p n : ℕ) (reads : List ℕ) (r : Run) → r.reads ≡ n �
     go (ops.LoadAt d p) (At r) ≡ At (after_load Plain r d p n 0 reads)
 run_load_at d p n reads r f = rw f refl
 
--- a load from a place wants a number where none is left
-pub run_load_at_wants : (d p : ℕ) (r : Run) → r.reads ≡ [] → go (ops.LoadAt d p) (At r) ≡ Wants r
-run_load_at_wants d p r f = ap (λ reads. taken (ops.LoadAt d p) r true reads) f
-
 -- a store to an address and an index 0
 pub run_store_index : (src base index p n mask data_mask : ℕ) (r : Run) →
     r.state.regs base ≡ held_at_place p → r.state.regs index ≡ num 0 mask →

@@ -28,17 +28,6 @@ pub incoherent_on : (arch a : ArchName) (request : Coherence) (status : Status) 
     → AnswersIncoherent (machine_of a) request status old new → AnswersIncoherent (machine_of arch) request status old new
 incoherent_on arch a request status old new same h = subst (λ (n : ArchName). AnswersIncoherent (machine_of n) request status old new) (sym same) h
 
--- where nothing is refused, an execution that is found is printed, or there is no memory for its text
-pub run_printed : (m : Machine) (refused : Option Refusal) (text : List ℕ) (meant : TestRead → Execution) (test : TestRead) (run : Execution) (status : Status) (old new : SinkSeen)
-    → refused ≡ None → IsRunOf m.puts.name m.writing text meant test run → PrintsInMemory (text_of_execution test.places run) status old new
-    → AnswersRun m refused text meant status old new
-run_printed m refused text meant test run status old new none is h =
-    subst (λ (r : Option Refusal). AnswersRun m r text meant status old new) (sym none) (of_text h)
-  where
-    of_text : PrintsInMemory (text_of_execution test.places run) status old new → AnswersRun m None text meant status old new
-    of_text (inl wants) = inl wants
-    of_text (inr prints) = inr (record { test = test; run = run; is = is; prints = prints })
-
 -- what is answered of edges that are kept is answered of those that were given
 run_answered : (m : Machine) (list : EdgeList) (es : List Edge) (last : List Edge → Option Refusal) (text : List Edge → List ℕ) (meant : List Edge → TestRead → Execution)
     (arch : ArchName) (status : Status) (old new : SinkSeen) → IsKeptSo list es

@@ -119,9 +119,6 @@ no_labels u (x ∷ xs) h = grind (arith, (no_labels u xs h.1))
 kept : (names : List (List ℕ)) (u : ℕ) (b xs : List TableEntry) → Elsewhere u xs → column_by names u (b ++ xs) ≡ column_by names u b
 kept names u b xs h = search (arith, ops_append, labels_append, no_ops, no_labels, append-nil)
 
-one_apart : (n t u : ℕ) (read : Option RawInstr) → (t == u) ≡ false → is_of u (entry_if n t read) ≡ false
-one_apart n t u read h = grind arith
-
 cell_apart : (w : Writing) (n t u : ℕ) (text : List ℕ) → (t == u) ≡ false → Elsewhere u (cell_entries w n t text)
 unfolding cell_entries
 cell_apart w n t u text h = grind arith

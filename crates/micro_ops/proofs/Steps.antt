@@ -1,11 +1,11 @@
--- What each step keeps: where it may jump, the registers that it leaves alone, what its masks name.
-use Rattle.std.proofs.Common.{ℕ, suc, ◌+◌, ◌^◌, ◌<◌, ◌≡◌, ◌==◌, refl, Bool, false, cond, Option, Some, None, ◌⊎◌, arith, lt_of_lt_of_le, pow-suc}
+-- What each step keeps: its masks name loads that were stepped.
+use Rattle.std.proofs.Common.{ℕ, suc, ◌+◌, ◌^◌, ◌<◌, ◌≡◌, Bool, cond, Option, Some, None, arith, lt_of_lt_of_le, pow-suc}
 use Rattle.std.proofs.{lemmas.Nat.or_lt, lemmas.Nat.pow_pos, Math.Pow.pow_mono}
 use Rattle.relax_edges.specs.declared.kinds.{Mark.Mark, Value.Value, Value.TheVariants.Num}
 use Rattle.micro_ops.specs.declared.{held.Held.Held, operation.Micro.Micro, operation.Item.Item}
 use Rattle.micro_ops.specs.declared.operation.Micro.TheVariants as ops
 use Rattle.micro_ops.specs.Machine.{ThreadState, Effect, bit, put, step, write_effect, becomes, loading, storing, comparing, branching, branching_on, address_mask, both_masks}
-use Rattle.micro_ops.specs.Running.{is_load, target, writes, is_named_register, is_read_item, MasksNameLoads, NamesLoads}
+use Rattle.micro_ops.specs.Running.{is_read_item, MasksNameLoads, NamesLoads}
 
 -- a fact of what a rule leads to, where there is a rule
 abbrev pub OnEffect : (Effect → Type 0) → Option Effect → Type 0
@@ -48,28 +48,6 @@ pub on_branching : (P : Effect → Type 0) (s : ThreadState) (mask : ℕ) (value
     ((b : Bool) → OnEffect P (branching s mask b label)) →
     OnEffect P (branching_on s mask value label)
 on_branching P s mask (x) label h = grind arith
-
--- a step jumps nowhere, or to the label of its operation
-abbrev pub JumpsTo : Option ℕ → Effect → Type 0
-JumpsTo label effect = (effect.jump ≡ None) ⊎ (effect.jump ≡ label)
-
--- each step jumps nowhere, or to the label of its operation
-pub step_jumps : (op : Micro) (s : ThreadState) (read : Option ℕ) →
-    OnEffect (JumpsTo (target op)) (step op s read)
-step_jumps (x) s read = grind arith
-
--- a step keeps what a register holds
-abbrev pub Keeps : ThreadState → ℕ → Effect → Type 0
-Keeps s r effect = effect.state.regs r ≡ s.regs r
-
--- a register that wasn't written holds what it held
-pub put_other : (s : ThreadState) (r d : ℕ) (h : Held) → (r == d) ≡ false → (put s d h).regs r ≡ s.regs r
-put_other s r d h e = rw e refl
-
--- each step keeps what a register holds that its operation doesn't write
-pub step_keeps : (op : Micro) (s : ThreadState) (read : Option ℕ) (r : ℕ) →
-    is_named_register r (writes op) ≡ false → OnEffect (Keeps s r) (step op s read)
-step_keeps (x) s read r e = grind arith
 
 -- an item names only loads below a number, if there is one
 abbrev pub ItemNames : ℕ → Option Item → Type 0
@@ -145,12 +123,3 @@ step_named (ops.BranchNz a l) s read h =
     (λ b. named_branch s (s.regs a).mask b l h (h.in_regs a))
 step_named (ops.Label l) s read h = record { masks = h; item = tt; loads = omega arith }
 step_named (ops.Barrier kind) s read h = grind arith
-
--- a step counts a load, and no other operation
-abbrev pub Counts : ThreadState → ℕ → Effect → Type 0
-Counts s more effect = effect.state.loads ≡ s.loads + more
-
--- each step counts a load, and no other operation
-pub step_counts : (op : Micro) (s : ThreadState) (read : Option ℕ) →
-    OnEffect (Counts s (cond (is_load op) 1 0)) (step op s read)
-step_counts (x) s read = grind arith
