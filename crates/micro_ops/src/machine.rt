@@ -47,14 +47,19 @@ pub struct Stepped {
 #[error("no rule fits the operands, or a load has nothing to read")]
 pub struct Stuck;
 
+/// The number `n`, which depends on the loads that the mask names.
+fn number(n: u32, mask: u64) -> Held
+    ensures { result ≡ num n mask }
+{
+    let value = Value::Num(n);
+    Held { value, mask }
+}
+
 /// Registers that hold the number 0 and depend on no load.
 fn blank_registers() -> [Held; 32]
     ensures { result ≡ replicate 32 (num 0 0) }
 {
-    [Held {
-        value: Value::Num(0),
-        mask: 0,
-    }; 32]
+    [number(0, 0); 32]
 }
 
 /// Gives each register that `init` names the value of its first entry.
@@ -70,24 +75,10 @@ fn name_registers(registers: &mut [Held], init: &[(u8, Value)])
 }
 
 impl Stepped {
-    /// A step that makes no item and doesn't jump.
-    fn quiet_step() -> Stepped
-        ensures { result ≡ record { item = None; jump = None } }
+    fn new(item: Option<Item>, jump: Option<u8>) -> Stepped
+        ensures { result ≡ record { item = item; jump = jump } }
     {
-        Stepped {
-            item: None,
-            jump: None,
-        }
-    }
-
-    /// A step that makes an item.
-    fn makes(item: Item) -> Stepped
-        ensures { result ≡ record { item = Some item; jump = None } }
-    {
-        Stepped {
-            item: Some(item),
-            jump: None,
-        }
+        Stepped { item, jump }
     }
 }
 
@@ -136,8 +127,14 @@ impl Machine {
         match op {
             Micro::Imm { dst, n } => self.write(dst, 0, Some(Value::Num(n))),
             Micro::Xor { dst, a, b } => self.exclusive_or(dst, a, b),
-            Micro::AddImm { dst, a, n } => self.add_immediate(dst, a, n),
-            Micro::OrImm { dst, a, n } => self.or_immediate(dst, a, n),
+            Micro::AddImm { dst, a, n } => {
+                let held = self.content_of(a);
+                self.write(dst, held.mask, add_immediate(held.value, n))
+            }
+            Micro::OrImm { dst, a, n } => {
+                let held = self.content_of(a);
+                self.write(dst, held.mask, or_immediate(held.value, n))
+            }
             Micro::Add { dst, a, b } => self.add(dst, a, b),
             Micro::Load { dst, base, index } => {
                 self.load(
@@ -166,15 +163,7 @@ impl Machine {
                     self.content_of(src),
                 )
             }
-            Micro::StoreAt { place, n } => self.store(
-                Mark::Plain,
-                Some(place),
-                0,
-                Held {
-                    value: Value::Num(n),
-                    mask: 0,
-                },
-            ),
+            Micro::StoreAt { place, n } => self.store(Mark::Plain, Some(place), 0, number(n, 0)),
             Micro::StoreRel { src, base } => {
                 self.store(
                     Mark::Release,
@@ -186,7 +175,7 @@ impl Machine {
             Micro::Cmp { a, b } => self.compare(a, b),
             Micro::BranchEq { label } => Ok(self.branch(self.flag_mask, self.flag, label)),
             Micro::BranchNz { a, label } => self.branch_on(a, label),
-            Micro::Label { .. } => Ok(Stepped::quiet_step()),
+            Micro::Label { .. } => Ok(Stepped::new(None, None)),
             Micro::Barrier { kind } => Ok(self.barrier(kind)),
         }
     }
@@ -220,11 +209,9 @@ impl Machine {
         ensures gives { effect result (state_of self.new) ≡ write_effect (state_of self.old) register mask value }
         ensures unchanged { OnErr result (self.new ≡ self.old) }
     {
-        let Some(value) = value else {
-            return Err(Stuck);
-        };
+        let value = value.ok_or(Stuck)?;
         self.registers[usize::from(register)] = Held { value, mask };
-        Ok(Stepped::quiet_step())
+        Ok(Stepped::new(None, None))
     }
 
     fn exclusive_or(&mut self, register: u8, a: u8, b: u8) -> Result<Stepped, Stuck>
@@ -242,24 +229,6 @@ impl Machine {
             left.mask | right.mask,
             exclusive_or(left.value, right.value),
         )
-    }
-
-    fn add_immediate(&mut self, register: u8, a: u8, n: u32) -> Result<Stepped, Stuck>
-        requires { InRange (Micro.AddImm register a n) }
-        ensures gives { effect result (state_of self.new) ≡ step (Micro.AddImm register a n) (state_of self.old) None }
-        ensures unchanged { OnErr result (self.new ≡ self.old) }
-    {
-        let held = self.content_of(a);
-        self.write(register, held.mask, add_immediate(held.value, n))
-    }
-
-    fn or_immediate(&mut self, register: u8, a: u8, n: u32) -> Result<Stepped, Stuck>
-        requires { InRange (Micro.OrImm register a n) }
-        ensures gives { effect result (state_of self.new) ≡ step (Micro.OrImm register a n) (state_of self.old) None }
-        ensures unchanged { OnErr result (self.new ≡ self.old) }
-    {
-        let held = self.content_of(a);
-        self.write(register, held.mask, or_immediate(held.value, n))
     }
 
     fn add(&mut self, register: u8, a: u8, b: u8) -> Result<Stepped, Stuck>
@@ -290,9 +259,7 @@ impl Machine {
         ensures gives { effect result (state_of self.new) ≡ loading mark (state_of self.old) register place mask read }
         ensures unchanged { OnErr result (self.new ≡ self.old) }
     {
-        let (Some(place), Some(value)) = (place, read) else {
-            return Err(Stuck);
-        };
+        let (place, value) = place.zip(read).ok_or(Stuck)?;
         let item = Item::Access {
             dir: Dir::R,
             mark,
@@ -302,12 +269,9 @@ impl Machine {
             data_mask: 0,
             ctrl_mask: self.control,
         };
-        self.registers[usize::from(register)] = Held {
-            value: Value::Num(value),
-            mask: 1 << self.loads,
-        };
+        self.registers[usize::from(register)] = number(value, 1 << self.loads);
         self.loads += 1;
-        Ok(Stepped::makes(item))
+        Ok(Stepped::new(Some(item), None))
     }
 
     fn store(
@@ -322,7 +286,7 @@ impl Machine {
         let (Some(place), Value::Num(value)) = (place, source.value) else {
             return Err(Stuck);
         };
-        Ok(Stepped::makes(Item::Access {
+        let item = Item::Access {
             dir: Dir::W,
             mark,
             place,
@@ -330,7 +294,8 @@ impl Machine {
             addr_mask: mask,
             data_mask: source.mask,
             ctrl_mask: self.control,
-        }))
+        };
+        Ok(Stepped::new(Some(item), None))
     }
 
     fn compare(&mut self, a: u8, b: u8) -> Result<Stepped, Stuck>
@@ -345,22 +310,16 @@ impl Machine {
         } else {
             equal(left.value, right.value)
         };
-        let Some(flag) = same else {
-            return Err(Stuck);
-        };
-        self.flag = flag;
+        self.flag = same.ok_or(Stuck)?;
         self.flag_mask = left.mask | right.mask;
-        Ok(Stepped::quiet_step())
+        Ok(Stepped::new(None, None))
     }
 
     fn branch(&mut self, mask: u64, taken: bool, label: u8) -> Stepped
         ensures { effect (Ok result) (state_of self.new) ≡ branching (state_of self.old) mask taken label }
     {
         self.control |= mask;
-        Stepped {
-            item: None,
-            jump: if taken { Some(label) } else { None },
-        }
+        Stepped::new(None, if taken { Some(label) } else { None })
     }
 
     fn branch_on(&mut self, a: u8, label: u8) -> Result<Stepped, Stuck>
@@ -379,6 +338,6 @@ impl Machine {
         ensures { effect (Ok result) (state_of self.now) ≡ step (Micro.Barrier kind) (state_of self.now) None }
     {
         let ctrl_mask = self.control;
-        Stepped::makes(Item::Barrier { kind, ctrl_mask })
+        Stepped::new(Some(Item::Barrier { kind, ctrl_mask }), None)
     }
 }
