@@ -4,7 +4,7 @@ ghost use Rattle.micro_ops.specs.{Running.{initial_state, is_load, starting}, Ma
 
 use crate::held::Held;
 use crate::operand::{add_immediate, equal, exclusive_or, or_immediate, place, sum};
-use crate::operation::{Barrier, Item, Micro};
+use crate::operation::{Item, Micro};
 use relax_edges::{Dir, Mark, Value};
 use std::marker::Model;
 use thiserror::Error;
@@ -135,7 +135,11 @@ impl Machine {
                 let held = self.content_of(a);
                 self.write(dst, held.mask, or_immediate(held.value, n))
             }
-            Micro::Add { dst, a, b } => self.add(dst, a, b),
+            Micro::Add { dst, a, b } => {
+                let left = self.content_of(a);
+                let right = self.content_of(b);
+                self.write(dst, left.mask | right.mask, sum(left.value, right.value))
+            }
             Micro::Load { dst, base, index } => {
                 self.load(
                     Mark::Plain,
@@ -174,9 +178,18 @@ impl Machine {
             }
             Micro::Cmp { a, b } => self.compare(a, b),
             Micro::BranchEq { label } => Ok(self.branch(self.flag_mask, self.flag, label)),
-            Micro::BranchNz { a, label } => self.branch_on(a, label),
+            Micro::BranchNz { a, label } => {
+                let held = self.content_of(a);
+                let Value::Num(n) = held.value else {
+                    return Err(Stuck);
+                };
+                Ok(self.branch(held.mask, n != 0, label))
+            }
             Micro::Label { .. } => Ok(Stepped::new(None, None)),
-            Micro::Barrier { kind } => Ok(self.barrier(kind)),
+            Micro::Barrier { kind } => {
+                let ctrl_mask = self.control;
+                Ok(Stepped::new(Some(Item::Barrier { kind, ctrl_mask }), None))
+            }
         }
     }
 
@@ -228,20 +241,6 @@ impl Machine {
             register,
             left.mask | right.mask,
             exclusive_or(left.value, right.value),
-        )
-    }
-
-    fn add(&mut self, register: u8, a: u8, b: u8) -> Result<Stepped, Stuck>
-        requires { InRange (Micro.Add register a b) }
-        ensures gives { effect result (state_of self.new) ≡ step (Micro.Add register a b) (state_of self.old) None }
-        ensures unchanged { OnErr result (self.new ≡ self.old) }
-    {
-        let left = self.content_of(a);
-        let right = self.content_of(b);
-        self.write(
-            register,
-            left.mask | right.mask,
-            sum(left.value, right.value),
         )
     }
 
@@ -320,24 +319,5 @@ impl Machine {
     {
         self.control |= mask;
         Stepped::new(None, if taken { Some(label) } else { None })
-    }
-
-    fn branch_on(&mut self, a: u8, label: u8) -> Result<Stepped, Stuck>
-        requires { a < 32 }
-        ensures gives { effect result (state_of self.new) ≡ step (Micro.BranchNz a label) (state_of self.old) None }
-        ensures unchanged { OnErr result (self.new ≡ self.old) }
-    {
-        let held = self.content_of(a);
-        let Value::Num(n) = held.value else {
-            return Err(Stuck);
-        };
-        Ok(self.branch(held.mask, n != 0, label))
-    }
-
-    fn barrier(&self, kind: Barrier) -> Stepped
-        ensures { effect (Ok result) (state_of self.now) ≡ step (Micro.Barrier kind) (state_of self.now) None }
-    {
-        let ctrl_mask = self.control;
-        Stepped::new(Some(Item::Barrier { kind, ctrl_mask }), None)
     }
 }
