@@ -4,6 +4,7 @@ ghost use Rattle.arch_trait.specs.InstructionPieces.{raw_seen};
 ghost use Rattle.arch_instructions_laws.specs.{Kinds.{raw_with, unnamed, with_place_name, at_label}, Tables.{hole_found}};
 ghost use Rattle.arch_instructions.specs.Founds.{and_founds, found_seen, founds_seen, founds_if};
 
+use crate::indexed::{indexed_load, indexed_store};
 use crate::numbers::{immediate, register_in};
 use arch_instructions_laws::{Hole, Kind};
 use arch_trait::{Named, Raw};
@@ -34,31 +35,21 @@ pub(crate) fn add_found<'a>(hole: Hole, text: &'a [u8], founds: &mut Founds<'a>)
     ensures found { founds_if result founds.new.items ≡ and_founds founds.old.items (hole_found hole text.now) }
     ensures more { array_vec_len founds.new ≤ array_vec_len founds.old + 1 }
 {
-    match hole {
-        Hole::Empty => text.is_empty(),
+    let found = match hole {
+        Hole::Empty => return text.is_empty(),
         Hole::Register { first, count } => match register_in(first, count, text) {
-            Some(r) => {
-                founds.push(Found::Register(r));
-                true
-            }
-            None => false,
+            Some(r) => Found::Register(r),
+            None => return false,
         },
         Hole::Number => match immediate(text) {
-            Some(n) => {
-                founds.push(Found::Number(n));
-                true
-            }
-            None => false,
+            Some(n) => Found::Number(n),
+            None => return false,
         },
-        Hole::Place => {
-            founds.push(Found::Place(text));
-            true
-        }
-        Hole::Label => {
-            founds.push(Found::Label(text));
-            true
-        }
-    }
+        Hole::Place => Found::Place(text),
+        Hole::Label => Found::Label(text),
+    };
+    founds.push(found);
+    true
 }
 
 /// The operation of a kind that has these operands.
@@ -98,11 +89,17 @@ fn raw_of_one(kind: Kind, a: Found<'_>) -> Option<Raw<'_>>
 fn raw_of_two<'a>(kind: Kind, a: Found<'a>, b: Found<'a>) -> Option<Raw<'a>>
     ensures { raw_seen result ≡ raw_with kind (found_seen a.entry ∷ found_seen b.entry ∷ []) }
 {
-    match (a, b) {
-        (Found::Register(a), Found::Register(b)) => raw_of_registers(kind, a, b),
-        (Found::Register(a), Found::Number(n)) => raw_of_number(kind, a, n),
-        (Found::Register(a), Found::Label(name)) => raw_of_label(kind, a, name),
-        (Found::Place(name), Found::Number(n)) => raw_of_place(kind, name, n),
+    match (kind, a, b) {
+        (_, Found::Register(a), Found::Register(b)) => raw_of_registers(kind, a, b),
+        (Kind::SetNumber, Found::Register(dst), Found::Number(n)) => {
+            raw_unnamed(Micro::Imm { dst, n })
+        }
+        (Kind::BranchNotZero, Found::Register(a), Found::Label(name)) => {
+            at_label(Micro::BranchNz { a, label: 0 }, name)
+        }
+        (Kind::StoreNumber, Found::Place(name), Found::Number(n)) => {
+            at_place(Micro::StoreAt { place: 0, n }, name)
+        }
         _ => None,
     }
 }
@@ -128,39 +125,13 @@ fn raw_of_registers(kind: Kind, a: u8, b: u8) -> Option<Raw<'static>>
     }
 }
 
-fn raw_of_number(kind: Kind, a: u8, n: u32) -> Option<Raw<'static>>
-    ensures { raw_seen result ≡ raw_with kind (found_seen (Found.Register a) ∷ found_seen (Found.Number n) ∷ []) }
-{
-    match kind {
-        Kind::SetNumber => raw_unnamed(Micro::Imm { dst: a, n }),
-        _ => None,
-    }
-}
-
-fn raw_of_label(kind: Kind, a: u8, name: &[u8]) -> Option<Raw<'_>>
-    ensures { raw_seen result ≡ raw_with kind (found_seen (Found.Register a) ∷ found_seen (Found.Label name.entry) ∷ []) }
-{
-    match kind {
-        Kind::BranchNotZero => at_label(Micro::BranchNz { a, label: 0 }, name),
-        _ => None,
-    }
-}
-
-fn raw_of_place(kind: Kind, name: &[u8], n: u32) -> Option<Raw<'_>>
-    ensures { raw_seen result ≡ raw_with kind (found_seen (Found.Place name.entry) ∷ found_seen (Found.Number n) ∷ []) }
-{
-    match kind {
-        Kind::StoreNumber => at_place(Micro::StoreAt { place: 0, n }, name),
-        _ => None,
-    }
-}
-
 fn raw_of_three(kind: Kind, a: u8, b: u8, c: Found<'_>) -> Option<Raw<'_>>
     ensures { raw_seen result ≡ raw_with kind (found_seen (Found.Register a) ∷ found_seen (Found.Register b) ∷ found_seen c.entry ∷ []) }
 {
-    match c {
-        Found::Register(c) => raw_of_all_registers(kind, a, b, c),
-        Found::Number(n) => raw_of_registers_number(kind, a, b, n),
+    match (kind, c) {
+        (_, Found::Register(c)) => raw_of_all_registers(kind, a, b, c),
+        (Kind::AddNumber, Found::Number(n)) => raw_unnamed(Micro::AddImm { dst: a, a: b, n }),
+        (Kind::OrNumber, Found::Number(n)) => raw_unnamed(Micro::OrImm { dst: a, a: b, n }),
         _ => None,
     }
 }
@@ -171,40 +142,10 @@ fn raw_of_all_registers(kind: Kind, a: u8, b: u8, c: u8) -> Option<Raw<'static>>
     match kind {
         Kind::ExclusiveOr => raw_unnamed(Micro::Xor { dst: a, a: b, b: c }),
         Kind::Sum => raw_unnamed(Micro::Add { dst: a, a: b, b: c }),
-        Kind::LoadIndexed => raw_unnamed(load_indexed(a, b, c)),
-        Kind::LoadIndexFirst => raw_unnamed(load_indexed(a, c, b)),
-        Kind::StoreIndexed => raw_unnamed(store_indexed(a, b, c)),
-        Kind::StoreIndexFirst => raw_unnamed(store_indexed(a, c, b)),
-        _ => None,
-    }
-}
-
-fn load_indexed(dst: u8, base: u8, index: u8) -> Micro
-    ensures { result ≡ Micro.Load dst base (Some index) }
-{
-    Micro::Load {
-        dst,
-        base,
-        index: Some(index),
-    }
-}
-
-fn store_indexed(src: u8, base: u8, index: u8) -> Micro
-    ensures { result ≡ Micro.Store src base (Some index) }
-{
-    Micro::Store {
-        src,
-        base,
-        index: Some(index),
-    }
-}
-
-fn raw_of_registers_number(kind: Kind, a: u8, b: u8, n: u32) -> Option<Raw<'static>>
-    ensures { raw_seen result ≡ raw_with kind (found_seen (Found.Register a) ∷ found_seen (Found.Register b) ∷ found_seen (Found.Number n) ∷ []) }
-{
-    match kind {
-        Kind::AddNumber => raw_unnamed(Micro::AddImm { dst: a, a: b, n }),
-        Kind::OrNumber => raw_unnamed(Micro::OrImm { dst: a, a: b, n }),
+        Kind::LoadIndexed => raw_unnamed(indexed_load(c, a, b)),
+        Kind::LoadIndexFirst => raw_unnamed(indexed_load(b, a, c)),
+        Kind::StoreIndexed => raw_unnamed(indexed_store(c, a, b)),
+        Kind::StoreIndexFirst => raw_unnamed(indexed_store(b, a, c)),
         _ => None,
     }
 }

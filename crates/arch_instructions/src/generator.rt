@@ -5,7 +5,7 @@ ghost use Rattle.arch_trait.specs.{Addressed.{link_code, puts_of, store_on, load
 ghost use Rattle.arch_trait.specs.{Links.{is_data}, Taking.{took, with_address}};
 
 use crate::own::OwnInstructions;
-use arch_trait::{AskedAccess, Instrs, Link, MAX_INSTRS, Regs, Shape};
+use arch_trait::{AskedAccess, DependentAccess, Instrs, Link, MAX_INSTRS, Regs, Shape};
 use micro_ops::{Barrier, Micro};
 use relax_edges::{FenceKind, Mark};
 
@@ -71,13 +71,7 @@ pub fn put_load<I: OwnInstructions>(regs: &mut Regs, access: AskedAccess, out: &
         Some(source) => {
             let taken = regs.take_dependent(access.place);
             out.push(zero_from(source, taken.dependency));
-            put_load_through::<I>(
-                access.mark,
-                taken.dependency,
-                taken.value,
-                taken.address,
-                out,
-            );
+            put_load_through::<I>(access.mark, taken, out);
             taken.value
         }
         None => {
@@ -125,13 +119,7 @@ fn put_store_dependent<I: OwnInstructions>(
         dst: taken.value,
         n: u32::from(value),
     });
-    put_store_through::<I>(
-        access.mark,
-        taken.dependency,
-        taken.value,
-        taken.address,
-        out,
-    );
+    put_store_through::<I>(access.mark, taken, out);
 }
 
 /// Appends the code of a store whose address depends on no load, and its value on register `source`, if
@@ -190,45 +178,33 @@ fn store(mark: Mark, src: u8, base: u8) -> Micro
     }
 }
 
-/// Appends a load of the mark to register `value` at the address in register `address`, so that the
-/// address depends on register `dependency`, which holds 0.
-fn put_load_through<I: OwnInstructions>(
-    mark: Mark,
-    dependency: u8,
-    value: u8,
-    address: u8,
-    out: &mut Instrs,
-)
+/// Appends a load of the mark to the value's register at the address in the address register, so that the
+/// address depends on the dependency's register, which holds 0.
+fn put_load_through<I: OwnInstructions>(mark: Mark, taken: DependentAccess, out: &mut Instrs)
     requires { array_vec_len out.old + 2 ≤ MAX_INSTRS }
-    ensures { out.new.items ≡ out.old.items ++ load_through I.own mark dependency value address }
+    ensures { out.new.items ≡ out.old.items ++ load_through I.own mark taken.dependency taken.value taken.address }
 {
     match mark {
         Mark::Acquire => {
-            out.push(address_in(dependency, address));
-            out.push(load(mark, value, dependency));
+            out.push(address_in(taken.dependency, taken.address));
+            out.push(load(mark, taken.value, taken.dependency));
         }
-        _ => I::put_dependent_load(dependency, value, address, out),
+        _ => I::put_dependent_load(taken.dependency, taken.value, taken.address, out),
     }
 }
 
-/// Appends a store of the mark of register `value` at the address in register `address`, so that the
-/// address depends on register `dependency`, which holds 0.
-fn put_store_through<I: OwnInstructions>(
-    mark: Mark,
-    dependency: u8,
-    value: u8,
-    address: u8,
-    out: &mut Instrs,
-)
+/// Appends a store of the mark of the value's register at the address in the address register, so that the
+/// address depends on the dependency's register, which holds 0.
+fn put_store_through<I: OwnInstructions>(mark: Mark, taken: DependentAccess, out: &mut Instrs)
     requires { array_vec_len out.old + 2 ≤ MAX_INSTRS }
-    ensures { out.new.items ≡ out.old.items ++ store_through I.own mark dependency value address }
+    ensures { out.new.items ≡ out.old.items ++ store_through I.own mark taken.dependency taken.value taken.address }
 {
     match mark {
         Mark::Release => {
-            out.push(address_in(dependency, address));
-            out.push(store(mark, value, dependency));
+            out.push(address_in(taken.dependency, taken.address));
+            out.push(store(mark, taken.value, taken.dependency));
         }
-        _ => I::put_dependent_store(dependency, value, address, out),
+        _ => I::put_dependent_store(taken.dependency, taken.value, taken.address, out),
     }
 }
 
