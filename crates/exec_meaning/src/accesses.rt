@@ -77,10 +77,7 @@ pub(crate) fn access_at(all: &[Accesses], name: WriteAt) -> Option<Access>
     ensures { result ≡ at_name all.now name }
 {
     let thread = all.get(usize::from(name.thread))?;
-    match thread.as_slice().get(usize::from(name.access)) {
-        Some(access) => Some(*access),
-        None => None,
-    }
+    thread.as_slice().get(usize::from(name.access)).copied()
 }
 
 /// Whether two names are the same.
@@ -101,18 +98,12 @@ pub(crate) fn has_numbers(write: WriteAt, thread: usize, access: usize) -> bool
 pub(crate) fn is_read(access: &Access) -> bool
     ensures { result ≡ is_read access.now }
 {
-    match access.dir {
-        Dir::R => true,
-        Dir::W => false,
-    }
+    access.dir == Dir::R
 }
 
 /// Whether an access writes to a place.
 pub(crate) fn writes_to(place: u8, access: &Access) -> bool
     ensures { result ≡ writes_to place access.now }
 {
-    match access.dir {
-        Dir::R => false,
-        Dir::W => access.place == place,
-    }
+    access.dir == Dir::W && access.place == place
 }

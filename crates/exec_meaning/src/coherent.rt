@@ -21,22 +21,14 @@ pub(crate) struct NumberedAccess {
     pub(crate) access: Access,
 }
 
-fn count_reads(accesses: &[Access]) -> usize
-    ensures { result ≡ count_by is_read accesses.now }
-{
-    accesses.iter().filter(|access| is_read(access)).count()
-}
-
 /// How many of the first accesses of a thread read.
 #[tactic(auto, using(std::proofs::lemmas::List::take_all))]
 fn reads_among(accesses: &[Access], first: usize) -> usize
     ensures { result ≡ count_by is_read (take first accesses.now) }
 {
-    if first < accesses.len() {
-        count_reads(&accesses[..first])
-    } else {
-        count_reads(accesses)
-    }
+    let first = first.min(accesses.len());
+    let among = &accesses[..first];
+    among.iter().filter(|access| is_read(access)).count()
 }
 
 /// How many accesses of a thread before this one read.
@@ -56,13 +48,9 @@ fn read_at(all: &[Accesses], exec: &Execution, thread: usize, access: usize) -> 
     if thread >= usize::from(exec.threads()) {
         return None;
     }
-    match exec
-        .reads(thread as u8)
+    exec.reads(thread as u8)
         .get(reads_before(all, thread, access))
-    {
-        Some(read) => Some(*read),
-        None => None,
-    }
+        .copied()
 }
 
 /// The write that an access reads.

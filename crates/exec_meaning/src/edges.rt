@@ -1,6 +1,6 @@
 ghost use Rattle.std.specs.{Prelude.{◌≡◌, ◌↔◌, ◌==◌, ◌^◌, ◌<◌, IsTrue, IfOk, length, map}, Int.{bit_at}};
 ghost use Rattle.cycle_events.specs.Resolution.{event_after};
-ghost use Rattle.program_meaning.specs.{Accesses.{at_name, visits_of}, Standing.{access_at, is_in_mask, event_name}, Programs.{IsCandidate}};
+ghost use Rattle.program_meaning.specs.{Accesses.{visits_of}, Standing.{access_at, is_in_mask, event_name}, Programs.{IsCandidate}};
 ghost use Rattle.litmus_text.specs.ReadPrograms.{program_read};
 ghost use Rattle.exec_meaning.specs.StandingEdges.{EdgeStands, named_access, same_fence, barriers_agree, is_alone, are_at, is_source, reaches, comes_before, communicates_by, joins, depends_as, barriers_wait, waits, depends_by, ties_by, stands, stands_if};
 
@@ -18,38 +18,10 @@ use program_meaning::{Barred, WriteAt};
 use relax_edges::{Com, DepKind, Edge, FenceKind, Kind, Reach, Sd};
 use std::alloc::{AllocError, Global};
 
-fn same_fence(a: FenceKind, b: FenceKind) -> bool
-    ensures { result ≡ same_fence a b }
-{
-    match (a, b) {
-        (FenceKind::MFence, FenceKind::MFence)
-        | (FenceKind::Sync, FenceKind::Sync)
-        | (FenceKind::LwSync, FenceKind::LwSync)
-        | (FenceKind::Eieio, FenceKind::Eieio)
-        | (FenceKind::ISync, FenceKind::ISync)
-        | (FenceKind::DmbSy, FenceKind::DmbSy)
-        | (FenceKind::DmbLd, FenceKind::DmbLd)
-        | (FenceKind::DmbSt, FenceKind::DmbSt)
-        | (FenceKind::Dmb, FenceKind::Dmb) => true,
-        (
-            FenceKind::Fence { pred, succ },
-            FenceKind::Fence {
-                pred: other_pred,
-                succ: other_succ,
-            },
-        ) => pred == other_pred && succ == other_succ,
-        _ => false,
-    }
-}
-
 fn same_barrier(a: Barrier, b: Barrier) -> bool
     ensures { result ≡ barriers_agree a b }
 {
-    match (a, b) {
-        (Barrier::Fence(kind), Barrier::Fence(other)) => same_fence(kind, other),
-        (Barrier::Isb, Barrier::Isb) => true,
-        _ => false,
-    }
+    a == b
 }
 
 /// Whether the only barrier is this one.
@@ -76,10 +48,7 @@ fn are_at(sd: Sd, from: u8, to: u8) -> bool
 fn is_source(source: Option<WriteAt>, write: WriteAt) -> bool
     ensures { result ≡ is_source source write }
 {
-    match source {
-        Some(read) => is_same(read, write),
-        None => false,
-    }
+    source.is_some_and(|read| is_same(read, write))
 }
 
 /// Whether an edge leads from one name to the other: to the next access of its thread, or to another
@@ -231,12 +200,11 @@ fn ties_by(kind: Kind, all: &[Accesses], source: &NamedAccess, target: &Visit) -
     ensures { result ≡ ties_by kind all.now source.now target.now }
 {
     match kind {
-        Kind::Com { reach, .. } => match reach {
-            Reach::Internal => target.barriers().is_empty()
-                && depends(Tie::Nothing, all, source, target),
-            Reach::External => true,
-        },
-        Kind::Po { .. } => target.barriers().is_empty()
+        Kind::Com {
+            reach: Reach::External,
+            ..
+        } => true,
+        Kind::Com { .. } | Kind::Po { .. } => target.barriers().is_empty()
             && depends(Tie::Nothing, all, source, target),
         Kind::Fenced { fence, .. } => {
             is_alone(Barrier::Fence(fence), target.barriers())
@@ -274,22 +242,9 @@ fn stands_if(
 ) -> bool
     ensures { result ≡ stands_if all.now exec.now edge source.now target.now }
 {
-    match source {
-        Some(source) => match target {
-            Some(target) => stands(all, exec, edge, source, target),
-            None => false,
-        },
-        None => false,
-    }
-}
-
-/// The access with a name, without its name, if it is there.
-fn visit_of(alloc: Global, traces: &[Trace], name: WriteAt) -> Result<Option<Visit>, AllocError>
-    ensures { IfOk result (λ visit. visit ≡ at_name (map (λ trace. visits_of trace.items) traces.now) name) }
-{
-    match traces.get(usize::from(name.thread)) {
-        Some(trace) => visit_at(alloc, trace.items(), name.access),
-        None => Ok(None),
+    match (source, target) {
+        (Some(source), Some(target)) => stands(all, exec, edge, source, target),
+        _ => false,
     }
 }
 
@@ -301,7 +256,10 @@ fn named_access(
 ) -> Result<Option<NamedAccess>, AllocError>
     ensures { IfOk result (λ access. access ≡ named_access (map (λ trace. visits_of trace.items) traces.now) name) }
 {
-    match visit_of(alloc, traces, name)? {
+    let Some(trace) = traces.get(usize::from(name.thread)) else {
+        return Ok(None);
+    };
+    match visit_at(alloc, trace.items(), name.access)? {
         Some(visit) => Ok(Some(NamedAccess::new(name, visit))),
         None => Ok(None),
     }
