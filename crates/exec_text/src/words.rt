@@ -36,10 +36,7 @@ fn source_named(threads: u8, word: &[u8]) -> Option<Option<WriteAt>>
     if word == b"init".as_slice() {
         return Some(None);
     }
-    match access_named(threads, word) {
-        Some(access) => Some(Some(access)),
-        None => None,
-    }
+    access_named(threads, word).map(Some)
 }
 
 /// The value of a read and what it reads, which `VALUE@init` or `VALUE@T.N` names.

@@ -1,5 +1,5 @@
 ghost use Rattle.std.specs.Prelude.{◌≡◌};
-ghost use Rattle.tests_from_files.specs.{declared.classified_errors.TextFault.TheVariants.{Wrong}, QuotedCycle.{cycle_or_fault, no_cycle, text_said}};
+ghost use Rattle.tests_from_files.specs.{QuotedCycle.{cycle_or_fault, text_said}};
 ghost use Rattle.tests_from_files.specs.Read.{SaysCycleInMemory};
 
 use crate::classified_errors::{FileError, FileKind, TextFault};
@@ -28,18 +28,8 @@ pub(crate) fn cycle_of_text<A: Arch>(alloc: Global, text: &[u8]) -> Result<Cycle
 fn cycle_or_fault(cycle: Option<Cycle>) -> Result<Cycle, TextFault>
     ensures { SaysCycleInMemory result (cycle_or_fault cycle) }
 {
-    match cycle {
-        Some(cycle) => Ok(cycle),
-        None => Err(no_cycle()),
-    }
-}
-
-/// The fault of a test that quotes no cycle.
-fn no_cycle() -> TextFault
-    ensures { result ≡ Wrong no_cycle }
-{
-    TextFault::Wrong(FileError {
+    cycle.ok_or(TextFault::Wrong(FileError {
         line: QUOTED_LINE,
         kind: FileKind::NoCycle,
-    })
+    }))
 }
