@@ -85,8 +85,5 @@ fn put_edges(edges: &[Edge], kept: &mut ArrayVec<Edge, MAX_EDGES>)
     ensures { kept.new.items ≡ edges.now }
 {
     kept.clear();
-    match kept.try_extend_from_slice(edges) {
-        Ok(()) => {}
-        Err(_) => unreachable!(),
-    }
+    kept.try_extend_from_slice(edges).unwrap();
 }
