@@ -42,29 +42,20 @@ pub(crate) enum Relation {
 fn is_read(access: &Access) -> bool
     ensures { result ≡ is_read access.now }
 {
-    match access.dir {
-        Dir::R => true,
-        Dir::W => false,
-    }
+    access.dir == Dir::R
 }
 
 fn writes_to(place: u8, access: &Access) -> bool
     ensures { result ≡ writes_to place access.now }
 {
-    match access.dir {
-        Dir::R => false,
-        Dir::W => access.place == place,
-    }
+    access.dir == Dir::W && access.place == place
 }
 
 #[tactic(auto, using(crate::proofs::GraphLines::first_follows_none, crate::proofs::GraphLines::follows_one))]
 fn is_next(before: usize, after: usize) -> bool
     ensures { result ≡ (after == before + 1) }
 {
-    if after == 0 {
-        return false;
-    }
-    after - 1 == before
+    after > 0 && after - 1 == before
 }
 
 /// Whether a point is the next access of the thread.
@@ -87,15 +78,12 @@ fn is_followed(from: Point, to: Point) -> bool
 fn is_reached(source: Option<WriteAt>, place: u8, point: Point) -> bool
     ensures { result ≡ is_reached source place point }
 {
-    match point {
-        Point::Initial { place: other } => match source {
-            None => other == place,
-            Some(_) => false,
-        },
-        Point::At { thread, number } => match source {
-            None => false,
-            Some(write) => write.thread == thread && usize::from(write.access) == number,
-        },
+    match (source, point) {
+        (None, Point::Initial { place: other }) => other == place,
+        (Some(write), Point::At { thread, number }) => {
+            write.thread == thread && usize::from(write.access) == number
+        }
+        _ => false,
     }
 }
 
@@ -122,10 +110,7 @@ pub(crate) fn relates(relation: Relation, from: &Drawn, to: &Drawn) -> bool
 fn is_initial(source: Option<WriteAt>) -> bool
     ensures { result ≡ is_initial source }
 {
-    match source {
-        None => true,
-        Some(_) => false,
-    }
+    source.is_none()
 }
 
 /// Whether an access reads the initial value of a place.
@@ -148,7 +133,6 @@ fn push_if_initial(place: u8, seen: &[SeenAccess], list: &mut Vec<u8>) -> Result
 {
     if is_read_initially(place, seen) {
         list.push(place)?;
-        return Ok(());
     }
     Ok(())
 }

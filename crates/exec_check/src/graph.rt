@@ -1,4 +1,4 @@
-ghost use Rattle.std.specs.{Prelude.{◌≡◌, ◌+◌, ◌<◌, ◌≤◌, ◌++◌, ◌==◌, ◌||◌, [], cond, IfOk, OnOk, length, map}, List.{enumerate_from, filter, flat_map}};
+ghost use Rattle.std.specs.{Prelude.{◌≡◌, ◌+◌, ◌<◌, ◌≤◌, ◌++◌, [], cond, IfOk, OnOk, length, map}, List.{enumerate_from, filter, flat_map}};
 ghost use Rattle.list_laws.specs.Numbers.{upto};
 ghost use Rattle.diy_io.specs.Pieces.{joined_text};
 ghost use Rattle.cycle_events.specs.Resolution.{event_after};
@@ -363,10 +363,7 @@ fn kind_look(kind: Kind) -> &'static [u8]
             Com::Ws => b"labeldistance=4, color=\"#1a56a8\", fontcolor=\"#1a56a8\"]\n",
             Com::Fr => b"labeldistance=4, color=\"#8a5a00\", fontcolor=\"#8a5a00\"]\n",
         },
-        Kind::Po { .. } => b"labeldistance=5, labelangle=-40]\n",
-        Kind::Fenced { .. } => b"labeldistance=5, labelangle=-40]\n",
-        Kind::Dep { .. } => b"labeldistance=5, labelangle=-40]\n",
-        Kind::Data { .. } => b"labeldistance=5, labelangle=-40]\n",
+        _ => b"labeldistance=5, labelangle=-40]\n",
     }
 }
 
@@ -447,19 +444,11 @@ fn push_standing_edges(
     Ok(())
 }
 
-fn is_escaped(byte: u8) -> bool
-    ensures { result ≡ ((byte == 92) || (byte == 34)) }
-{
-    byte == b'\\' || byte == b'"'
-}
-
 fn push_quoted_byte(byte: u8, text: &mut Vec<u8>) -> Result<(), NoMemory>
     ensures { OnOk result (text.new.items ≡ text.old.items ++ quoted_byte byte) }
 {
-    if is_escaped(byte) {
+    if byte == b'\\' || byte == b'"' {
         text.push(b'\\')?;
-        text.push(byte)?;
-        return Ok(());
     }
     text.push(byte)?;
     Ok(())
