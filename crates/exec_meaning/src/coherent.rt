@@ -137,12 +137,8 @@ pub(crate) fn place_of_name(
 pub(crate) fn source_of_name(all: &[Accesses], exec: &Execution, name: WriteAt) -> Option<WriteAt>
     ensures { result ≡ source_at all.now exec.now name }
 {
-    source_at(
-        all,
-        exec,
-        usize::from(name.thread),
-        usize::from(name.access),
-    )
+    let thread = usize::from(name.thread);
+    source_at(all, exec, thread, usize::from(name.access))
 }
 
 /// How many accesses of a thread before the one with this name read.
@@ -178,11 +174,8 @@ fn agrees(
         return true;
     }
     let before = coherence_place(all, exec, thread, first);
-    may_follow(
-        later.access.dir,
-        before,
-        coherence_place(all, exec, thread, later),
-    )
+    let after = coherence_place(all, exec, thread, later);
+    may_follow(later.access.dir, before, after)
 }
 
 /// Whether the second of two accesses of a thread isn't after the first, or they agree.
@@ -195,11 +188,7 @@ fn agrees_if_later(
 ) -> bool
     ensures { result ≡ (not (nat_lt first.number later.number) || agrees all.now exec.now thread first.number first.access later.number later.access) }
 {
-    if first.number < later.number {
-        agrees(all, exec, thread, first, later)
-    } else {
-        true
-    }
+    first.number >= later.number || agrees(all, exec, thread, first, later)
 }
 
 /// Whether an access of a thread agrees with those after it.

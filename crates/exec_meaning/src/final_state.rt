@@ -49,10 +49,7 @@ fn final_value(all: &[Accesses], exec: &Execution, place: u8) -> u32
     let [.., last] = exec.writes(place) else {
         return 0;
     };
-    match access_at(all, *last) {
-        Some(written) => written.value,
-        None => 0,
-    }
+    access_at(all, *last).map_or(0, |written| written.value)
 }
 
 /// Adds the places with their values at the end.
