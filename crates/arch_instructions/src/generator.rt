@@ -178,8 +178,8 @@ fn store(mark: Mark, src: u8, base: u8) -> Micro
     }
 }
 
-/// Appends a load of the mark to the value's register at the address in the address register, so that the
-/// address depends on the dependency's register, which holds 0.
+/// Appends a load of the mark to the register of the value at the address in that of the address, so
+/// that the address depends on the register of the dependency, which holds 0.
 fn put_load_through<I: OwnInstructions>(mark: Mark, taken: DependentAccess, out: &mut Instrs)
     requires { array_vec_len out.old + 2 ≤ MAX_INSTRS }
     ensures { out.new.items ≡ out.old.items ++ load_through I.own mark taken.dependency taken.value taken.address }
@@ -193,8 +193,8 @@ fn put_load_through<I: OwnInstructions>(mark: Mark, taken: DependentAccess, out:
     }
 }
 
-/// Appends a store of the mark of the value's register at the address in the address register, so that the
-/// address depends on the dependency's register, which holds 0.
+/// Appends a store of the mark of the register of the value at the address in that of the address, so
+/// that the address depends on the register of the dependency, which holds 0.
 fn put_store_through<I: OwnInstructions>(mark: Mark, taken: DependentAccess, out: &mut Instrs)
     requires { array_vec_len out.old + 2 ≤ MAX_INSTRS }
     ensures { out.new.items ≡ out.old.items ++ store_through I.own mark taken.dependency taken.value taken.address }
