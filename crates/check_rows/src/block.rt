@@ -128,22 +128,12 @@ pub fn come_once(blocks: &[Block]) -> bool {
 
 /// The first block with a keyword.
 pub fn first(blocks: &[Block], keyword: Keyword) -> Option<&Block> {
-    for block in blocks {
-        if block.keyword == keyword {
-            return Some(block);
-        }
-    }
-    None
+    blocks.iter().find(|block| block.keyword == keyword)
 }
 
 /// The first block with a keyword and an argument.
 pub fn find_block<'a>(blocks: &'a [Block], keyword: Keyword, name: &str) -> Option<&'a Block> {
-    for block in blocks {
-        if block.keyword == keyword && block.argument.as_str() == name {
-            return Some(block);
-        }
-    }
-    None
+    blocks.iter().find(|block| block.keyword == keyword && block.argument.as_str() == name)
 }
 
 /// The bytes of the first block with a keyword, none where there is no such block.

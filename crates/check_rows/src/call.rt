@@ -4,65 +4,34 @@ ghost use Rattle.diy_io.specs.Shelf.{Idle};
 use crate::arguments::{number_of, numbers_of};
 use crate::block::{Block, Keyword, bytes_of, find_block, first};
 use crate::errors::TableError;
-use crate::part::{Part, add_part};
+use crate::part::Trial;
 use crate::read_all::read_all;
 use diy_io::{MemShelf, MemSink, MemSource, Sink, TallySink, Words};
 use diy_tools::run;
 use std::alloc::Global;
 use std::str;
 
-/// Calls `run` as a row says, with the room of `length` bytes for the output where it is given, and
-/// sets what the row wants beside what the call left.
-pub fn call_parts(
-    alloc: Global,
-    row: &[Block],
-    length: Option<usize>,
-) -> Result<Vec<Part>, TableError> {
-    let mut parts = Vec::new(alloc);
-    let mut input = input_of(alloc, row)?;
-    let mut shelf = shelf_of(alloc, row)?;
-    match first(row, Keyword::Tally) {
-        Some(block) => {
-            let wanted = block.argument.as_str();
-            add_tally(alloc, row, wanted, &mut input, &mut shelf, &mut parts)?;
-        }
-        None => add_out(alloc, row, length, &mut input, &mut shelf, &mut parts)?,
-    }
-    add_left(alloc, row, &mut input, &mut parts)?;
-    add_files(alloc, row, &shelf, &mut parts)?;
-    Ok(parts)
-}
-
-/// The words of a row.
+/// The words of a row: those that blanks separate, and those that are an argument and the bytes below.
 fn words_of(alloc: Global, row: &[Block]) -> Result<Words, TableError> {
     let mut words = Words::new(alloc);
     for block in row {
+        let argument = block.argument.as_str();
         match block.keyword {
-            Keyword::Words => add_words(block, &mut words)?,
-            Keyword::Word => add_word(alloc, block, &mut words)?,
+            Keyword::Words => {
+                for word in argument.split(' ') {
+                    words.push(word)?;
+                }
+            }
+            Keyword::Word => {
+                let below = str::from_utf8(block.bytes.as_slice()).ok();
+                let mut word = String::from_str(alloc, argument)?;
+                word.push_str(below.ok_or(TableError::BadRow)?)?;
+                words.push(word.as_str())?;
+            }
             _ => {}
         }
     }
     Ok(words)
-}
-
-/// Adds words that blanks separate.
-fn add_words(block: &Block, words: &mut Words) -> Result<(), TableError> {
-    for word in block.argument.as_str().split(' ') {
-        words.push(word)?;
-    }
-    Ok(())
-}
-
-/// Adds a word, which is an argument and the bytes below it.
-fn add_word(alloc: Global, block: &Block, words: &mut Words) -> Result<(), TableError> {
-    let below = str::from_utf8(block.bytes.as_slice())
-        .ok()
-        .ok_or(TableError::BadRow)?;
-    let mut word = String::from_str(alloc, block.argument.as_str())?;
-    word.push_str(below)?;
-    words.push(word.as_str())?;
-    Ok(())
 }
 
 /// The input of a row.
@@ -77,19 +46,6 @@ fn input_of(alloc: Global, row: &[Block]) -> Result<MemSource, TableError> {
 fn shelf_of(alloc: Global, row: &[Block]) -> Result<MemShelf, TableError>
     ensures { IfOk result (λ shelf. shelf.mode ≡ Idle) }
 {
-    let mut shelf = bare_shelf(alloc, row)?;
-    for block in row {
-        if block.keyword == Keyword::File {
-            put_file(block, &mut shelf)?;
-        }
-    }
-    Ok(shelf)
-}
-
-/// The shelf of a row without files.
-fn bare_shelf(alloc: Global, row: &[Block]) -> Result<MemShelf, TableError>
-    ensures { IfOk result (λ shelf. shelf.mode ≡ Idle) }
-{
     let wanted = row
         .iter()
         .filter(|block| block.keyword == Keyword::Wanted)
@@ -97,7 +53,13 @@ fn bare_shelf(alloc: Global, row: &[Block]) -> Result<MemShelf, TableError>
     let names = number_of(row, Keyword::Names, wanted)?;
     let room = number_of(row, Keyword::RoomShelf, 4096)?;
     let fail = numbers_of(alloc, row, Keyword::FailShelf)?;
-    Ok(MemShelf::new(alloc, names, room, fail)?)
+    let mut shelf = MemShelf::new(alloc, names, room, fail)?;
+    for block in row {
+        if block.keyword == Keyword::File {
+            put_file(block, &mut shelf)?;
+        }
+    }
+    Ok(shelf)
 }
 
 /// Puts a file on the shelf.
@@ -113,138 +75,89 @@ fn put_file(block: &Block, shelf: &mut MemShelf) -> Result<(), TableError>
     Ok(())
 }
 
-/// Calls `run` with a sink in memory, and adds its bytes to the parts.
-fn add_out(
-    alloc: Global,
-    row: &[Block],
-    length: Option<usize>,
-    input: &mut MemSource,
-    shelf: &mut MemShelf,
-    parts: &mut Vec<Part>,
-) -> Result<(), TableError>
-    requires { shelf.old.mode ≡ Idle }
-{
-    let room = match length {
-        Some(length) => length,
-        None => number_of(row, Keyword::RoomOut, 4096)?,
-    };
-    let wanted = bytes_of(row, Keyword::Out);
-    let wanted = match length {
-        Some(length) => wanted.get(..length).ok_or(TableError::BadRow)?,
-        None => wanted,
-    };
-    let mut out = MemSink::new(alloc, room)?;
-    add_status(alloc, row, input, &mut out, shelf, parts)?;
-    add_part(alloc, parts, "out", Some(wanted), Some(out.bytes()))
+/// What a call reads, and where it finds and leaves its files.
+#[derive(Drop)]
+struct Devices {
+    input: MemSource,
+    shelf: MemShelf,
 }
 
-/// Calls `run` with a sink that counts, and adds its counts to the parts.
-fn add_tally(
-    alloc: Global,
-    row: &[Block],
-    wanted: &str,
-    input: &mut MemSource,
-    shelf: &mut MemShelf,
-    parts: &mut Vec<Part>,
-) -> Result<(), TableError>
-    requires { shelf.old.mode ≡ Idle }
-{
-    let mut out = TallySink::new();
-    add_status(alloc, row, input, &mut out, shelf, parts)?;
-    let bytes = out.bytes();
-    let lines = out.lines();
-    let got = format!(in alloc; "{bytes} {lines}")?;
-    add_part(
-        alloc,
-        parts,
-        "tally",
-        Some(wanted.as_bytes()),
-        Some(got.as_str().as_bytes()),
-    )
-}
-
-/// Calls `run`, and adds the status and the bytes on standard error to the parts.
-fn add_status<O: Sink>(
-    alloc: Global,
-    row: &[Block],
-    input: &mut MemSource,
-    out: &mut O,
-    shelf: &mut MemShelf,
-    parts: &mut Vec<Part>,
-) -> Result<(), TableError>
-    requires { shelf.old.mode ≡ Idle }
-{
-    let room = number_of(row, Keyword::RoomErr, 4096)?;
-    let words = words_of(alloc, row)?;
-    let mut err = MemSink::new(alloc, room)?;
-    let status = run(alloc, &words, input, out, &mut err, shelf);
-    let exit = status.exit();
-    let got = format!(in alloc; "{exit} {status:?}")?;
-    add_wanted_status(alloc, row, got.as_str(), parts)?;
-    let wanted = bytes_of(row, Keyword::Err);
-    add_part(alloc, parts, "err", Some(wanted), Some(err.bytes()))
-}
-
-/// Adds a status to the parts.
-pub fn add_wanted_status(
-    alloc: Global,
-    row: &[Block],
-    got: &str,
-    parts: &mut Vec<Part>,
-) -> Result<(), TableError> {
-    let wanted = match first(row, Keyword::Status) {
-        Some(block) => Some(block.argument.as_str().as_bytes()),
-        None => None,
-    };
-    add_part(alloc, parts, "status", wanted, Some(got.as_bytes()))
-}
-
-/// Adds what the input has left to the parts, where the row says it.
-fn add_left(
-    alloc: Global,
-    row: &[Block],
-    input: &mut MemSource,
-    parts: &mut Vec<Part>,
-) -> Result<(), TableError> {
-    match first(row, Keyword::Left) {
-        Some(block) => {
-            let left = read_all(alloc, input)?;
-            let wanted = block.bytes.as_slice();
-            add_part(alloc, parts, "left", Some(wanted), Some(left.as_slice()))
+impl Trial<'_> {
+    /// Calls `run` as a row says, with the room of `length` bytes for the output where it is given, and
+    /// sets what the row wants beside what the call left.
+    pub fn call(&mut self) -> Result<(), TableError> {
+        let mut devices = Devices {
+            input: input_of(self.alloc, self.row)?,
+            shelf: shelf_of(self.alloc, self.row)?,
+        };
+        match first(self.row, Keyword::Tally) {
+            Some(block) => self.call_counting(block, &mut devices)?,
+            None => self.call_keeping(&mut devices)?,
         }
-        None => Ok(()),
+        if let Some(block) = first(self.row, Keyword::Left) {
+            let left = read_all(self.alloc, &mut devices.input)?;
+            self.add_part("left", Some(block.bytes.as_slice()), Some(left.as_slice()))?;
+        }
+        for block in self.row {
+            self.add_file(block, &devices.shelf)?;
+        }
+        Ok(())
     }
-}
 
-/// Adds the files of the row to the parts, also those that the call isn't to change.
-fn add_files(
-    alloc: Global,
-    row: &[Block],
-    shelf: &MemShelf,
-    parts: &mut Vec<Part>,
-) -> Result<(), TableError> {
-    for block in row {
-        add_file(alloc, row, block, shelf, parts)?;
+    /// Calls `run` with a sink in memory, and adds its bytes to the parts.
+    fn call_keeping(&mut self, devices: &mut Devices) -> Result<(), TableError>
+        requires { devices.old.shelf.mode ≡ Idle }
+    {
+        let room = match self.length {
+            Some(length) => length,
+            None => number_of(self.row, Keyword::RoomOut, 4096)?,
+        };
+        let wanted = self.prefix_of(Keyword::Out)?;
+        let mut out = MemSink::new(self.alloc, room)?;
+        self.call_into(&mut out, devices)?;
+        self.add_part("out", Some(wanted), Some(out.bytes()))
     }
-    Ok(())
-}
 
-/// Adds a file to the parts, where the block is one of a file.
-fn add_file(
-    alloc: Global,
-    row: &[Block],
-    block: &Block,
-    shelf: &MemShelf,
-    parts: &mut Vec<Part>,
-) -> Result<(), TableError> {
-    let name = block.argument.as_str();
-    let is_changed = find_block(row, Keyword::Wanted, name).is_some()
-        || find_block(row, Keyword::Absent, name).is_some();
-    let wanted = match block.keyword {
-        Keyword::File if is_changed => return Ok(()),
-        Keyword::File | Keyword::Wanted => Some(block.bytes.as_slice()),
-        Keyword::Absent => None,
-        _ => return Ok(()),
-    };
-    add_part(alloc, parts, name, wanted, shelf.get(name))
+    /// Calls `run` with a sink that counts, and adds its counts to the parts.
+    fn call_counting(&mut self, tally: &Block, devices: &mut Devices) -> Result<(), TableError>
+        requires { devices.old.shelf.mode ≡ Idle }
+    {
+        let mut out = TallySink::new();
+        self.call_into(&mut out, devices)?;
+        let bytes = out.bytes();
+        let lines = out.lines();
+        let got = format!(in self.alloc; "{bytes} {lines}")?;
+        let wanted = tally.argument.as_str().as_bytes();
+        self.add_part("tally", Some(wanted), Some(got.as_str().as_bytes()))
+    }
+
+    /// Calls `run`, and adds the status and the bytes on standard error to the parts.
+    fn call_into<O: Sink>(&mut self, out: &mut O, devices: &mut Devices) -> Result<(), TableError>
+        requires { devices.old.shelf.mode ≡ Idle }
+    {
+        let room = number_of(self.row, Keyword::RoomErr, 4096)?;
+        let words = words_of(self.alloc, self.row)?;
+        let mut err = MemSink::new(self.alloc, room)?;
+        let Devices { input, shelf } = devices;
+        let status = run(self.alloc, &words, input, out, &mut err, shelf);
+        let exit = status.exit();
+        let got = format!(in self.alloc; "{exit} {status:?}")?;
+        self.add_status(got.as_str())?;
+        let wanted = bytes_of(self.row, Keyword::Err);
+        self.add_part("err", Some(wanted), Some(err.bytes()))
+    }
+
+    /// Adds a file to the parts, where the block is one of a file, also of one that isn't to change.
+    fn add_file(&mut self, block: &Block, shelf: &MemShelf) -> Result<(), TableError> {
+        let name = block.argument.as_str();
+        let is_changed = find_block(self.row, Keyword::Wanted, name).is_some()
+            || find_block(self.row, Keyword::Absent, name).is_some();
+        let wanted = match block.keyword {
+            Keyword::File if is_changed => return Ok(()),
+            Keyword::File | Keyword::Wanted => Some(block.bytes.as_slice()),
+            Keyword::Absent => None,
+            _ => return Ok(()),
+        };
+        self.add_part(name, wanted, shelf.get(name))
+    }
 }

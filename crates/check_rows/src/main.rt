@@ -27,7 +27,7 @@ use std::process::ExitCode;
 use std::str;
 
 /// How many rows there are, and how many of them differ.
-#[derive(Clone, Copy)]
+#[derive(Clone, Copy, Default)]
 struct Counts {
     rows: u64,
     differing: u64,
@@ -49,10 +49,7 @@ fn row_end(blocks: &[Block], start: usize) -> usize
 
 /// Tries each row of a table.
 fn try_rows(alloc: Global, blocks: &[Block], page: &mut Vec<u8>) -> Result<Counts, TableError> {
-    let mut counts = Counts {
-        rows: 0,
-        differing: 0,
-    };
+    let mut counts = Counts::default();
     for start in 0..blocks.len() {
         if blocks[start].keyword == Keyword::Row {
             let row = &blocks[start..row_end(blocks, start)];
@@ -108,20 +105,11 @@ fn try_input(rt: &HostRuntime) -> Result<Counts, TableError> {
 }
 
 fn main(rt: HostRuntime) -> ExitCode {
-    match try_input(&rt) {
-        Ok(counts) if counts.differing == 0 => ExitCode::from(0),
-        Ok(_) => ExitCode::from(1),
-        Err(TableError::BadLine(number)) => {
-            let _ = eprintln!(rt; "rows: line {number} is faulty");
-            ExitCode::from(2)
-        }
-        Err(TableError::BadRow) => {
-            let _ = rt.eprintln("rows: a row is faulty");
-            ExitCode::from(2)
-        }
-        Err(TableError::NoMemory) => {
-            let _ = rt.eprintln("rows: no memory");
-            ExitCode::from(2)
-        }
-    }
+    let _ = match try_input(&rt) {
+        Ok(counts) => return ExitCode::from(u8::from(counts.differing != 0)),
+        Err(TableError::BadLine(number)) => eprintln!(rt; "rows: line {number} is faulty"),
+        Err(TableError::BadRow) => rt.eprintln("rows: a row is faulty"),
+        Err(TableError::NoMemory) => rt.eprintln("rows: no memory"),
+    };
+    ExitCode::from(2)
 }

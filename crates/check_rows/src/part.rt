@@ -1,5 +1,6 @@
 ghost use Rattle.std.specs.{Prelude.{◌≡◌, ◌↔◌, IsTrue, option_map}, List.{All}};
 
+use crate::block::{Block, Keyword, bytes_of, first};
 use crate::errors::TableError;
 use std::alloc::Global;
 
@@ -40,17 +41,51 @@ fn copy_of(alloc: Global, bytes: Option<&[u8]>) -> Result<Option<Vec<u8>>, Table
     }
 }
 
-/// Adds a part, of copies.
-pub fn add_part(
-    alloc: Global,
-    parts: &mut Vec<Part>,
-    name: &str,
-    wanted: Option<&[u8]>,
-    got: Option<&[u8]>,
-) -> Result<(), TableError> {
-    let wanted = copy_of(alloc, wanted)?;
-    let got = copy_of(alloc, got)?;
-    let name = String::from_str(alloc, name)?;
-    parts.push(Part { name, wanted, got })?;
-    Ok(())
+/// A row that is tried, and the parts so far.
+#[derive(Drop)]
+pub struct Trial<'a> {
+    pub alloc: Global,
+    pub row: &'a [Block],
+    /// Of a row that represents a call for each length: the length of this one.
+    pub length: Option<usize>,
+    pub parts: Vec<Part>,
+}
+
+impl<'a> Trial<'a> {
+    /// The bytes of the first block with a keyword, or their prefix where a length is given.
+    pub fn prefix_of(&self, keyword: Keyword) -> Result<&'a [u8], TableError> {
+        let bytes = bytes_of(self.row, keyword);
+        match self.length {
+            Some(length) => bytes.get(..length).ok_or(TableError::BadRow),
+            None => Ok(bytes),
+        }
+    }
+
+    /// Adds a part, of copies.
+    pub fn add_part(
+        &mut self,
+        name: &str,
+        wanted: Option<&[u8]>,
+        got: Option<&[u8]>,
+    ) -> Result<(), TableError> {
+        let wanted = copy_of(self.alloc, wanted)?;
+        let got = copy_of(self.alloc, got)?;
+        let name = String::from_str(self.alloc, name)?;
+        self.parts.push(Part { name, wanted, got })?;
+        Ok(())
+    }
+
+    /// Adds a status to the parts.
+    pub fn add_status(&mut self, got: &str) -> Result<(), TableError> {
+        let wanted = match first(self.row, Keyword::Status) {
+            Some(block) => Some(block.argument.as_str().as_bytes()),
+            None => None,
+        };
+        self.add_part("status", wanted, Some(got.as_bytes()))
+    }
+
+    /// Adds the output to the parts.
+    pub fn add_out(&mut self, got: &[u8]) -> Result<(), TableError> {
+        self.add_part("out", Some(bytes_of(self.row, Keyword::Out)), Some(got))
+    }
 }

@@ -1,21 +1,23 @@
-use crate::arguments::two_numbers;
+use crate::arguments::number_in;
 use crate::block::{Block, Keyword, first};
-use crate::call::call_parts;
 use crate::errors::TableError;
-use crate::part::{Part, are_met};
-use crate::reading::read_parts;
+use crate::part::{Trial, are_met};
 use std::alloc::Global;
 
 /// Tries a row, and adds its line to the page, and what differs. Answers whether nothing differs.
 pub fn try_row(alloc: Global, row: &[Block], page: &mut Vec<u8>) -> Result<bool, TableError> {
     let mut differences = Vec::new(alloc);
-    let is_met = match first(row, Keyword::Prefixes) {
+    match first(row, Keyword::Prefixes) {
         Some(block) => {
-            let (low, high) = two_numbers(block.argument.as_str())?;
-            try_prefixes(alloc, row, low, high, &mut differences)?
+            let lengths = block.argument.as_str().split_once(' ');
+            let (low, high) = lengths.ok_or(TableError::BadRow)?;
+            for length in number_in(low)?..=number_in(high)? {
+                try_call(alloc, row, Some(length), &mut differences)?;
+            }
         }
         None => try_call(alloc, row, None, &mut differences)?,
-    };
+    }
+    let is_met = differences.is_empty();
     let word = if is_met { "ok " } else { "differs " };
     page.extend_from_slice(word.as_bytes())?;
     page.extend_from_slice(name_of(row).as_bytes())?;
@@ -32,53 +34,31 @@ pub fn name_of(row: &[Block]) -> &str {
     }
 }
 
-/// Tries a row at each length.
-fn try_prefixes(
-    alloc: Global,
-    row: &[Block],
-    low: usize,
-    high: usize,
-    page: &mut Vec<u8>,
-) -> Result<bool, TableError> {
-    let mut is_met = true;
-    for length in low..=high {
-        if !try_call(alloc, row, Some(length), page)? {
-            is_met = false;
-        }
-    }
-    Ok(is_met)
-}
-
-/// Tries a row once.
+/// Tries a row once, and adds the parts that differ to the page, after the length if it is given.
 fn try_call(
     alloc: Global,
     row: &[Block],
     length: Option<usize>,
     page: &mut Vec<u8>,
-) -> Result<bool, TableError> {
-    let parts = match first(row, Keyword::Read) {
-        Some(block) => read_parts(alloc, row, block.argument.as_str(), length)?,
-        None => call_parts(alloc, row, length)?,
-    };
-    if are_met(parts.as_slice()) {
-        return Ok(true);
-    }
-    add_differences(alloc, parts.as_slice(), length, page)?;
-    Ok(false)
-}
-
-/// Adds the parts that differ to the page.
-fn add_differences(
-    alloc: Global,
-    parts: &[Part],
-    length: Option<usize>,
-    page: &mut Vec<u8>,
 ) -> Result<(), TableError> {
+    let mut trial = Trial {
+        alloc,
+        row,
+        length,
+        parts: Vec::new(alloc),
+    };
+    match first(row, Keyword::Read) {
+        Some(block) => trial.read(block.argument.as_str())?,
+        None => trial.call()?,
+    }
+    if are_met(trial.parts.as_slice()) {
+        return Ok(());
+    }
     if let Some(length) = length {
         let line = format!(in alloc; "  at length {length}\n")?;
         page.extend_from_slice(line.as_str().as_bytes())?;
     }
-    for part in parts {
+    for part in trial.parts.as_slice() {
         if !part.is_met() {
             add_bytes(page, part.name.as_str(), " wanted", &part.wanted)?;
             add_bytes(page, part.name.as_str(), " got", &part.got)?;

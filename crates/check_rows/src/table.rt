@@ -1,5 +1,6 @@
-ghost use Rattle.std.specs.Prelude.{◌<◌, IfSome};
+ghost use Rattle.std.specs.Prelude.{◌<◌, IfOk};
 
+use crate::arguments::number_in;
 use crate::block::{Block, Keyword, find_block};
 use crate::errors::TableError;
 use std::alloc::Global;
@@ -16,42 +17,33 @@ pub fn read_table(alloc: Global, text: &str) -> Result<Vec<Block>, TableError> {
     let mut number: u64 = 0;
     for line in text.split('\n') {
         number = number.saturating_add(1);
-        take_line(alloc, &mut blocks, line, number)?;
+        match take_line(alloc, &mut blocks, line) {
+            Ok(()) => {}
+            Err(TableError::BadRow) => return Err(TableError::BadLine(number)),
+            Err(error) => return Err(error),
+        }
     }
     Ok(blocks)
 }
 
-/// Takes one line of a table.
-fn take_line(
-    alloc: Global,
-    blocks: &mut Vec<Block>,
-    line: &str,
-    number: u64,
-) -> Result<(), TableError> {
+/// Takes one line of a table. A line that has no form of a table is a `BadRow`, here and below.
+fn take_line(alloc: Global, blocks: &mut Vec<Block>, line: &str) -> Result<(), TableError> {
     if line.is_empty() || line.starts_with('#') {
         return Ok(());
     }
-    let bytes = bytes_in(alloc, blocks.as_slice(), line, number)?;
-    match bytes {
-        Some(bytes) => add_bytes(blocks, bytes.as_slice(), number),
-        None => add_block(alloc, blocks, line, number),
+    match bytes_in(alloc, blocks.as_slice(), line)? {
+        Some(bytes) => add_bytes(blocks, bytes.as_slice()),
+        None => add_block(alloc, blocks, line),
     }
 }
 
 /// Begins a block.
-fn add_block(
-    alloc: Global,
-    blocks: &mut Vec<Block>,
-    line: &str,
-    number: u64,
-) -> Result<(), TableError> {
+fn add_block(alloc: Global, blocks: &mut Vec<Block>, line: &str) -> Result<(), TableError> {
     let (word, argument) = match line.split_once(' ') {
         Some(parts) => parts,
         None => (line, ""),
     };
-    let Some(keyword) = Keyword::of(word) else {
-        return Err(TableError::BadLine(number));
-    };
+    let keyword = Keyword::of(word).ok_or(TableError::BadRow)?;
     let argument = String::from_str(alloc, argument)?;
     let bytes = Vec::new(alloc);
     blocks.push(Block {
@@ -63,30 +55,25 @@ fn add_block(
 }
 
 /// Adds bytes to the last block.
-fn add_bytes(blocks: &mut Vec<Block>, bytes: &[u8], number: u64) -> Result<(), TableError> {
+fn add_bytes(blocks: &mut Vec<Block>, bytes: &[u8]) -> Result<(), TableError> {
     match blocks.last_mut() {
         Some(block) if block.keyword.takes_bytes() => {
             block.bytes.extend_from_slice(bytes)?;
             Ok(())
         }
-        _ => Err(TableError::BadLine(number)),
+        _ => Err(TableError::BadRow),
     }
 }
 
 /// The bytes of a line, and none where it begins with no mark of bytes.
-fn bytes_in(
-    alloc: Global,
-    blocks: &[Block],
-    line: &str,
-    number: u64,
-) -> Result<Option<Vec<u8>>, TableError> {
+fn bytes_in(alloc: Global, blocks: &[Block], line: &str) -> Result<Option<Vec<u8>>, TableError> {
     if let Some(name) = line.strip_prefix('=') {
-        let text = text_named(blocks, name).ok_or(TableError::BadLine(number))?;
+        let text = text_named(blocks, name).ok_or(TableError::BadRow)?;
         return Ok(Some(Vec::from_slice(alloc, text)?));
     }
     match line.strip_prefix('*') {
-        Some(rest) => repeat_line(alloc, rest, number),
-        None => line_bytes(alloc, line, number),
+        Some(rest) => repeat_line(alloc, rest),
+        None => line_bytes(alloc, line),
     }
 }
 
@@ -95,30 +82,23 @@ fn text_named<'a>(blocks: &'a [Block], name: &str) -> Option<&'a [u8]> {
     let Some((name, length)) = name.split_once(' ') else {
         return Some(find_block(blocks, Keyword::Text, name)?.bytes.as_slice());
     };
-    let length = length.parse::<usize>().ok()?;
-    find_block(blocks, Keyword::Text, name)?
-        .bytes
-        .as_slice()
-        .get(..length)
+    let text = find_block(blocks, Keyword::Text, name)?.bytes.as_slice();
+    text.get(..length.parse::<usize>().ok()?)
 }
 
 /// The bytes of a line that is to be taken a number of times.
-fn repeat_line(alloc: Global, text: &str, number: u64) -> Result<Option<Vec<u8>>, TableError> {
-    let (count, line) = text.split_once(' ').ok_or(TableError::BadLine(number))?;
-    let count = count
-        .parse::<usize>()
-        .ok()
-        .ok_or(TableError::BadLine(number))?;
-    let once = line_bytes(alloc, line, number)?.ok_or(TableError::BadLine(number))?;
+fn repeat_line(alloc: Global, text: &str) -> Result<Option<Vec<u8>>, TableError> {
+    let (count, line) = text.split_once(' ').ok_or(TableError::BadRow)?;
+    let once = line_bytes(alloc, line)?.ok_or(TableError::BadRow)?;
     let mut bytes = Vec::new(alloc);
-    for _ in 0..count {
+    for _ in 0..number_in(count)? {
         bytes.extend_from_slice(once.as_slice())?;
     }
     Ok(Some(bytes))
 }
 
 /// The bytes that a line gives, and none where it begins with none of the three marks.
-fn line_bytes(alloc: Global, line: &str, number: u64) -> Result<Option<Vec<u8>>, TableError> {
+fn line_bytes(alloc: Global, line: &str) -> Result<Option<Vec<u8>>, TableError> {
     if let Some(text) = line.strip_prefix('|') {
         let mut bytes = Vec::from_slice(alloc, text.as_bytes())?;
         bytes.push(b'\n')?;
@@ -128,38 +108,31 @@ fn line_bytes(alloc: Global, line: &str, number: u64) -> Result<Option<Vec<u8>>,
         return Ok(Some(Vec::from_slice(alloc, text.as_bytes())?));
     }
     match line.strip_prefix('%') {
-        Some(text) => Ok(Some(by_digits(alloc, text, number)?)),
+        Some(text) => Ok(Some(by_digits(alloc, text)?)),
         None => Ok(None),
     }
 }
 
 /// Bytes by their digits of base 16, with blanks between.
-fn by_digits(alloc: Global, text: &str, number: u64) -> Result<Vec<u8>, TableError> {
+fn by_digits(alloc: Global, text: &str) -> Result<Vec<u8>, TableError> {
     let mut bytes = Vec::new(alloc);
     for word in text.split(' ') {
-        if !word.is_empty() {
-            let byte = byte_of(word).ok_or(TableError::BadLine(number))?;
-            bytes.push(byte)?;
+        match word.as_bytes() {
+            [] => {}
+            [high, low] => bytes.push(digit(*high)? * 16 + digit(*low)?)?,
+            _ => return Err(TableError::BadRow),
         }
     }
     Ok(bytes)
 }
 
-/// The byte of two digits of base 16.
-fn byte_of(word: &str) -> Option<u8> {
-    match word.as_bytes() {
-        [high, low] => Some(digit(*high)? * 16 + digit(*low)?),
-        _ => None,
-    }
-}
-
 /// The value of a digit of base 16.
-fn digit(byte: u8) -> Option<u8>
-    ensures { IfSome result (λ value. value < 16) }
+fn digit(byte: u8) -> Result<u8, TableError>
+    ensures { IfOk result (λ value. value < 16) }
 {
     match byte {
-        b'0'..=b'9' => Some(byte - b'0'),
-        b'A'..=b'F' => Some(byte - b'A' + 10),
-        _ => None,
+        b'0'..=b'9' => Ok(byte - b'0'),
+        b'A'..=b'F' => Ok(byte - b'A' + 10),
+        _ => Err(TableError::BadRow),
     }
 }
