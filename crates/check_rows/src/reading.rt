@@ -30,7 +30,7 @@ fn arch_named(word: &str, text: &[u8]) -> Result<Result<ArchName, TextError>, Ta
 
 impl Trial<'_> {
     /// Reads the input of a row, or its prefix where a length is given, as a test, and sets what the row
-    /// wants beside the answer: the status is `Read` or the fault, and the output describes the test whole.
+    /// wants beside the answer: the status is `Read` or the error, and the output describes the test whole.
     pub fn read(&mut self, arch: &str) -> Result<(), TableError> {
         let text = self.prefix_of(Keyword::Input)?;
         match arch_named(arch, text)? {
@@ -55,7 +55,7 @@ impl Trial<'_> {
         }
     }
 
-    /// Adds the fault of a text to the parts.
+    /// Adds the error of a text to the parts.
     fn add_fault(&mut self, fault: TextError) -> Result<(), TableError> {
         let line = fault.line;
         let kind = fault.kind;

@@ -58,6 +58,7 @@ impl Alphabet {
     pub(crate) fn raise(&self, list: &mut Prefix)
         ensures { IsRaised (IsListCandidate self.now) list.old list.new }
     {
+        // Brings the invariant of `Prefix` into the proof.
         let _room = list.len();
         while let Some(last) = list.pop() {
             match self.next_letter(list.edges(), last.rank + 1) {

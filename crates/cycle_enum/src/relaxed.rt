@@ -22,6 +22,7 @@ enum End {
 pub(crate) fn is_made(relaxes: &[Relax], cycle: &Cycle) -> bool
     ensures { IsTrue result ↔ IsMadeOf relaxes.now cycle.now }
 {
+    // Brings the invariant of `Cycle` into the proof.
     let _edges = cycle.edges();
     for k in 0..cycle.len() {
         if is_concatenation(relaxes, cycle.rotate(k).edges()) {

@@ -152,6 +152,7 @@ impl<K: Fn(&[Edge]) -> bool, J: Fn(&[Edge]) -> bool, P: Fn(&Cycle) -> bool> Spac
                 if self.as_long(last, list, room) {
                     return true;
                 }
+                // Brings the invariant of `Cycle` into the proof.
                 let _edges = last.edges();
                 self.longer(last.len(), list, room)
             }
@@ -356,6 +357,7 @@ impl<K: Fn(&[Edge]) -> bool, J: Fn(&[Edge]) -> bool, P: Fn(&Cycle) -> bool> Spac
         ensures listed { IsTrue result → Lists P.Fn.post self.now cycle.now }
         ensures other { IsFalse result → Lists P.Fn.post self.now cycle.now → ⊥ }
     {
+        // Brings the invariant of `Cycle` into the proof.
         let _edges = cycle.edges();
         if !self.relaxes.makes(cycle, ranks) {
             return false;

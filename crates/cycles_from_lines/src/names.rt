@@ -48,6 +48,7 @@ impl FamilyNames {
         ensures same { self.new.family ≡ self.old.family }
     {
         if self.known.contains(name) {
+            // Brings the invariant of the names into the proof.
             let _count = self.names.len();
             return Ok(());
         }

@@ -37,6 +37,7 @@ impl Desk {
         requires { refusal_of A.puts cycle.now Accept ≡ None }
         ensures { result ≡ text_tally (cycle_text A.puts A.writing Accept (name_of cycle.now) cycle.now) }
     {
+        // Brings the invariant of `Cycle` into the proof.
         let _edges = cycle.edges();
         match make_into::<A>(cycle, ObsMode::Accept, test) {
             Ok(()) => {}

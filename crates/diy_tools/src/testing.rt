@@ -56,6 +56,7 @@ pub(crate) fn name_for(name: &Option<TestName>, cycle: &Cycle) -> TestName
     ensures name { result.bytes ≡ chosen_name name.now cycle.now }
     ensures form { IsTestName result.bytes }
 {
+    // Brings the invariant of `Cycle` into the proof.
     let _edges = cycle.edges();
     let mut chosen = TestName::new();
     match name {

@@ -107,6 +107,7 @@ impl<'a> Notes<'a> {
         requires { at + 1 < 2 ^ 64 }
         ensures { notes_left result (code_notes self.new) ≡ notes_valued tool (code_notes self.old) option at value.now }
     {
+        // The clause names the tool, on which no option with a value depends.
         let _tool = tool;
         match option {
             OptionName::Arch => self.take_arch(at + 1, value),

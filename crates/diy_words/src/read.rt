@@ -67,6 +67,7 @@ fn read_alone_at(tool: Tool, words: &Words, at: usize, notes: &mut Notes) -> Res
     requires alone { IsPlain tool words.now at }
     ensures { Steps tool words.now at (code_notes notes.old) (code_notes notes.new) result }
 {
+    // Brings the invariant of `Words` into the proof.
     let _count = words.len();
     match notes.take_alone(tool, at, words.get(at)) {
         Ok(()) => Ok(at + 1),

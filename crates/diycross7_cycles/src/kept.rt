@@ -40,6 +40,7 @@ impl Kept {
         ensures kept { OnOk result (self.new.cycles.items ≡ keep_turned self.old.cycles.items cycle) }
         ensures known { OnOk result (AreNormalForms self.new.cycles.items self.new.known.keys) }
     {
+        // Brings the invariant of `Cycle` into the proof.
         let _edges = cycle.edges();
         let is_new = self.known.insert(NormalForm::of(&cycle))?;
         if is_new {

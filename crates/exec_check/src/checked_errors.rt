@@ -25,7 +25,7 @@ pub enum CheckedKind {
 pub enum CheckEnd {
     /// The verdict is written.
     Done,
-    /// A file is wrong, the first such: the line, from 1, and the fault.
+    /// A file is wrong, the first such: the line, from 1, and the error.
     Wrong {
         file: usize,
         line: u64,
@@ -50,7 +50,7 @@ pub(crate) enum CheckFault {
     Missing,
     /// The shelf failed.
     Device,
-    /// It is wrong: the line, and the fault.
+    /// It is wrong: the line, and the error.
     Wrong { line: u64, kind: CheckedKind },
     /// There is no memory.
     NoMemory,

@@ -19,7 +19,7 @@ use std::alloc::Global;
 /// test, whether it is coherent per location, whether the terms of the condition hold in its final state,
 /// and which edges stand in it of the cycle that the test quotes. The text has the form that
 /// `exec_text::read_execution` reads. One that is no execution is answered with its first faulty line,
-/// and the leftmost fault in it.
+/// and the leftmost error in it.
 pub fn check<A: Arch>(alloc: Global, test: &ReadTest<A>, text: &[u8]) -> Result<Verdict, CheckError>
     ensures { Checks A.NAME (number_in A.writing.registers) test.now text.now result }
 {

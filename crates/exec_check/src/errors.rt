@@ -3,7 +3,7 @@ use exec_text::ExecKind;
 /// Why there is no verdict on a text.
 #[derive(Clone, Copy, PartialEq, Eq)]
 pub enum CheckError {
-    /// The text is no execution: its first faulty line, and the leftmost fault in that line.
+    /// The text is no execution: its first faulty line, and the leftmost error in that line.
     Exec {
         /// The number of the line, from 1: of a line that is missing, the one that it would have.
         line: u64,

@@ -48,7 +48,7 @@ pub(crate) fn test_in_file<A: Arch, H: Shelf>(
     closed_test::<A>(alloc, room.text.as_slice(), closed)
 }
 
-/// The test that a file's text is, where this is the answer to the closing of the file. A fault of the text is the
+/// The test that a file's text is, where this is the answer to the closing of the file. An error of the text is the
 /// answer also where the closing failed.
 fn closed_test<A: Arch>(
     alloc: Global,

@@ -22,7 +22,7 @@ pub struct FileWords {
 ///
 /// Each file is opened once, and read to its end, or up to one byte more than a test may have, before it is judged.
 /// Where one is wrong or isn't there, or the shelf fails, or there is no memory, nothing is read after that, and
-/// nothing is written. A fault of a text is the answer also where closing its file fails.
+/// nothing is written. An error of a text is the answer also where closing its file fails.
 pub fn check_files<A: Arch, H: Shelf, O: Sink>(
     alloc: Global,
     words: &Words,

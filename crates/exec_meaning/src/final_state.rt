@@ -80,6 +80,7 @@ pub fn final_of<A: Arch>(
     requires { IsCandidate (program_read test.now) exec.now }
     ensures { IfOk result (EndsIn (number_in A.writing.registers) test.now exec.now) }
 {
+    // Brings the invariant of `ReadTest` into the proof.
     let _threads = test.threads();
     let traces = candidate_runs(alloc, test, exec)?;
     let all = all_accesses(alloc, &traces)?;

@@ -109,6 +109,7 @@ pub fn seen_accesses<A: Arch>(
     requires { IsCandidate (program_read test.now) exec.now }
     ensures { IfOk result (λ list. list.items ≡ seen_in (program_read test.now) exec.now) }
 {
+    // Brings the invariant of `ReadTest` into the proof.
     let _threads = test.threads();
     let traces = candidate_runs(alloc, test, exec)?;
     let all = all_accesses(alloc, &traces)?;

@@ -22,7 +22,7 @@ pub enum ExecKind {
     TooLarge,
 }
 
-/// Why a text is no execution: its first faulty line, and the leftmost fault in that line.
+/// Why a text is no execution: its first faulty line, and the leftmost error in that line.
 #[derive(Clone, Copy, PartialEq, Eq)]
 pub struct ExecFault {
     /// The number of the line, from 1: of a line that is missing, the one that it would have.

@@ -170,7 +170,7 @@ fn missing_line(line: u64) -> ExecError
 /// The execution that a text gives, of a program of so many threads and of these places: a line for each
 /// thread, `Pk:` and for each of its reads `VALUE@init` or `VALUE@T.N`, the value and the access that is
 /// read; then a line for each place, its name, a colon and its writes in coherence order, each as `T.N`.
-/// A text that gives none is answered with its first faulty line, and the leftmost fault in it. One of more
+/// A text that gives none is answered with its first faulty line, and the leftmost error in it. One of more
 /// than `MAX_TEST_TEXT` bytes is TooLarge at line 1, whatever it holds. The execution has as many lists of reads
 /// as threads, and as many orders as places.
 ///

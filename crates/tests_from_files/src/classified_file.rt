@@ -32,7 +32,7 @@ pub(crate) fn cycle_of_file<A: Arch, H: Shelf>(
 }
 
 /// The cycle that is quoted by the test that a file's text is, where this is the answer to the closing of the file. A
-/// fault of the text is the answer also where the closing failed.
+/// error of the text is the answer also where the closing failed.
 fn closed_cycle<A: Arch>(
     alloc: Global,
     text: &[u8],

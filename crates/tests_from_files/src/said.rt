@@ -11,7 +11,7 @@ use std::alloc::Global;
 /// The line of a test that names its architecture.
 const HEADER_LINE: u64 = 1;
 
-/// The test of an architecture that a text is, or the text's first fault: too many bytes, its header, another
+/// The test of an architecture that a text is, or the text's first error: too many bytes, its header, another
 /// architecture, the rest of the text. `NoMemory` may come for any text.
 #[tactic(auto, unfolding(crate::specs::TestSaid::test_said))]
 pub fn test_of_text<A: Arch>(alloc: Global, text: &[u8]) -> Result<ReadTest<A>, NoTest>
@@ -50,14 +50,14 @@ fn is_arch(named: ArchName, asked: ArchName) -> bool
     named == asked
 }
 
-/// A fault of this kind at a line.
+/// An error of this kind at a line.
 fn fault_at_line(kind: TestFileKind, line: u64) -> NoTest
     ensures { result ≡ Wrong (record { line = line; kind = kind }) }
 {
     NoTest::Wrong(TestFileError { line, kind })
 }
 
-/// The fault of a text that is no test.
+/// The error of a text that is no test.
 fn no_test(error: TextError) -> NoTest
     ensures { result ≡ Wrong (record { line = error.line; kind = Test error.kind }) }
 {
