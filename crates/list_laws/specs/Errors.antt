@@ -1,7 +1,7 @@
--- Elements that are judged one after another, each by those before it, where the first error counts.
+-- Elements that are judged in order, each against those before it; the first error counts.
 use Rattle.std.specs.Prelude.{List, [], ◌∷◌, ◌++◌, Result, Ok, Err}
 
--- each element, paired with all before it: those of `before`, and the earlier elements of the list
+-- each element of the list, paired with all that come before it: `before`, then the earlier elements
 abbrev pub with_before : {A : Type 0} → List A → List A → List (List A × A)
 with_before before [] = []
 with_before before (x ∷ xs) = (before, x) ∷ with_before (before ++ x ∷ []) xs

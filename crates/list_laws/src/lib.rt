@@ -1,2 +1,2 @@
-//! Laws of plain lists that several crates cite: numbers in order, filters, counts over prefixes, positions.
+//! Definitions and laws of plain lists that several crates cite: numbers in order, filters, counts over prefixes, positions.
 #![tactic(auto)]
