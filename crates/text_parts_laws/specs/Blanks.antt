@@ -1,4 +1,4 @@
--- Blanks, and a text without those at its ends.
+-- Blanks, and a text without the blanks at its ends.
 -- Source: own; a blank is a space or a tab.
 use Rattle.std.specs.Prelude.{ℕ, Bool, ◌||◌, ◌==◌, not, cond, List, [], ◌∷◌}
 use Rattle.text_parts_laws.specs.LeadingRuns.{after_run}
@@ -15,7 +15,7 @@ is_inked byte = not (is_blank byte)
 abbrev pub unblanked : List ℕ → List ℕ
 unblanked text = after_run is_blank text
 
--- a byte before a text that has no blanks at its end: a blank alone falls away
+-- a byte put before a text that has no blanks at its end; a blank before the empty text is dropped
 abbrev pub kept_before : ℕ → List ℕ → List ℕ
 kept_before b [] = cond (is_blank b) [] (b ∷ [])
 kept_before b (c ∷ text) = b ∷ c ∷ text

@@ -1,2 +1,2 @@
-//! Parts of texts, numbers and names in them as definitions, and laws of them.
+//! Definitions of the parts of texts, such as words, lines, numbers and names, and laws of them.
 #![tactic(auto)]
