@@ -1,10 +1,10 @@
--- What each class of bytes holds.
+-- Which bytes each class has.
 use Rattle.std.specs.{Prelude.ℕ, Prelude.Bool, Char.is_ascii_digit, Char.is_ascii_alphabetic, Char.is_ascii_alphanumeric}
 use Rattle.text_parts_laws.specs.{Names.is_place_byte, Blanks.is_blank, Blanks.is_inked, Words.is_argument_byte}
 use Rattle.text_parts.specs.declared.classes.Class.{Class}
 use Rattle.text_parts.specs.declared.classes.Class.TheVariants as classes
 
--- whether a byte is of a class
+-- whether a byte is in a class
 abbrev pub class_test : Class → ℕ → Bool
 class_test classes.Blank = is_blank
 class_test classes.Inked = is_inked

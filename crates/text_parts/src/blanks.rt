@@ -4,7 +4,7 @@ ghost use Rattle.text_parts_laws.specs.Blanks.{unblanked, before_blanks, trim_bl
 use crate::classes::Class;
 use crate::runs::split_run;
 
-/// A text without the blanks at its start.
+/// A text without the blanks (spaces and tabs) at its start.
 #[tactic(auto, using(text_parts_laws::proofs::RunLaws::after_run_short))]
 pub fn without_blanks(text: &[u8]) -> &[u8]
     ensures text { result.now ≡ unblanked text.now }

@@ -1,7 +1,7 @@
 ghost use Rattle.std.specs.{Prelude.{◌≡◌}, List.{list_all}};
 ghost use Rattle.text_parts.specs.Classes.{class_test};
 
-/// The classes of bytes of which the parts of a text are made.
+/// The classes of bytes by which a text is taken apart. Letters and digits are those of ASCII.
 #[derive(Clone, Copy)]
 pub enum Class {
     /// A space or a tab.
@@ -21,7 +21,7 @@ pub enum Class {
 }
 
 impl Class {
-    /// Whether a byte is of the class.
+    /// Whether a byte is in the class.
     pub fn has(self, byte: u8) -> bool
         ensures { result ≡ class_test self byte }
     {
@@ -36,7 +36,7 @@ impl Class {
         }
     }
 
-    /// Whether all bytes are of the class.
+    /// Whether all bytes are in the class; so for no bytes.
     pub fn has_all(self, bytes: &[u8]) -> bool
         ensures { result ≡ list_all (class_test self) bytes.now }
     {

@@ -1,7 +1,7 @@
 ghost use Rattle.std.specs.Prelude.{◌≡◌};
 ghost use Rattle.text_parts_laws.specs.Lines.{without_return};
 
-/// A line without the carriage return at its end.
+/// A line without the carriage return at its end, if it has one.
 #[tactic(auto, using(text_parts_laws::proofs::LineLaws::return_off, text_parts_laws::proofs::LineLaws::return_kept, text_parts_laws::proofs::LineLaws::return_none))]
 pub fn without_return(line: &[u8]) -> &[u8]
     ensures { result.now ≡ without_return line.now }

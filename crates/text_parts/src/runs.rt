@@ -4,7 +4,7 @@ ghost use Rattle.text_parts.specs.Classes.{class_test};
 
 use crate::classes::Class;
 
-/// The bytes of a class with which a text begins, and the text after them.
+/// The longest prefix of a text whose bytes are all in a class, and the text after it.
 #[tactic(auto, using(text_parts_laws::proofs::RunLaws::run_stops, text_parts_laws::proofs::RunLaws::run_ends, text_parts_laws::proofs::RunLaws::none_passed, text_parts_laws::proofs::RunLaws::one_passed))]
 pub fn split_run(class: Class, text: &[u8]) -> (&[u8], &[u8])
     ensures run { result.0.now ≡ leading_run (class_test class) text.now }

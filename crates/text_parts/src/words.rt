@@ -5,11 +5,11 @@ use crate::blanks::without_blanks;
 use crate::classes::Class;
 use crate::runs::split_run;
 
-/// The first word of a text, and the text after it.
+/// The first word between blanks, and the text after it; `None` if the text has no word.
 pub fn next_word(text: &[u8]) -> Option<(&[u8], &[u8])>
     ensures words { words text.now ≡ words_seen (option_map (λ parts. (parts.0.now, parts.1.now)) result) }
 
-    // The word has a byte, so less is left.
+    // The word isn't empty, so less is left.
     ensures some { IfSome result (λ parts. 0 < length parts.0.now) }
     ensures less { IfSome result (λ parts. length parts.1.now < length text.now) }
 {
