@@ -1,4 +1,4 @@
--- Which operands an operation has, in the order of an instruction that does it, and which operation they make.
+-- Which operands an operation has, in the order in which an instruction writes them, and which operation has given operands.
 -- Source: own.
 use Rattle.std.specs.Prelude.{ℕ, ◌+◌, ◌==◌, Bool, cond, List, [], ◌∷◌, Option, Some, None}
 use Rattle.relax_edges.specs.declared.kinds.Pick.{Pick}
@@ -12,14 +12,14 @@ use Rattle.arch_instructions_laws.specs.declared.kind.Kind.TheVariants as kinds
 use Rattle.arch_instructions_laws.specs.declared.kind.Operand.TheVariants as operands
 use Rattle.arch_trait.specs.Writing.{RawInstr, nothing, place, label}
 
--- an operand as it is read, where a place or a label has its name and no number
+-- an operand as it is read: a location or a label has its name and no number
 pub data FoundOperand : Type 0 where
   found_register : ℕ → FoundOperand
   found_number : ℕ → FoundOperand
   found_place : List ℕ → FoundOperand
   found_label : List ℕ → FoundOperand
 
--- the number of what is ordered, by which fences of RISC-V are numbered
+-- the number of what a fence of RISC-V orders, from which the fence gets its own
 abbrev pub pick_number : Pick → ℕ
 pick_number picks.R = 0
 pick_number picks.W = 1
@@ -41,7 +41,7 @@ barrier_number (barriers.Fence (fences.Fence picks.W s)) = 12 + pick_number s
 barrier_number (barriers.Fence (fences.Fence picks.RW s)) = 15 + pick_number s
 barrier_number (barriers.Fence fences.Dmb) = 18
 
--- two barriers are one, by their numbers
+-- two barriers are equal, by their numbers
 abbrev pub same_barrier : Barrier → Barrier → Bool
 same_barrier a b = barrier_number a == barrier_number b
 
@@ -68,19 +68,19 @@ operands_of kinds.BranchNotZero (ops.BranchNz a l) = Some (operands.Register a �
 operands_of (kinds.Order kind) (ops.Barrier other) = cond (same_barrier kind other) (Some []) None
 operands_of _ _ = None
 
--- an operation that names neither a place nor a label
+-- an operation that names neither a location nor a label
 abbrev pub unnamed : Micro → Option RawInstr
 unnamed op = Some (record { op = op; name = nothing })
 
--- an operation with the name of its place, and 0 for its number
+-- an operation with the name of its location; the location's number in it is given as 0
 abbrev pub with_place_name : Micro → List ℕ → Option RawInstr
 with_place_name op name = Some (record { op = op; name = place name })
 
--- an operation with the name of its label, and 0 for its number
+-- an operation with the name of its label; the label's number in it is given as 0
 abbrev pub at_label : Micro → List ℕ → Option RawInstr
 at_label op name = Some (record { op = op; name = label name })
 
--- the operation of a kind that has these operands
+-- the operation of a kind that has these operands, if they are those of the kind
 abbrev pub raw_with : Kind → List FoundOperand → Option RawInstr
 raw_with kinds.SetNumber (found_register d ∷ found_number n ∷ []) = unnamed (ops.Imm d n)
 raw_with kinds.ExclusiveOr (found_register d ∷ found_register a ∷ found_register b ∷ []) = unnamed (ops.Xor d a b)

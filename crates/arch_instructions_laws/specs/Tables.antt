@@ -1,5 +1,5 @@
--- How instructions are written and read by a table of forms.
--- Source: own; the litmus format of the herdtools, whose cells hold one instruction each.
+-- How a table of forms writes and reads instructions.
+-- Source: own; the litmus format of herdtools, whose cells hold one instruction each.
 use Rattle.std.specs.Prelude.{ℕ, ◌+◌, ◌-◌, ◌==◌, Bool, true, false, cond, ◌&&◌, nat_lt, nat_le, List, [], ◌∷◌, ◌++◌, Option, Some, None, option_map, option_and_then, map, take, drop, length}
 use Rattle.std.specs.{List.list_any, Str.bytes_eq, Fmt.decimal}
 use Rattle.text_parts_laws.specs.NumberTexts.{number_of}
@@ -14,7 +14,7 @@ use Rattle.arch_instructions_laws.specs.declared.form.Labels.TheVariants as labe
 use Rattle.arch_instructions_laws.specs.declared.kind.Operand.TheVariants as operands
 use Rattle.arch_instructions_laws.specs.Kinds.{FoundOperand, found_register, found_number, found_place, found_label, operands_of, raw_with}
 
--- the form of an operand: a fixed text, what is in the hole, a fixed text
+-- the form of an operand: a fixed text, a hole, a fixed text
 pub record PieceText : Type 0 where
   pub before : List ℕ
   pub hole : Hole
@@ -31,31 +31,31 @@ pub record TableText : Type 0 where
   pub forms : List FormText
   pub labels : Labels
 
--- an operand with a hole, as a table lists it
+-- the form of an operand, as a table lists it
 abbrev pub piece : List ℕ → Hole → List ℕ → PieceText
 piece before hole after = record { before = before; hole = hole; after = after }
 
--- an operand that is a fixed text, as a table lists it
+-- the form of an operand that is a fixed text, as a table lists it
 abbrev pub fixed : List ℕ → PieceText
 fixed text = piece text holes.Empty []
 
--- an instruction, as a table lists it
+-- the form of an instruction, as a table lists it
 abbrev pub form : List ℕ → List PieceText → Kind → FormText
 form word pieces kind = record { word = word; pieces = pieces; kind = kind }
 
--- what the code sees of the form of an operand
+-- what contracts see of the form of an operand
 abbrev pub piece_seen : Piece → PieceText
 piece_seen p = record { before = p.before.now; hole = p.hole; after = p.after.now }
 
--- what the code sees of the form of an instruction
+-- what contracts see of the form of an instruction
 abbrev pub form_seen : Form → FormText
 form_seen f = record { word = f.word.now; pieces = map piece_seen f.pieces.now; kind = f.kind }
 
--- what the code sees of a table
+-- what contracts see of a table
 abbrev pub table_seen : Table → TableText
 table_seen t = record { forms = map form_seen t.forms.now; labels = t.labels }
 
--- a hole can hold the first of these operands
+-- a hole can hold the first of these operands; an empty hole takes none of them
 abbrev pub fits_first : Hole → List Operand → Bool
 fits_first holes.Empty vs = true
 fits_first (holes.Register first count) (operands.Register r ∷ vs) = nat_lt r count
@@ -70,18 +70,18 @@ after_hole holes.Empty vs = vs
 after_hole _ [] = []
 after_hole _ (v ∷ vs) = vs
 
--- the holes can hold these operands, in order, and all of them
+-- the holes can hold exactly these operands, in order
 unfoldable pub operands_fit : List PieceText → List Operand → Bool
 operands_fit [] [] = true
 operands_fit [] (v ∷ vs) = false
 operands_fit (p ∷ ps) vs = fits_first p.hole vs && operands_fit ps (after_hole p.hole vs)
 
--- the holes can hold the operands of an operation, where it is of the kind
+-- the holes can hold the operands of an operation, which is of the kind
 abbrev pub fits_if : List PieceText → Option (List Operand) → Bool
 fits_if ps (Some vs) = operands_fit ps vs
 fits_if ps None = false
 
--- an instruction of this form does the operation
+-- an instruction of this form can do the operation
 abbrev pub does : Micro → FormText → Bool
 does op f = fits_if f.pieces (operands_of f.kind op)
 
@@ -90,12 +90,12 @@ abbrev pub are_known : Labels → Bool
 are_known labels.Known = true
 are_known labels.Unknown = false
 
--- an instruction of the table does the operation
+-- an instruction of the table can do the operation
 abbrev pub table_has : TableText → Micro → Bool
 table_has t (ops.Label l) = are_known t.labels
 table_has t op = list_any (does op) t.forms
 
--- what is in a hole
+-- the text in a hole that holds the first of these operands
 abbrev pub hole_filled : (ℕ → List ℕ) → Hole → List Operand → List ℕ
 hole_filled names (holes.Register first count) (operands.Register r ∷ vs) = decimal (first + r)
 hole_filled names holes.Number (operands.Number n ∷ vs) = decimal n
@@ -112,7 +112,7 @@ unfoldable pub piece_texts : (ℕ → List ℕ) → List PieceText → List Oper
 piece_texts names [] vs = []
 piece_texts names (p ∷ ps) vs = piece_text names p vs ∷ piece_texts names ps (after_hole p.hole vs)
 
--- the operands of an operation, none where it is of another kind
+-- the operands of an operation, or none if it is of another kind
 abbrev pub given_operands : Option (List Operand) → List Operand
 given_operands (Some vs) = vs
 given_operands None = []
@@ -121,28 +121,28 @@ given_operands None = []
 abbrev pub form_written : (ℕ → List ℕ) → Micro → FormText → Written
 form_written names op f = record { word = f.word; operands = few (piece_texts names f.pieces (given_operands (operands_of f.kind op))) }
 
--- an operation as the first instruction that does it
+-- an operation as the first form that can do it writes it; an empty instruction if none can
 unfoldable pub first_written : (ℕ → List ℕ) → Micro → List FormText → Written
 first_written names op [] = record { word = []; operands = none }
 first_written names op (f ∷ fs) = cond (does op f) (form_written names op f) (first_written names op fs)
 
--- an operation as the table writes it: a label by its word, any other by the first form that does it
+-- an operation as the table writes it: a label as its word, any other by the first form that can do it
 abbrev pub table_written : TableText → (ℕ → List ℕ) → Micro → Written
 table_written t names (ops.Label l) = record { word = label_word l; operands = none }
 table_written t names op = first_written names op t.forms
 
--- what is left of a text after a fixed text at its beginning
+-- what is left of a text after a fixed text at its beginning, if it begins with that
 unfoldable pub after_prefix : List ℕ → List ℕ → Option (List ℕ)
 after_prefix [] text = Some text
 after_prefix (b ∷ prefix) [] = None
 after_prefix (b ∷ prefix) (c ∷ text) = cond (b == c) (after_prefix prefix text) None
 
--- what is left of a text before a fixed text at its end
+-- what is left of a text before a fixed text at its end, if it ends with that
 unfoldable pub before_suffix : List ℕ → List ℕ → Option (List ℕ)
 before_suffix suffix text = cond (nat_le (length suffix) (length text) && bytes_eq (drop (length text - length suffix) text) suffix)
     (Some (take (length text - length suffix) text)) None
 
--- the operand that a text in a hole is: none where the hole is empty
+-- the operand that the text in a hole is read as, if it is one; an empty hole has no operand
 abbrev pub hole_found : Hole → List ℕ → Option (List FoundOperand)
 hole_found holes.Empty [] = Some []
 hole_found holes.Empty (b ∷ text) = None
@@ -151,37 +151,37 @@ hole_found holes.Number text = option_map (λ n. found_number n ∷ []) (immedia
 hole_found holes.Place text = Some (found_place text ∷ [])
 hole_found holes.Label text = Some (found_label text ∷ [])
 
--- the operand that a text is by its form
+-- the operand that a text is read as by its form, if it has that form; a fixed text has none
 unfoldable pub piece_found : PieceText → List ℕ → Option (List FoundOperand)
 piece_found p text = option_and_then (hole_found p.hole) (option_and_then (before_suffix p.after) (after_prefix p.before text))
 
--- the operands of one text and those of the next, where both are operands
+-- the operands of one text and those of the next, if both were read
 abbrev pub joined_operands : Option (List FoundOperand) → Option (List FoundOperand) → Option (List FoundOperand)
 joined_operands (Some xs) (Some ys) = Some (xs ++ ys)
 joined_operands _ _ = None
 
--- the operands that texts are by their forms, where there are as many
+-- the operands that texts are read as by their forms, if there are as many and each has its form
 unfoldable pub pieces_found : List PieceText → List (List ℕ) → Option (List FoundOperand)
 pieces_found [] [] = Some []
 pieces_found [] (t ∷ ts) = None
 pieces_found (p ∷ ps) [] = None
 pieces_found (p ∷ ps) (t ∷ ts) = joined_operands (piece_found p t) (pieces_found ps ts)
 
--- the operands of an instruction of this form
+-- the operands of an instruction, if it is of this form
 abbrev pub form_found : FormText → List ℕ → List (List ℕ) → Option (List FoundOperand)
 form_found f word ts = cond (bytes_eq word f.word) (pieces_found f.pieces ts) None
 
--- the instruction that operands make, if they were found, else another
+-- the instruction that operands make, if they were found, otherwise `other`
 abbrev pub raw_or : Kind → Option (List FoundOperand) → Option RawInstr → Option RawInstr
 raw_or kind (Some vs) other = raw_with kind vs
 raw_or kind None other = other
 
--- the instruction of the first form that fits, else another
+-- the instruction by the first form that fits, or `other` if none does
 unfoldable pub first_form_read : List FormText → List ℕ → List (List ℕ) → Option RawInstr → Option RawInstr
 first_form_read [] word ts other = other
 first_form_read (f ∷ fs) word ts other = raw_or f.kind (form_found f word ts) (first_form_read fs word ts other)
 
--- the texts of operands, of at most four
+-- the texts of operands, if there are at most four
 abbrev pub texts_in : OperandTexts → Option (List (List ℕ))
 texts_in none = Some []
 texts_in (one a) = Some (a ∷ [])
@@ -190,17 +190,17 @@ texts_in (three a b c) = Some (a ∷ b ∷ c ∷ [])
 texts_in (four a b c d) = Some (a ∷ b ∷ c ∷ d ∷ [])
 texts_in more = None
 
--- a label that is an instruction of its own, where the table has labels
+-- a label that is an instruction of its own, if the table has labels
 abbrev pub label_read : Labels → Written → Option RawInstr
 label_read labels.Known w = label_alone w.word w.operands
 label_read labels.Unknown w = None
 
--- the instruction of a word and its operands by the table, none where there are more than four
+-- the instruction of a word and its operands by the table; none if there are more than four
 abbrev pub raw_if : TableText → Written → Option (List (List ℕ)) → Option RawInstr
 raw_if t w (Some ts) = first_form_read t.forms w.word ts (label_read t.labels w)
 raw_if t w None = None
 
--- the instruction that is written so
+-- the instruction that is written in this way, if it is one of the table's
 abbrev pub table_raw : TableText → Written → Option RawInstr
 table_raw t w = raw_if t w (texts_in w.operands)
 

@@ -1,6 +1,6 @@
 use crate::kind::Kind;
 
-/// What is in an operand between its two fixed texts.
+/// What an operand holds between its two fixed texts.
 #[derive(Clone, Copy)]
 pub enum Hole {
     /// Nothing: the operand is a fixed text.
@@ -9,13 +9,13 @@ pub enum Hole {
     Register { first: u8, count: u8 },
     /// A number of at most `MAX_IMMEDIATE`, in decimal.
     Number,
-    /// The name of a place.
+    /// The name of a location.
     Place,
     /// The name of a label.
     Label,
 }
 
-/// The form of one operand: a fixed text, what is in the hole, and a fixed text.
+/// The form of one operand: a fixed text, a hole, and a fixed text.
 #[derive(Clone, Copy)]
 pub struct Piece {
     pub before: &'static str,
@@ -38,14 +38,14 @@ pub enum Labels {
     Unknown,
 }
 
-/// The instructions of an architecture.
+/// The instructions of an architecture: their forms, in the order in which they are tried, and whether labels are instructions too.
 #[derive(Clone, Copy)]
 pub struct Table {
     pub forms: &'static [Form],
     pub labels: Labels,
 }
 
-/// The form of an operand: `piece!("[X", hole, "]")`; of one that is a fixed text, `piece!("SY")`.
+/// The form of an operand: `piece!("[X", hole, "]")`, or `piece!("SY")` for a fixed text.
 #[macro_export]
 macro_rules! piece {
     ($text:literal) => {

@@ -19,7 +19,7 @@ pub enum Kind {
     LoadIndexed,
     /// `Load` with an index: the register that is set, the index, the base.
     LoadIndexFirst,
-    /// `LoadAt` into this register: the place.
+    /// `LoadAt` into this register: the location.
     LoadInto(u8),
     /// `LoadAcq`: the register that is set, the base.
     LoadAcquire,
@@ -29,7 +29,7 @@ pub enum Kind {
     StoreIndexed,
     /// `Store` with an index: the register that is stored, the index, the base.
     StoreIndexFirst,
-    /// `StoreAt`: the place, the number.
+    /// `StoreAt`: the location, the number.
     StoreNumber,
     /// `StoreRel`: the register that is stored, the base.
     StoreRelease,
@@ -43,7 +43,7 @@ pub enum Kind {
     Order(Barrier),
 }
 
-/// An operand of an operation.
+/// An operand of an operation: a number, or the number of a register, location or label.
 #[derive(Clone, Copy)]
 pub enum Operand {
     Register(u8),

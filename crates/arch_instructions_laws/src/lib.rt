@@ -1,4 +1,4 @@
-//! An architecture's instructions as a table of forms: how each is written and read, and laws of both.
+//! An architecture's instructions as a table of forms: how they are written and read, and laws of both.
 #![tactic(auto)]
 
 mod form;
