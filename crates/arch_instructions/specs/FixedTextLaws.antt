@@ -1,4 +1,4 @@
--- The law by which an architecture proves that its fixed texts are what its table writes: the checker finds it so for all digits
+-- The law by which an architecture proves that its fixed texts are what its table writes: the checker computes it for all digits
 -- and all barriers.
 -- Source: own.
 use Rattle.std.proofs.Common.{ℕ, zero, suc, ◌+◌, ◌<◌, ◌≡◌, Bool, true, cond, ◌&&◌, nat_lt, List, ◌∷◌, ◌++◌, Option, Some, None, sym, ap, ◌∙◌, arith}
@@ -18,7 +18,7 @@ abbrev all_below : ℕ → (ℕ → Bool) → Bool
 all_below zero p = true
 all_below (suc n) p = p n && all_below n p
 
--- each number below n passes what all pass
+-- each number below n passes a test that all pass
 each_below : (n : ℕ) (p : ℕ → Bool) (i : ℕ) → all_below n p ≡ true → i < n → p i ≡ true
 each_below zero p i h l = absurd (omega (arith, l))
 each_below (suc n) p i h l =
@@ -29,16 +29,16 @@ each_below (suc n) p i h l =
 abbrev digits_pass : (ℕ → ℕ → Bool) → Bool
 digits_pass p = all_below 10 (λ x. all_below 10 (p x))
 
--- each pair of digits passes what all pass
+-- each pair of digits passes a test that all pass
 each_pair : (p : ℕ → ℕ → Bool) (x y : ℕ) → digits_pass p ≡ true → x < 10 → y < 10 → p x y ≡ true
 each_pair p x y h l m = each_below 10 (p x) y (each_below 10 (λ z. all_below 10 (p z)) x h l) m
 
--- a text is another, if there is one
+-- the first text, if there is one, is the second
 abbrev is_if_some : Option (List ℕ) → List ℕ → Bool
 is_if_some None text = true
 is_if_some (Some fixed) text = bytes_eq fixed text
 
--- a text that passes is the other
+-- a text that passes is the second
 is_some_text : (o : Option (List ℕ)) (fixed text : List ℕ) → is_if_some o text ≡ true → o ≡ Some fixed → fixed ≡ text
 is_some_text None fixed text h e = cc
 is_some_text (Some t) fixed text h e =
@@ -57,14 +57,14 @@ pub record AreWritten (t : FixedTexts) (table : TableText) (names : ℕ → List
   pub stores : digits_pass (λ s a. is_written t table names (ops.Store s a None)) ≡ true
   pub barriers : list_all (λ b. is_written t table names (ops.Barrier b)) all_barriers ≡ true
 
--- two numbers have a text around them only where each is a digit
+-- two numbers have texts around them only if each is a digit
 around_digits : (t : TextsAround) (x y : ℕ) (text : List ℕ) → text_around t x y ≡ Some text → (x < 10) × (y < 10)
 around_digits t x y text e =
     by_test (nat_lt x 10 && nat_lt y 10)
     (λ p. let parts = and_parts (nat_lt x 10) (nat_lt y 10) p in (ltb-true x 10 parts.0, ltb-true y 10 parts.1))
     (λ p. cc (ap (λ b. cond {A = Option (List ℕ)} b (Some (t.before.now ++ (48 + x) ∷ (t.between.now ++ (48 + y) ∷ t.after.now))) None) p, e))
 
--- what the tests say of an operation
+-- an operation with a fixed text passes, since all operations with digits and all barriers do
 pass : (t : FixedTexts) (table : TableText) (names : ℕ → List ℕ) → AreWritten t table names → (op : Micro) (text : List ℕ) →
     fixed_text t op ≡ Some text → is_written t table names op ≡ true
 pass t table names h (ops.Imm d n) text e =
@@ -79,7 +79,7 @@ pass t table names h (ops.Store s a None) text e =
 pass t table names h (ops.Barrier b) text e = each_barrier (λ kind. is_written t table names (ops.Barrier kind)) h.barriers b
 pass t table names h op text e = cc
 
--- fixed texts that have room, and pass the tests whatever the names of places, are what the table writes
+-- fixed texts that are short enough, and pass the tests whatever the names of locations, are what the table writes
 pub are_of_table : (t : FixedTexts) (table : TableText) → ((names : ℕ → List ℕ) → AreWritten t table names) → have_room t ≡ true → AreOfTable t table
 are_of_table t table h room = record {
   written = λ names op text e. is_some_text (fixed_text t op) text (written_text (table_written table names op)) (pass t table names (h names) op text e) e;

@@ -1,4 +1,4 @@
--- The texts of operations by fixed texts, and that these are what a table writes.
+-- The fixed texts of operations, and the premise that they are what a table writes.
 -- Source: own.
 use Rattle.std.specs.{Prelude.{ℕ, ◌+◌, ◌≡◌, Bool, true, cond, ◌&&◌, nat_lt, nat_le, List, [], ◌∷◌, ◌++◌, Option, Some, None, length}, List.list_all}
 use Rattle.micro_ops.specs.{declared.operation.Micro.Micro, declared.operation.Barrier.Barrier}
@@ -25,19 +25,19 @@ fixed_text t (ops.Store s a None) = text_around t.store (t.first + s) (t.first +
 fixed_text t (ops.Barrier b) = barrier_text t.barriers.now b
 fixed_text _ _ = None
 
--- two digits with these texts around them have room
+-- two digits with these texts around them fit into an instruction's text
 abbrev pub has_room : TextsAround → Bool
 has_room t = nat_le (length t.before.now + (length t.between.now + length t.after.now) + 2) MAX_INSTRUCTION_TEXT
 
--- the text of a barrier has room
+-- the text of a barrier fits into an instruction's text
 abbrev pub is_short : BarrierText → Bool
 is_short t = nat_le (length t.text.now) MAX_INSTRUCTION_TEXT
 
--- all fixed texts have room
+-- all fixed texts fit into an instruction's text
 abbrev pub have_room : FixedTexts → Bool
 have_room t = has_room t.number && (has_room t.load && (has_room t.store && list_all is_short t.barriers.now))
 
--- the fixed text of each operation is what the table writes, whatever the names of places, and has room
+-- the fixed text of each operation is what the table writes, whatever the names of locations, and all fixed texts fit
 pub record AreOfTable (t : FixedTexts) (table : TableText) : Type 0 where
   pub written : (names : ℕ → List ℕ) (op : Micro) (text : List ℕ) → fixed_text t op ≡ Some text → text ≡ written_text (table_written table names op)
   pub room : have_room t ≡ true

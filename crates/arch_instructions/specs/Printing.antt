@@ -1,4 +1,4 @@
--- What the code sees of the operands that it prints, the text of operands with commas between, and a quick test of kinds.
+-- What contracts see of the operands that the code prints, the text of operands with commas between, and a quick test of kinds.
 -- Source: own.
 use Rattle.std.specs.{Prelude.{ℕ, ◌+◌, ◌≤◌, ◌≡◌, Bool, true, nat_le, List, [], ◌∷◌, ◌++◌, None, Some, take, length}, List.list_all}
 use Rattle.micro_ops.specs.declared.operation.Micro.{Micro}
@@ -31,7 +31,7 @@ abbrev pub joined_texts : (ℕ → List ℕ) → List PieceText → List Operand
 joined_texts names [] vs = []
 joined_texts names (p ∷ ps) vs = piece_text names p vs ++ (byte_before 44 ps ++ joined_texts names ps (after_hole p.hole vs))
 
--- an instruction's text: its word, a blank before operands, and these
+-- an instruction's text: its word, then, if it has operands, a space and these
 abbrev pub form_text : (ℕ → List ℕ) → List ℕ → List PieceText → List Operand → List ℕ
 form_text names word ps vs = word ++ (byte_before 32 ps ++ joined_texts names ps vs)
 
@@ -39,7 +39,7 @@ form_text names word ps vs = word ++ (byte_before 32 ps ++ joined_texts names ps
 abbrev pub form_op_text : (ℕ → List ℕ) → Micro → FormText → List ℕ
 form_op_text names op f = form_text names f.word f.pieces (given_operands (operands_of f.kind op))
 
--- each place of operands has a name of at most 16 bytes
+-- each location among the operands has a name of at most 16 bytes
 abbrev pub AllShort : (ℕ → List ℕ) → List Operand → Type 0
 AllShort names [] = Unit
 AllShort names (operands.Place p ∷ vs) = (length (names p) ≤ 16) × AllShort names vs
@@ -47,25 +47,25 @@ AllShort names (operands.Register r ∷ vs) = AllShort names vs
 AllShort names (operands.Number n ∷ vs) = AllShort names vs
 AllShort names (operands.Label l ∷ vs) = AllShort names vs
 
--- after so many bytes there is room for an operand
+-- the operand is good, and after so many bytes there is space for it
 pub record ReadyPiece (names : ℕ → List ℕ) (used : ℕ) (p : PieceText) (vs : List Operand) : Type 0 where
   pub good : is_piece_good p ≡ true
   pub short : AllShort names vs
   pub room : used + (length p.before + (most_in p.hole + length p.after)) ≤ MAX_INSTRUCTION_TEXT
 
--- after so many bytes there is room for operands with commas between
+-- the operands are good, and after so many bytes there is space for them with commas between
 pub record ReadyToPrint (names : ℕ → List ℕ) (used : ℕ) (ps : List PieceText) (vs : List Operand) : Type 0 where
   pub good : list_all is_piece_good ps ≡ true
   pub short : AllShort names vs
   pub room : used + most_of ps ≤ MAX_INSTRUCTION_TEXT + 1
 
--- the name of an operation's place has at most 16 bytes, if it has a place
+-- the name of an operation's location has at most 16 bytes, if it has a location
 abbrev pub place_short : (ℕ → List ℕ) → Micro → Bool
 place_short names (ops.LoadAt _ p) = nat_le (length (names p)) 16
 place_short names (ops.StoreAt p _) = nat_le (length (names p)) 16
 place_short names _ = true
 
--- what a kind does, but for the order of operands
+-- what a kind does, apart from the order of operands
 abbrev pub kind_sort : Kind → Sort
 kind_sort kinds.SetNumber = sorts.Imm
 kind_sort kinds.ExclusiveOr = sorts.Xor
@@ -87,7 +87,7 @@ kind_sort kinds.BranchEqual = sorts.BranchEq
 kind_sort kinds.BranchNotZero = sorts.BranchNz
 kind_sort (kinds.Order _) = sorts.Barrier
 
--- what an operation does, but for its operands
+-- what an operation does, apart from its operands
 abbrev pub op_sort : Micro → Sort
 op_sort (ops.Imm _ _) = sorts.Imm
 op_sort (ops.Xor _ _ _) = sorts.Xor

@@ -6,7 +6,7 @@ use arch_instructions_laws::{Form, Hole, Operand, Piece};
 use arch_trait::MAX_IMMEDIATE;
 use micro_ops::Micro;
 
-/// Whether an instruction of this form does the operation.
+/// Whether an instruction of this form can do the operation.
 pub(crate) fn does(form: &Form, op: &Micro) -> bool
     ensures { result ≡ does op.now (form_seen form.now) }
 {
@@ -16,7 +16,7 @@ pub(crate) fn does(form: &Form, op: &Micro) -> bool
     }
 }
 
-/// Whether the holes can hold these operands, in order, and all of them.
+/// Whether the holes can hold exactly these operands, in order.
 #[tactic(auto, unfolding(arch_instructions_laws::specs::Tables::operands_fit))]
 fn fits(pieces: &[Piece], operands: &[Operand]) -> bool
     ensures { result ≡ operands_fit (map piece_seen pieces.now) operands.now }
@@ -29,7 +29,7 @@ fn fits(pieces: &[Piece], operands: &[Operand]) -> bool
     }
 }
 
-/// Whether the hole can hold the first of these operands.
+/// Whether the hole can hold the first of these operands; an empty hole takes none of them.
 #[inline]
 pub(crate) fn fits_first(hole: Hole, operands: &[Operand]) -> bool
     ensures { result ≡ fits_first hole operands.now }

@@ -21,16 +21,16 @@ pub struct BarrierText {
     pub text: &'static str,
 }
 
-/// The texts of the instructions that tests are full of, where each of their numbers is one digit.
+/// The texts of the instructions that are most frequent in tests, for numbers of one digit.
 #[derive(Clone, Copy)]
 pub struct FixedTexts {
     /// The number in the name of register 0.
     pub first: u8,
-    /// Of an instruction that sets a register to a number.
+    /// For an instruction that sets a register to a number, around these two.
     pub number: TextsAround,
-    /// Of a load, around its register and its address register.
+    /// For a load, around its register and its address register.
     pub load: TextsAround,
-    /// Of a store, around its register and its address register.
+    /// For a store, around its register and its address register.
     pub store: TextsAround,
     pub barriers: &'static [BarrierText],
 }
@@ -51,7 +51,7 @@ macro_rules! barrier_text {
     };
 }
 
-/// Makes `out` the fixed text of an operation. False where it has none.
+/// Makes `out` the fixed text of an operation. False if it has none; `out` may then be anything.
 #[inline(always)]
 pub(crate) fn print_short(texts: &FixedTexts, op: &Micro, out: &mut Text) -> bool
     requires room { have_room texts.now ≡ true }
@@ -85,7 +85,7 @@ pub(crate) fn print_short(texts: &FixedTexts, op: &Micro, out: &mut Text) -> boo
     }
 }
 
-/// Makes `out` two numbers with fixed texts around them. False where one isn't of one digit.
+/// Makes `out` two numbers with fixed texts around them. False if one of them has more than one digit.
 #[inline(always)]
 fn print_around(texts: &TextsAround, first: u32, second: u32, out: &mut Text) -> bool
     requires room { has_room texts.now ≡ true }
@@ -114,7 +114,7 @@ fn print_two(texts: &TextsAround, first: u32, second: u32, out: &mut Text)
     out.push_str(texts.after);
 }
 
-/// Makes `out` the text of a barrier. False where it has none.
+/// Makes `out` the text of a barrier. False if it has none.
 #[inline(always)]
 fn print_barrier(texts: &[BarrierText], barrier: Barrier, out: &mut Text) -> bool
     requires room { list_all is_short texts.now ≡ true }
@@ -132,7 +132,7 @@ fn print_barrier(texts: &[BarrierText], barrier: Barrier, out: &mut Text) -> boo
     false
 }
 
-/// Makes `out` a text, one of four to six letters without a loop over its bytes.
+/// Makes `out` a text; one of four to six bytes without a loop over them.
 #[inline(always)]
 fn print_unrolled(text: &str, out: &mut Text)
     requires room { length text.now ≤ MAX_INSTRUCTION_TEXT }
@@ -146,7 +146,7 @@ fn print_unrolled(text: &str, out: &mut Text)
     }
 }
 
-/// Makes `out` a fixed text.
+/// Makes `out` this text, whatever it was before.
 #[inline(always)]
 pub fn print_fixed(text: &str, out: &mut Text)
     requires room { length text.now ≤ MAX_INSTRUCTION_TEXT }

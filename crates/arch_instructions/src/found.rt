@@ -11,7 +11,7 @@ use arch_trait::{Named, Raw};
 use arrayvec::ArrayVec;
 use micro_ops::Micro;
 
-/// An operand as it is read, where a place or a label has its name and no number.
+/// An operand as it is read: a location or a label has its name and no number.
 #[derive(Clone, Copy)]
 pub(crate) enum Found<'a> {
     Register(u8),
@@ -29,7 +29,7 @@ impl Default for Found<'_> {
 /// The operands of an instruction as they are read, in order: at most four.
 pub(crate) type Founds<'a> = ArrayVec<Found<'a>, 4>;
 
-/// Appends the operand that a text in a hole is, if there is one. True where the text may be there.
+/// Appends the operand that the text in a hole is read as; an empty hole has none. False if the text can't be there.
 pub(crate) fn add_found<'a>(hole: Hole, text: &'a [u8], founds: &mut Founds<'a>) -> bool
     requires room { array_vec_len founds.old < 4 }
     ensures found { founds_if result founds.new.items ≡ and_founds founds.old.items (hole_found hole text.now) }
@@ -52,7 +52,7 @@ pub(crate) fn add_found<'a>(hole: Hole, text: &'a [u8], founds: &mut Founds<'a>)
     true
 }
 
-/// The operation of a kind that has these operands.
+/// The operation of a kind that has these operands, if they are those of the kind.
 pub(crate) fn raw_with<'a>(kind: Kind, founds: &[Found<'a>]) -> Option<Raw<'a>>
     ensures { raw_seen result ≡ raw_with kind (founds_seen founds.now) }
 {

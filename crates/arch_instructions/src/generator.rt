@@ -9,7 +9,7 @@ use arch_trait::{AskedAccess, DependentAccess, Instrs, Link, MAX_INSTRS, Regs, S
 use micro_ops::{Barrier, Micro};
 use relax_edges::{FenceKind, Mark};
 
-/// How many registers a thread of this shape takes.
+/// How many registers a thread of this shape takes: one for each load, store, address dependency and location.
 pub fn registers_needed(shape: &Shape) -> u32
     ensures { result ≡ shape.now.loads + shape.now.stores + shape.now.addr + shape.now.places }
 {
@@ -19,8 +19,8 @@ pub fn registers_needed(shape: &Shape) -> u32
         + u32::from(shape.places)
 }
 
-/// Appends the code of a link: its fence, or a branch on the register to the label right after it,
-/// and the barrier that the link asks for after that.
+/// Appends the code of a link: its fence; or, if it is a control dependency, a branch on register `from` to the
+/// label right after it, then the barrier of the link, if it has one. Other links have no code.
 pub fn put_link<I: OwnInstructions>(link: Link, from: Option<u8>, label: u8, out: &mut Instrs)
     requires { array_vec_len out.old + link_room link ≤ MAX_INSTRS }
     ensures { out.new.items ≡ out.old.items ++ link_code I.own link from label }
@@ -58,7 +58,7 @@ fn put_branch_code<I: OwnInstructions>(source: u8, label: u8, out: &mut Instrs)
     out.push(Micro::Label { label });
 }
 
-/// Appends the code of a load of the mark, and gives the register that it loads to.
+/// Appends the code of a load with the mark, and returns the register that it loads into.
 pub fn put_load<I: OwnInstructions>(regs: &mut Regs, access: AskedAccess, out: &mut Instrs) -> u8
     requires to_load { is_data access.link ≡ false }
     requires left { ((puts_of I.own).load regs.old access.link access.mark access.source access.place).regs.next ≤ regs.old.count }
@@ -82,7 +82,7 @@ pub fn put_load<I: OwnInstructions>(regs: &mut Regs, access: AskedAccess, out: &
     }
 }
 
-/// Appends the code of a store of the mark, of the value.
+/// Appends the code of a store of the value, with the mark.
 pub fn put_store<I: OwnInstructions>(
     regs: &mut Regs,
     access: AskedAccess,
@@ -122,7 +122,7 @@ fn put_store_dependent<I: OwnInstructions>(
     put_store_through::<I>(access.mark, taken, out);
 }
 
-/// Appends the code of a store whose address depends on no load, and its value on register `source`, if
+/// Appends the code of a store whose address depends on no load; its value depends on register `source`, if
 /// there is one.
 fn put_store_plain<I: OwnInstructions>(
     regs: &mut Regs,
@@ -150,7 +150,7 @@ fn put_store_plain<I: OwnInstructions>(
     out.push(store(access.mark, taken.value, taken.address));
 }
 
-/// A load of the mark at the address in register `base`.
+/// A load with the mark from the address in register `base`.
 fn load(mark: Mark, dst: u8, base: u8) -> Micro
     ensures { result ≡ load_op mark dst base }
 {
@@ -164,7 +164,7 @@ fn load(mark: Mark, dst: u8, base: u8) -> Micro
     }
 }
 
-/// A store of the mark at the address in register `base`.
+/// A store with the mark to the address in register `base`.
 fn store(mark: Mark, src: u8, base: u8) -> Micro
     ensures { result ≡ store_op mark src base }
 {
@@ -178,8 +178,8 @@ fn store(mark: Mark, src: u8, base: u8) -> Micro
     }
 }
 
-/// Appends a load of the mark to the register of the value at the address in that of the address, so
-/// that the address depends on the register of the dependency, which holds 0.
+/// Appends a load with the mark into the register `value` of `taken`, from the address in its register `address`,
+/// so that the address depends on its register `dependency`, which holds 0.
 fn put_load_through<I: OwnInstructions>(mark: Mark, taken: DependentAccess, out: &mut Instrs)
     requires { array_vec_len out.old + 2 ≤ MAX_INSTRS }
     ensures { out.new.items ≡ out.old.items ++ load_through I.own mark taken.dependency taken.value taken.address }
@@ -193,8 +193,8 @@ fn put_load_through<I: OwnInstructions>(mark: Mark, taken: DependentAccess, out:
     }
 }
 
-/// Appends a store of the mark of the register of the value at the address in that of the address, so
-/// that the address depends on the register of the dependency, which holds 0.
+/// Appends a store with the mark of the register `value` of `taken`, to the address in its register `address`,
+/// so that the address depends on its register `dependency`, which holds 0.
 fn put_store_through<I: OwnInstructions>(mark: Mark, taken: DependentAccess, out: &mut Instrs)
     requires { array_vec_len out.old + 2 ≤ MAX_INSTRS }
     ensures { out.new.items ≡ out.old.items ++ store_through I.own mark taken.dependency taken.value taken.address }
@@ -208,7 +208,7 @@ fn put_store_through<I: OwnInstructions>(mark: Mark, taken: DependentAccess, out
     }
 }
 
-/// The address in register `address`, in register `dependency`, which holds 0.
+/// Adds the address in register `address` to register `dependency`, which holds 0.
 fn address_in(dependency: u8, address: u8) -> Micro
     ensures { result ≡ ops.Add dependency address dependency }
 {
@@ -219,7 +219,7 @@ fn address_in(dependency: u8, address: u8) -> Micro
     }
 }
 
-/// The number 0 in `dst`, which depends on `source`.
+/// Makes `dst` the number 0, which depends on `source`.
 fn zero_from(source: u8, dst: u8) -> Micro
     ensures { result ≡ ops.Xor dst source source }
 {

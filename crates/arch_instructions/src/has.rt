@@ -7,7 +7,7 @@ use crate::sorts::{Sort, may_do, op_sort};
 use arch_instructions_laws::{Form, Labels, Table};
 use micro_ops::Micro;
 
-/// Whether an instruction of the table does the operation.
+/// Whether an instruction of the table can do the operation.
 pub fn has_by(table: &Table, op: &Micro) -> bool
     ensures { result ≡ table_has (table_seen table.now) op.now }
 {
@@ -17,7 +17,7 @@ pub fn has_by(table: &Table, op: &Micro) -> bool
     }
 }
 
-/// Whether a form does the operation. `sort` is that of the operation.
+/// Whether one of the forms can do the operation. `sort` is the sort of the operation.
 fn any_does(forms: &[Form], op: &Micro, sort: Sort) -> bool
     requires sort { sort ≡ op_sort op.now }
     ensures { result ≡ list_any (does op.now) (map form_seen forms.now) }
@@ -28,7 +28,7 @@ fn any_does(forms: &[Form], op: &Micro, sort: Sort) -> bool
     }
 }
 
-/// Whether an instruction of this form does the operation.
+/// Whether an instruction of this form can do the operation. `sort` is the sort of the operation.
 #[inline(always)]
 fn does_of_sort(form: &Form, op: &Micro, sort: Sort) -> bool
     requires sort { sort ≡ op_sort op.now }

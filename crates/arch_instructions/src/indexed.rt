@@ -3,7 +3,7 @@ ghost use Rattle.micro_ops.specs.declared.operation.Micro.TheVariants as ops;
 
 use micro_ops::Micro;
 
-/// A load to register `value` at the sum of registers `address` and `dependency`.
+/// A load into register `value` from the sum of registers `address` and `dependency`.
 pub fn indexed_load(dependency: u8, value: u8, address: u8) -> Micro
     ensures { result ≡ ops.Load value address (Some dependency) }
 {
@@ -14,7 +14,7 @@ pub fn indexed_load(dependency: u8, value: u8, address: u8) -> Micro
     }
 }
 
-/// A store of register `value` at the sum of registers `address` and `dependency`.
+/// A store of register `value` to the sum of registers `address` and `dependency`.
 pub fn indexed_store(dependency: u8, value: u8, address: u8) -> Micro
     ensures { result ≡ ops.Store value address (Some dependency) }
 {
@@ -25,7 +25,7 @@ pub fn indexed_store(dependency: u8, value: u8, address: u8) -> Micro
     }
 }
 
-/// What adds a number to what register `dependency` holds.
+/// An operation that adds a number to what register `dependency` holds.
 pub fn add_number(dependency: u8, number: u8) -> Micro
     ensures { result ≡ ops.AddImm dependency dependency number }
 {

@@ -1,4 +1,4 @@
-//! Instructions are printed and read by a table of forms; and the code of a thread where accesses name a register that holds the address.
+//! Printing and reading instructions by a table of forms, and the code of a thread whose accesses name a register that holds the address.
 #![tactic(auto)]
 
 mod fits;

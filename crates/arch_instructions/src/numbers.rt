@@ -5,7 +5,7 @@ ghost use Rattle.arch_trait.specs.Writing.{register_at, immediate_number};
 use arch_trait::MAX_IMMEDIATE;
 use final_cond::number_of;
 
-/// The number that these bytes write in decimal, as `number_of` gives it: at once where they are one or two digits.
+/// The number that these bytes write in decimal, as `number_of` returns it; one or two digits are read without it.
 #[inline(always)]
 #[tactic(auto, using(crate::proofs::ReadDigits::one_is, crate::proofs::ReadDigits::two_are))]
 fn number(digits: &[u8]) -> Option<u32>
@@ -44,7 +44,7 @@ fn two_digits(a: u8, b: u8, digits: &[u8]) -> Option<u32>
     }
 }
 
-/// The register whose number these bytes write, among `count` that begin with number `first`.
+/// The register whose number these bytes write, among `count` registers of which the first has number `first`.
 #[inline(always)]
 pub(crate) fn register_in(first: u8, count: u8, digits: &[u8]) -> Option<u8>
     ensures { result ≡ register_at first count (number_of digits.now) }
@@ -62,7 +62,7 @@ pub(crate) fn register_in(first: u8, count: u8, digits: &[u8]) -> Option<u8>
     }
 }
 
-/// The number that these bytes write, where it is at most `MAX_IMMEDIATE`.
+/// The number that these bytes write, if it is at most `MAX_IMMEDIATE`.
 #[inline(always)]
 #[tactic(auto, unfolding(arch_trait::specs::Writing::immediate_number))]
 pub(crate) fn immediate(digits: &[u8]) -> Option<u32>

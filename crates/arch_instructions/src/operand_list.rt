@@ -2,7 +2,7 @@ ghost use Rattle.std.specs.Prelude.{◌≡◌, ◌≤◌, ◌∷◌, [], take};
 
 use arch_instructions_laws::Operand;
 
-/// The operands of an operation, of at most three.
+/// The operands of an operation: at most three.
 #[derive(Clone, Copy)]
 pub struct OperandList {
     pub(crate) items: [Operand; 3],

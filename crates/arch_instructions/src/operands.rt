@@ -8,7 +8,7 @@ use arch_instructions_laws::{Kind, Operand};
 use micro_ops::{Barrier, Micro};
 use relax_edges::{FenceKind, Pick};
 
-/// The operands of an operation in the order of a kind. None where it is not of that kind.
+/// The operands of an operation in the order of a kind; `None` if it isn't of that kind.
 #[inline(always)]
 pub fn operands_of(kind: &Kind, op: &Micro) -> Option<OperandList>
     ensures { option_map listed_operands result ≡ operands_of kind.now op.now }
@@ -69,7 +69,7 @@ fn three(a: Operand, b: Operand, c: Operand) -> Option<OperandList>
     Some(OperandList::three(a, b, c))
 }
 
-/// The operands of an access without an index.
+/// The operands of an access without an index; `None` if it has one.
 #[inline]
 fn operands_without_index(r: u8, base: u8, index: Option<u8>) -> Option<OperandList>
     ensures load { option_map listed_operands result ≡ operands_of Kind.Load (Micro.Load r base index) }
@@ -81,7 +81,7 @@ fn operands_without_index(r: u8, base: u8, index: Option<u8>) -> Option<OperandL
     }
 }
 
-/// The operands of an access with an index, the base first.
+/// The operands of an access with an index, the base before the index; `None` if it has no index.
 #[inline]
 fn operands_with_index(r: u8, base: u8, index: Option<u8>) -> Option<OperandList>
     ensures load { option_map listed_operands result ≡ operands_of Kind.LoadIndexed (Micro.Load r base index) }
@@ -93,7 +93,7 @@ fn operands_with_index(r: u8, base: u8, index: Option<u8>) -> Option<OperandList
     }
 }
 
-/// The operands of an access with an index, this first.
+/// The operands of an access with an index, the index before the base; `None` if it has no index.
 #[inline]
 fn index_first(r: u8, base: u8, index: Option<u8>) -> Option<OperandList>
     ensures load { option_map listed_operands result ≡ operands_of Kind.LoadIndexFirst (Micro.Load r base index) }
@@ -127,7 +127,7 @@ fn order(barrier: Barrier, other: Barrier) -> Option<OperandList>
     }
 }
 
-/// A number of each barrier's own.
+/// The number of a barrier; each barrier has its own.
 pub fn barrier_number(barrier: Barrier) -> u8
     ensures { result ≡ barrier_number barrier }
 {

@@ -10,26 +10,26 @@ use micro_ops::Micro;
 pub trait OwnInstructions {
     ghost own: { Instructions };
 
-    /// Appends a branch to a label that depends on register `source`, of at most two operations.
+    /// Appends a branch to `label` that depends on register `source`: at most two operations.
     fn put_branch(source: u8, label: u8, out: &mut Instrs)
         requires { array_vec_len out.old + 2 ≤ MAX_INSTRS }
         ensures code { out.new.items ≡ out.old.items ++ own.branch source label }
         ensures few { array_vec_len out.new ≤ array_vec_len out.old + 2 };
 
-    /// Appends a load to register `value` at the address in register `address`, so that the address
+    /// Appends a load into register `value` from the address in register `address`, so that the address
     /// depends on register `dependency`, which holds 0.
     fn put_dependent_load(dependency: u8, value: u8, address: u8, out: &mut Instrs)
         requires { array_vec_len out.old + 2 ≤ MAX_INSTRS }
         ensures { out.new.items ≡ out.old.items ++ own.load dependency value address };
 
-    /// Appends a store of register `value` at the address in register `address`, so that the address
+    /// Appends a store of register `value` to the address in register `address`, so that the address
     /// depends on register `dependency`, which holds 0.
     fn put_dependent_store(dependency: u8, value: u8, address: u8, out: &mut Instrs)
         requires { array_vec_len out.old + 2 ≤ MAX_INSTRS }
         ensures { out.new.items ≡ out.old.items ++ own.store dependency value address };
 
-    /// What makes register `dependency`, which holds 0, a number, so that the number depends on what
-    /// the register does.
+    /// The operation that makes register `dependency`, which holds 0, hold `number`, so that the number
+    /// depends on what the 0 depends on.
     fn join_number(dependency: u8, number: u8) -> Micro
         ensures { result ≡ own.joins dependency number };
 }

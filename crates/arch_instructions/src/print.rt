@@ -15,14 +15,15 @@ use arch_trait::{MAX_INSTRUCTION_TEXT, Places, push_label, push_number};
 use arrayvec::ArrayString;
 use micro_ops::Micro;
 
-/// What is put before operands.
+/// The byte that is put before an operand.
 #[derive(Clone, Copy)]
 enum Separator {
     Blank,
     Comma,
 }
 
-/// Makes `out` the text of an operation, by the first form of the table that does it.
+/// Makes `out` the text of an operation, by the first form of the table that can do it; a label is its name and a
+/// colon. The operation's location must be one of `places`, and its label below 64.
 pub fn print_by(
     table: &Table,
     op: &Micro,
@@ -46,7 +47,7 @@ pub fn print_by(
     }
 }
 
-/// The same as `print_by`, by its fixed text where the operation has one: in fewer instructions.
+/// The same as `print_by`, with less work if the operation has a fixed text.
 #[inline(always)]
 pub fn print_with(
     table: &Table,
@@ -67,7 +68,7 @@ pub fn print_with(
     }
 }
 
-/// Does nothing: the name of an operation's place has at most 16 bytes.
+/// Does nothing; it shows that the name of an operation's location has at most 16 bytes.
 #[inline]
 fn see_place_short(op: &Micro, places: &Places)
     requires { place_below (length places.now) op.now ≡ true }
@@ -80,7 +81,7 @@ fn see_place_short(op: &Micro, places: &Places)
     }
 }
 
-/// Does nothing: the name of a place has at most 16 bytes.
+/// Does nothing; it shows that the name of a location has at most 16 bytes.
 #[inline]
 fn see_short(place: u8, places: &Places)
     requires { place < length places.now }
@@ -89,7 +90,7 @@ fn see_short(place: u8, places: &Places)
     let _name = places.get(place).as_str();
 }
 
-/// Makes `out`, which is empty, the text of an operation by the first form that does it.
+/// Makes `out`, which is empty, the text of an operation by the first form that can do it.
 fn print_first(forms: &[Form], op: &Micro, places: &Places, out: &mut Text)
     requires clear { is_clear (map form_seen forms.now) ≡ true }
     requires has { list_any (does op.now) (map form_seen forms.now) ≡ true }
@@ -107,8 +108,8 @@ fn print_first(forms: &[Form], op: &Micro, places: &Places, out: &mut Text)
     }
 }
 
-/// Makes `out`, which is empty, the operation as an instruction of a form, if the form does it. `sort` is that of
-/// the operation: a form of another sort is passed over before any operands are made.
+/// Makes `out`, which is empty, the operation as an instruction of a form, if the form can do it. `sort` is the sort
+/// of the operation; a form of another sort is skipped before any operands are made.
 #[inline(always)]
 fn print_if(form: &Form, op: &Micro, sort: Sort, places: &Places, out: &mut Text) -> bool
     requires sort { sort ≡ op_sort op.now }
@@ -148,7 +149,7 @@ fn print_form(form: &Form, operands: &[Operand], places: &Places, out: &mut Text
     false
 }
 
-/// Appends operands with commas between, if the holes can hold them; else some of them.
+/// Appends operands with commas between; false if the holes can't hold exactly these, and then any text may be appended.
 #[inline]
 fn push_pieces(pieces: &[Piece], operands: &[Operand], places: &Places, out: &mut Text) -> bool
     requires ready { ReadyToPrint (name_in places.now) (length out.old.bytes) (map piece_seen pieces.now) operands.now }
@@ -168,7 +169,7 @@ fn push_pieces(pieces: &[Piece], operands: &[Operand], places: &Places, out: &mu
     rest.is_empty()
 }
 
-/// Appends a separator before operands, if there are any.
+/// Appends a separator, if there are operands to come.
 #[inline]
 fn push_before(separator: Separator, pieces: &[Piece], out: &mut Text)
     requires room { length (out.old.bytes ++ byte_before (separator_byte separator) (map piece_seen pieces.now)) ≤ MAX_INSTRUCTION_TEXT }
@@ -181,7 +182,7 @@ fn push_before(separator: Separator, pieces: &[Piece], out: &mut Text)
     }
 }
 
-/// Appends an operand, if its hole can hold it; else a part of it.
+/// Appends an operand; false if its hole can't hold it, and then a part of its text may be appended.
 #[inline]
 fn push_piece(piece: &Piece, operands: &[Operand], places: &Places, out: &mut Text) -> bool
     requires ready { ReadyPiece (name_in places.now) (length out.old.bytes) (piece_seen piece.now) operands.now }
@@ -197,7 +198,7 @@ fn push_piece(piece: &Piece, operands: &[Operand], places: &Places, out: &mut Te
     true
 }
 
-/// Appends what is in a hole.
+/// Appends the text in a hole that holds the first of these operands.
 #[inline]
 fn push_hole(hole: Hole, operands: &[Operand], places: &Places, out: &mut Text)
     requires room { length (out.old.bytes ++ hole_filled (name_in places.now) hole operands.now) ≤ MAX_INSTRUCTION_TEXT }

@@ -7,7 +7,7 @@ use arrayvec::ArrayString;
 /// The text of an instruction.
 pub(crate) type Text = ArrayString<MAX_INSTRUCTION_TEXT>;
 
-/// Appends a text, a very short one without a loop over its bytes.
+/// Appends a text; one of at most two bytes without a loop over them.
 #[inline]
 pub fn push_short(text: &str, out: &mut Text)
     requires room { length (out.old.bytes ++ text.now) ≤ MAX_INSTRUCTION_TEXT }
@@ -21,7 +21,7 @@ pub fn push_short(text: &str, out: &mut Text)
     }
 }
 
-/// Appends a word, one of three letters without a loop over its bytes.
+/// Appends a word; one of three bytes without a loop over them.
 #[inline]
 pub(crate) fn push_word(word: &str, out: &mut Text)
     requires room { length (out.old.bytes ++ word.now) ≤ MAX_INSTRUCTION_TEXT }
@@ -33,7 +33,7 @@ pub(crate) fn push_word(word: &str, out: &mut Text)
     }
 }
 
-/// Appends the name of a place, where it has one.
+/// Appends the name of a location, if it has one.
 #[inline]
 pub(crate) fn push_place(place: u8, places: &Places, out: &mut Text)
     requires room { length (out.old.bytes ++ name_in places.now place) ≤ MAX_INSTRUCTION_TEXT }

@@ -9,7 +9,7 @@ use crate::found::{Founds, add_found, raw_with};
 use arch_instructions_laws::{Form, Labels, Piece, Table};
 use arch_trait::{Operands, Raw, read_label_alone};
 
-/// What is left of a text after a fixed text at its beginning.
+/// What is left of a text after a fixed text at its beginning, if it begins with that.
 #[inline(always)]
 #[tactic(auto, using(crate::proofs::Readings::prefix_ends, crate::proofs::Readings::prefix_on, crate::proofs::Readings::prefix_fails, crate::proofs::Readings::prefix_longer))]
 fn after_prefix<'a>(prefix: &[u8], text: &'a [u8]) -> Option<&'a [u8]>
@@ -30,7 +30,7 @@ fn after_prefix<'a>(prefix: &[u8], text: &'a [u8]) -> Option<&'a [u8]>
     Some(rest)
 }
 
-/// What is left of a text before a fixed text at its end.
+/// What is left of a text before a fixed text at its end, if it ends with that.
 #[inline(always)]
 #[tactic(auto, using(crate::proofs::Readings::no_suffix), unfolding(arch_instructions_laws::specs::Tables::before_suffix))]
 fn before_suffix<'a>(suffix: &[u8], text: &'a [u8]) -> Option<&'a [u8]>
@@ -46,7 +46,7 @@ fn before_suffix<'a>(suffix: &[u8], text: &'a [u8]) -> Option<&'a [u8]>
     if end == suffix { Some(rest) } else { None }
 }
 
-/// Appends the operand that a text is by its form, if it has one. True where the text is of the form.
+/// Appends the operand that a text is read as by its form; a fixed text has none. False if the text isn't of the form.
 #[tactic(auto, unfolding(arch_instructions_laws::specs::Tables::piece_found))]
 fn add_piece<'a>(piece: &Piece, text: &'a [u8], founds: &mut Founds<'a>) -> bool
     requires room { array_vec_len founds.old < 4 }
@@ -62,7 +62,7 @@ fn add_piece<'a>(piece: &Piece, text: &'a [u8], founds: &mut Founds<'a>) -> bool
     }
 }
 
-/// Appends the operands that texts are by their forms. True where there are as many and each is of its form.
+/// Appends the operands that texts are read as by their forms. True if there are as many and each is of its form.
 #[tactic(auto, unfolding(arch_instructions_laws::specs::Tables::pieces_found), using(crate::proofs::Readings::join_joined, crate::proofs::Readings::no_text))]
 fn add_pieces<'a>(pieces: &[Piece], texts: &[&'a [u8]], founds: &mut Founds<'a>) -> bool
     requires room { array_vec_len founds.old + length texts.now ≤ 4 }
@@ -78,7 +78,7 @@ fn add_pieces<'a>(pieces: &[Piece], texts: &[&'a [u8]], founds: &mut Founds<'a>)
     }
 }
 
-/// The instruction of a form with these operands: none where they aren't of the form.
+/// The instruction of a form with these operands; `None` if they aren't of the form.
 #[tactic(auto, using(crate::proofs::Readings::join_nothing))]
 fn read_texts<'a>(form: &Form, texts: &[&'a [u8]]) -> Option<Option<Raw<'a>>>
     requires few { length texts.now ≤ 4 }
@@ -92,7 +92,7 @@ fn read_texts<'a>(form: &Form, texts: &[&'a [u8]]) -> Option<Option<Raw<'a>>>
     }
 }
 
-/// The instruction of a form with these operands: none where they aren't of the form.
+/// The instruction of a form with these operands; `None` if they aren't of the form.
 fn read_operands<'a>(form: &Form, operands: &Operands<'a>) -> Option<Option<Raw<'a>>>
     ensures { option_map raw_seen result ≡ option_map (raw_with form.now.kind) (found_in (form_seen form.now).pieces (operand_texts operands.now)) }
 {
@@ -106,7 +106,7 @@ fn read_operands<'a>(form: &Form, operands: &Operands<'a>) -> Option<Option<Raw<
     }
 }
 
-/// The instruction of a form with this first word and these operands: none where they aren't of the form.
+/// The instruction of a form with this first word and these operands; `None` if they aren't of the form.
 fn read_form<'a>(form: &Form, word: &[u8], operands: &Operands<'a>) -> Option<Option<Raw<'a>>>
     ensures { option_map raw_seen result ≡ form_raw (form_seen form.now) word.now (operand_texts operands.now) }
 {
@@ -117,8 +117,8 @@ fn read_form<'a>(form: &Form, word: &[u8], operands: &Operands<'a>) -> Option<Op
     }
 }
 
-/// The instruction with this first word and these operands, by the first form of the table that fits: none where
-/// no form does. A place or a label has its name and no number.
+/// The instruction with this first word and these operands, by the first form of the table that fits. If none does, it
+/// is a label, if the table has labels and this is one, or `None`. A location or a label has its name, and number 0.
 #[tactic(auto, using(crate::proofs::Readings::first_fits, crate::proofs::Readings::first_not, crate::proofs::Readings::no_form))]
 pub fn read_by<'a>(table: &Table, word: &'a [u8], operands: Operands<'a>) -> Option<Raw<'a>>
     ensures { raw_seen result ≡ table_raw (table_seen table.now) (record { word = word.now; operands = operand_texts operands.entry }) }

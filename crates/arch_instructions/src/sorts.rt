@@ -5,7 +5,7 @@ ghost use Rattle.arch_instructions.specs.Printing.{kind_sort, op_sort};
 use arch_instructions_laws::{Form, Kind};
 use micro_ops::Micro;
 
-/// What an operation does, but for its operands, and what a kind does, but for their order: only an operation
+/// What an operation does, apart from its operands, and what a kind does, apart from their order. Only an operation
 /// of the same sort is of the kind.
 #[derive(Clone, Copy, PartialEq, Eq)]
 pub(crate) enum Sort {
@@ -29,7 +29,7 @@ pub(crate) enum Sort {
     Label,
 }
 
-/// Whether a form may do an operation of this sort: false only where it doesn't.
+/// Whether a form may do an operation, which is of this sort; false only if it doesn't.
 #[inline(always)]
 pub(crate) fn may_do(form: &Form, op: &Micro, sort: Sort) -> bool
     requires sort { sort ≡ op_sort op.now }
