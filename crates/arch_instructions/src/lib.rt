@@ -1,4 +1,5 @@
-//! Printing and reading instructions by a table of forms, and the code of a thread whose accesses name a register that holds the address.
+//! Printing and reading instructions by a table of forms, and the code of threads whose accesses name a register
+//! that holds the address.
 #![tactic(auto)]
 
 mod fits;

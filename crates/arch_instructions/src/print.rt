@@ -149,7 +149,8 @@ fn print_form(form: &Form, operands: &[Operand], places: &Places, out: &mut Text
     false
 }
 
-/// Appends operands with commas between; false if the holes can't hold exactly these, and then any text may be appended.
+/// Appends operands with commas between. False if the holes can't hold exactly these; then any text may have been
+/// appended.
 #[inline]
 fn push_pieces(pieces: &[Piece], operands: &[Operand], places: &Places, out: &mut Text) -> bool
     requires ready { ReadyToPrint (name_in places.now) (length out.old.bytes) (map piece_seen pieces.now) operands.now }

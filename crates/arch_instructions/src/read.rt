@@ -46,7 +46,8 @@ fn before_suffix<'a>(suffix: &[u8], text: &'a [u8]) -> Option<&'a [u8]>
     if end == suffix { Some(rest) } else { None }
 }
 
-/// Appends the operand that a text is read as by its form; a fixed text has none. False if the text isn't of the form.
+/// Appends the operand that a text is read as by its form; a fixed text has none. False if the text isn't of the
+/// form.
 #[tactic(auto, unfolding(arch_instructions_laws::specs::Tables::piece_found))]
 fn add_piece<'a>(piece: &Piece, text: &'a [u8], founds: &mut Founds<'a>) -> bool
     requires room { array_vec_len founds.old < 4 }
@@ -117,8 +118,9 @@ fn read_form<'a>(form: &Form, word: &[u8], operands: &Operands<'a>) -> Option<Op
     }
 }
 
-/// The instruction with this first word and these operands, by the first form of the table that fits. If none does, it
-/// is a label, if the table has labels and this is one, or `None`. A location or a label has its name, and number 0.
+/// The instruction with this first word and these operands, by the first form of the table that fits. If none does,
+/// it is a label, if the table has labels and this is one, or `None`. A location or a label has its name, and
+/// number 0.
 #[tactic(auto, using(crate::proofs::Readings::first_fits, crate::proofs::Readings::first_not, crate::proofs::Readings::no_form))]
 pub fn read_by<'a>(table: &Table, word: &'a [u8], operands: Operands<'a>) -> Option<Raw<'a>>
     ensures { raw_seen result ≡ table_raw (table_seen table.now) (record { word = word.now; operands = operand_texts operands.entry }) }
