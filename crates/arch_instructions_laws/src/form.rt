@@ -38,7 +38,8 @@ pub enum Labels {
     Unknown,
 }
 
-/// The instructions of an architecture: their forms, in the order in which they are tried, and whether labels are instructions too.
+/// The instructions of an architecture: their forms, in the order in which they are tried, and whether labels are
+/// instructions too.
 #[derive(Clone, Copy)]
 pub struct Table {
     pub forms: &'static [Form],
