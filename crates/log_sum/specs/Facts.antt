@@ -1,4 +1,4 @@
--- What logs say of tests, one fact after another, and what a test is by the facts of all logs.
+-- What logs say about tests, one fact after another, and which fact contradicts those before it.
 -- Source: own; the sum of logs is that of msum7.
 use Rattle.std.specs.Prelude.{ℕ, ◌+◌, nat_lt, Bool, true, false, not, cond, List, [], ◌∷◌, ◌++◌, Option, Some, None, map, filter, sum_by, fold}
 use Rattle.std.specs.{Option.option_map, List.list_any, Ordering.nat_cmp, Cmp.Lexicographic.slice_cmp, BTreeSet.insert_key, Str.bytes_eq}
@@ -18,14 +18,14 @@ pub record Row : Type 0 where
 abbrev pub row_with : List ℕ → Mark → ℕ → Row
 row_with state mark count = record { state = state; mark = mark; count = count }
 
--- what a line says of a test
+-- what a line says about a test
 pub data Fact : Type 0 where
   a_kind : (kind : Kind) → Fact
   a_row : (row : Row) → Fact
   a_condition : (text : List ℕ) (verdict : Verdict) → Fact
   a_hash : (text : List ℕ) → Fact
 
--- a fact, and the name of the test that it is of
+-- a fact, and the name of its test
 pub record Entry : Type 0 where
   pub test : List ℕ
   pub fact : Fact
@@ -38,7 +38,7 @@ facts_of test entries = map (λ e. e.fact) (filter (λ e. bytes_eq e.test test) 
 abbrev pub with_test_name : List (List ℕ) → List ℕ → List (List ℕ)
 with_test_name names name = cond (list_any (bytes_eq name) names) names (names ++ name ∷ [])
 
--- the tests of facts, in the order in which each was first seen
+-- the names of the tests of some facts, in the order in which each was first seen
 abbrev pub tests_of : List Entry → List (List ℕ)
 tests_of entries = fold with_test_name [] (map (λ e. e.test) entries)
 
@@ -66,7 +66,7 @@ hashes [] = []
 hashes (a_hash text ∷ facts) = text ∷ hashes facts
 hashes (_ ∷ facts) = hashes facts
 
--- the first of a list
+-- the first element of a list, if there is one
 abbrev pub first_of : {A : Type 0} → List A → Option A
 first_of [] = None
 first_of (x ∷ xs) = Some x
@@ -105,15 +105,15 @@ abbrev pub says_validated : Verdict → Bool
 says_validated Validated = true
 says_validated NotValidated = false
 
--- what each block says of the condition
+-- what each block says about the condition
 abbrev pub verdicts : List Fact → List Bool
 verdicts facts = map (λ c. says_validated c.1) (conditions facts)
 
--- an error where this is true
+-- an error if this is true
 abbrev pub fault_if : Bool → LogKind → Option LogKind
 fault_if b kind = cond b (Some kind) None
 
--- something is known already, and it is another
+-- something is known already, and it isn't the same
 abbrev pub is_other : {A : Type 0} → (A → A → Bool) → Option A → A → Bool
 is_other same None x = false
 is_other same (Some known) x = not (same known x)

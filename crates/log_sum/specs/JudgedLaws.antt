@@ -1,4 +1,4 @@
--- Laws of what is judged: files one after another, and marks by whether they are the same.
+-- Laws of judging files one after another, and of marks that are the same.
 -- Source: own.
 use Rattle.std.proofs.Common.{◌≡◌, ℕ, List, [], ◌∷◌, ◌++◌, true, refl}
 use Rattle.std.specs.Prelude.{Result, Ok, Err}
@@ -16,7 +16,7 @@ files_both seen (file ∷ files) more = by_result (λ next. files_both next file
     by_result law (Ok x) = law x
     by_result law (Err e) = refl
 
--- marks that are tested to be the same are the same
+-- marks that pass the test of being the same are equal
 pub same_mark_is : (a b : Mark) → same_state_mark a b ≡ true → a ≡ b
 same_mark_is Starred Starred h = refl
 same_mark_is Starred Plain h = cc

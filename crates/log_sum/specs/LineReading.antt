@@ -1,4 +1,4 @@
--- What a line of a log says by its place in its block, as the code reads it: `LogGrammar` says it by blocks.
+-- What a line of a log says by its position in its block, as the code reads it; `LogGrammar` says it by blocks.
 -- Source: own.
 use Rattle.std.specs.Prelude.{ℕ, zero, suc, cond, List, Option, Some, None, Result, Ok, Err}
 use Rattle.log_sum.specs.{declared.errors.LogKind.LogKind, declared.kinds.Kind.Kind, declared.kinds.Kind.TheVariants.Allowed, declared.kinds.Verdict.Verdict}
@@ -19,7 +19,7 @@ pub data Said : Type 0 where
   hashed : (text : List ℕ) → Said
   ends : Said
 
--- a line outside the blocks
+-- what a line outside the blocks says
 abbrev pub outside_said : Option (List ℕ × Kind) → Said
 outside_said None = passed_over
 outside_said (Some test) = begins test.0 test.1
@@ -29,7 +29,7 @@ abbrev pub hash_said : Option (List ℕ) → Said
 hash_said None = passed_over
 hash_said (Some text) = hashed text
 
--- what a line says: its condition, which must be of the kind of the block, or else what the other forms give
+-- what a line says: its condition, which must be of the kind of the block, or, if it has none, what the other forms give
 abbrev pub condition_said : Kind → Option (List ℕ × Verdict) → Said → Result Said LogKind
 condition_said kind None other = Ok other
 condition_said kind (Some condition) other =
@@ -55,7 +55,7 @@ abbrev pub row_said : Result Row LogKind → Result Said LogKind
 row_said (Err kind) = Err kind
 row_said (Ok row) = Ok (a_state row)
 
--- what a line says at a place, or what is wrong with it there
+-- what a line says at a position, or what is wrong with it there
 unfoldable pub log_line_said : Place → List ℕ → Result Said LogKind
 log_line_said Outside text = Ok (outside_said (test_line (words text)))
 log_line_said (Histogram kind) text = counts_said (histogram_line (words text))
@@ -64,17 +64,17 @@ log_line_said (Judgement kind) text = cond (is_judgement (words text)) (Ok judge
 log_line_said (Rest kind) text = cond (is_observation (words text)) (Err BadState) (rest_said kind text)
 log_line_said (Conditioned kind) text = cond (is_observation (words text)) (Ok ends) (rest_said kind text)
 
--- the place where so many states are left
+-- the position where this many states are left
 abbrev pub states_left : Kind → ℕ → Place
 states_left kind zero = Judgement kind
 states_left kind (suc n) = States kind (suc n)
 
--- the place after a state
+-- the position after a state, before which this many were left
 abbrev pub after_state : Kind → ℕ → Place
 after_state kind zero = Judgement kind
 after_state kind (suc n) = states_left kind n
 
--- the kind of the block that a place is in
+-- the kind of the block that a position is in; `Allowed` outside the blocks
 abbrev pub kind_at : Place → Kind
 kind_at Outside = Allowed
 kind_at (Histogram kind) = kind
@@ -83,12 +83,12 @@ kind_at (Judgement kind) = kind
 kind_at (Rest kind) = kind
 kind_at (Conditioned kind) = kind
 
--- the number of states that are left at a place
+-- the number of states that are left at a position
 abbrev pub left_at : Place → ℕ
 left_at (States kind left) = left
 left_at _ = 0
 
--- the place after a line that says this at a place
+-- the position after a line that says this at a position
 unfoldable pub place_after : Place → Said → Place
 place_after place passed_over = place
 place_after place (begins test kind) = Histogram kind
@@ -99,7 +99,7 @@ place_after place (conditioned text verdict) = Conditioned (kind_at place)
 place_after place (hashed text) = place
 place_after place ends = Outside
 
--- what a line says of the test of its block
+-- the fact that a line says about the test of its block, if it says one
 unfoldable pub fact_said : Said → Option Fact
 fact_said (begins test kind) = Some (a_kind kind)
 fact_said (a_state row) = Some (a_row row)
@@ -107,7 +107,7 @@ fact_said (conditioned text verdict) = Some (a_condition text verdict)
 fact_said (hashed text) = Some (a_hash text)
 fact_said _ = None
 
--- the test of the block after a line
+-- the test of the running block after a line
 abbrev pub test_after : List ℕ → Said → List ℕ
 test_after test (begins name kind) = name
 test_after test _ = test

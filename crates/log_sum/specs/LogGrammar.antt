@@ -53,14 +53,15 @@ condition line = condition_line (words line.text)
 abbrev pub is_closing : LogLine → Bool
 is_closing line = is_observation (words line.text)
 
--- a block: its first line, the name and kind of its test, and all lines of the log after the first line; where it ends is told by its parts
+-- a block: its first line, the name and kind of its test, and all lines of the log after that; its parts tell where it ends
 pub record Block : Type 0 where
   pub first : LogLine
   pub test : List ℕ × Kind
   pub after : List LogLine
 
--- the blocks of some lines, one for each line that opens one; lines outside the blocks are passed over. Where a line opens a block inside another one,
--- each part of the outer block refuses it, so the outer block's error comes first, and what comes after an error counts for nothing.
+-- the blocks of some lines, one for each line that opens one; lines outside the blocks are skipped. If a line opens a block inside
+-- another one, each part of the outer block refuses it, so the outer block's error comes first, and what comes after an error doesn't
+-- count.
 abbrev pub blocks : List LogLine → List Block
 blocks [] = []
 blocks (line ∷ lines) = begun (opening line) ++ blocks lines
@@ -69,8 +70,8 @@ blocks (line ∷ lines) = begun (opening line) ++ blocks lines
     begun None = []
     begun (Some test) = (record { first = line; test = test; after = lines }) ∷ []
 
--- the parts of a block after its first line: the line of the count, that many rows, the line of the judgement, further lines, and the closing. Where the
--- log ends inside the block, the later parts have fewer lines or none.
+-- the parts of a block after its first line: the line of the count, that many rows, the line of the judgement, further lines, and the
+-- closing. If the log ends inside the block, the later parts have fewer lines or none.
 pub record BlockParts : Type 0 where
   pub count : List LogLine
   pub states : ℕ
@@ -103,7 +104,7 @@ block_parts (line ∷ lines) =
 abbrev pub has_condition : List LogLine → Bool
 has_condition lines = list_any (λ line. is_some (condition line)) lines
 
--- what a line states, with its number: a fact of a test, or that the line is wrong where it stands
+-- what a line states, with its number: a fact of a test, or that the line is wrong in its position
 abbrev pub Statement : Type 0
 Statement = ℕ × Result Entry LogKind
 
@@ -115,7 +116,7 @@ says line test fact = (line.number, Ok (record { test = test; fact = fact })) �
 abbrev pub wrong : LogLine → LogKind → List Statement
 wrong line kind = (line.number, Err kind) ∷ []
 
--- what the line of the count says: nothing of the test, or that it is wrong
+-- what the line of the count says: nothing about the test, or that it is wrong
 abbrev pub count_says : LogLine → List Statement
 count_says line = elim (histogram_line (words line.text)) as (λ _. List Statement) [ Ok states ↦ [] | Err kind ↦ wrong line kind ]
 
@@ -123,7 +124,7 @@ count_says line = elim (histogram_line (words line.text)) as (λ _. List Stateme
 abbrev pub row_says : List ℕ → LogLine → List Statement
 row_says test line = elim (log_row line.text) as (λ _. List Statement) [ Ok row ↦ says line test (a_row row) | Err kind ↦ wrong line kind ]
 
--- what the judgement says: nothing of the test, or that it is wrong
+-- what the judgement says: nothing about the test, or that it is wrong
 abbrev pub judgement_says : LogLine → List Statement
 judgement_says line = cond (is_judgement (words line.text)) [] (wrong line BadState)
 
@@ -144,7 +145,7 @@ further_says test line =
           ]
     ]
 
--- what the closing says: nothing of the test; it is wrong where no condition came
+-- what the closing says: nothing about the test; it is wrong if no condition came
 abbrev pub closing_says : Bool → LogLine → List Statement
 closing_says conditioned line = cond conditioned [] (wrong line BadState)
 
@@ -165,7 +166,7 @@ abbrev pub no_lines : List LogLine → Bool
 no_lines [] = true
 no_lines (line ∷ lines) = false
 
--- the place at which a log ends inside these parts of a block, if they have no closing
+-- the position at which a log ends inside these parts of a block, if they have no closing
 abbrev pub place_in : Kind → BlockParts → Option Place
 place_in kind parts =
     cond (no_lines parts.count) (Some (Histogram kind))
@@ -173,11 +174,11 @@ place_in kind parts =
     (cond (no_lines parts.judgement) (Some (Judgement kind))
     (cond (no_lines parts.closing) (Some (cond (has_condition parts.further) (Conditioned kind) (Rest kind))) None)))
 
--- the test and the place in its block where the lines of a log end, if they end inside this block
+-- the test and the position in its block where the lines of a log end, if they end inside this block
 abbrev pub inside_block : Block → Option (List ℕ × Place)
 inside_block block = option_map (λ place. (block.test.0, place)) (place_in block.test.1 (block_parts block.after))
 
--- the test and the place in its block where the lines end, if they end inside a block; without an error that is the last block
+-- the test and the position in its block where the lines end, if they end inside the last block; without an error only that can be open
 abbrev pub inside : List LogLine → Option (List ℕ × Place)
 inside lines = fold (λ other block. inside_block block) None (blocks lines)
 
@@ -186,7 +187,7 @@ abbrev pub texts_before : List (Option (List ℕ)) → List (List ℕ)
 texts_before (Some text ∷ lines) = text ∷ texts_before lines
 texts_before _ = []
 
--- what is wrong after those lines, at this number: the next line is too long, or the log ends inside a block
+-- what is wrong after those lines, if anything, at this number: the next line is too long, or the log ends inside a block
 abbrev pub end_says : ℕ → Bool → Option (List ℕ × Place) → List Statement
 end_says n true block = (n, Err LineTooLong) ∷ []
 end_says n false (Some block) = (n, Err Truncated) ∷ []

@@ -17,7 +17,7 @@ next_line line = next_count line
 abbrev pub fault_at : {A : Type 0} → ℕ → LogKind → Result A LogError
 fault_at line kind = Err (record { line = line; kind = kind })
 
--- the facts so far, the test of the running block, the place in it, and the number of the next line
+-- the facts so far, the test of the running block, the position in it, and the number of the next line
 pub record LogSeen : Type 0 where
   pub entries : List Entry
   pub test : List ℕ
@@ -28,7 +28,7 @@ pub record LogSeen : Type 0 where
 abbrev pub nothing_seen : LogSeen
 nothing_seen = record { entries = []; test = []; place = Outside; line = 1 }
 
--- what was seen with a fact more, or the error of that fact
+-- what was seen with one more fact, or the error of that fact
 abbrev pub fact_judged : LogSeen → Fact → Option LogKind → Result LogSeen LogError
 fact_judged seen fact (Some kind) = fault_at seen.line kind
 fact_judged seen fact None =
@@ -39,11 +39,11 @@ abbrev pub fact_put : LogSeen → Option Fact → Result LogSeen LogError
 fact_put seen None = Ok seen
 fact_put seen (Some fact) = fact_judged seen fact (fact_fault (facts_of seen.test seen.entries) fact)
 
--- the next line
+-- what was seen, at the next line
 abbrev pub at_next_line : LogSeen → Result LogSeen LogError
 at_next_line seen = Ok (record seen { line = next_line seen.line })
 
--- what was seen, with what a line says
+-- what was seen, with what a line says, or the error of the fact that it says
 abbrev pub said_to : LogSeen → Said → Result LogSeen LogError
 said_to seen said =
     fact_put (record seen { test = test_after seen.test said; place = place_after seen.place said }) (fact_said said)
@@ -57,7 +57,7 @@ said_judged seen (Ok said) = said_to seen said
 abbrev pub said_put : LogSeen → Result Said LogKind → Result LogSeen LogError
 said_put seen said = said_judged seen said >>= at_next_line
 
--- a line that is given without its end
+-- what was seen after a line that is given without its end
 unfoldable pub text_judged : LogSeen → List ℕ → Result LogSeen LogError
 text_judged seen text = said_put seen (log_line_said seen.place text)
 
@@ -70,7 +70,7 @@ abbrev pub lines_judged : LogSeen → List (List ℕ) → Result LogSeen LogErro
 lines_judged seen [] = Ok seen
 lines_judged seen (line ∷ rest) = line_judged seen line >>= λ next. lines_judged next rest
 
--- a line that goes on: its one error is that it is too long
+-- a line that goes on: its only error is that it is too long
 unfoldable pub rest_judged : LogSeen → List ℕ → Result LogSeen LogError
 rest_judged seen line = cond (is_too_long line) (fault_at seen.line LineTooLong) (Ok seen)
 
@@ -78,13 +78,13 @@ rest_judged seen line = cond (is_too_long line) (fault_at seen.line LineTooLong)
 unfoldable pub bytes_judged : LogSeen → List ℕ → Result LogSeen LogError
 bytes_judged seen bytes = lines_judged seen (whole_lines bytes) >>= λ next. rest_judged next (unended bytes)
 
--- a last line that no line feed ends, if it has a byte
+-- a last line that no line feed ends, unless it is empty
 unfoldable pub last_judged : LogSeen → List ℕ → Result LogSeen LogError
 last_judged seen [] = Ok seen
 last_judged seen (byte ∷ line) =
     cond (is_too_long (byte ∷ line)) (fault_at seen.line LineTooLong) (text_judged seen (byte ∷ line))
 
--- the end of a file at a place: it must be outside the blocks
+-- the end of a file at a position, which must be outside the blocks
 abbrev pub end_at : LogSeen → Place → Result LogSeen LogError
 end_at seen Outside = Ok (record { entries = seen.entries; test = []; place = Outside; line = 1 })
 end_at seen _ = fault_at seen.line Truncated

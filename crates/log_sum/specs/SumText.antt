@@ -1,5 +1,5 @@
 -- The printed sum of logs.
--- Source: the output of msum7; own where P, Q and the word are made for conditions that aren't `exists`.
+-- Source: the output of msum7; for conditions that aren't `exists`, the two sums and the word of the observation are own.
 use Rattle.std.specs.Prelude.{ℕ, ◌-◌, ◌==◌, Bool, true, false, cond, List, [], ◌∷◌, ◌++◌, length, replicate, Option, Some, None, codes, decimal}
 use Rattle.std.specs.List.{flat_map}
 use Rattle.log_sum.specs.{declared.kinds.Kind.Kind, declared.kinds.Kind.TheVariants.{Allowed, Forbidden, Required}, declared.kinds.Mark.Mark}
@@ -21,7 +21,7 @@ abbrev pub mark_sign : Mark → List ℕ
 mark_sign Starred = codes "*>"
 mark_sign Plain = codes ":>"
 
--- blanks that fill a text up to six places
+-- the spaces that fill a text up to six columns
 abbrev pub filling : List ℕ → List ℕ
 filling text = replicate (6 - length text) 32
 
@@ -39,12 +39,12 @@ abbrev pub verdict_end : Bool → List ℕ
 verdict_end true = codes " is validated"
 verdict_end false = codes " is NOT validated"
 
--- how often the starred states were seen
+-- the word of the observation: how often the starred states were seen
 abbrev pub how_often : ℕ → ℕ → List ℕ
 how_often starred plain =
     cond (starred == 0) (codes "Never") (cond (plain == 0) (codes "Always") (codes "Sometimes"))
 
--- the line of the hash, where there is one
+-- the line of the hash, if there is one
 unfoldable pub hash_text : Option (List ℕ) → List ℕ
 hash_text None = []
 hash_text (Some hash) = codes "Hash=" ++ hash ++ line_end

@@ -9,12 +9,12 @@ use Rattle.std.specs.{declared.vec.Vec.Vec, declared.alloc.Global.Global}
 use Rattle.log_sum.specs.{Summed.Summed, StateEntries.states_view, Facts.{Row, Fact}, Representing.SumProgress, LogStates.form_read, SummingSteps.fact_to}
 use Rattle.log_sum.specs.{LogLines.row_of, LineReading.{Said, row_said, passed_over, begins, counts, judged, conditioned, hashed, ends}}
 
--- an answer is what the definition gives; `view` says what the answer means
+-- a result is what the definition gives; `view` says what its value means
 abbrev pub GivesParsed : {X Y : Type 0} → (X → Y) → Result X LogKind → Result Y LogKind → Type 0
 GivesParsed view (Ok x) read = read ≡ Ok (view x)
 GivesParsed view (Err kind) read = read ≡ Err kind
 
--- an answer is what the definition gives, where there may be no memory
+-- the same, or there was no memory
 abbrev pub GivesOr : {X Y : Type 0} → (X → Y) → Result X Fault → Result Y LogKind → Type 0
 GivesOr view (Ok x) read = read ≡ Ok (view x)
 GivesOr view (Err fault) read = IsLineFault fault read
@@ -23,7 +23,7 @@ GivesOr view (Err fault) read = IsLineFault fault read
 abbrev pub count_and_rest : ℕ × Bor (List ℕ) → ℕ × List ℕ
 count_and_rest counted = (counted.0, counted.1.now)
 
--- a row with its state, as the definitions see it
+-- a row as the definitions see it, with the state that its text writes, or the error of the state
 abbrev pub row_code_said : RowCode → Result Row LogKind
 row_code_said row = row_of row.count row.mark (form_read row.text.now)
 
@@ -42,12 +42,12 @@ said_read (code.Conditioned text verdict) = Ok (conditioned text.items verdict)
 said_read (code.Hashed text) = Ok (hashed text.now)
 said_read code.Ends = Ok ends
 
--- an answer is what the definition gives; `view` reads the part that the code leaves unread
+-- a result is what the definition gives; `view` reads the part that the code leaves unread
 abbrev pub ReadsBy : {X Y : Type 0} → (X → Result Y LogKind) → Result X LogKind → Result Y LogKind → Type 0
 ReadsBy view (Ok x) read = read ≡ view x
 ReadsBy view (Err kind) read = read ≡ Err kind
 
--- the same of an answer where there may be no memory
+-- the same, or there was no memory
 abbrev pub ReadsOr : {X Y : Type 0} → (X → Result Y LogKind) → Result X Fault → Result Y LogKind → Type 0
 ReadsOr view (Ok x) read = read ≡ view x
 ReadsOr view (Err fault) read = IsLineFault fault read
@@ -69,7 +69,7 @@ test_view test = record {
   states = states_view test.states.sums.entries;
 }
 
--- an answer to a fact of a test: the test has the fact too, or it has this error
+-- the result for a fact of a test: the test has the fact too, or the fact has this error, or there was no memory
 abbrev pub TestTold : TestSum → TestSum → Fact → Result (Unit {0}) Fault → Type 0
 TestTold old new fact answer = GivesOr (λ _. test_view new) answer (fact_to (test_view old) fact)
 
@@ -81,7 +81,7 @@ named_view test = (test.0.items, test_view test.1)
 abbrev pub tests_view : Table → List (List ℕ × Summed)
 tests_view table = map named_view table.tests.entries
 
--- the states of each test are in byte order
+-- the states of each test are known to be in byte order
 abbrev pub are_in_order : Table → Bool
 are_in_order table = list_all (λ test. test.1.states.in_order) table.tests.entries
 

@@ -9,7 +9,7 @@ use Rattle.log_sum.specs.Facts.{Row, Fact, kinds, rows, conditions, hashes, firs
 abbrev pub StateSummed : Type 0
 StateSummed = List ℕ × (Mark × ℕ)
 
--- a test: its kind, condition and hash, where logs say them; whether a block validated the condition, and whether all did;
+-- a test: its kind, condition and hash, if logs say them; whether a block validated the condition, and whether all did;
 -- the sums of the counts of each mark; and its states in byte order
 pub record Summed : Type 0 where
   pub kind : Option Kind
@@ -21,12 +21,12 @@ pub record Summed : Type 0 where
   pub plain : ℕ
   pub states : List StateSummed
 
--- a value that may be missing, or else this one
+-- a value, or this one if it is missing
 abbrev pub some_or : {A : Type 0} → A → Option A → A
 some_or other None = other
 some_or other (Some x) = x
 
--- a state by the rows: its mark, and the sum of its counts
+-- a state by the rows: its mark in the first of them, and the sum of its counts
 abbrev pub state_by : List Row → List ℕ → StateSummed
 state_by rows state = (state, (some_or Plain (mark_in state rows), state_sum state rows))
 
@@ -43,7 +43,7 @@ summed facts = record {
   states = map (state_by (rows facts)) (states_of (rows facts));
 }
 
--- the condition of a test of a kind is validated: by one block where the kind is Allowed, else by all
+-- the condition of a test of a kind is validated: for Forbidden and Required by all blocks, otherwise by at least one
 abbrev pub validated_by : Option Kind → Summed → Bool
 validated_by (Some Forbidden) test = test.always_validated
 validated_by (Some Required) test = test.always_validated

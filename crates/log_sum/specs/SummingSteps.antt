@@ -1,4 +1,4 @@
--- A test with a fact more, by what is kept of it.
+-- A test with one more fact, by what is kept of it.
 -- Source: own.
 use Rattle.std.specs.Prelude.{ℕ, ◌+◌, min, nat_lt, true, false, ◌&&◌, ◌||◌, cond, List, [], Option, Some, None, Result, Ok, Err, option_map}
 use Rattle.std.specs.{Ordering.nat_cmp, Cmp.Lexicographic.slice_cmp, BTreeMap.insert_entry, BTreeMap.is_at, Map.lookup, Str.bytes_eq}
@@ -9,7 +9,7 @@ use Rattle.diy_io.specs.Count.{last_count}
 use Rattle.log_sum.specs.Facts.{Row, Fact, a_kind, a_row, a_condition, a_hash, same_kind, same_state_mark, says_validated, is_other}
 use Rattle.log_sum.specs.Summed.{Summed, StateSummed}
 
--- what was said first, or else this
+-- what was said first, or this if nothing was
 abbrev pub or_this : {A : Type 0} → Option A → A → Option A
 or_this None x = Some x
 or_this (Some known) x = Some known
@@ -28,25 +28,25 @@ with_marked test Plain sum = record test { plain = sum }
 abbrev pub known_state : List StateSummed → List ℕ → Option (Mark × ℕ)
 known_state states state = lookup (is_at (slice_cmp nat_cmp state)) states
 
--- the count that is kept of a state, 0 where it isn't known
+-- the count that is kept of a state, 0 if it isn't known
 abbrev pub count_known : Option (Mark × ℕ) → ℕ
 count_known None = 0
 count_known (Some known) = known.1
 
--- a state seen once more
+-- a test with one more row
 abbrev pub with_row : Summed → Row → Summed
 with_row test row = with_marked (record test {
   states = insert_entry (slice_cmp nat_cmp) test.states row.state (row.mark, min (count_known (known_state test.states row.state) + row.count) last_count);
 }) row.mark (marked test row.mark + row.count)
 
--- a verdict more
+-- a test with one more verdict
 abbrev pub with_verdict : Summed → Verdict → Summed
 with_verdict test verdict = record test {
   once_validated = test.once_validated || says_validated verdict;
   always_validated = test.always_validated && says_validated verdict;
 }
 
--- a test of which its kind alone is known
+-- a test of which only the kind is known
 abbrev pub of_kind : Kind → Summed
 of_kind kind = record {
   kind = Some kind;
@@ -59,7 +59,7 @@ of_kind kind = record {
   states = [];
 }
 
--- a test with a fact more, or the error of that fact
+-- a test with one more fact, or the error of that fact
 unfoldable pub fact_to : Summed → Fact → Result Summed LogKind
 fact_to test (a_kind kind) = cond (is_other same_kind test.kind kind) (Err KindDiffers) (Ok (record test { kind = or_this test.kind kind }))
 fact_to test (a_condition text verdict) =
@@ -69,7 +69,7 @@ fact_to test (a_row row) =
     cond (is_other same_state_mark (option_map (λ known. known.0) (known_state test.states row.state)) row.mark) (Err MarkDiffers)
     (cond (nat_lt last_count (marked test row.mark + row.count)) (Err SumTooLarge) (Ok (with_row test row)))
 
--- a test with a row more, whose state may be wrong
+-- a test with one more row, whose state may be wrong
 abbrev pub row_to : Summed → Result Row LogKind → Result Summed LogKind
 row_to test (Err kind) = Err kind
 row_to test (Ok row) = fact_to test (a_row row)

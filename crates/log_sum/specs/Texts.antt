@@ -2,12 +2,12 @@
 -- Source: own.
 use Rattle.std.specs.{Prelude.{ℕ, nat_eq, Bool, ◌-◌, List, [], ◌∷◌, ◌++◌, length, take, drop}, List.starts_with, Str.bytes_eq}
 
--- each word with one blank before it
+-- each word with one space before it
 abbrev pub later_words : List (List ℕ) → List ℕ
 later_words [] = []
 later_words (word ∷ rest) = (32 ∷ word) ++ later_words rest
 
--- the words with one blank between them
+-- the words with one space between them
 abbrev pub joined_words : List (List ℕ) → List ℕ
 joined_words [] = []
 joined_words (word ∷ rest) = word ++ later_words rest
@@ -16,7 +16,7 @@ joined_words (word ∷ rest) = word ++ later_words rest
 abbrev pub ends_with : List ℕ → List ℕ → Bool
 ends_with text tail = bytes_eq (drop (length text - length tail) text) tail
 
--- the text before that end
+-- the text before such an end
 abbrev pub before_end : List ℕ → List ℕ → List ℕ
 before_end text tail = take (length text - length tail) text
 

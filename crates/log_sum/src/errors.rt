@@ -8,9 +8,9 @@ use thiserror::Error;
 /// What is wrong with a line of a log.
 #[derive(Clone, Copy, Debug, PartialEq, Eq)]
 pub enum LogKind {
-    /// The log ends inside a block, or a block begins inside one.
+    /// The log ends inside a block, or a block begins inside one, after its judgement.
     Truncated,
-    /// The line isn't what its block needs there.
+    /// The line isn't what its block requires there.
     BadState,
     /// A count is above 2^64-1.
     BadCount,
@@ -22,28 +22,28 @@ pub enum LogKind {
     ConditionDiffers,
     /// The counts of a mark add up to more than 2^64-1.
     SumTooLarge,
-    /// The block has no counts, as in logs of simulators.
+    /// The block has no counts, as in logs of simulators: it has a line that begins with `States`.
     NoCounts,
-    /// The test has another kind already, or its condition is of another kind.
+    /// The test has another kind already, or a condition begins with the quantifier of another kind.
     KindDiffers,
-    /// The line has more than 65,536 bytes.
+    /// The line has more than 65,536 bytes, its line feed not counted.
     LineTooLong,
 }
 
-/// An error in a log, at a line, from 1; the number stops at 2^64-1.
+/// An error in a log, with the number of its line, from 1; the number stops at 2^64-1.
 #[derive(Clone, Copy, Debug, PartialEq, Eq)]
 pub struct LogError {
     pub line: u64,
     pub kind: LogKind,
 }
 
-/// Why a summer takes no more.
+/// Why a summer is finished.
 #[derive(Clone, Copy, Debug, PartialEq, Eq, Error)]
 pub enum SumError {
     /// A line of a log is wrong.
     #[error("a log is wrong")]
     Log(LogError),
-    /// There is no memory.
+    /// There was no memory.
     #[error("no memory")]
     NoMemory,
 }

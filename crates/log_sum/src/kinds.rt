@@ -1,4 +1,4 @@
-/// What a test asks of its final states.
+/// What a test asks about its final states.
 #[derive(Clone, Copy)]
 pub enum Kind {
     Allowed,
@@ -13,21 +13,21 @@ pub enum Mark {
     Plain,
 }
 
-/// What a block says of its condition.
+/// What a block says about its condition.
 #[derive(Clone, Copy)]
 pub enum Verdict {
     Validated,
     NotValidated,
 }
 
-/// The place in a log: outside its blocks, or what a block of a kind has next.
+/// The position in a log: outside its blocks, or what comes next in a block of a kind.
 #[derive(Clone, Copy)]
 pub enum Place {
     /// Outside the blocks.
     Outside,
-    /// The number of states.
+    /// The line with the number of states.
     Histogram(Kind),
-    /// So many states, one or more.
+    /// This many states, one or more.
     States(Kind, u64),
     /// The line `Ok` or `No`.
     Judgement(Kind),

@@ -24,7 +24,7 @@ pub(crate) enum Said<'a> {
     Ends,
 }
 
-/// A state by the text that writes it, its mark, and how often it was seen.
+/// A row: the text that writes a state, its mark, and how often it was seen.
 #[derive(Clone, Copy)]
 pub(crate) struct Row<'a> {
     pub(crate) text: &'a [u8],
@@ -46,7 +46,7 @@ fn kind_of(word: &[u8]) -> Option<Kind>
     }
 }
 
-/// `Test NAME KIND`.
+/// The name and the kind in `Test NAME KIND`.
 #[tactic(auto, unfolding(crate::specs::LogLines::test_line))]
 fn read_test(line: &[u8]) -> Option<(&[u8], Kind)>
     ensures { option_map (λ test. (test.0.now, test.1)) result ≡ test_line (words line.now) }
@@ -63,7 +63,7 @@ fn read_test(line: &[u8]) -> Option<(&[u8], Kind)>
     }
 }
 
-/// Whether a text is the word `states)`, or `state)`.
+/// Whether the only word of a text is `states)` or `state)`.
 fn is_states(text: &[u8]) -> bool
     ensures { result ≡ is_states (words text.now) }
 {
@@ -76,7 +76,7 @@ fn is_states(text: &[u8]) -> bool
     }
 }
 
-/// Whether a count in parentheses ends so, with nothing between.
+/// Whether nothing follows a count in its word, and `states)` or `state)` is the only word after it.
 #[tactic(auto, using(text_parts_laws::proofs::WordLaws::empty_is_nil))]
 fn are_states(remainder: &[u8], rest: &[u8]) -> bool
     ensures { result ≡ are_states remainder.now (words rest.now) }
@@ -99,7 +99,7 @@ fn read_number(text: &[u8]) -> Result<u64, LogKind>
     }
 }
 
-/// `Histogram (n states)`.
+/// The number in `Histogram (n states)`.
 #[tactic(auto, unfolding(crate::specs::LogLines::histogram_line))]
 fn read_histogram(line: &[u8]) -> Result<u64, LogKind>
     ensures { GivesParsed (λ n. n) result (histogram_line (words line.now)) }
@@ -136,7 +136,7 @@ fn read_mark(text: &[u8]) -> Option<(Mark, &[u8])>
     }
 }
 
-/// The line of a state.
+/// The row in the line of a state.
 #[tactic(auto, unfolding(crate::specs::LogLines::log_row))]
 fn read_row(line: &[u8]) -> Result<Row<'_>, LogKind>
     ensures { ReadsBy row_code_said result (log_row line.now) }
@@ -148,7 +148,7 @@ fn read_row(line: &[u8]) -> Result<Row<'_>, LogKind>
     }
 }
 
-/// `Ok` or `No`.
+/// Whether a line is `Ok` or `No`.
 fn is_judgement(line: &[u8]) -> bool
     ensures { result ≡ is_judgement (words line.now) }
 {
@@ -160,7 +160,7 @@ fn is_judgement(line: &[u8]) -> bool
     }
 }
 
-/// The words of a text, with one blank between them.
+/// The words of a text, with one space between them.
 fn joined_words(alloc: Global, text: &[u8]) -> Result<Vec<u8>, NoMemory>
     ensures { IfOk result (λ joined. joined.items ≡ joined_words (words text.now)) }
 {
@@ -176,7 +176,7 @@ fn joined_words(alloc: Global, text: &[u8]) -> Result<Vec<u8>, NoMemory>
     Ok(joined)
 }
 
-/// The verdict with which a text ends, and how long the text before it is.
+/// The length of the text before a verdict, and the verdict, if a text ends with one.
 fn read_verdict(text: &[u8]) -> Option<(usize, Verdict)>
     ensures { option_map (λ cut. (take cut.0 text.now, cut.1)) result ≡ verdict_cut text.now }
 {
@@ -189,7 +189,7 @@ fn read_verdict(text: &[u8]) -> Option<(usize, Verdict)>
     }
 }
 
-/// `Condition TEXT is validated` or `Condition TEXT is NOT validated`.
+/// The text and the verdict in `Condition TEXT is validated` or `Condition TEXT is NOT validated`.
 #[tactic(auto, unfolding(crate::specs::LogLines::condition_line))]
 fn read_condition(alloc: Global, line: &[u8]) -> Result<Option<(Vec<u8>, Verdict)>, NoMemory>
     ensures { IfOk result (λ condition. option_map condition_view condition ≡ condition_line (words line.now)) }
@@ -220,7 +220,7 @@ fn quantifier(kind: Kind) -> &'static [u8]
     }
 }
 
-/// `Hash=TEXT`.
+/// The text in `Hash=TEXT`.
 #[tactic(auto, unfolding(crate::specs::LogLines::hash_line))]
 fn read_hash(line: &[u8]) -> Option<&[u8]>
     ensures { option_map (λ text. text.now) result ≡ hash_line line.now }
@@ -233,7 +233,7 @@ fn read_hash(line: &[u8]) -> Option<&[u8]>
     }
 }
 
-/// What a line says that ends no block and begins none.
+/// What a line in the rest of a block says, if it begins no block.
 fn read_other(alloc: Global, kind: Kind, line: &[u8]) -> Result<Said<'_>, Fault>
     ensures { ReadsOr said_read result (condition_said kind (condition_line (words line.now)) (hash_said (hash_line line.now))) }
 {
@@ -252,7 +252,7 @@ fn read_other(alloc: Global, kind: Kind, line: &[u8]) -> Result<Said<'_>, Fault>
     }
 }
 
-/// What a line says that ends no block.
+/// What a line in the rest of a block says; `Truncated` if it begins a block.
 fn read_rest(alloc: Global, kind: Kind, line: &[u8]) -> Result<Said<'_>, Fault>
     ensures { ReadsOr said_read result (rest_said kind line.now) }
 {
@@ -272,7 +272,7 @@ fn is_observation(line: &[u8]) -> bool
     }
 }
 
-/// What a line says at a place, or what is wrong with it there.
+/// What a line says at a position, or what is wrong with it there.
 #[tactic(auto, unfolding(crate::specs::LineReading::log_line_said))]
 pub(crate) fn read_line(alloc: Global, place: Place, line: &[u8]) -> Result<Said<'_>, Fault>
     ensures { ReadsOr said_read result (log_line_said place line.now) }

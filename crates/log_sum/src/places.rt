@@ -14,7 +14,7 @@ fn states_left(kind: Kind, left: u64) -> Place
     }
 }
 
-/// The kind of the block that a place is in.
+/// The kind of the block that a position is in; `Allowed` outside the blocks.
 fn kind_at(place: Place) -> Kind
     ensures { result ≡ kind_at place }
 {
@@ -38,7 +38,7 @@ fn after_state(place: Place) -> Place
     }
 }
 
-/// The place after a line that says this at a place.
+/// The position after a line that says this at a position.
 #[tactic(auto, unfolding(crate::specs::LineReading::place_after))]
 pub(crate) fn place_after(place: Place, said: &Said<'_>) -> Place
     ensures { (is : Meant) → said_read said.now ≡ Ok is → result ≡ place_after place is }

@@ -9,7 +9,7 @@ use crate::test_sum::TestSum;
 use diy_io::{Failed, Page, Sink};
 use itoa::Buffer;
 
-/// Six blanks, to which a count is filled up, and then the sign of a mark.
+/// Six spaces, by which a count is filled up, and then the sign of a mark.
 const STARRED_SIGN: [u8; 8] = *b"      *>";
 
 const PLAIN_SIGN: [u8; 8] = *b"      :>";
@@ -52,7 +52,7 @@ fn how_often<'a>(starred: u64, plain: u64) -> &'a [u8]
     }
 }
 
-/// Blanks that fill a count up to six places, and then the sign of a mark.
+/// The spaces that fill a count up to six columns, and then the sign of a mark.
 fn filled_sign<'a>(count: &[u8], mark: Mark) -> &'a [u8]
     ensures { result.now ≡ filling count.now ++ mark_sign mark }
 {
@@ -209,7 +209,7 @@ fn print_observation<O: Sink>(
     )
 }
 
-/// The lines above the condition of a test.
+/// Sends the lines above the condition of a test.
 fn print_upper<O: Sink>(
     name: &[u8],
     test: &TestSum,
@@ -225,7 +225,7 @@ fn print_upper<O: Sink>(
     print_verdict(test, page, out)
 }
 
-/// Sends the text of a test by way of a page.
+/// Sends the text of a test, through the output buffer `page`.
 pub(crate) fn print_sum<O: Sink>(
     name: &[u8],
     test: &TestSum,

@@ -10,20 +10,20 @@ use crate::states::StateReader;
 use crate::table::Table;
 use std::alloc::Global;
 
-/// How far logs were read, line by line.
+/// How far logs have been read, line by line.
 #[derive(Drop)]
 pub(crate) struct Reading {
     alloc: Global,
     pub(crate) table: Table,
     states: StateReader,
-    /// The place in the running log.
+    /// The position in the running log.
     pub(crate) place: Place,
     /// The number of the running line.
     pub(crate) line: u64,
 }
 
 impl Reading {
-    /// Nothing has been read.
+    /// A reading that has read nothing.
     pub(crate) fn new(alloc: Global) -> Reading
         ensures { FollowsSeen (progress_view result) nothing_seen }
     {
@@ -36,7 +36,7 @@ impl Reading {
         }
     }
 
-    /// Reads a line without its end.
+    /// Reads a line, which is given without its end.
     pub(crate) fn judge(&mut self, text: &[u8]) -> Result<(), Fault>
         ensures { (seen : LogSeen) → FollowsSeen (progress_view self.old) seen → JudgedTo (progress_view self.new) (text_judged seen text.now) result }
     {
@@ -46,7 +46,7 @@ impl Reading {
         Ok(())
     }
 
-    /// Ends a log, and puts the states of each test in byte order.
+    /// Ends a log, and puts the states of each test in byte order. `Truncated` inside a block.
     pub(crate) fn end(&mut self) -> Result<(), Fault>
         ensures in_order { OnOk result (are_in_order self.new.table ≡ true) }
         ensures ended { (seen : LogSeen) → FollowsSeen (progress_view self.old) seen → JudgedTo (progress_view self.new) (end_judged seen) result }
@@ -61,7 +61,7 @@ impl Reading {
         }
     }
 
-    /// What a line says at the place.
+    /// Takes what a line says.
     fn put(&mut self, said: Said<'_>) -> Result<(), Fault>
         ensures put { SaidTo (progress_view self.old) (progress_view self.new) (said_read said.entry) result }
         ensures line { self.new.line ≡ self.old.line }
@@ -76,7 +76,7 @@ impl Reading {
         }
     }
 
-    /// A state of the running test.
+    /// Adds a row to the running test.
     fn put_row(&mut self, row: Row<'_>) -> Result<(), Fault>
         ensures put { ForRunningTest self.old.table (λ entries name. RowPut entries name (row_code_said row.entry) self.new.table result) }
         ensures place { self.new.place ≡ self.old.place }

@@ -4,17 +4,18 @@ ghost use Rattle.log_sum.specs.StateSpelling.{AddsText, is_later, is_spelled, wr
 use diy_io::NoMemory;
 use std::alloc::Global;
 
-/// By which texts logs wrote a state. Logs of one tool write it alike, so of two tools' logs each text is known soon.
+/// The texts by which logs wrote a state, at most two. Logs of one tool write it alike, so with logs of two tools
+/// both are soon known.
 #[derive(Drop)]
 pub(crate) struct Spelling {
-    /// The text by which a log wrote the state first, where that isn't its printed form.
+    /// The text by which a log wrote the state first, if that isn't its printed form.
     pub(crate) first: Option<Vec<u8>>,
-    /// The first other text by which a log wrote it later.
+    /// The first other text by which a log wrote it.
     pub(crate) later: Option<Vec<u8>>,
 }
 
 impl Spelling {
-    /// That of a state with this printed form, of which only the text by which a log wrote it first is known.
+    /// The texts of a state with this printed form, which a log wrote first by `text`.
     pub(crate) fn of_first(alloc: Global, text: &[u8], form: &[u8]) -> Result<Spelling, NoMemory>
         ensures first { IfOk result (λ spelling. written_as form.now spelling.first ≡ text.now) }
         ensures later { IfOk result (λ spelling. spelling.later ≡ None) }
@@ -31,14 +32,14 @@ impl Spelling {
         })
     }
 
-    /// Whether a text is kept of the state with this printed form.
+    /// Whether a text is kept for the state, which has this printed form.
     pub(crate) fn has(&self, form: &[u8], text: &[u8]) -> bool
         ensures { result ≡ is_spelled form.now self.now text.now }
     {
         self.first_text(form) == text || self.is_later(text)
     }
 
-    /// The text by which a log wrote the state first.
+    /// The text by which a log wrote the state first; `form` is its printed form.
     fn first_text<'a>(&'a self, form: &'a [u8]) -> &'a [u8]
         ensures { result.now ≡ written_as form.now self.now.first }
     {
@@ -57,7 +58,7 @@ impl Spelling {
         }
     }
 
-    /// Keeps another text, unless one is kept.
+    /// Keeps a second text, unless there is one.
     pub(crate) fn keep(&mut self, alloc: Global, text: &[u8]) -> Result<(), NoMemory>
         ensures { AddsText self.old text.now self.new }
     {

@@ -13,7 +13,7 @@ use std::alloc::Global;
 pub(crate) struct StateSum {
     pub(crate) mark: Mark,
     pub(crate) count: u64,
-    /// By which texts logs wrote the state.
+    /// The texts by which logs wrote the state.
     pub(crate) spelling: Spelling,
 }
 
@@ -21,7 +21,7 @@ pub(crate) struct StateSum {
 #[derive(Drop)]
 pub(crate) struct StateTable {
     pub(crate) sums: IndexMap<Vec<u8>, StateSum>,
-    /// The index after that of the last state that was seen, or 0 after the last index.
+    /// The index after that of the state to which a count was last added, or 0 after the last index.
     next: usize,
     /// Whether the states are known to be in byte order.
     pub(crate) in_order: bool,
@@ -30,7 +30,7 @@ pub(crate) struct StateTable {
 }
 
 impl StateTable {
-    /// A table of no states.
+    /// A table without states.
     #[tactic(auto, unfolding(crate::specs::StateEntries::ordered))]
     pub(crate) fn new(alloc: Global) -> StateTable
         ensures { states_view result.sums.entries ≡ [] }
@@ -42,7 +42,7 @@ impl StateTable {
         }
     }
 
-    /// The index of the state that a text writes, where that is known of the text.
+    /// The index of the state that a text writes, if this text is kept for a state.
     ///
     /// Logs of one test list its states in one order, so the two after the last one are tried before all others.
     pub(crate) fn written_index(&self, text: &[u8]) -> Option<usize>
@@ -63,7 +63,7 @@ impl StateTable {
         }
     }
 
-    /// Whether the text is kept of the state at an index.
+    /// Whether the text is kept for the state at an index.
     fn is_written_at(&self, i: usize, text: &[u8]) -> bool
         ensures { OnTrue result (HasState self.now.sums.entries text.now i) }
     {
@@ -73,7 +73,7 @@ impl StateTable {
         }
     }
 
-    /// The index of a state.
+    /// The index of a state, given by its printed form.
     pub(crate) fn index_of(&self, state: &[u8]) -> Option<usize>
         ensures { MatchOption result (known_in self.now.sums.entries state.now ≡ None) (λ i. state_at self.now.sums.entries i ≡ Some state.now) }
     {
@@ -90,7 +90,7 @@ impl StateTable {
         }
     }
 
-    /// Adds a count to the state at an index.
+    /// Adds a count to the state at an index; the sum stops at 2^64-1.
     pub(crate) fn add(&mut self, i: usize, count: u64)
         ensures { SeenMore self.old.sums.entries self.new.sums.entries i count }
     {
@@ -100,7 +100,7 @@ impl StateTable {
         self.next = self.index_after(i);
     }
 
-    /// Keeps the text by which a log wrote the state at an index, unless it has one beside the first.
+    /// Keeps a text that writes the state at an index, unless the state has one besides the first.
     pub(crate) fn keep_text(&mut self, alloc: Global, i: usize, text: &[u8]) -> Result<(), NoMemory>
         requires { HasState self.old.sums.entries text.now i }
         ensures states { states_view self.new.sums.entries ≡ states_view self.old.sums.entries }
@@ -112,13 +112,13 @@ impl StateTable {
         }
     }
 
-    /// The index after one, or 0 where it is the last.
+    /// The index after this one, or 0 if there is none.
     fn index_after(&self, i: usize) -> usize {
         let next = i.saturating_add(1);
         if next < self.sums.len() { next } else { 0 }
     }
 
-    /// Adds a state.
+    /// Adds a state that the table doesn't have.
     pub(crate) fn put(&mut self, state: Vec<u8>, sum: StateSum) -> Result<(), NoMemory>
         requires new { known_in self.old.sums.entries state.items ≡ None }
         requires written { IsSpelled state.items sum.spelling }

@@ -9,20 +9,20 @@ use diy_io::NoMemory;
 use std::alloc::Global;
 use text_parts::{Class, cut, without_blanks};
 
-/// Reads states, each into the memory of the one before: only a state that needs more takes some.
+/// Reads states, each into the memory of the one before; only a state that needs more memory takes some.
 #[derive(Drop)]
 pub(crate) struct StateReader {
     alloc: Global,
     /// The equalities of the state, in byte order once all are read.
     equalities: Vec<Vec<u8>>,
-    /// Texts for further equalities.
+    /// Spare texts, for further equalities.
     spare: Vec<Vec<u8>>,
     /// The printed form of the state.
     form: Vec<u8>,
 }
 
-/// Appends a left side as it is kept to a text: in brackets, unless it has a colon or begins with a bracket. The sign
-/// follows it.
+/// Appends a left side to a text, as it is kept: in brackets, unless it has a colon or begins with a bracket. Then
+/// comes the sign.
 fn put_left(text: &mut Vec<u8>, left: &[u8]) -> Result<(), NoMemory>
     ensures { OnOk result (text.new.items ≡ text.old.items ++ (left_kept left.now ++ 61 ∷ [])) }
 {
@@ -37,7 +37,7 @@ fn put_left(text: &mut Vec<u8>, left: &[u8]) -> Result<(), NoMemory>
     Ok(())
 }
 
-/// Whether a side of an equality has a byte and no blank.
+/// Whether a side of an equality isn't empty and has no blank.
 #[tactic(auto, using(text_parts_laws::proofs::WordLaws::empty_is_nil))]
 fn is_side(text: &[u8]) -> bool
     ensures { result ≡ is_side text.now }
@@ -45,7 +45,7 @@ fn is_side(text: &[u8]) -> bool
     !text.is_empty() && Class::Inked.has_all(text)
 }
 
-/// The sides of the equality in a piece.
+/// The sides of the equality in a piece, if it is one.
 fn read_sides(piece: &[u8]) -> Option<(&[u8], &[u8])>
     ensures { option_map (λ sides. (sides.0.now, sides.1.now)) result ≡ sides_read (cut_at 61 piece.now) }
 {
@@ -67,14 +67,14 @@ fn left_side(equality: &[u8]) -> &[u8]
     }
 }
 
-/// Whether two equalities have one left side.
+/// Whether two equalities have the same left side.
 fn same_left(one: &[u8], other: &[u8]) -> bool
     ensures { result ≡ same_left one.now other.now }
 {
     left_side(one) == left_side(other)
 }
 
-/// Whether two neighbours have one left side.
+/// Whether two neighbours have the same left side.
 fn has_left_twice(equalities: &[Vec<u8>]) -> bool
     ensures { result ≡ has_left_twice (texts_of equalities.now) }
 {
@@ -86,7 +86,7 @@ fn has_left_twice(equalities: &[Vec<u8>]) -> bool
     false
 }
 
-/// Appends a blank to a form that isn't empty.
+/// Appends a space to a form, unless it is empty.
 #[tactic(auto, using(crate::proofs::StateLaws::separated_some, crate::proofs::StateLaws::separated_none))]
 fn separate(form: &mut Vec<u8>) -> Result<(), NoMemory>
     ensures { OnOk result (form.new.items ≡ separated form.old.items) }
@@ -108,7 +108,7 @@ fn put_form(form: &mut Vec<u8>, equality: &[u8]) -> Result<(), NoMemory>
     Ok(())
 }
 
-/// Writes the printed form of a set.
+/// Makes `form` the printed form of a set.
 fn write_form(state: &[Vec<u8>], form: &mut Vec<u8>) -> Result<(), NoMemory>
     ensures { OnOk result (form.new.items ≡ state_form (texts_of state.now)) }
 {
@@ -136,7 +136,7 @@ impl StateReader {
         self.form.as_slice()
     }
 
-    /// Reads the state that a text writes.
+    /// Reads the state that a text writes; `form` then has its printed form. `BadState` if the text writes none.
     #[tactic(auto, unfolding(crate::specs::LogStates::form_read))]
     pub(crate) fn read(&mut self, text: &[u8]) -> Result<(), Fault>
         ensures { GivesOr (λ _. self.new.form.items) result (form_read text.now) }
@@ -185,8 +185,8 @@ impl StateReader {
         Ok(())
     }
 
-    /// Puts the equalities in byte order, in which those with one left side are neighbours: their texts are the same as
-    /// far as the sign, which no left side has.
+    /// Puts the equalities in byte order; `BadState` if two have the same left side. Such two are neighbours then:
+    /// their texts are the same up to the sign, which no left side has.
     fn put_in_order(&mut self) -> Result<(), Fault>
         requires { All HasSign (texts_of self.old.equalities.items) }
         ensures { GivesOr (λ _. texts_of self.new.equalities.items) result (or_bad (with_all [] (texts_of self.old.equalities.items))) }
@@ -199,7 +199,7 @@ impl StateReader {
         }
     }
 
-    /// Reads the set of the equalities that a text writes.
+    /// Reads the set of equalities that a text writes, in byte order.
     fn read_set(&mut self, text: &[u8]) -> Result<(), Fault>
         requires { self.old.equalities.items ≡ [] }
         ensures { GivesOr (λ _. texts_of self.new.equalities.items) result (or_bad (state_read text.now)) }

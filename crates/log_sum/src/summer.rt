@@ -21,7 +21,7 @@ pub struct Summer {
     reading: Reading,
     /// The bytes of the running line so far.
     held: Vec<u8>,
-    /// The answer of a summer that is spent.
+    /// What a finished summer returns.
     refusal: Option<SumError>,
 }
 
@@ -56,8 +56,8 @@ impl Summer {
 
     /// Feeds a piece of the running log, which may end anywhere.
     ///
-    /// The answer is the first error of the bytes that were fed so far, or that there is no memory; the summer is
-    /// spent then, and answers the same again.
+    /// The error is the first one that the bytes fed so far show, or that there is no memory; the summer is finished
+    /// then, and returns it again.
     pub fn feed(&mut self, piece: &[u8]) -> Result<(), SumError>
         ensures fed { (files : List (List ℕ)) (bytes : List ℕ) → Represents self.old files bytes → FedTo self.new files (bytes ++ piece.now) result }
         ensures kept { IsKeptRefusal self.new result }
@@ -72,8 +72,8 @@ impl Summer {
 
     /// Ends the running log; what is fed next is the next log, from line 1.
     ///
-    /// The answer is the first error of the logs that have ended, or that there is no memory; the summer is spent
-    /// then, and answers the same again.
+    /// The error is the first one of the logs that have ended, or that there is no memory; the summer is finished
+    /// then, and returns it again.
     pub fn end_file(&mut self) -> Result<(), SumError>
         ensures ended { (files : List (List ℕ)) (bytes : List ℕ) → Represents self.old files bytes → EndedTo self.new files bytes result }
         ensures in_order { OnOk result (self.new.in_order ≡ true) }
@@ -87,10 +87,10 @@ impl Summer {
         }
     }
 
-    /// Appends the sum of what is kept. Where the sink fails, it has taken a prefix of it.
+    /// Appends the sum of what is kept. If the sink fails, it has taken a prefix of it.
     ///
-    /// It is asked for between two logs: before the first, or after an `end_file` that answered Ok, with nothing
-    /// fed since. A spent summer is not asked.
+    /// To be called between two logs: before the first, or after an `end_file` that returned `Ok`, with nothing fed
+    /// since. It can't be called on a finished summer.
     #[tactic(auto, using(crate::proofs::RepresentingLaws::between_in_order))]
     pub fn write_sum<O: Sink>(&self, out: &mut O) -> Result<(), Failed>
         requires { IsBetweenLogs self.now }
@@ -101,14 +101,15 @@ impl Summer {
         page.flush(out)
     }
 
-    /// The number of the running line in the running log, from 1; it stops at 2^64-1.
+    /// The number of the running line in the running log, from 1; it stops at 2^64-1. The contract says nothing for
+    /// a finished summer.
     pub fn line(&self) -> u64
         ensures { (files : List (List ℕ)) (bytes : List ℕ) → Represents self.now files bytes → result ≡ running_line bytes }
     {
         self.reading.line
     }
 
-    /// Sends the texts of the tests by way of a page.
+    /// Sends the texts of the tests, through the output buffer `page`.
     fn print_sums<O: Sink>(&self, page: &mut Page, out: &mut O) -> Result<(), Failed>
         requires { self.now.in_order ≡ true }
         ensures { Sends (O.seen out.old) page.old (O.seen out.new) page.new (kept_text self.now) result }
@@ -119,7 +120,7 @@ impl Summer {
         Ok(())
     }
 
-    /// Whether the summer goes on, or its refusal.
+    /// `Ok` if the summer isn't finished, otherwise what it returns.
     fn check_refusal(&self) -> Result<(), SumError>
         ensures ok { OnOk result (self.now.refusal ≡ None) }
         ensures err { IfErr result (λ refusal. self.now.refusal ≡ Some refusal) }
@@ -130,7 +131,7 @@ impl Summer {
         }
     }
 
-    /// Keeps an error of the running line, and answers it.
+    /// Keeps an error at the running line, and returns it.
     fn refuse(&mut self, fault: Fault) -> SumError
         ensures refusal { result ≡ sum_refusal self.old.progress.line fault }
         ensures kept { self.new ≡ record self.old { refusal = Some result } }
@@ -157,7 +158,7 @@ impl Summer {
         self.hold(rest)
     }
 
-    /// The end of the running line, which a line feed follows.
+    /// Reads the running line, of which `prefix` is the last part, before its line feed.
     fn feed_line(&mut self, prefix: &[u8]) -> Result<(), Fault>
         ensures judged { (seen : LogSeen) → FollowsSeen self.old.progress seen
             → JudgedTo self.new.progress (line_judged seen (self.old.held ++ prefix.now)) result }
@@ -176,7 +177,7 @@ impl Summer {
         Ok(())
     }
 
-    /// Holds a part of the running line.
+    /// Holds a part of the running line; `LineTooLong` if the line is then too long.
     fn hold(&mut self, part: &[u8]) -> Result<(), Fault>
         ensures judged { (seen : LogSeen) → FollowsSeen self.old.progress seen
             → JudgedTo self.new.progress (rest_judged seen (self.old.held ++ part.now)) result }
@@ -190,7 +191,7 @@ impl Summer {
         Ok(())
     }
 
-    /// A last line that no line feed ends, and the end of the log.
+    /// Reads a last line that no line feed ends, if there is one, and ends the log.
     fn end_line(&mut self) -> Result<(), Fault>
         ensures in_order { OnOk result (self.new.in_order ≡ true) }
         ensures ended { (files : List (List ℕ)) (bytes : List ℕ) → IsFed self.old files bytes → EndTo self.new files bytes result }

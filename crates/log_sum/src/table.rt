@@ -20,7 +20,7 @@ pub(crate) struct Table {
 }
 
 impl Table {
-    /// A table of no tests.
+    /// A table without tests.
     pub(crate) fn new(alloc: Global) -> Table
         ensures { tests_view result ≡ [] }
     {
@@ -30,7 +30,7 @@ impl Table {
         }
     }
 
-    /// Begins a block of a test of this kind.
+    /// Begins a block of the test with this name, which must have this kind.
     pub(crate) fn begin(&mut self, alloc: Global, name: &[u8], kind: Kind) -> Result<(), Fault>
         ensures { ForEntries self.old (λ entries. FactPut entries name.now (a_kind kind) self.new result) }
     {
@@ -48,7 +48,7 @@ impl Table {
         Ok(())
     }
 
-    /// A state of the running test, which a row writes.
+    /// Adds a row to the running test.
     pub(crate) fn put_row(
         &mut self,
         alloc: Global,
@@ -76,7 +76,7 @@ impl Table {
         Ok(())
     }
 
-    /// A condition of the running test, and what its block says of it.
+    /// Adds a condition to the running test, with the verdict of its block.
     pub(crate) fn put_condition(&mut self, text: Vec<u8>, verdict: Verdict) -> Result<(), Fault>
         ensures { ForRunningTest self.old (λ entries name. FactPut entries name (a_condition text.items verdict) self.new result) }
     {
@@ -86,7 +86,7 @@ impl Table {
         Ok(())
     }
 
-    /// A hash of the running test.
+    /// Adds a hash to the running test.
     pub(crate) fn put_hash(&mut self, alloc: Global, text: &[u8]) -> Result<(), Fault>
         ensures { ForRunningTest self.old (λ entries name. FactPut entries name (a_hash text.now) self.new result) }
     {

@@ -11,7 +11,7 @@ use crate::state_table::{StateSum, StateTable};
 use crate::states::StateReader;
 use std::alloc::Global;
 
-/// What the logs so far say of a test.
+/// What the logs so far say about a test.
 #[derive(Drop)]
 pub(crate) struct TestSum {
     pub(crate) kind: Kind,
@@ -46,7 +46,7 @@ fn same_mark(one: Mark, other: Mark) -> bool
 }
 
 impl TestSum {
-    /// A test of which its kind alone is known.
+    /// A test of which only the kind is known.
     #[tactic(auto, unfolding(crate::specs::Summed::summed))]
     pub(crate) fn new(alloc: Global, kind: Kind) -> TestSum
         ensures { test_view result ≡ of_kind kind }
@@ -63,7 +63,7 @@ impl TestSum {
         }
     }
 
-    /// A kind that a block says.
+    /// Checks the kind that a block says.
     #[tactic(auto, unfolding(crate::specs::SummingSteps::fact_to))]
     pub(crate) fn put_kind(&self, kind: Kind) -> Result<(), LogKind>
         ensures { GivesParsed (λ _. test_view self.now) result (fact_to (test_view self.now) (a_kind kind)) }
@@ -84,7 +84,7 @@ impl TestSum {
         }
     }
 
-    /// A condition, and what a block says of it.
+    /// Adds a condition, with the verdict of its block.
     #[tactic(auto, unfolding(crate::specs::SummingSteps::fact_to))]
     pub(crate) fn put_condition(&mut self, text: Vec<u8>, verdict: Verdict) -> Result<(), LogKind>
         ensures { GivesParsed (λ _. test_view self.new) result (fact_to (test_view self.old) (a_condition text.items verdict)) }
@@ -100,7 +100,7 @@ impl TestSum {
         Ok(())
     }
 
-    /// A hash.
+    /// Adds a hash.
     #[tactic(auto, unfolding(crate::specs::SummingSteps::fact_to))]
     pub(crate) fn put_hash(&mut self, alloc: Global, text: &[u8]) -> Result<(), Fault>
         ensures { TestTold self.old self.new (a_hash text.now) result }
@@ -134,7 +134,7 @@ impl TestSum {
         }
     }
 
-    /// The state that a row writes, seen so often.
+    /// Adds a row: the state that it writes, and how often this was seen.
     pub(crate) fn put_row(
         &mut self,
         alloc: Global,
@@ -156,7 +156,7 @@ impl TestSum {
         }
     }
 
-    /// The state at an index with a mark, seen so often more.
+    /// Adds a count to the state at an index, which must have this mark.
     fn add(&mut self, i: usize, mark: Mark, count: u64) -> Result<(), Fault>
         ensures { ForStateAt self.old.states.sums.entries i (λ state. TestTold self.old self.new (a_row (row_with state mark count)) result) }
     {
@@ -175,7 +175,7 @@ impl TestSum {
         Ok(())
     }
 
-    /// A new state, which a row writes.
+    /// Adds a new state, which a row writes.
     fn put_new(&mut self, alloc: Global, state: &[u8], row: Row<'_>) -> Result<(), Fault>
         requires new { known_state (test_view self.old).states state.now ≡ None }
         requires read { form_read row.text.now ≡ Ok state.now }
