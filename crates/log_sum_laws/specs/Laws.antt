@@ -5,14 +5,14 @@ use Rattle.diy_io.specs.Count.{last_count}
 use Rattle.log_sum.specs.{Facts.{Entry, facts_of}, LogGrammar.{is_too_long, all_judged}, Summed.summed, SumText.sum_text, Representing.logs_text}
 use Rattle.text_parts_laws.specs.Lines.{without_return, whole_lines}
 
--- a printed sum keeps the limits of a log: none of its lines is too long, the number of the states of each test isn't above the
+-- a printed sum keeps the limits of a log: none of its lines is too long, the number of states of each test isn't above the
 -- greatest count, and no hash ends with a carriage return, which would be taken for a part of the line's end
 pub record KeepsSumLimits (entries : List Entry) : Type 0 where
   pub lines : list_all (λ line. not (is_too_long line)) (whole_lines (sum_text entries)) ≡ true
   pub states : (test : List ℕ) → length (summed (facts_of test entries)).states ≤ last_count
   pub hashes : (test hash : List ℕ) → (summed (facts_of test entries)).hash ≡ Some hash → without_return hash ≡ hash
 
--- logs have no error
+-- logs have no error together
 pub record NoFault (logs : List (List ℕ)) : Type 0 where
   pub text : List ℕ
   pub is : logs_text logs ≡ Ok text
@@ -30,11 +30,11 @@ pub data Represent : List (List ℕ) → List (List ℕ) → Type 0 where
   a_log : (log : List ℕ) (files logs : List (List ℕ)) (rest : Represent files logs) → Represent (log ∷ files) (log ∷ logs)
   a_sum : (text : List ℕ) (parts leaves files logs : List (List ℕ)) (below : Represent parts leaves) (sum : IsSum parts text) (rest : Represent files logs) → Represent (text ∷ files) (leaves ++ logs)
 
--- a printed sum is a log without an error, whose sum it is
+-- a printed sum that keeps the limits is a log without an error, whose sum it is
 pub record SumsAreLogs : Type 0 where
   pub same : (logs : List (List ℕ)) (text : List ℕ) → IsSum logs text → logs_text (text ∷ []) ≡ Ok text
 
--- the sum of sums is the sum
+-- the sum of sums is the sum, if the logs have no error together and each printed sum keeps the limits; parts of such logs have no error
 pub record SumOfSums : Type 0 where
   pub two :
       (first second : List (List ℕ)) (one other : List ℕ) → NoFault (first ++ second) → IsSum first one → IsSum second other
