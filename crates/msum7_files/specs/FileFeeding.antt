@@ -1,4 +1,4 @@
--- What an answer says of a log that is fed to a summer in pieces.
+-- What a result says about a log that is fed to a summer in pieces.
 -- Source: own.
 use Rattle.std.specs.{Prelude.{◌≡◌, ◌⊎◌, ℕ, List, [], ◌∷◌, ◌++◌, length, Result, Ok, Err}, Io.KnownBytes.{Consumes, IsAtEnd}}
 use Rattle.diy_io.specs.{Taken.SourceSeen, Wrote.{SinkSeen, Wrote}, declared.errors.Failed.Failed}
@@ -13,33 +13,33 @@ pub record ReadsLogs (feeding : Feeding) (logs : List (List ℕ)) (bytes : List 
   pub represents : Represents feeding.summer logs bytes
   pub read : feeding.read ≡ length bytes
 
--- something is so of the logs that were fed, whatever they are, where nothing has come of one more
+-- something holds of the logs that were fed, whatever they are, if no bytes of one more have been fed
 abbrev pub ForLogs : Feeding → (List (List ℕ) → Type 0) → Type 0
 ForLogs feeding Holds = (logs : List (List ℕ)) → ReadsLogs feeding logs [] → Holds logs
 
--- why no more of a log is fed, where these are its bytes so far
+-- why no more of a log is fed, if these are its bytes so far; without memory nothing is known
 abbrev pub IsFaultOfLogs : List (List ℕ) → List ℕ → LogFault → Type 0
 IsFaultOfLogs logs bytes (Wrong error) = PrefixWrong logs bytes error
 IsFaultOfLogs logs bytes (TooMuch line) = PrefixFull logs bytes line
 IsFaultOfLogs logs bytes NoMemory = Unit {0}
 
--- an answer to a piece of a log, where these are the bytes so far with the piece
+-- the result for a piece of a log, if these are the bytes so far with the piece
 abbrev pub FedOn : Feeding → List (List ℕ) → List ℕ → Result (Unit {0}) LogFault → Type 0
 FedOn new logs bytes (Ok x) = ReadsLogs new logs bytes
 FedOn new logs bytes (Err fault) = IsFaultOfLogs logs bytes fault
 
--- why a log isn't ended
+-- why a log can't be ended: it has the first error of the logs, whatever logs follow, or there was no memory
 abbrev pub IsEndFault : List (List ℕ) → List ℕ → LogFault → Type 0
 IsEndFault logs log (Wrong error) = (more : List (List ℕ)) → logs_text (logs ++ log ∷ more) ≡ Err error
 IsEndFault logs log (TooMuch line) = ⊥
 IsEndFault logs log NoMemory = Unit {0}
 
--- an answer to the end of a log
+-- the result for the end of a log
 abbrev pub EndedOn : Feeding → List (List ℕ) → List ℕ → Result (Unit {0}) LogFault → Type 0
 EndedOn new logs log (Ok x) = ReadsLogs new (logs ++ log ∷ []) []
 EndedOn new logs log (Err fault) = IsEndFault logs log fault
 
--- bytes of a log were read and fed
+-- bytes of a log were read and fed, and the device hasn't failed
 pub record ReadSoFar (old new : SourceSeen) (feeding : Feeding) (logs : List (List ℕ)) : Type 0 where
   pub bytes : List ℕ
   pub consumed : Consumes old.left new.left bytes
@@ -47,7 +47,7 @@ pub record ReadSoFar (old new : SourceSeen) (feeding : Feeding) (logs : List (Li
   pub reads : ReadsLogs feeding logs bytes
   pub no_fault : new.faults ≡ old.faults
 
--- a log was read whole and fed
+-- a complete log was read and fed, and the device hasn't failed
 pub record ReadWhole (old new : SourceSeen) (feeding : Feeding) (logs : List (List ℕ)) : Type 0 where
   pub log : List ℕ
   pub text : IsText old.left log
@@ -56,7 +56,7 @@ pub record ReadWhole (old new : SourceSeen) (feeding : Feeding) (logs : List (Li
   pub reads : ReadsLogs feeding logs log
   pub no_fault : new.faults ≡ old.faults
 
--- bytes of a log were read, and no more is fed
+-- bytes of a log were read, and no more is fed, for this reason; the device hasn't failed
 pub record ReadPart (old new : SourceSeen) (logs : List (List ℕ)) (fault : LogFault) : Type 0 where
   pub log : List ℕ
   pub text : IsText old.left log
@@ -66,18 +66,18 @@ pub record ReadPart (old new : SourceSeen) (logs : List (List ℕ)) (fault : Log
   pub is : IsFaultOfLogs logs bytes fault
   pub no_fault : new.faults ≡ old.faults
 
--- the device failed when a log was read, or when a log that was summed was closed
+-- the device failed while a log was read, or when a log that was summed was closed
 pub record LogFailed (old new : SourceSeen) (feeding : Feeding) (before : List (List ℕ)) : Type 0 where
   pub failed : ReadFailed old new before
   pub fed : ReadsLogs feeding before failed.bytes ⊎ ((failed.bytes ≡ failed.log) × ReadsLogs feeding (before ++ failed.log ∷ []) [])
 
--- an answer to the reading of a log
+-- the result for the reading of a log
 abbrev pub ReadTo : SourceSeen → SourceSeen → Feeding → List (List ℕ) → Result (Unit {0}) ReadFault → Type 0
 ReadTo old new feeding logs (Ok x) = ReadWhole old new feeding logs
 ReadTo old new feeding logs (Err (Log fault)) = ReadPart old new logs fault
 ReadTo old new feeding logs (Err Device) = LogFailed old new feeding logs
 
--- a log was read whole and summed, has at most 2^40 bytes, and nothing is left to read
+-- a complete log was read and summed, it has at most 2^40 bytes, nothing is left to read, and the device hasn't failed
 pub record LogSummed (old new : SourceSeen) (feeding : Feeding) (before : List (List ℕ)) : Type 0 where
   pub log : List ℕ
   pub text : IsText old.left log
@@ -87,7 +87,7 @@ pub record LogSummed (old new : SourceSeen) (feeding : Feeding) (before : List (
   pub reads : ReadsLogs feeding (before ++ log ∷ []) []
   pub no_fault : new.faults ≡ old.faults
 
--- what an error says of a log after others, where these bytes were taken of the log
+-- what an error says about a log after others, if these bytes were taken of the log
 abbrev pub IsFaulty : List (List ℕ) → List ℕ → List ℕ → LogFault → Type 0
 IsFaulty before log taken (Wrong error) = IsWrongLog before log taken error
 IsFaulty before log taken (TooMuch line) = IsTooMuch before log taken line
@@ -101,13 +101,13 @@ pub record LogFaulty (old new : SourceSeen) (before : List (List ℕ)) (fault : 
   pub taken : TookCount old new (length bytes)
   pub is : IsFaulty before log bytes fault
 
--- an answer to a log that stays open
+-- the result for a log that stays open
 abbrev pub SummedTo : SourceSeen → SourceSeen → Feeding → List (List ℕ) → Result (Unit {0}) ReadFault → Type 0
 SummedTo old new feeding before (Ok x) = LogSummed old new feeding before
 SummedTo old new feeding before (Err (Log fault)) = LogFaulty old new before fault × (new.faults ≡ old.faults)
 SummedTo old new feeding before (Err Device) = LogFailed old new feeding before
 
--- an answer to a log that is closed: it is known before the closing, unless the log has no error and the closing fails
+-- the result for a log that is closed: it is known before closing, unless the log has no error and closing fails
 abbrev pub ClosedTo : SourceSeen → SourceSeen → Feeding → List (List ℕ) → Result (Unit {0}) ReadFault → Type 0
 ClosedTo old new feeding before (Ok x) = LogSummed old new feeding before
 ClosedTo old new feeding before (Err (Log fault)) = LogFaulty old new before fault

@@ -8,7 +8,7 @@ use Rattle.msum7_files.specs.{declared.feeding.ReadFault.TheVariants.{Log, Devic
 use Rattle.msum7_files.specs.SumEnds.{AreLogs, IsBegun}
 use Rattle.msum7_files.specs.declared.sum_end.SumEnd.TheVariants as ends
 
--- the file that is read, as a source
+-- the file that is being read, as a source
 abbrev pub log_seen : ShelfSeen → SourceSeen
 log_seen shelf = record { left = left_to_read shelf.mode; taken = shelf.taken; faults = shelf.faults }
 
@@ -18,7 +18,7 @@ ModeAfter mode (Ok x) = IsReading mode
 ModeAfter mode (Err (Log fault)) = IsReading mode
 ModeAfter mode (Err Device) = mode ≡ Idle
 
--- a file is summed
+-- a file was summed, and the shelf hasn't failed
 pub record FileSummed (old new : ShelfSeen) (feeding : Feeding) (before : List (List ℕ)) (name : List ℕ) : Type 0 where
   pub log : List ℕ
   pub text : IsFile old.files name log
@@ -35,19 +35,19 @@ pub record LogFileFaulty (old new : ShelfSeen) (before : List (List ℕ)) (name 
   pub is : IsFaulty before log bytes fault
   pub took : TookFiles old new (bytes ∷ [])
 
--- the shelf failed before a file was opened, or after bytes of it that show no fault
+-- the shelf failed before a file was opened, or after taking bytes of it that show no error
 pub record LogFileFailed (old new : ShelfSeen) (before : List (List ℕ)) (name : List ℕ) : Type 0 where
   pub fault : Rose old.faults new.faults
   pub took : TookFiles old new [] ⊎ ((bytes : List ℕ) × IsBegun old.files before name bytes × TookFiles old new (bytes ∷ []))
 
--- an answer to a file
+-- the result for a file
 abbrev pub LogFileTo : ShelfSeen → ShelfSeen → Feeding → List (List ℕ) → List ℕ → Result (Unit {0}) FileFault → Type 0
 LogFileTo old new feeding before name (Ok x) = FileSummed old new feeding before name
 LogFileTo old new feeding before name (Err Missing) = FileAbsent old new name
 LogFileTo old new feeding before name (Err (Read (Log fault))) = LogFileFaulty old new before name fault
 LogFileTo old new feeding before name (Err (Read Device)) = LogFileFailed old new before name
 
--- the files that the words up to a place name were summed
+-- the files that the arguments from `first` on and before an index name were summed
 pub record FilesSoFar (old new : ShelfSeen) (feeding : Feeding) (words : List (List ℕ)) (first place : ℕ) : Type 0 where
   pub logs : List (List ℕ)
   pub count : place ≡ first + length logs
@@ -56,7 +56,7 @@ pub record FilesSoFar (old new : ShelfSeen) (feeding : Feeding) (words : List (L
   pub no_fault : new.faults ≡ old.faults
   pub took : TookFiles old new logs
 
--- the end where a file isn't summed
+-- how a call ends if the file that an argument names isn't summed
 abbrev pub log_file_end : ℕ → FileFault → SumEnd
 log_file_end word Missing = ends.NoFile word
 log_file_end word (Read (Log fault)) = sum_end_at (Some word) fault

@@ -5,7 +5,7 @@ use Rattle.diy_io.specs.{Count.{count_of, Rose}, Taken.SourceSeen, Sink.line_fee
 use Rattle.log_sum.specs.{declared.errors.LogError.LogError, Representing.{ShowsFault, ShowsNone, logs_text}}
 use Rattle.log_sum_laws.specs.Laws.{NoFault}
 
--- a log has the text that is known, where one is known
+-- a log has the text that is known, if one is known
 abbrev pub IsText : Option (List ℕ) → List ℕ → Type 0
 IsText told log = IfSome told (λ whole. whole ≡ log)
 
@@ -17,7 +17,7 @@ IsShort log = length log ≤ 2 ^ 40
 abbrev pub max_piece : ℕ
 max_piece = 4096
 
--- logs have no error
+-- logs have no error together
 abbrev pub AreWholeLogs : List (List ℕ) → Type 0
 AreWholeLogs logs = NoFault logs
 
@@ -29,7 +29,7 @@ pub record PrefixWrong (logs : List (List ℕ)) (bytes : List ℕ) (error : LogE
   pub short : IsShort prefix
   pub wrong : ShowsFault logs prefix error
 
--- the bytes of a log are more than 2^40, of which the first 2^40 show no error, and this is the line after them
+-- the bytes of a log are more than 2^40, of which the first 2^40 show no error, and this is the line of the byte after these
 pub record PrefixFull (logs : List (List ℕ)) (bytes : List ℕ) (line : ℕ) : Type 0 where
   pub prefix : List ℕ
   pub rest : List ℕ
@@ -39,7 +39,7 @@ pub record PrefixFull (logs : List (List ℕ)) (bytes : List ℕ) (line : ℕ) :
   pub no_fault : ShowsNone logs prefix
   pub number : line ≡ line_feed_count prefix + 1
 
--- what was taken of a log until its error was seen: at most 2^40 bytes that show none, and then one piece at most
+-- what was taken of a log until its error was seen: at most 2^40 bytes that show none, and then at most one piece
 pub record UpToFault (before : List (List ℕ)) (log taken : List ℕ) : Type 0 where
   pub rest : List ℕ
   pub parts : log ≡ taken ++ rest
@@ -50,25 +50,26 @@ pub record UpToFault (before : List (List ℕ)) (log taken : List ℕ) : Type 0 
   pub no_fault : ShowsNone before earlier
   pub one : length piece ≤ max_piece
 
--- the first error of logs is one of the log after these: the bytes that were taken of it show the error, or its end does, where all
--- its bytes were taken
+-- the first error of the logs is this one, in the log after those before: the bytes that were taken of it show the error, or all
+-- its bytes were taken, at most 2^40
 pub record IsWrongLog (before : List (List ℕ)) (log taken : List ℕ) (error : LogError) : Type 0 where
   pub right_before : AreWholeLogs before
   pub wrong : (more : List (List ℕ)) → logs_text (before ++ log ∷ more) ≡ Err error
   pub up_to : UpToFault before log taken
   pub shown : ((taken ≡ log) × IsShort log) ⊎ PrefixWrong before taken error
 
--- more than 2^40 bytes were taken of the log after these, of which the first 2^40 show no error, and this is the line after them
+-- more than 2^40 bytes were taken of the log after these, of which the first 2^40 show no error, and this is the line of the byte
+-- after them
 pub record IsTooMuch (before : List (List ℕ)) (log taken : List ℕ) (line : ℕ) : Type 0 where
   pub right_before : AreWholeLogs before
   pub up_to : UpToFault before log taken
   pub full : PrefixFull before taken line
 
--- so many bytes were taken, up to the greatest count
+-- this many bytes were taken, counted up to the greatest count
 abbrev pub TookCount : SourceSeen → SourceSeen → ℕ → Type 0
 TookCount old new count = count_of new.taken ≡ count_of (old.taken + count)
 
--- the device failed, where the bytes that were taken of the log after these are at most 2^40 and show no fault
+-- the device failed, and the bytes that were taken of the log after these are at most 2^40 and show no error
 pub record ReadFailed (old new : SourceSeen) (before : List (List ℕ)) : Type 0 where
   pub log : List ℕ
   pub text : IsText old.left log

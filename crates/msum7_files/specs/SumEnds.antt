@@ -7,7 +7,7 @@ use Rattle.log_sum.specs.{declared.errors.LogError.LogError, declared.errors.Log
 use Rattle.msum7_files.specs.{declared.sum_end.SumEnd.SumEnd, Logs.{IsText, IsShort, TookCount, AreWholeLogs, IsWrongLog, IsTooMuch, ReadFailed}}
 use Rattle.msum7_files.specs.declared.sum_end.SumEnd.TheVariants as ends
 
--- the input is a whole log of at most 2^40 bytes, which was read to its end, and this is its sum
+-- the input is a log of at most 2^40 bytes without an error, which was read to its end, and this is its sum
 pub record InputRead (old new : SourceSeen) (sum : List ℕ) : Type 0 where
   pub log : List ℕ
   pub text : IsText old.left log
@@ -17,13 +17,13 @@ pub record InputRead (old new : SourceSeen) (sum : List ℕ) : Type 0 where
   pub no_fault : new.faults ≡ old.faults
   pub is : logs_text (log ∷ []) ≡ Ok sum
 
--- the input was read so, and this was done with its sum
+-- the input was read in this way, and this was done with its sum
 pub record InputSaid (old new : SourceSeen) (done : List ℕ → Type 0) : Type 0 where
   pub sum : List ℕ
   pub read : InputRead old new sum
   pub wrote : done sum
 
--- the input is a log of which some bytes were taken and no more, and this is so of both
+-- the input is a log of which these bytes were taken and no more, this holds of both, and the input hasn't failed
 pub record InputStopped (old new : SourceSeen) (Is : List ℕ → List ℕ → Type 0) : Type 0 where
   pub log : List ℕ
   pub text : IsText old.left log
@@ -57,12 +57,12 @@ InputSummed old new out_old out_new (ends.TooMuch (Some file) line) = ⊥
 InputSummed old new out_old out_new (ends.NoFile word) = ⊥
 InputSummed old new out_old out_new ends.ShelfFault = ⊥
 
--- these are the logs that the words from a place on name, each of at most 2^40 bytes
+-- these are the logs that the arguments from an index on name, as far as there are logs, each of at most 2^40 bytes
 pub record AreLogs (files : Option Files) (words : List (List ℕ)) (first : ℕ) (logs : List (List ℕ)) : Type 0 where
   pub named : (k : ℕ) (name log : List ℕ) → slice_get words (first + k) ≡ Some name → slice_get logs k ≡ Some log → IsFile files name log
   pub short : All IsShort logs
 
--- the words name files that are whole logs, each read to its end once, and this is their sum
+-- the arguments name files that are logs without an error, each read to its end once, and this is their sum
 pub record FilesRead (old new : ShelfSeen) (words : List (List ℕ)) (first : ℕ) (sum : List ℕ) : Type 0 where
   pub logs : List (List ℕ)
   pub all : first + length logs ≡ length words
@@ -71,20 +71,20 @@ pub record FilesRead (old new : ShelfSeen) (words : List (List ℕ)) (first : �
   pub took : TookFiles old new logs
   pub is : logs_text logs ≡ Ok sum
 
--- the files were read so, and this was done with their sum
+-- the files were read in this way, and this was done with their sum
 pub record LogFilesSaid (old new : ShelfSeen) (words : List (List ℕ)) (first : ℕ) (done : List ℕ → Type 0) : Type 0 where
   pub sum : List ℕ
   pub read : FilesRead old new words first sum
   pub wrote : done sum
 
--- the word at a place is this name, and the words before it name these logs
+-- the argument at an index is this name, and the arguments before it name these logs
 pub record IsAtWord (files : Option Files) (words : List (List ℕ)) (first place : ℕ) (before : List (List ℕ)) (name : List ℕ) : Type 0 where
   pub count : place ≡ first + length before
   pub are : AreLogs files words first before
   pub word : slice_get words place ≡ Some name
 
--- some bytes were taken of the log that the word at a place names, no more was opened or taken, and this is so of the logs before it,
--- of the log and of the bytes
+-- some bytes were taken of the log that the argument at an index names, no more was opened or taken, and this holds of the logs
+-- before it, of the log and of the bytes
 pub record FileStopped (old new : ShelfSeen) (words : List (List ℕ)) (first place : ℕ) (Is : List (List ℕ) → List ℕ → List ℕ → Type 0) : Type 0 where
   pub before : List (List ℕ)
   pub name : List ℕ
@@ -95,16 +95,16 @@ pub record FileStopped (old new : ShelfSeen) (words : List (List ℕ)) (first pl
   pub is : Is before log bytes
   pub took : TookFiles old new (before ++ bytes ∷ [])
 
--- the log that the word at a place names has the first error of the logs, and no more was opened or taken
+-- the log that the argument at an index names has the first error of the logs, and no more was opened or taken
 abbrev pub LogFileWrong : ShelfSeen → ShelfSeen → List (List ℕ) → ℕ → ℕ → LogError → Type 0
 LogFileWrong old new words first place error = FileStopped old new words first place (λ before log bytes. IsWrongLog before log bytes error)
 
--- the log that the word at a place names has more than 2^40 bytes, those before it have no error, and no more was opened or taken
+-- the log that the argument at an index names has more than 2^40 bytes, those before it have no error, and no more was opened or taken
 abbrev pub FileTooMuch : ShelfSeen → ShelfSeen → List (List ℕ) → ℕ → ℕ → ℕ → Type 0
 FileTooMuch old new words first place line = FileStopped old new words first place (λ before log bytes. IsTooMuch before log bytes line)
 
--- the word at a place names no file, where the files are known, and then no error came; the logs before it have no error, and no
--- more was opened
+-- the file that the argument at an index names doesn't exist, and the shelf hasn't failed, if the shelf shows its files; otherwise
+-- its error count rose; the logs before it have no error, and no more was opened
 pub record LogFileMissing (old new : ShelfSeen) (words : List (List ℕ)) (first place : ℕ) : Type 0 where
   pub before : List (List ℕ)
   pub name : List ℕ
@@ -123,7 +123,7 @@ pub record IsBegun (files : Option Files) (before : List (List ℕ)) (name bytes
   pub short : IsShort bytes
   pub no_fault : ShowsNone before bytes
 
--- the shelf failed at the file that a word names, after logs with no fault: it wasn't opened, or what was taken of it shows no fault
+-- the shelf failed at the file that an argument names, after logs with no error: it wasn't opened, or what was taken of it shows none
 pub record SumShelfFailed (old new : ShelfSeen) (words : List (List ℕ)) (first : ℕ) : Type 0 where
   pub fault : Rose old.faults new.faults
   pub place : ℕ

@@ -10,14 +10,14 @@ use std::alloc::Global;
 /// How many bytes are read at once.
 pub(crate) const PIECE: usize = 4_096;
 
-/// Why no more of a log is fed.
+/// Why no more of the logs is fed.
 #[derive(Clone, Copy)]
 pub(crate) enum LogFault {
     /// A line is wrong.
     Wrong(LogError),
-    /// The log has more than 2^40 bytes, and this is the line that goes past them.
+    /// The log has more than 2^40 bytes, and this is the line of the byte after these.
     TooMuch(u64),
-    /// There is no memory.
+    /// There was no memory.
     NoMemory,
 }
 
@@ -45,7 +45,7 @@ impl From<Failed> for ReadFault {
     }
 }
 
-/// A summer, and how many bytes of the running log it was fed.
+/// A summer, and how many bytes of the running log it was fed; at most 2^40.
 #[derive(Drop)]
 pub(crate) struct Feeding {
     pub(crate) summer: Summer,
@@ -63,7 +63,7 @@ fn fault_of(error: SumError) -> LogFault
 }
 
 impl LogFault {
-    /// The end where a log has an error.
+    /// How the call ends if a log can't be summed for this reason.
     pub(crate) fn end_at(self, file: Option<usize>) -> SumEnd
         ensures { result ≡ sum_end_at file self }
     {
@@ -87,7 +87,7 @@ impl Feeding {
         })
     }
 
-    /// Feeds a piece of the running log, without the bytes after the first 2^40 of the log.
+    /// Feeds a piece of the running log, but no bytes after the first 2^40 of the log; `TooMuch` if there are any.
     pub(crate) fn feed(&mut self, piece: &[u8]) -> Result<(), LogFault>
         ensures fed { (logs : List (List ℕ)) (bytes : List ℕ) → ReadsLogs self.old logs bytes → FedOn self.new logs (bytes ++ piece.now) result }
         ensures counted { OnOk result (self.new.read ≡ self.old.read + length piece.now) }
@@ -115,7 +115,7 @@ impl Feeding {
         }
     }
 
-    /// Writes the sum of the logs that were ended.
+    /// Writes the sum of the logs that have ended.
     pub(crate) fn write_sum<O: Sink>(&self, out: &mut O) -> Result<(), Failed>
         requires { IsBetweenLogs self.now.summer }
         ensures { (logs : List (List ℕ)) → ReadsLogs self.now logs [] → SumWrote logs (O.seen out.old) (O.seen out.new) result }

@@ -16,7 +16,7 @@ pub(crate) enum FileFault {
 }
 
 impl FileFault {
-    /// The end where the file that a word names isn't summed.
+    /// How the call ends if the file that argument `word` names isn't summed.
     fn end_at(self, word: usize) -> SumEnd
         ensures { result ≡ log_file_end word self }
     {
@@ -28,7 +28,7 @@ impl FileFault {
     }
 }
 
-// Reads the open file to its end. The file stays open, unless the shelf fails.
+// Reads the open file to its end, and feeds it. The file stays open, unless the shelf fails.
 fn read_file<H: Shelf>(
     feeding: &mut Feeding,
     shelf: &mut H,
@@ -66,7 +66,7 @@ fn sum_log<H: Shelf>(feeding: &mut Feeding, shelf: &mut H, buf: &mut [u8]) -> Re
     Ok(())
 }
 
-// Sums the open file, and closes it. An error of the log is the answer even where the closing fails.
+// Sums the open file, and closes it. An error of the log is returned even if closing fails.
 fn sum_open<H: Shelf>(feeding: &mut Feeding, shelf: &mut H, buf: &mut [u8]) -> Result<(), ReadFault>
     requires reading { IsReading (H.seen shelf.old).mode }
     requires some { 0 < length buf.old }
@@ -89,7 +89,7 @@ fn sum_open<H: Shelf>(feeding: &mut Feeding, shelf: &mut H, buf: &mut [u8]) -> R
     }
 }
 
-// Sums a file.
+// Opens a file, sums it and closes it.
 fn sum_file<H: Shelf>(
     feeding: &mut Feeding,
     shelf: &mut H,
@@ -113,7 +113,8 @@ fn sum_file<H: Shelf>(
     }
 }
 
-/// Sums the files that the words from place `first` on name, in order.
+/// Sums the files that the arguments from index `first` on name, in order, and writes the sum to `out`. At least one
+/// argument must name a file, and the shelf must have no open file; it has none afterwards.
 pub fn sum_files<H: Shelf, O: Sink>(
     alloc: Global,
     words: &Words,

@@ -6,7 +6,7 @@ use crate::sum_end::SumEnd;
 use diy_io::{Failed, Sink, Source};
 use std::alloc::Global;
 
-/// Sums the log that an input is.
+/// Feeds the input, which is one log, and ends the log.
 fn sum_source<I: Source>(
     feeding: &mut Feeding,
     input: &mut I,
@@ -26,7 +26,7 @@ fn sum_source<I: Source>(
     }
 }
 
-/// Sums the input, which is one log.
+/// Sums the input, which is one log, and writes the sum to `out`.
 pub fn sum_input<I: Source, O: Sink>(alloc: Global, input: &mut I, out: &mut O) -> SumEnd
     ensures { InputSummed (I.seen input.old) (I.seen input.new) (O.seen out.old) (O.seen out.new) result }
 {

@@ -1,4 +1,4 @@
-//! Sums the logs of an input, or of files that words name, and writes the sum.
+//! Sums a log that is the input, or the logs in files that arguments name, and writes the sum.
 #![tactic(auto)]
 
 mod feeding;

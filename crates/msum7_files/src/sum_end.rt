@@ -1,6 +1,6 @@
 use log_sum::LogKind;
 
-/// How a call that sums logs ended. A `file` is the place of the word that names it, and `None` is
+/// How a call that sums logs ended. A `file` is the index of the argument that names it, and `None` is
 /// the input; lines count from 1.
 #[derive(Clone, Copy, PartialEq, Eq)]
 pub enum SumEnd {
@@ -12,12 +12,12 @@ pub enum SumEnd {
         line: u64,
         kind: LogKind,
     },
-    /// A log has more than 2^40 bytes. The line is the one that goes past them.
+    /// A log has more than 2^40 bytes. The line is the one of the byte after these.
     TooMuch {
         file: Option<usize>,
         line: u64,
     },
-    /// The word names no file.
+    /// The argument at this index names a file that doesn't exist.
     NoFile {
         word: usize,
     },
@@ -27,6 +27,6 @@ pub enum SumEnd {
     ShelfFault,
     /// The output failed.
     OutFault,
-    /// There is no memory.
+    /// There was no memory.
     NoMemory,
 }
