@@ -15,16 +15,16 @@ use std::marker::Model;
 struct Arc {
     /// How many there were.
     writes: u8,
-    /// The first one, the last one seen excepted, that isn't the location's first write and that
-    /// an external edge enters.
+    /// The first of these, the last one seen excepted, that isn't the location's first write and
+    /// that an external edge enters.
     inner: Option<u8>,
-    /// The last one seen, where it is such a write.
+    /// The last one seen, if it is such a write.
     entered: Option<u8>,
 }
 
 impl Arc {
-    /// What is kept with one event more, the next of its arc: an external edge enters it where it is
-    /// the first of its thread.
+    /// What is kept after one more event, the next of its arc: an external edge enters it exactly when it
+    /// is the first of its thread.
     #[tactic(auto, using(crate::proofs::Walk::with_leads_on))]
     fn with(self, i: u8, event: Event) -> Arc
         requires { self.writes < 255 }
@@ -71,8 +71,8 @@ impl<'a> Model for Valued<'a> {
 /// Gives each event of the cycle its value: along the arc of a location, which begins after an
 /// edge to another location, a count grows by one at each write.
 ///
-/// In the mode `Avoid` the answer is `NeedsObserver` where a location has a write that is neither
-/// its first nor its last and that an external edge enters: the lowest such location, and its
+/// In the mode `Avoid` the error is `NeedsObserver` if a location has a write that is neither its
+/// first nor its last and that an external edge enters: it gives the lowest such location, and its
 /// first such write. The other modes refuse nothing.
 ///
 /// The rules are those of the diy part of the herdtools manual; which locations are observed in
@@ -101,8 +101,8 @@ pub fn value(resolved: &Resolved, mode: ObsMode) -> Result<Valued<'_>, NeedsObse
     })
 }
 
-/// Gives each event its value where no location is to have an observer: as `value` does in the mode
-/// `Avoid`, but where a write needs an observer too.
+/// Gives each event its value, with no location observed: the same as `value` in the mode `Avoid`, but
+/// also if a write needs an observer.
 pub fn value_unobserved(resolved: &Resolved) -> Valued<'_>
     ensures { result ≡ record { edges = resolved.now; mode = Avoid } }
 {
@@ -117,8 +117,8 @@ pub fn value_unobserved(resolved: &Resolved) -> Valued<'_>
     }
 }
 
-/// Walks along all arcs, that of location 0 first, after the last edge to another location. The
-/// values of all events and the arcs of all locations are put into the empty lists.
+/// Walks along all arcs, that of location 0 first, from the last edge to another location on. Fills the
+/// empty lists with the values of all events and the arcs of all locations.
 fn walk_arcs(
     resolved: &Resolved,
     values: &mut ArrayVec<u8, MAX_EDGES>,
@@ -143,7 +143,7 @@ fn walk_arcs(
     }
 }
 
-/// Whether the next event is at another location.
+/// Whether edge `i` leads to another location.
 fn ends_arc(resolved: &Resolved, i: usize) -> bool
     requires { i < length resolved.now }
     ensures { result ≡ is_diff (edge_at resolved.now i) }
@@ -154,7 +154,7 @@ fn ends_arc(resolved: &Resolved, i: usize) -> bool
     i + 1 < events.len() && events[i].location != events[i + 1].location
 }
 
-/// The arc of location 0, as far as it lies after the last edge to another location.
+/// What the arc of location 0 has after the last edge to another location, that is, before event 0.
 fn arc_after(resolved: &Resolved) -> Arc
     ensures { result ≡ seen_of resolved.now 0 (writes_before resolved.now 0) }
 {
@@ -225,9 +225,9 @@ impl<'a> Valued<'a> {
         unreachable!()
     }
 
-    /// Whether a location has an observer thread: in the mode `Accept`, where a write that is
-    /// neither its first nor its last is entered by an external edge; in `Force`, where it has two
-    /// writes or more; in `Avoid`, never.
+    /// Whether a location has an observer thread: in the mode `Accept`, if an external edge enters a
+    /// write that is neither its first nor its last; in `Force`, if it has two writes or more; in
+    /// `Avoid`, never.
     pub fn observed(&self, location: u8) -> bool
         requires { location < move_count self.now.edges }
         ensures { result ≡ is_observed self.now.edges self.now.mode location }

@@ -1,6 +1,6 @@
 -- The resolution of a cycle: in which thread, in which slot and at which location each event is. Event i is the access
--- that edge i leaves. All counts are over prefixes of the list of edges. Source: the diy part of the herdtools manual
--- (external edges change the thread, `d` edges the location); where counting begins is own.
+-- that edge i leaves; thread, slot and location are counts over prefixes of the list of edges. Source: the diy part of the
+-- herdtools manual (external edges change the thread, `d` edges the location); where counting begins is own.
 use Rattle.std.specs.Prelude.{◌≡◌, ℕ, zero, suc, ◌+◌, ◌-◌, ◌%◌, ◌≤◌, Bool, true, false, ◌==◌, ◌&&◌, nat_lt, if◌then◌else◌, List, [], ◌∷◌, length, map, take, count_by, unwrap_or, slice_index_or, Result, Ok, Err}
 use Rattle.std.specs.List.{filter, find, list_any}
 use Rattle.relax_edges.specs.declared.{kinds.Reach.TheVariants.Internal, kinds.Com.TheVariants.Rf, edge.Edge.Edge}
@@ -23,13 +23,13 @@ move_count es = count_by is_diff es
 abbrev pub edge_at : List Edge → ℕ → Edge
 edge_at es i = slice_index_or es i (edges.Com Rf Internal)
 
--- the last edge of a list leads to another thread
+-- whether the last edge of a list leads to another thread; false if the list is empty
 abbrev pub ends_outside : List Edge → Bool
 ends_outside [] = false
 ends_outside (e ∷ []) = is_external e
 ends_outside (_ ∷ f ∷ es) = ends_outside (f ∷ es)
 
--- the first turn to the left, by 0, 1, 2, .., after which the last edge leads to another thread
+-- the first rotation to the left, by 0, 1, 2, .., whose last edge leads to another thread; if there is none, the list itself
 unfoldable pub turned : List Edge → List Edge
 turned es = unwrap_or (find ends_outside (map (λ k. rotated k es) (upto (length es)))) es
 
@@ -41,7 +41,7 @@ thread_of es i = external_count (take i es)
 unfoldable pub moves_before : List Edge → ℕ → ℕ
 moves_before es i = move_count (take i es)
 
--- the location of event i: the locations go round
+-- the location of event i: how many edges before it lead to another location, modulo the number of locations
 unfoldable pub location_of : List Edge → ℕ → ℕ
 location_of es i = moves_before es i % move_count es
 
@@ -74,7 +74,7 @@ event_after es i = if i + 1 == length es then 0 else i + 1
 unfoldable pub moves_in : List Edge → ℕ → ℕ
 moves_in es k = count_by (λ i. is_diff (edge_at es i) && (thread_of es i == k)) (upto (length es))
 
--- one thread has all edges to another location, or there is none
+-- for a list whose last edge is external: whether one thread has all edges to another location, or no edge leads to one
 unfoldable pub is_coherence_only : List Edge → Bool
 is_coherence_only es = list_any (λ k. moves_in es k == move_count es) (upto (external_count es))
 

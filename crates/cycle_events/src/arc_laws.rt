@@ -11,19 +11,19 @@ pub fn arcs_have_their_events()
     ensures { (es : List Edge) → (location i : ℕ) → count_by (λ j. j == i) (arc es location) ≡ (if is_event_at es location i then 1 else 0) }
 {}
 
-/// The way round a resolved cycle is the arcs of all locations, one after the other.
+/// The way round a resolved cycle consists of the arcs of all locations, from location 0 on, one after another.
 #[tactic(auto, using(crate::proofs::ValueArcs::way_of_arcs))]
 pub fn arcs_make_the_way()
     ensures { (es : List Edge) → IsResolved es → way es ≡ flat_map (arc es) (upto (move_count es)) }
 {}
 
-/// Along an arc the place on the way grows: each event has a lower one than each later event.
+/// The position on the way grows along an arc: each event has a lower one than each later event.
 #[tactic(auto, using(crate::proofs::ValueArcs::arc_places_grow))]
 pub fn places_grow_along_arcs()
     ensures { (es : List Edge) → (location : ℕ) → AllPairs (λ i j. way_place es i < way_place es j) (arc es location) }
 {}
 
-/// The value of an event is the number of writes that its arc has up to it and with it.
+/// The value of an event is the number of writes that its arc has up to and including it.
 #[tactic(auto, using(crate::proofs::ValueArcs::value_on_arc))]
 pub fn values_count_writes_along_arcs()
     ensures { (es : List Edge) → (i k : ℕ) → slice_get (arc_of es i) k ≡ Some i → value_of es i ≡ writes_counted es (arc_of es i) k }

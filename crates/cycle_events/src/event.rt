@@ -7,7 +7,7 @@ pub struct Event {
     pub dir: Dir,
     /// Its thread, from 0.
     pub thread: u8,
-    /// Its place in the thread, from 0.
+    /// Its position in the thread, from 0.
     pub slot: u8,
     /// Its location, from 0.
     pub location: u8,

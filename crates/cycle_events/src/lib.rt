@@ -1,4 +1,4 @@
-//! The events of a cycle as definitions: the thread, the location and the value of each, the arcs of the locations and their observers.
+//! The events of a cycle as definitions: the thread, slot, location and value of each, the arcs of the locations and their observers.
 #![tactic(auto)]
 
 pub mod arc_laws;

@@ -8,7 +8,7 @@ use Rattle.cycle_names.specs.{declared.family.Family.Family, Families.family_wor
 abbrev pub after_plus : List ℕ → List ℕ
 after_plus word = codes "+" ++ word
 
--- all words are equal
+-- whether all words are equal
 abbrev pub all_equal : List (List ℕ) → Bool
 all_equal [] = true
 all_equal (word ∷ words) = list_all (bytes_eq word) words
@@ -18,11 +18,11 @@ abbrev pub plural : List (List ℕ) → List ℕ
 plural [] = []
 plural (word ∷ _) = after_plus word ++ codes "s"
 
--- what comes after the family in a name: nothing where all words are `po`, else one word for all where all are equal, and else each word
+-- what comes after the family in a name: nothing if all words are `po`, otherwise one word for all if all are equal, otherwise each word
 unfoldable pub links_text : List (List ℕ) → List ℕ
 links_text words = cond (list_all (bytes_eq (codes "po")) words) [] (cond (all_equal words) (plural words) (flat_map after_plus words))
 
--- the name from a rotation of a cycle: the family and its links where it has a family, else `C+` and the words of the edges
+-- the name from a rotation of a cycle: the family and the links if it has a family, otherwise `C+` and the names of the edges
 unfoldable pub name_from : Option Family → List Edge → List ℕ
 name_from (Some family) v = family_word family ++ links_text (link_words v)
 name_from None v = codes "C+" ++ join_by word_of (codes "-") v

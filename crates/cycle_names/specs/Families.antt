@@ -5,7 +5,7 @@ use Rattle.relax_edges.specs.{declared.kinds.Dir.TheVariants.{R, W}, declared.ed
 use Rattle.cycle_names.specs.declared.family.Family.{Family}
 use Rattle.cycle_names.specs.declared.family.Family.TheVariants as families
 
--- the name of a family, `OTHER` for cycles that are of no family of the table
+-- the name of a family; `OTHER` for cycles that belong to no family of the table
 abbrev pub family_word : Family → List ℕ
 family_word families.SB = codes "SB"
 family_word families.MP = codes "MP"
@@ -23,7 +23,7 @@ family_word families.LB3 = codes "3.LB"
 family_word families.W3 = codes "3.2W"
 family_word families.Other = codes "OTHER"
 
--- the cycle of a family
+-- the edges of a family's cycle; none for `Other`
 abbrev pub family_edges : Family → List Edge
 family_edges families.SB = pod W R ∷ fre ∷ pod W R ∷ fre ∷ []
 family_edges families.MP = pod W W ∷ rfe ∷ pod R R ∷ fre ∷ []

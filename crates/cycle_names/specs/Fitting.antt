@@ -49,15 +49,15 @@ kind_slot (kinds.Dep _ Diff to) = Some (link_slot R to)
 kind_slot (kinds.Data Diff) = Some slots.RW
 kind_slot _ = None
 
--- the slot of an edge by what it joins, whatever its marks
+-- the slot of an edge, whatever its marks, if it is a link or external
 abbrev pub edge_slot : Edge → Option Slot
 edge_slot edge = kind_slot (kind_of edge)
 
--- the rotation from place k joins what the family's cycle does
+-- whether the rotation from position k joins what the family's cycle does
 abbrev pub joins_at : List Edge → Family → ℕ → Bool
 joins_at u family k = is_same (outline (rotated k u)) (family_edges family)
 
--- no rotation from a place below n joins what the family's cycle does
+-- no rotation from a position below n joins what the family's cycle does
 abbrev pub JoinsNone : List Edge → Family → ℕ → Type 0
 JoinsNone u family n = (k : ℕ) → k < n → joins_at u family k ≡ false
 
@@ -66,17 +66,17 @@ abbrev pub JoinNone : List Edge → List Family → Type 0
 JoinNone u [] = Unit
 JoinNone u (family ∷ families) = (JoinsNone u family (length u)) × (JoinNone u families)
 
--- a cycle is of this family, and named from the rotation from this place
+-- a cycle belongs to this family, and is named from the rotation that begins at this position
 pub record IsNamedAt (u : List Edge) (family : Family) (place : ℕ) : Type 0 where
   pub within : place < length u
   pub found : found_family u ≡ Some family
   pub named : named_rotation u ≡ rotated place u
 
--- what an edge adds to a name: a link its word, another edge nothing
+-- what an edge adds to a name: a link adds a `+` and its word, another edge nothing
 abbrev pub link_text : Edge → List ℕ
 link_text edge = cond (is_diff edge) (after_plus (link_word edge)) []
 
--- what a separator adds to a name
+-- the text of a separator
 abbrev pub separator_text : Separator → List ℕ
 separator_text Dash = codes "-"
 separator_text Blank = codes " "
@@ -93,7 +93,7 @@ letters_rank Release Plain = 6
 letters_rank Plain Acquire = 7
 letters_rank Plain Release = 8
 
--- the rank of a fence's word without letters among the words of links
+-- the rank of a fence's word without letters; the ranks of the words of links are in byte order, with gaps
 abbrev pub fence_word_rank : FenceKind → ℕ
 fence_word_rank fences.Dmb = 54
 fence_word_rank fences.DmbLd = 55
@@ -113,7 +113,7 @@ dependency_word_rank deps.Ctrl letters = cond (nat_lt letters 7) (18 + letters) 
 dependency_word_rank deps.CtrlIsb letters = 27 + letters
 dependency_word_rank deps.CtrlIsync letters = 36 + letters
 
--- the rank of the word of a link of a kind with the letters of this rank, and 0 for a kind that is no link
+-- the rank of the word of a link of a kind with the letters of this rank; 0 for a kind that is no link
 abbrev pub kind_word_rank : Kind → ℕ → ℕ
 kind_word_rank (kinds.Po Diff _ _) letters = PO_RANK + letters
 kind_word_rank (kinds.Fenced fence Diff _ _) letters = fence_word_rank fence + letters
@@ -121,11 +121,11 @@ kind_word_rank (kinds.Dep dep Diff _) letters = dependency_word_rank dep letters
 kind_word_rank (kinds.Data Diff) letters = DATA_RANK + letters
 kind_word_rank _ _ = 0
 
--- the rank of a link's word among the words of links, in byte order, and 0 for an edge that is no link
+-- the rank of a link's word; 0 for an edge that is no link
 abbrev pub word_rank : Edge → ℕ
 word_rank edge = kind_word_rank (kind_of edge) (letters_rank (source_mark edge) (target_mark edge))
 
--- the words of one list of edges come before those of another, by their ranks
+-- whether the words of one list of edges come before those of another, by their ranks
 abbrev pub word_ranks_below : List Edge → List Edge → Bool
 word_ranks_below v w = ranks_below (map word_rank v) (map word_rank w)
 
@@ -133,23 +133,23 @@ word_ranks_below v w = ranks_below (map word_rank v) (map word_rank w)
 abbrev pub in_order : Turned → List Edge
 in_order edges = edges.from.now ++ edges.before.now
 
--- the words of the rotation from a place come before those of the rotation from another, if there is another
+-- whether the words of the rotation from one position come before those of the rotation from another, if there is another
 abbrev pub comes_before : List Edge → ℕ → Option ℕ → Bool
 comes_before u place None = true
 comes_before u place (Some other) = word_ranks_below (rotated place u) (rotated other u)
 
--- of the rotations from places below n the one from this place joins what the family's cycle does, and no other that does has words that
--- come before
+-- among the rotations from positions below n, the one from this position joins what the family's cycle does, and no other one that does
+-- has words that come before
 pub record JoinsLeast (u : List Edge) (family : Family) (n place : ℕ) : Type 0 where
   pub within : place < n
   pub joins : joins_at u family place ≡ true
   pub least : (k : ℕ) → k < n → joins_at u family k ≡ true → word_ranks_below (rotated k u) (rotated place u) ≡ false
 
--- an edge is no link, or its word has this rank
+-- whether an edge is no link or its word has this rank
 abbrev pub has_word_rank : ℕ → Edge → Bool
 has_word_rank rank edge = not (is_diff edge) || (rank == word_rank edge)
 
--- a cycle is of a family and named from a rotation that fits it, and has few edges
+-- a cycle belongs to a family and is named from the rotation at this position, and it has at most LONGEST edges
 pub record IsFitOf (u : List Edge) (fit : Fit) : Type 0 where
   pub named : IsNamedAt u fit.family fit.place
   pub few : length u ≤ LONGEST

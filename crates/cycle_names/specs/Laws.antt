@@ -6,7 +6,7 @@ use Rattle.cycle_names.specs.{declared.name.TheConstants.MAX_CYCLE_NAME, declare
 use Rattle.cycle_names.specs.CycleNames.{name_of}
 use Rattle.text_parts_laws.specs.Names.{is_name_byte}
 
--- all edges of a cycle are of an architecture
+-- whether an architecture has all edges of a cycle
 abbrev pub are_of_arch : ArchName → List Edge → Bool
 are_of_arch arch u = list_all (λ edge. is_of_arch edge arch) u
 
@@ -21,7 +21,7 @@ pub record IsNamed (name : List ℕ) (arch : ArchName) (c : List Edge) : Type 0 
 abbrev pub NamesNone : List ℕ → ArchName → Type 0
 NamesNone name arch = (u : List Edge) → IsCycle u → are_of_arch arch u ≡ true → name_of u ≡ name → ⊥
 
--- two cycles have one name exactly where they are the same cycle
+-- two cycles have the same name exactly when they are the same cycle
 abbrev pub NamesDecide : Type 0
 NamesDecide = (u v : List Edge) → IsCycle u → IsCycle v → (name_of u ≡ name_of v) ↔ IsRotation u v
 
@@ -31,16 +31,16 @@ pub record NamesReadBack : Type 0 where
   pub back : (u : List Edge) (arch : ArchName) → IsCycle u → are_of_arch arch u ≡ true → IsNamed (name_of u) arch (named_rotation u)
   pub alone : (u c : List Edge) (arch : ArchName) → IsCycle u → IsNamed (name_of u) arch c → c ≡ named_rotation u
 
--- no cycle is of two families
+-- no cycle belongs to two families
 abbrev pub FamiliesApart : Type 0
 FamiliesApart = (u : List Edge) (f g : Family) → is_of_family u f ≡ true → is_of_family u g ≡ true → f ≡ g
 
--- the text of a name: 1 to 800 bytes, each an ASCII letter or digit, or one of `+`, `-`, `.` and `_`
+-- the form of a name: 1 to 800 bytes, each an ASCII letter or digit, or one of `+`, `-`, `.` and `_`
 pub record IsName (text : List ℕ) : Type 0 where
   pub some : 0 < length text
   pub short : length text ≤ MAX_CYCLE_NAME
   pub bytes : list_all is_name_byte text ≡ true
 
--- the name of a cycle is the text of a name
+-- the name of each cycle has the form of a name
 abbrev pub NamesAreNames : Type 0
 NamesAreNames = (u : List Edge) → IsCycle u → IsName (name_of u)

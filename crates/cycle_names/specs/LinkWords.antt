@@ -9,7 +9,7 @@ use Rattle.relax_edges.specs.declared.kinds.DepKind.TheVariants as deps
 use Rattle.relax_edges.specs.declared.kinds.Kind.TheVariants as kinds
 use Rattle.relax_edges.specs.declared.edge.Edge.TheVariants as edges
 
--- what an edge joins, whatever its marks: a link as program order from and to the same accesses, each other edge as itself
+-- what an edge joins, whatever its marks: a link as program order with the same ends (reads or writes), any other edge as itself without marks
 abbrev pub edge_of_slot : Edge → Edge
 edge_of_slot edge = cond (is_diff edge) (edges.Po Diff (source_of edge) (target_of edge)) (unmarked (kind_of edge))
 
@@ -43,12 +43,12 @@ mark_letter Plain = codes "p"
 mark_letter Acquire = codes "a"
 mark_letter Release = codes "l"
 
--- the letters of two marks, none where both are plain
+-- the letters of two marks; none if both are plain
 abbrev pub mark_letters : Mark → Mark → List ℕ
 mark_letters Plain Plain = []
 mark_letters from to = mark_letter from ++ mark_letter to
 
--- the word of a link of a kind, with the letters of its marks; another edge is no link, and has none
+-- the word of a link of a kind, with the letters of its marks; empty for a kind that is no link
 abbrev pub kind_link_text : Kind → List ℕ → List ℕ
 kind_link_text (kinds.Po Diff _ _) letters = codes "po" ++ letters
 kind_link_text (kinds.Fenced fence Diff _ _) letters = fence_link fence ++ letters
@@ -56,7 +56,7 @@ kind_link_text (kinds.Dep dep Diff _) letters = dependency_link dep ++ letters
 kind_link_text (kinds.Data Diff) letters = codes "data" ++ letters
 kind_link_text _ _ = []
 
--- the word of a link in a name
+-- the word of a link in a name; empty for an edge that is no link
 abbrev pub link_word : Edge → List ℕ
 link_word edge = kind_link_text (kind_of edge) (mark_letters (source_mark edge) (target_mark edge))
 

@@ -13,54 +13,54 @@ use Rattle.cycle_names.specs.declared.family.Family.TheVariants as families
 abbrev pub rotations : List Edge → List (List Edge)
 rotations u = map (λ k. rotated k u) (upto (length u))
 
--- the edges of a rotation join what those of a family's cycle do, each in its place
+-- whether the edges of a rotation join what those of a family's cycle do, each at its position
 abbrev pub joins_as : Family → List Edge → Bool
 joins_as family v = is_same (outline v) (family_edges family)
 
--- the access between an edge and the next is plain, if both are external
+-- whether the access between an edge and the next is plain, or the two are not both external
 abbrev pub is_plain_before : Edge → List Edge → Bool
 is_plain_before _ [] = true
 is_plain_before edge (next ∷ _) = same_mark (target_mark edge) Plain || not (is_external edge && is_external next)
 
--- each access between two external edges of a list is plain
+-- whether each access between two external edges of a list is plain
 abbrev pub all_unmarked : List Edge → Bool
 all_unmarked [] = true
 all_unmarked (edge ∷ v) = is_plain_before edge v && all_unmarked v
 
--- each event of a cycle between two external edges is plain
+-- whether each access between two external edges of a cycle is plain
 abbrev pub is_plain_outside : List Edge → Bool
 is_plain_outside v = all_unmarked (v ++ take 1 v)
 
--- a rotation fits a family that has the same external edges at the same places, whatever their marks, and at the other places links from
--- and to the same accesses, whatever theirs, where each event between two external edges is plain
+-- whether a rotation fits a family: it has the family's external edges at their positions and, at the others, links with the same ends,
+-- whatever their marks, and each access between two external edges is plain
 abbrev pub fits_family : Family → List Edge → Bool
 fits_family family v = joins_as family v && is_plain_outside v
 
--- a cycle is of a family that some rotation of it fits
+-- whether a cycle belongs to a family: some rotation of it fits the family
 abbrev pub is_of_family : List Edge → Family → Bool
 is_of_family u family = list_any (fits_family family) (rotations u)
 
--- the family of the table that a cycle is of, if it is of one
+-- the first family of the table to which a cycle belongs, if any
 unfoldable pub found_family : List Edge → Option Family
 found_family u = find (is_of_family u) all_families
 
--- the family of a cycle
+-- the family of a cycle; `Other` if it belongs to none of the table
 abbrev pub family_of : List Edge → Family
 family_of u = unwrap_or (found_family u) families.Other
 
--- the words of the links of v come before those of w: lists of words compared word by word, in byte order
+-- whether the words of the links of v come before those of w: the lists are compared word by word, in byte order
 abbrev pub words_below : List Edge → List Edge → Bool
 words_below v w = is_lt (slice_cmp (slice_cmp nat_cmp) (link_words v) (link_words w))
 
--- v comes before w in the order of lists of edges
+-- whether v comes before w in the order of lists of edges
 abbrev pub edges_below : List Edge → List Edge → Bool
 edges_below v w = ranks_below (map rank_of v) (map rank_of w)
 
--- the first of some lists before which none of them comes
+-- the first of some lists such that none of them comes before it
 abbrev pub least_of : {A : Type 0} → (A → A → Bool) → List A → Option A
 least_of below lists = find (λ v. not (list_any (λ w. below w v) lists)) lists
 
--- a cycle of a family is named from the rotation whose words come first, of those that fit; every other cycle from its normal form
+-- a cycle of a family is named from the rotation whose words come first, among those that fit; any other cycle from its normal form
 abbrev pub rotation_in : Option Family → List Edge → Option (List Edge)
 rotation_in (Some family) u = least_of words_below (filter (fits_family family) (rotations u))
 rotation_in None u = least_of edges_below (rotations u)

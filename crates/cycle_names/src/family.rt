@@ -67,7 +67,7 @@ pub const FAMILIES: [Family; 14] = [
 ];
 
 /// The families of cycles that have names of their own, after the litmus tests of the herdtools
-/// manual, and `Other` for the cycles of none.
+/// manual, and `Other` for the cycles that belong to none.
 #[derive(Clone, Copy, PartialEq, Eq)]
 pub enum Family {
     /// Store buffering.
@@ -100,7 +100,7 @@ pub enum Family {
 }
 
 impl Family {
-    /// The name of the family, `OTHER` for the cycles of none.
+    /// The name of the family; `OTHER` for `Other`.
     pub fn word(self) -> &'static str
         ensures { result.now ≡ family_word self }
     {

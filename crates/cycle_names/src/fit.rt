@@ -14,14 +14,15 @@ use relax_edges::{Edge, Mark};
 /// What the edges of a list join.
 type Slots = ArrayVec<Slot, LONGEST>;
 
-/// A family, and the place of a list of edges from which a rotation of it fits the family.
+/// A family, and the position in a list of edges from which its rotation fits the family.
 #[derive(Clone, Copy)]
 pub(crate) struct Fit {
     pub(crate) family: Family,
     pub(crate) place: usize,
 }
 
-/// The family of a cycle, and the place from which the rotation begins that it is named from.
+/// The family of a cycle, and the position at which the rotation that it is named from begins; `None` if it has
+/// no family.
 #[tactic(auto, using(crate::proofs::Families::too_long, crate::proofs::Places::fits_none, crate::proofs::Places::marked_outside, crate::proofs::Places::named_at))]
 pub(crate) fn named_fit(edges: &[Edge]) -> Option<Fit>
     requires { IsCycle edges.now }
@@ -42,7 +43,7 @@ pub(crate) fn named_fit(edges: &[Edge]) -> Option<Fit>
     }
 }
 
-/// Adds what the edges of a list join, if each is a link or external.
+/// Adds what the edges of a list join, or returns `false` if some edge is neither a link nor external.
 fn push_slots(edges: &[Edge], slots: &mut Slots) -> bool
     requires few { length edges.now ≤ LONGEST }
     requires empty { slots.old.items ≡ [] }
@@ -57,8 +58,8 @@ fn push_slots(edges: &[Edge], slots: &mut Slots) -> bool
     true
 }
 
-/// The first of some families whose cycle some rotation joins, and the place from which the rotation
-/// begins whose words come first of those that do.
+/// The first of some families such that some rotation joins what the family's cycle does, and the
+/// position of the rotation whose words come first among those that do.
 fn first_fit(families: &[Family], slots: &[Slot], edges: &[Edge]) -> Option<Fit>
     requires few { length edges.now ≤ LONGEST }
     requires slots { map slot_edge slots.now ≡ outline edges.now }
@@ -75,8 +76,8 @@ fn first_fit(families: &[Family], slots: &[Slot], edges: &[Edge]) -> Option<Fit>
     None
 }
 
-/// The place from which the rotation begins whose words come first, of those that join what the
-/// family's cycle does.
+/// The position of the rotation whose words come first among those that join what the family's cycle
+/// does, if there is one.
 #[tactic(auto, using(crate::proofs::Places::slots_join, crate::proofs::Places::still_kept, crate::proofs::Places::newly_kept))]
 fn least_place(slots: &[Slot], family: Family, edges: &[Edge]) -> Option<usize>
     requires few { length edges.now ≤ LONGEST }
@@ -99,7 +100,7 @@ fn least_place(slots: &[Slot], family: Family, edges: &[Edge]) -> Option<usize>
     least
 }
 
-/// Whether the rotation of a list from a place joins what is wanted.
+/// Whether the rotation of a list from a position joins the same as `wanted`.
 fn joins_at(slots: &[Slot], place: usize, wanted: &[Slot]) -> bool
     requires place { place ≤ length slots.now }
     requires long { length wanted.now ≡ length slots.now }
@@ -130,8 +131,8 @@ fn joins_same(slot: Slot, other: Slot) -> bool
     slot == other
 }
 
-/// Whether the words of the rotation from a place come before those of the rotation from another, if
-/// there is another.
+/// Whether the words of the rotation from one position come before those of the rotation from another,
+/// if there is another.
 fn comes_before(edges: &[Edge], place: usize, other: Option<usize>) -> bool
     requires few { length edges.now ≤ LONGEST }
     requires place { place ≤ length edges.now }
@@ -144,14 +145,15 @@ fn comes_before(edges: &[Edge], place: usize, other: Option<usize>) -> bool
     }
 }
 
-/// A rotation of a list, in two parts of it: what is left of the elements from its place on, and of those before it.
+/// A rotation of a list, as two parts of the list: what is left of the edges from its position on, and of
+/// those before.
 #[derive(Clone, Copy)]
 struct Turned<'a> {
     from: &'a [Edge],
     before: &'a [Edge],
 }
 
-/// The rotation of a list that begins at a place, where it lies.
+/// The rotation of a list that begins at a position, without a copy.
 fn turned_from(edges: &[Edge], place: usize) -> Turned<'_>
     requires place { place ≤ length edges.now }
     ensures { in_order result ≡ rotated place edges.now }
@@ -200,7 +202,7 @@ fn are_below(edges: Turned<'_>, others: Turned<'_>) -> bool
     own < its || own == its && are_below(rest, others_left)
 }
 
-/// Whether each event of a cycle between two external edges is plain.
+/// Whether each access between two external edges of a cycle is plain.
 fn is_plain_outside(edges: &[Edge]) -> bool
     ensures { result ≡ is_plain_outside edges.now }
 {
@@ -210,7 +212,7 @@ fn is_plain_outside(edges: &[Edge]) -> bool
     }
 }
 
-/// Whether each access between two external edges is plain, where one edge more comes last.
+/// Whether each access between two external edges is plain, with one more edge after the last.
 fn all_plain(edges: &[Edge], last: &Edge) -> bool
     ensures { result ≡ all_unmarked (edges.now ++ last.now ∷ []) }
 {

@@ -1,6 +1,6 @@
 ghost use Rattle.cycle_names.specs.Laws.{NamesDecide, NamesReadBack, FamiliesApart, NamesAreNames};
 
-/// Two cycles have one name exactly where they are the same cycle, each a rotation of the other.
+/// Two cycles have the same name exactly when they are the same cycle, each a rotation of the other.
 pub fn names_decide()
     ensures { NamesDecide }
 {}
@@ -12,7 +12,7 @@ pub fn names_read_back()
     ensures { NamesReadBack }
 {}
 
-/// No cycle is of two families.
+/// No cycle belongs to two families.
 #[tactic(auto, using(crate::proofs::NameLaws::keep_families_apart))]
 pub fn families_apart()
     ensures { FamiliesApart }

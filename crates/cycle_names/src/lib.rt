@@ -1,4 +1,4 @@
-//! The name of a cycle, and the cycle of a name.
+//! The name of a cycle, the cycle that has a name, and the families of cycles.
 #![tactic(auto)]
 
 mod family;

@@ -6,10 +6,10 @@ ghost use Rattle.cycle_names.specs.Fitting.{letters_rank, fence_word_rank, depen
 use arrayvec::ArrayString;
 use relax_edges::{DepKind, Edge, FenceKind, Kind, Mark, Pick, Sd};
 
-/// The rank of `data` among the words of links, in byte order.
+/// The rank of `data`. The ranks of the words of links are in byte order, with gaps.
 const DATA_RANK: u8 = 45;
 
-/// The rank of `po`, the word of a link that is plain program order, among the words of links.
+/// The rank of `po`, the word of a link that is program order without marks.
 pub(crate) const PO_RANK: u8 = 127;
 
 /// The most bytes that a link adds to a name: a `+` and its word.
@@ -25,7 +25,7 @@ fn pick_rank(pick: Pick) -> u8
     }
 }
 
-/// The rank of a fence's word without letters among the words of links, in byte order.
+/// The rank of a fence's word without letters.
 fn fence_word_rank(fence: FenceKind) -> u8
     ensures { result ≡ fence_word_rank fence }
 {
@@ -80,8 +80,8 @@ fn letters_rank(from: Mark, to: Mark) -> u8
     }
 }
 
-/// The rank of the word of a link of a kind with the letters of this rank, and 0 for a kind that is
-/// no link.
+/// The rank of the word of a link of a kind with the letters of this rank; 0 for a kind that is no
+/// link.
 fn kind_word_rank(kind: Kind, letters: u8) -> u8
     requires { letters ≤ 8 }
     ensures { result ≡ kind_word_rank kind letters }
@@ -103,8 +103,7 @@ fn kind_word_rank(kind: Kind, letters: u8) -> u8
     }
 }
 
-/// The rank of a link's word among the words of links, in byte order, and 0 for an edge that is no
-/// link.
+/// The rank of a link's word; 0 for an edge that is no link.
 pub(crate) fn word_rank(edge: &Edge) -> u8
     ensures { result ≡ word_rank edge.now }
 {
@@ -114,8 +113,8 @@ pub(crate) fn word_rank(edge: &Edge) -> u8
     }
 }
 
-/// The same of an edge with marks. It is apart so that `word_rank` is short for edges without marks,
-/// which are met most often.
+/// The same as `word_rank`, for an edge with marks. A separate function keeps `word_rank` short for edges
+/// without marks, which are the most frequent.
 #[inline(never)]
 fn marked_word_rank(edge: &Edge) -> u8
     ensures { result ≡ word_rank edge.now }
@@ -170,7 +169,7 @@ fn dependency_word(dep: DepKind) -> &'static str
     }
 }
 
-/// The letters of two marks, none where both are plain.
+/// The letters of two marks; none if both are plain.
 fn mark_letters(from: Mark, to: Mark) -> &'static str
     ensures { result.now ≡ mark_letters from to }
 {
@@ -187,7 +186,7 @@ fn mark_letters(from: Mark, to: Mark) -> &'static str
     }
 }
 
-/// The word of a link of a kind without letters.
+/// The word of a link of a kind, without letters; empty for a kind that is no link.
 #[inline]
 fn kind_link(kind: Kind) -> &'static str
     ensures { result.now ≡ kind_link_text kind [] }
@@ -239,7 +238,7 @@ pub(crate) fn push_link<const N: usize>(edge: &Edge, name: &mut ArrayString<N>)
     }
 }
 
-/// Adds the letters of an edge's marks. It is apart since most edges have none.
+/// Adds the letters of an edge's marks. In a separate function, since most edges have none.
 #[inline(never)]
 fn push_letters<const N: usize>(edge: &Edge, name: &mut ArrayString<N>)
     requires { length name.old.bytes + length (mark_letters (source_mark edge.now) (target_mark edge.now)) ≤ N }

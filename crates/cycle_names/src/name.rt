@@ -12,13 +12,15 @@ use relax_edges::Edge;
 /// The most bytes of a name.
 pub const MAX_CYCLE_NAME: usize = 800;
 
-/// The most bytes of the line of a cycle: its name, a colon and a blank, its edges and a line feed.
+/// The most bytes of the line of a cycle: its name, a colon, a blank, its edges and a line feed.
 pub const MAX_NAME_LINE: usize = 2 * MAX_CYCLE_NAME + 3;
 
-/// The family of a cycle: that of the table of which some rotation of the cycle has the external
-/// edges at their places and, for each `PodXY`, an edge from X to Y that leads to another location
-/// in its thread, whatever their marks, where each event between two external edges is plain.
-/// `Other` where there is none. No cycle is of two families.
+/// The family of a cycle; `Other` if it belongs to none of the table.
+///
+/// A cycle belongs to a family if one of its rotations has the family's external edges at their
+/// positions and, for each `PodXY`, a link from X to Y, that is, an edge to another location in the
+/// same thread, whatever their marks, and if each access between two external edges is plain. No
+/// cycle belongs to two families.
 pub fn family_of(cycle: &Cycle) -> Family
     ensures { result ≡ family_of cycle.now }
 {
@@ -28,14 +30,14 @@ pub fn family_of(cycle: &Cycle) -> Family
     }
 }
 
-/// Makes `out` the name of a cycle, whatever it held: two cycles have one name exactly where they
+/// Replaces what `out` holds by the name of a cycle. Two cycles have the same name exactly when they
 /// are the same, each a rotation of the other.
 ///
-/// The name of a cycle of a family is the family's word alone where all its links are plain
-/// program order; else the word of the links and an `s` where they are all alike; else the word of
-/// each. The word of a link with marks ends in their letters, as `popl`. Of the rotations that fit
-/// the family, the one counts whose list of words comes first. Every other cycle is named `C+` and
-/// the words of the edges of its normal form, joined by `-`.
+/// The name of a cycle of a family is only the family's name if the words of all links are `po`;
+/// otherwise a `+`, the word and an `s` follow if all words are equal, and otherwise a `+` and the
+/// word of each link. The word of a link with marks ends in their letters, such as `popl`. Among the
+/// rotations that fit the family, the one whose list of words comes first in byte order counts. Any
+/// other cycle is named `C+` and the names of the edges of its normal form, joined by `-`.
 pub fn name_of(cycle: &Cycle, out: &mut ArrayString<MAX_CYCLE_NAME>)
     ensures name { out.new.bytes ≡ name_of cycle.now }
     ensures form { IsName out.new.bytes }
@@ -43,7 +45,7 @@ pub fn name_of(cycle: &Cycle, out: &mut ArrayString<MAX_CYCLE_NAME>)
     name_and_family(cycle, out);
 }
 
-/// Makes `out` the name of a cycle, whatever it held, and gives the family of the cycle, as `name_of` and `family_of` do.
+/// Replaces what `out` holds by the name of a cycle, as `name_of` does, and returns the family of the cycle.
 pub fn name_and_family(cycle: &Cycle, out: &mut ArrayString<MAX_CYCLE_NAME>) -> Family
     ensures name { out.new.bytes ≡ name_of cycle.now }
     ensures form { IsName out.new.bytes }
@@ -62,9 +64,9 @@ pub fn name_and_family(cycle: &Cycle, out: &mut ArrayString<MAX_CYCLE_NAME>) -> 
     }
 }
 
-/// Makes `line` the name of a cycle, a colon and a blank, and the words of the edges of the rotation
-/// that it is named from, joined by blanks, whatever it held. There is room for a line feed after that.
-/// `words` is room for the words: what it held doesn't count.
+/// Replaces what `line` holds by the name of a cycle, a colon, a blank, and the names of the edges of the
+/// rotation that the cycle is named from, joined by blanks. There is space for a line feed after that.
+/// `words` is working space: what it holds doesn't matter, and is unknown afterwards.
 #[tactic(auto, using(crate::proofs::CycleOf::name_short))]
 pub fn name_and_words(
     cycle: &Cycle,
@@ -117,7 +119,7 @@ fn push_own_name(cycle: &Cycle, name: &mut ArrayString<MAX_CYCLE_NAME>)
     );
 }
 
-/// Adds the name of a cycle of no family to an empty text, and the words of the edges of the rotation
+/// Adds the name of a cycle of no family to an empty text, and the names of the edges of the rotation
 /// that it is named from, joined by blanks, to another.
 fn push_own_words(
     cycle: &Cycle,

@@ -20,7 +20,7 @@ type Edges = ArrayVec<Edge, MAX_EDGES>;
 pub struct NotAName;
 
 /// The cycle of an architecture that has this name, in the rotation that it is named from.
-/// `NotAName` comes exactly where no cycle whose edges are all of the architecture has this name.
+/// The error is `NotAName` exactly when no cycle with only edges of the architecture has this name.
 pub fn cycle_of(name: &str, arch: ArchName) -> Result<Cycle, NotAName>
     ensures { MatchResult result (λ c. IsNamed name.now arch c) (λ _. NamesNone name.now arch) }
 {
@@ -47,7 +47,7 @@ fn has_name(cycle: &Cycle, name: &str) -> bool
     text.as_str() == name
 }
 
-/// Whether all edges are of an architecture.
+/// Whether an architecture has all edges.
 fn are_of_arch(edges: &[Edge], arch: ArchName) -> bool
     ensures { result ≡ are_of_arch arch edges.now }
 {
@@ -57,7 +57,7 @@ fn are_of_arch(edges: &[Edge], arch: ArchName) -> bool
     }
 }
 
-/// Adds the edges that a text would name.
+/// Adds the edges that a text would name, if they fit.
 fn read_edges(text: &[u8], edges: &mut Edges) -> Result<(), NotAName>
     requires { edges.old.items ≡ [] }
     ensures { AddsEdges (edges_read text.now) edges.old.items edges.new.items result }
@@ -74,7 +74,7 @@ fn read_edges(text: &[u8], edges: &mut Edges) -> Result<(), NotAName>
     }
 }
 
-/// The first of some families whose name is the text, or is followed by `+` in it.
+/// The first of some families whose name is the text, or which the text begins with, followed by a `+`.
 fn named_family(families: &[Family], text: &[u8]) -> Option<Family>
     ensures { result ≡ named_family families.now text.now }
 {
@@ -90,7 +90,7 @@ fn named_family(families: &[Family], text: &[u8]) -> Option<Family>
     }
 }
 
-/// Whether a text is a word, or the word followed by `+` and more.
+/// Whether a text is a word, or begins with the word and a `+`.
 fn begins_with(word: &[u8], text: &[u8]) -> bool
     ensures { result ≡ begins_with_word word.now text.now }
 {
@@ -117,7 +117,7 @@ pub fn edges_of(family: Family) -> Edges
     edges
 }
 
-/// Adds the edges of slots, with the links that a name gives.
+/// Adds the edges of some slots, with the links that a name gives.
 fn fill(slots: &[Edge], links: &[u8], edges: &mut Edges) -> Result<(), NotAName>
     requires { length edges.old.items + length slots.now ≤ MAX_EDGES }
     ensures { AddsEdges (slots_filled slots.now links.now) edges.old.items edges.new.items result }
@@ -143,7 +143,7 @@ fn but_last(text: &[u8]) -> &[u8]
     }
 }
 
-/// Adds the edges of slots, the links with this word.
+/// Adds the edges of some slots, with this word for each link.
 fn fill_alike(slots: &[Edge], word: &[u8], edges: &mut Edges) -> Result<(), NotAName>
     requires { length edges.old.items + length slots.now ≤ MAX_EDGES }
     ensures { AddsEdges (filled_alike slots.now word.now) edges.old.items edges.new.items result }
@@ -157,7 +157,7 @@ fn fill_alike(slots: &[Edge], word: &[u8], edges: &mut Edges) -> Result<(), NotA
     }
 }
 
-/// Adds the edges of slots, the links with these words, each of which follows a `+`.
+/// Adds the edges of some slots, with the next word of the text for each link; a `+` comes before each word.
 fn fill_each(slots: &[Edge], links: &[u8], edges: &mut Edges) -> Result<(), NotAName>
     requires { length edges.old.items + length slots.now ≤ MAX_EDGES }
     ensures { AddsEdges (filled_each slots.now links.now) edges.old.items edges.new.items result }
@@ -188,7 +188,7 @@ fn split_word(text: &[u8]) -> (&[u8], &[u8])
     }
 }
 
-/// How many bytes a text has before the first of this value, or all where there is none.
+/// How many bytes a text has before the first of this value, or all if there is none.
 fn len_before(byte: u8, text: &[u8]) -> usize
     ensures value { result ≡ position_or_len (λ b. b == byte) text.now }
     ensures within { result ≤ length text.now }
@@ -205,7 +205,7 @@ fn len_before(byte: u8, text: &[u8]) -> usize
     }
 }
 
-/// The edge of a slot: itself, or if it is a link the one with this word.
+/// The edge of a slot: the slot itself, or, if it is a link, the link with this word.
 fn edge_with(slot: Edge, word: &[u8]) -> Result<Edge, NotAName>
     ensures { result_ok result ≡ slot_with slot word.now }
 {
@@ -216,7 +216,7 @@ fn edge_with(slot: Edge, word: &[u8]) -> Result<Edge, NotAName>
     }
 }
 
-/// The link that joins what a slot joins, with this word.
+/// The link with the ends of a slot and with this word.
 fn link_with(slot: Edge, word: &[u8]) -> Result<Edge, NotAName>
     ensures { result_ok result ≡ link_with slot word.now }
 {
@@ -237,8 +237,7 @@ fn is_link(from: Dir, to: Dir, word: &[u8], edge: Edge) -> bool
     edge.is_diff() && edge.source() == from && edge.target() == to && is_spelled(edge, word)
 }
 
-/// Adds the edges of a cycle whose external edges have no marks, with the marks that the edges
-/// beside these have.
+/// Adds the edges of a cycle, its external edges with the marks of the edges next to them.
 fn mark_around(unmarked: &[Edge], edges: &mut Edges) -> Result<(), NotAName>
     requires { length edges.old.items + length unmarked.now ≤ MAX_EDGES }
     ensures { AddsEdges (marked_around unmarked.now) edges.old.items edges.new.items result }
@@ -248,7 +247,7 @@ fn mark_around(unmarked: &[Edge], edges: &mut Edges) -> Result<(), NotAName>
     mark_along(before, unmarked, remainder, edges)
 }
 
-/// The mark of the access after some edges, where it is `mark` after none.
+/// The mark of the access that the last of some edges enters; `mark` if there are none.
 fn last_mark(mark: Mark, edges: &[Edge]) -> Mark
     ensures { result ≡ last_mark mark edges.now }
 {
@@ -258,7 +257,7 @@ fn last_mark(mark: Mark, edges: &[Edge]) -> Mark
     }
 }
 
-/// The mark of the access before some edges, where it is `mark` before none.
+/// The mark of the access that the first of some edges leaves; `mark` if there are none.
 fn first_mark(edges: &[Edge], mark: Mark) -> Mark
     ensures { result ≡ first_mark edges.now mark }
 {
@@ -268,8 +267,8 @@ fn first_mark(edges: &[Edge], mark: Mark) -> Mark
     }
 }
 
-/// Adds edges, the external ones with the marks that the edges beside them have, the outer ones
-/// with these marks.
+/// Adds edges, the external ones with the marks of the edges next to them; before the first and after
+/// the last come these marks.
 fn mark_along(from: Mark, unmarked: &[Edge], to: Mark, edges: &mut Edges) -> Result<(), NotAName>
     requires { length edges.old.items + length unmarked.now ≤ MAX_EDGES }
     ensures { AddsEdges (marked_along from unmarked.now to) edges.old.items edges.new.items result }
@@ -284,7 +283,7 @@ fn mark_along(from: Mark, unmarked: &[Edge], to: Mark, edges: &mut Edges) -> Res
     }
 }
 
-/// An external edge with the marks of the accesses beside it, another edge with its own.
+/// An external edge with these marks, if there is one; another edge as it is.
 fn mark_between(from: Mark, edge: Edge, to: Mark) -> Result<Edge, NotAName>
     ensures { result_ok result ≡ marked_between from edge to }
 {
@@ -295,7 +294,7 @@ fn mark_between(from: Mark, edge: Edge, to: Mark) -> Result<Edge, NotAName>
     }
 }
 
-/// Adds the edges whose words a text has after `C+`, joined by `-`.
+/// Adds the edges whose spellings a text has after `C+`, joined by `-`.
 fn read_other(text: &[u8], edges: &mut Edges) -> Result<(), NotAName>
     requires { edges.old.items ≡ [] }
     ensures { AddsEdges (words_read text.now) edges.old.items edges.new.items result }
@@ -306,7 +305,7 @@ fn read_other(text: &[u8], edges: &mut Edges) -> Result<(), NotAName>
     }
 }
 
-/// Adds the edges whose words a text has, joined by `-`.
+/// Adds the edges whose spellings a text has, joined by `-`.
 fn read_words(text: &[u8], edges: &mut Edges) -> Result<(), NotAName>
     ensures { AddsEdges (edges_of_words (slice_split is_dash text.now)) edges.old.items edges.new.items result }
 {

@@ -3,8 +3,8 @@ ghost use Rattle.cycle_names.specs.Fitting.{slot_edge, com_slot, link_slot, kind
 
 use relax_edges::{Com, Dir, Edge, Kind, Reach, Sd};
 
-/// What an edge of a family's cycle joins: two threads, as these external edges do, or two accesses
-/// of a thread to two locations, as a link from the one to the other.
+/// What an edge of a family's cycle joins: an external edge joins accesses of two threads; a link, named
+/// by what its accesses do, joins two accesses of one thread to different locations.
 #[derive(Clone, Copy, Default, PartialEq, Eq)]
 pub(crate) enum Slot {
     #[default]
@@ -18,7 +18,7 @@ pub(crate) enum Slot {
 }
 
 impl Slot {
-    /// The edge of the family's cycle.
+    /// The edge of a family's cycle that the slot represents.
     pub(crate) fn edge(self) -> Edge
         ensures { result ≡ slot_edge self }
     {
@@ -75,7 +75,7 @@ fn link_slot(from: Dir, to: Dir) -> Slot
 }
 
 /// What an edge joins, whatever its marks, if it is a link or external: a cycle of a family has no
-/// other.
+/// other edges.
 pub(crate) fn slot_of(edge: &Edge) -> Option<Slot>
     ensures { result ≡ edge_slot edge.now }
 {

@@ -8,14 +8,14 @@ use crate::link::{MAX_LINK, PO_RANK, push_link, word_rank};
 use arrayvec::ArrayString;
 use relax_edges::Edge;
 
-/// The most bytes that a name of a family has after the family's word.
+/// The most bytes that the name of a cycle of a family has after the family's name.
 pub(crate) const MAX_LINKS: usize = MAX_LINK * LONGEST;
 
-/// The most bytes of a separator and the word of an edge.
+/// The most bytes of a separator and the name of an edge.
 const MAX_SEPARATED: usize = 15;
 
-/// Adds what a name of a family has after the family's word, for a cycle in the rotation from a place,
-/// which fits.
+/// Adds what the name of a cycle of a family has after the family's name, by the links of the rotation
+/// from a position.
 pub(crate) fn push_links<const N: usize>(edges: &[Edge], place: usize, name: &mut ArrayString<N>)
     requires few { length edges.now ≤ LONGEST }
     requires place { place ≤ length edges.now }
@@ -75,14 +75,14 @@ fn push_each<const N: usize>(links: &[Edge], name: &mut ArrayString<N>)
     }
 }
 
-/// What comes between the words of edges.
+/// What comes between the names of edges.
 #[derive(Clone, Copy)]
 pub(crate) enum Separator {
     Dash,
     Blank,
 }
 
-/// Adds a separator. It is apart so that the length of each text is known where it is added.
+/// Adds a separator. A separate function, so that the length of each text is known where it is added.
 fn push_separator<const N: usize>(between: Separator, text: &mut ArrayString<N>)
     requires { length text.old.bytes < N }
     ensures text { text.new.bytes ≡ text.old.bytes ++ separator_text between }
@@ -94,7 +94,7 @@ fn push_separator<const N: usize>(between: Separator, text: &mut ArrayString<N>)
     }
 }
 
-/// Adds a separator and a word of an edge.
+/// Adds a separator and the name of an edge.
 fn push_word<const N: usize>(between: Separator, word: &'static str, text: &mut ArrayString<N>)
     requires word { length word.now < MAX_SEPARATED }
     requires room { length text.old.bytes + MAX_SEPARATED ≤ N }
@@ -105,7 +105,7 @@ fn push_word<const N: usize>(between: Separator, word: &'static str, text: &mut 
     text.push_str(word);
 }
 
-/// Adds the words of the rotation of a list of edges from a place, with a separator between.
+/// Adds the names of the edges of the rotation from a position, with a separator between them.
 pub(crate) fn push_rotation<const N: usize>(
     edges: &[Edge],
     place: usize,
@@ -125,7 +125,7 @@ pub(crate) fn push_rotation<const N: usize>(
     }
 }
 
-/// Adds a separator and the word for each edge.
+/// Adds a separator and the name for each edge.
 fn push_separated<const N: usize>(edges: &[Edge], between: Separator, words: &mut ArrayString<N>)
     requires { length words.old.bytes + MAX_SEPARATED * length edges.now ≤ N }
     ensures text { words.new.bytes ≡ words.old.bytes ++ flat_map (λ edge. separator_text between ++ word_of edge) edges.now }
@@ -136,8 +136,8 @@ fn push_separated<const N: usize>(edges: &[Edge], between: Separator, words: &mu
     }
 }
 
-/// Adds the words of the rotation of a list of edges from a place to two texts, joined by dashes and by
-/// blanks: each word is found once.
+/// Adds the names of the edges of the rotation from a position to two texts, joined by dashes and by
+/// blanks: each name is looked up once.
 pub(crate) fn push_rotation_twice<const N: usize, const M: usize>(
     edges: &[Edge],
     place: usize,
@@ -160,7 +160,7 @@ pub(crate) fn push_rotation_twice<const N: usize, const M: usize>(
     }
 }
 
-/// Adds the word for each edge to two texts, after a dash and after a blank.
+/// Adds the name of each edge to two texts, after a dash and after a blank.
 fn push_separated_twice<const N: usize, const M: usize>(
     edges: &[Edge],
     dashed: &mut ArrayString<N>,

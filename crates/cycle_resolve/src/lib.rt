@@ -1,4 +1,4 @@
-//! Where each event of a cycle takes place: in which thread, in which slot, at which location.
+//! Where each event of a cycle is: in which thread, in which slot and at which location.
 #![tactic(auto)]
 
 mod resolved;

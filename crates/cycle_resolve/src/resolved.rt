@@ -18,7 +18,7 @@ pub struct Resolved {
     kept: Kept,
 }
 
-/// What a `Resolved` keeps: it is made here, where no copy of it is needed to fill the list of events.
+/// What a `Resolved` keeps: a struct of its own, so that its list of events is filled without a copy.
 #[derive(Drop)]
 struct Kept {
     cycle: Cycle,
@@ -48,7 +48,7 @@ impl Resolved {
         &self.kept.cycle
     }
 
-    /// Event number `i`, which is below the number of edges: the access that edge `i` leaves.
+    /// Event `i`, from 0, the access that edge `i` leaves; `i` is below the number of edges.
     pub fn event(&self, i: u8) -> Event
         requires { i < length self.now }
         ensures { result ≡ event_of self.now i }
@@ -63,14 +63,14 @@ impl Resolved {
         self.kept.events.as_slice()
     }
 
-    /// How many threads the cycle has: its external edges.
+    /// How many threads the cycle has: as many as external edges.
     pub fn threads(&self) -> u8
         ensures { result ≡ external_count self.now }
     {
         self.kept.threads
     }
 
-    /// How many locations the cycle has: its edges to another location.
+    /// How many locations the cycle has: as many as edges to another location.
     pub fn locations(&self) -> u8
         ensures { result ≡ move_count self.now }
     {
@@ -81,9 +81,9 @@ impl Resolved {
 /// Resolves a cycle into threads and locations, counted from the first rotation whose last edge
 /// is external.
 ///
-/// An external edge leads to the next thread, a `d` edge to the next location, and locations go
-/// round. The answer is `TooFewThreads` where fewer than two edges are external, and else
-/// `CoherenceOnly` where one thread has all `d` edges, or there is none.
+/// An external edge leads to the next thread, and a `d` edge to the next location, after the last
+/// one to location 0. The error is `TooFewThreads` if fewer than two edges are external, and otherwise
+/// `CoherenceOnly` if one thread has all `d` edges, or there is no `d` edge.
 ///
 /// The rules are those of the diy part of the herdtools manual; where counting begins is own.
 pub fn resolve(cycle: &Cycle) -> Result<Resolved, ResolveError>
@@ -112,7 +112,7 @@ struct Counts {
     locations: u8,
 }
 
-/// Counts the threads and the locations in one pass: an external edge is no edge to another location.
+/// Counts the threads and the locations in one pass: an external edge never leads to another location.
 fn counts_of(edges: &[Edge]) -> Counts
     requires { length edges.now ≤ MAX_EDGES }
     ensures threads { result.threads ≡ external_count edges.now }
@@ -130,7 +130,7 @@ fn counts_of(edges: &[Edge]) -> Counts
     Counts { threads, locations }
 }
 
-/// By how many places to rotate so that the last edge is external.
+/// How far to rotate to the left so that the last edge is external; 0 if no edge is.
 fn turn(edges: &[Edge]) -> u8
     requires few { length edges.now ≤ MAX_EDGES }
     requires some { 0 < length edges.now }
@@ -161,8 +161,8 @@ fn first_external(edges: &[Edge]) -> Option<usize>
     edges.iter().position(|edge| edge.is_external())
 }
 
-/// Whether one thread has all the edges to another location; where none has, the events of all edges
-/// are put into the empty list.
+/// Whether one thread has all edges to another location, or no edge leads to one; if not, the empty list
+/// is filled with all events.
 fn is_coherence_only(edges: &[Edge], locations: u8, events: &mut ArrayVec<Event, MAX_EDGES>) -> bool
     requires few { length edges.now ≤ MAX_EDGES }
     requires locations { locations ≡ move_count edges.now }
@@ -175,7 +175,7 @@ fn is_coherence_only(edges: &[Edge], locations: u8, events: &mut ArrayVec<Event,
     let mut location = 0;
     let mut moves = 0;
     for edge in edges {
-        // Both are asked before the event is put, so that the edge's kind is looked at once.
+        // Both are found before the event is pushed, so that the edge's kind is examined once.
         let external = edge.is_external();
         let diff = edge.is_diff();
         events.push(Event {

@@ -1,4 +1,4 @@
--- What a list of edges makes, by the answer: each comes exactly where it is due.
+-- What a list of edges makes, by the result: each result comes exactly when it should.
 use Rattle.std.proofs.Common.{◌≡◌, ◌<◌, ◌≤◌, inl, inr, ℕ, List, [], ◌∷◌, ◌++◌, length, Option, Some, None, Ok, Err, refl, ◌∙◌, ap, arith, length-append}
 use Rattle.std.proofs.lemmas.Bool.{lt-ltb, le-ltb, cases_order, cases_lt}
 use Rattle.relax_edges.specs.{declared.TheConstants.MAX_EDGES, declared.edge.Edge.Edge}
@@ -7,7 +7,7 @@ use Rattle.edge_algebra_laws.proofs.{Composing.{joined_unbroken, break_within}, 
 use Rattle.edge_algebra.specs.{declared.errors.CycleError.TheVariants.{Empty, TooLong, DoesNotCompose}, Compose.{composed, unbroken}}
 use Rattle.edge_algebra.specs.Laws.{IsFirstBreak, ComposesExactly}
 
--- what makes each answer
+-- when each result comes
 data Answer (u : List Edge) : Type 0 where
   empty : u ≡ [] → composed u ≡ Err Empty → Answer u
   long : MAX_EDGES < length u → composed u ≡ Err TooLong → Answer u
@@ -31,7 +31,7 @@ answer (e ∷ u) =
         broken i few (record { within = within; breaks = break_is (e ∷ u) i h within; before = break_is_first (e ∷ u) i h })
         (rw (le-ltb MAX_EDGES (length (e ∷ u)) few) (ap (unbroken (e ∷ u)) h))
 
--- a first break is at one place
+-- a list has at most one first break
 one_first_break : (u : List Edge) (i j : ℕ) → IsFirstBreak u i → IsFirstBreak u j → i ≡ j
 one_first_break u i j a b =
     elim (cases_order i j) [
@@ -42,7 +42,7 @@ one_first_break u i j a b =
 no_break : (u : List Edge) (i : ℕ) → IsCycle u → IsFirstBreak u i → ⊥
 no_break u i c b = b.breaks (closed_at_place u c.closed i)
 
--- each answer of composing comes exactly where it is due
+-- each result of composing comes exactly when it should
 pub composes_exactly : ComposesExactly
 composes_exactly = record {
   cycle = λ u. elim (answer u) [

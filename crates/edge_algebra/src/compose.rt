@@ -7,9 +7,9 @@ use relax_edges::{Edge, MAX_EDGES};
 
 /// The cycle of these edges.
 ///
-/// The answer is `Empty` where there is no edge, `TooLong` where there are more than `MAX_EDGES`,
-/// and else `DoesNotCompose` where an edge doesn't join the next one, or the last the first: `at`
-/// is the first such place.
+/// The error is `Empty` if there is no edge, `TooLong` if there are more than `MAX_EDGES`, and
+/// otherwise `DoesNotCompose` if an edge doesn't join the next one, or the last the first: `at` is
+/// the first such position, from 0.
 #[tactic(auto, using(crate::proofs::Composed::counted_from_zero))]
 pub fn cycle(edges: &[Edge]) -> Result<Cycle, CycleError>
     ensures made { result ≡ composed edges.now }
@@ -27,8 +27,8 @@ pub fn cycle(edges: &[Edge]) -> Result<Cycle, CycleError>
     }
 }
 
-/// The first place whose edge doesn't join the next one, where `next` comes after the last. The
-/// places are counted from `at`.
+/// The first position whose edge doesn't join the next one, where `next` comes after the last. The
+/// positions are counted from `at`.
 #[tactic(auto, using(crate::proofs::Composed::counted_later))]
 fn first_break(edges: &[Edge], next: Edge, at: u8) -> Option<u8>
     requires { at + length edges.now ≤ MAX_EDGES }

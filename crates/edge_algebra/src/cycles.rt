@@ -40,7 +40,7 @@ pub(crate) fn copy(edges: &[Edge]) -> ArrayVec<Edge, MAX_EDGES>
     }
 }
 
-/// Appends edges, where they are.
+/// Appends edges in place.
 fn put(more: &[Edge], edges: &mut ArrayVec<Edge, MAX_EDGES>)
     requires { length edges.old.items + length more.now ≤ MAX_EDGES }
     ensures { edges.new.items ≡ edges.old.items ++ more.now }
@@ -52,7 +52,7 @@ fn put(more: &[Edge], edges: &mut ArrayVec<Edge, MAX_EDGES>)
 }
 
 impl Cycle {
-    /// The cycle of edges that are known to make one: `cycle` finds out whether edges do.
+    /// The cycle of edges that are known to make one; the function `cycle` finds out whether edges do.
     pub fn of(edges: &[Edge]) -> Cycle
         requires { IsCycle edges.now }
         ensures { result ≡ edges.now }
@@ -62,7 +62,7 @@ impl Cycle {
         Cycle { edges: list }
     }
 
-    /// Makes the cycle the one of edges that are known to make one, where it is.
+    /// Replaces the cycle, in place, by that of edges that are known to make one.
     pub fn refill(&mut self, edges: &[Edge])
         requires { IsCycle edges.now }
         ensures { self.new ≡ edges.now }
@@ -86,7 +86,7 @@ impl Cycle {
         self.edges.as_slice()
     }
 
-    /// The edge at place `i`, which is below the length.
+    /// Edge `i`, from 0; `i` is below the length.
     pub fn edge(&self, i: u8) -> Edge
         requires { i < length self.now }
         ensures { slice_get self.now i ≡ Some result }
@@ -94,8 +94,8 @@ impl Cycle {
         self.edges[usize::from(i)]
     }
 
-    /// The cycle from place `k` on, which is below the length: its edge `i` is the old edge
-    /// `i + k`, cyclically.
+    /// The rotation that begins at position `k`, which is below the length: its edge `i` is the old
+    /// edge `i + k`, cyclically.
     pub fn rotate(&self, k: u8) -> Cycle
         requires { k < length self.now }
         ensures { result ≡ rotated k self.now }
@@ -107,7 +107,7 @@ impl Cycle {
         Cycle { edges }
     }
 
-    /// A second value of the same list of edges.
+    /// A copy of the cycle, with the same list of edges.
     pub fn copy(&self) -> Cycle
         ensures { result ≡ self.now }
     {
@@ -115,7 +115,7 @@ impl Cycle {
     }
 }
 
-/// Two cycles are equal where their lists of edges are: `same` is true of their rotations too.
+/// Two cycles are equal if their lists of edges are; `same` is also true for rotations.
 impl PartialEq for Cycle {
     ghost eq = { pointwise (on rank_of ◌==◌) };
 

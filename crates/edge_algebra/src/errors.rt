@@ -7,7 +7,7 @@ pub enum CycleError {
     /// There are more than `MAX_EDGES` edges.
     #[error("a cycle has too many edges")]
     TooLong,
-    /// The edge at this place, the first such, doesn't join the next one, cyclically.
+    /// The edge at position `at`, the first such, doesn't join the next one, cyclically.
     #[error("edge {at} doesn't join the next one")]
     DoesNotCompose { at: u8 },
 }
@@ -18,7 +18,7 @@ pub enum JoinError {
     /// The two have more than `MAX_EDGES` edges.
     #[error("a path has too many edges")]
     TooLong,
-    /// The last edge of the one doesn't join the first of the other.
+    /// The last edge of the first path doesn't join the first edge of the second.
     #[error("the last edge of a path doesn't join the first of the next")]
     DoesNotCompose,
 }

@@ -7,15 +7,15 @@ use arrayvec::ArrayVec;
 use relax_edges::{Edge, MAX_EDGES};
 
 impl Cycle {
-    /// The normal form of the cycle: its least rotation, lists of edges compared edge by edge in
-    /// the byte order of their printed words.
+    /// The normal form of the cycle: its least rotation. Rotations are compared edge by edge, in the
+    /// byte order of the printed names.
     pub fn least(&self) -> Cycle
         ensures { IsLeast self.now result }
     {
         self.rotate(self.least_place())
     }
 
-    /// The first place from which the normal form of the cycle begins.
+    /// A position, from 0, at which the normal form of the cycle begins.
     pub fn least_place(&self) -> u8
         ensures within { result < length self.now }
         ensures least { IsLeast self.now (rotated result self.now) }
@@ -24,7 +24,7 @@ impl Cycle {
         least_place(self.edges(), ranks.as_slice())
     }
 
-    /// Whether the other cycle is the same: a rotation of this one.
+    /// Whether the other cycle is the same cycle: a rotation of this one.
     pub fn same(&self, other: &Cycle) -> bool
         ensures { IsTrue result ↔ IsRotation self.now other.now }
     {
@@ -42,7 +42,8 @@ pub fn is_normal(edges: &[Edge], ranks: &[u16]) -> bool
     least_place(edges, ranks) == 0
 }
 
-/// The first place at which the least rotation of a list of edges begins, by the ranks of these.
+/// A position at which the least rotation of a list begins, by the ranks of its edges; 0 if the list is a
+/// normal form.
 fn least_place(edges: &[Edge], ranks: &[u16]) -> u8
     requires some { 0 < length edges.now }
     requires few { length edges.now ≤ MAX_EDGES }
@@ -60,7 +61,7 @@ fn least_place(edges: &[Edge], ranks: &[u16]) -> u8
     least as u8
 }
 
-/// The ranks of the edges of a list.
+/// The ranks of the edges of a list, in order.
 pub fn ranks_of(edges: &[Edge]) -> ArrayVec<u16, MAX_EDGES>
     requires { length edges.now ≤ MAX_EDGES }
     ensures { result.items ≡ map rank_of edges.now }
@@ -72,8 +73,8 @@ pub fn ranks_of(edges: &[Edge]) -> ArrayVec<u16, MAX_EDGES>
     ranks
 }
 
-/// Whether the rotation of a list of ranks from a place is less than the one from another, at the
-/// first place where they differ.
+/// Whether the rotation of a list of ranks from one position is less than that from another, at the
+/// first position where they differ.
 fn is_below(ranks: &[u16], place: usize, other: usize) -> bool
     requires few { length ranks.now ≤ MAX_EDGES }
     requires place { place < length ranks.now }
@@ -94,7 +95,7 @@ fn is_below(ranks: &[u16], place: usize, other: usize) -> bool
     false
 }
 
-/// The rank at a place of a cycle, whose first place comes after its last.
+/// Rank `i` of a cycle, counted round it.
 fn rank_at(ranks: &[u16], i: usize) -> u16
     requires some { 0 < length ranks.now }
     requires within { i < length ranks.now + length ranks.now }

@@ -48,8 +48,8 @@ impl Path {
 
     /// This path with the next one after it.
     ///
-    /// The answer is `TooLong` where the two have more than `MAX_EDGES` edges, and else
-    /// `DoesNotCompose` where the last edge of this one doesn't join the first of the next.
+    /// The error is `TooLong` if the two have more than `MAX_EDGES` edges, and otherwise
+    /// `DoesNotCompose` if the last edge of this one doesn't join the first of the next.
     pub fn join(&self, next: &Path) -> Result<Path, JoinError>
         ensures { result ≡ joined self.now next.now }
     {
@@ -68,7 +68,7 @@ impl Path {
         }
     }
 
-    /// The cycle of the path's edges, or `NotClosed` where the last doesn't join the first.
+    /// The cycle of the path's edges, or `NotClosed` if the last doesn't join the first.
     pub fn close(&self) -> Result<Cycle, NotClosed>
         ensures { result ≡ closed self.now }
     {

@@ -1,16 +1,16 @@
--- The order on lists of edges, by the byte order of their printed words, and the normal form of a cycle.
+-- The order on lists of edges, by the ranks of the edges, and the normal form of a cycle.
 -- Source: own.
 use Rattle.std.specs.Prelude.{◌≡◌, ◌<◌, ◌⊎◌, ℕ, Bool, false, ◌&&◌, ◌||◌, nat_lt, nat_eq, List, [], ◌∷◌, length}
 use Rattle.relax_edges.specs.{declared.edge.Edge.Edge, Order.rank_of}
 use Rattle.edge_algebra_laws.specs.Rotation.{IsRotation}
 
--- v is above u: at the first place where they differ, which both have, the edge of v has the greater word
+-- v is above u: at the first position where they differ, which both have, the edge of v has the greater rank
 abbrev pub Above : List Edge → List Edge → Type 0
 Above [] _ = ⊥
 Above (_ ∷ _) [] = ⊥
 Above (x ∷ u) (y ∷ v) = (rank_of x < rank_of y) ⊎ ((x ≡ y) × Above u v)
 
--- whether a list of ranks is less than another at the first place where they differ, which both have
+-- whether a list of ranks is less than another at the first position where they differ, which both have
 abbrev pub ranks_below : List ℕ → List ℕ → Bool
 ranks_below [] _ = false
 ranks_below (_ ∷ _) [] = false

@@ -1,10 +1,10 @@
--- The laws of the words and the marks of edges, as statements.
+-- The laws of the printed names and the marks of edges, as statements.
 use Rattle.std.specs.Prelude.{◌≡◌, ◌↔◌, ℕ, true, List, Some}
 use Rattle.relax_edges.specs.declared.{kinds.Kind.Kind, kinds.Mark.Mark, edge.Edge.Edge}
 use Rattle.relax_edges.specs.EdgeTable.{kind_of, source_of, target_of, source_mark, target_mark, mark_fits, marked_edge}
 use Rattle.relax_edges.specs.{WordParts.word_of, Spelling.is_spelling, Spelling.edge_of}
 
--- a word and its edge determine each other
+-- an edge and its printed name determine each other; a text is read as the edge that it spells
 pub record WordsDecide : Type 0 where
   pub read : (edge : Edge) → edge_of (word_of edge) ≡ Some edge
   pub spelled : (edge : Edge) (text : List ℕ) → (edge_of text ≡ Some edge) ↔ (is_spelling edge text ≡ true)

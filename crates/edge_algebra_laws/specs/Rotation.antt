@@ -10,6 +10,6 @@ pub record IsRotation (u v : List Edge) : Type 0 where
   pub from : u ≡ prefix ++ back
   pub to : v ≡ back ++ prefix
 
--- the rotation of a list that begins at place k
+-- the rotation of a list that begins at position k
 abbrev pub rotated : {A : Type 0} → ℕ → List A → List A
 rotated k u = drop k u ++ take k u

@@ -1,7 +1,7 @@
 ghost use Rattle.edge_algebra_laws.specs.EdgeLaws.{WordsDecide, PartsDecide};
 
-/// A word and its edge determine each other: a printed word is read as its edge, a text is read as the
-/// edge that it spells, and no two edges have one word.
+/// An edge and its printed name determine each other: a printed name is read as its edge, a text is read
+/// as the edge that it spells, and no two edges have the same name.
 #[tactic(auto, using(crate::proofs::EdgeLaws::words_decide))]
 pub fn words_decide()
     ensures { WordsDecide }

@@ -1,4 +1,4 @@
-//! Laws of edges and of lists of edges: words and marks, composable paths and cycles, rotations, the order and the normal form.
+//! Laws of edges and of lists of edges: names and marks, composable paths and cycles, rotations, the order and the normal form.
 #![tactic(auto)]
 
 mod edges;
@@ -7,19 +7,19 @@ ghost use Rattle.edge_algebra_laws.specs.Laws.{SameCycleIsEquivalence, Rotations
 
 pub use edges::{parts_decide, words_decide};
 
-/// Being the same cycle, a rotation, is an equivalence.
+/// Being the same cycle, that is, a rotation, is an equivalence.
 #[tactic(auto, using(crate::proofs::Laws::same_cycle_is_equivalence))]
 pub fn same_cycle_is_equivalence()
     ensures { SameCycleIsEquivalence }
 {}
 
-/// The rotations of a list are those that begin at its places.
+/// The rotations of a list that isn't empty are those that begin at its positions.
 #[tactic(auto, using(crate::proofs::Laws::rotations_are_places))]
 pub fn rotations_are_places()
     ensures { RotationsArePlaces }
 {}
 
-/// Edge `i` of the rotation from place `k` is the old edge `i + k`, cyclically.
+/// Edge `i` of the rotation from position `k` is the old edge `i + k`, cyclically.
 #[tactic(auto, using(crate::proofs::Laws::edges_turn))]
 pub fn edges_turn()
     ensures { EdgesTurn }
@@ -36,7 +36,7 @@ pub fn cycles_turn()
     ensures { CyclesTurn }
 {}
 
-/// A list closes exactly where each of its edges joins the next one, cyclically.
+/// A list closes exactly when each of its edges joins the next one, cyclically.
 #[tactic(auto, using(crate::proofs::Laws::closes_by_place))]
 pub fn closes_by_place()
     ensures { ClosesByPlace }
@@ -54,7 +54,7 @@ pub fn cycles_in_order()
     ensures { CyclesInOrder }
 {}
 
-/// Two cycles have equal normal forms exactly where they are the same cycle.
+/// Two lists have equal normal forms exactly when they are the same cycle.
 pub fn normal_forms_decide()
     ensures { NormalFormsDecide }
 {}

@@ -27,7 +27,7 @@ room_left list edge e = rw (length-append list (edge ∷ [])) (grind (arith, nat
 room_passed : (list : List Edge) (edge : Edge) (edges : List Edge) → nat_lt (length list) MAX_EDGES ≡ false → MAX_EDGES < length (list ++ edge ∷ edges)
 room_passed list edge edges e = rw (length-append list (edge ∷ edges)) (grind (arith, nat_tests, e))
 
--- edges added after others that are not too many: all are kept, or there are too many
+-- adding edges after at most MAX_EDGES others keeps all of them, or gives `TooLong` if they are too many together
 pub added_whole : (list : List Edge) (edges : List Edge) → length list ≤ MAX_EDGES →
     edges_added (Whole (record { items = list })) edges ≡ kept_edges (list ++ edges)
 added_whole list [] h = sym (rw (append-nil list) (kept_few list h))

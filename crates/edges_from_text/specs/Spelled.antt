@@ -5,21 +5,21 @@ use Rattle.text_parts_laws.specs.Blanks.{is_blank}
 use Rattle.relax_edges.specs.{declared.edge.Edge.Edge, Spelling.edge_of, ReadEdges.before_edges}
 use Rattle.edges_from_text.specs.{declared.read.Separators.Separators, declared.read.Separators.TheVariants.{Blanks, BlanksAndCommas}}
 
--- a byte separates edges: it is a space or a tab, or a comma where commas separate too
+-- a byte separates edges: it is a space or a tab, or a comma if commas separate too
 abbrev pub separates : Separators → ℕ → Bool
 separates Blanks byte = is_blank byte
 separates BlanksAndCommas byte = is_blank byte || byte == 44
 
--- the edges that texts spell, where each that isn't empty spells one
+-- the edges that some texts spell, empty ones skipped; None if another one spells no edge
 abbrev pub edges_spelled : List (List ℕ) → Option (List Edge)
 edges_spelled [] = Some []
 edges_spelled ([] ∷ texts) = edges_spelled texts
 edges_spelled ((byte ∷ bytes) ∷ texts) = before_edges (edge_of (byte ∷ bytes)) (edges_spelled texts)
 
--- the edges of a text; None where a word in it is no edge
+-- the edges of a text; None if a word in it spells no edge
 abbrev pub edges_of : Separators → List ℕ → Option (List Edge)
 edges_of separators text = edges_spelled (slice_split (separates separators) text)
 
--- the edges of a text, which blanks separate; None where a word in it is no edge
+-- the edges of a text, with blanks between them; None if a word in it spells no edge
 abbrev pub text_edges : List ℕ → Option (List Edge)
 text_edges text = edges_of Blanks text

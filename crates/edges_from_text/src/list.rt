@@ -14,14 +14,14 @@ impl EdgeList {
     ghost use Rattle.std.specs.Prelude.{◌≡◌, []};
     ghost use Rattle.edges_from_text.specs.KeptEdges.{kept_edges, pushed};
 
-    /// No edge.
+    /// The empty list.
     pub fn new() -> EdgeList
         ensures { result ≡ kept_edges [] }
     {
         EdgeList::Whole(ArrayVec::new())
     }
 
-    /// Drops all edges.
+    /// Empties the list, also if it was too long.
     pub fn clear(&mut self)
         ensures { self.new ≡ kept_edges [] }
     {
@@ -31,7 +31,7 @@ impl EdgeList {
         }
     }
 
-    /// Keeps one edge more.
+    /// Keeps one more edge, or becomes `TooLong` if there is no space for it.
     pub(crate) fn push(&mut self, edge: Edge)
         ensures { self.new ≡ pushed self.old edge }
     {

@@ -19,7 +19,7 @@ impl Separators {
     fn has(self, byte: u8) -> bool
         ensures { result ≡ separates self byte }
     {
-        // Letters and digits, of which a text has most, are told from all separators by one comparison: two instructions a byte less.
+        // One comparison tells letters and digits, most bytes of a text, from all separators: two instructions less per byte.
         byte <= b','
             && match self {
                 Separators::Blanks => Class::Blank.has(byte),
@@ -28,8 +28,8 @@ impl Separators {
     }
 }
 
-/// Appends the edges that a text spells, or finds a word that is no edge: then nothing is known of
-/// `edges`.
+/// Appends the edges that a text spells, or returns `UnknownEdge` if a word in it spells no edge: then
+/// nothing is known about `edges`.
 pub fn read_edges(
     text: &[u8],
     separators: Separators,
@@ -46,7 +46,7 @@ pub fn read_edges(
     Ok(())
 }
 
-/// Appends the edge that a word spells, if there is a word.
+/// Appends the edge that a word spells; an empty word is skipped.
 fn read_word(word: &[u8], edges: &mut EdgeList) -> Result<(), UnknownEdge>
     ensures { (if is_ok result then Some edges.new else None) ≡ option_map (edges_added edges.old) (edges_spelled (word.now ∷ [])) }
 {

@@ -1,4 +1,4 @@
--- All edges, in the byte order of their printed words.
+-- All edges, in the byte order of their printed names.
 -- Source: the diy part of the herdtools manual, "Candidate relaxations"; the order is own.
 use Rattle.std.specs.{Prelude.{List, [], ◌∷◌, ◌++◌}, List.flat_map}
 use Rattle.relax_edges.specs.{declared.kinds.Dir.Dir, declared.kinds.Sd.Sd, declared.kinds.Sd.TheVariants.{Same, Diff}}
@@ -15,7 +15,7 @@ use Rattle.relax_edges.specs.declared.kinds.DepKind.TheVariants as deps
 use Rattle.relax_edges.specs.declared.marked.MarkableKind.TheVariants as markables
 use Rattle.relax_edges.specs.declared.edge.Edge.TheVariants as edges
 
--- an edge without marks, and the edges of its kind with them, in the order of the letters
+-- the edge of a kind without marks and then the edges with marks, in the order of their letters
 abbrev pub with_marks : MarkableKind → List Edge
 with_marks kind =
     unmarked (markable_kind kind)
@@ -27,7 +27,7 @@ with_marks kind =
 abbrev pub both_reaches : Com → List Edge
 both_reaches kind = with_marks (markables.Com kind External) ++ with_marks (markables.Com kind Internal)
 
--- the eight choices of place and directions
+-- the eight choices of location and directions
 abbrev pub eight_choices : {A : Type 0} → (Sd → Dir → Dir → A) → List A
 eight_choices kind =
     kind Diff dirs.R dirs.R ∷ kind Diff dirs.R dirs.W ∷ kind Diff dirs.W dirs.R ∷ kind Diff dirs.W dirs.W
@@ -45,7 +45,7 @@ with_fence kind = eight_choices (edges.Fenced kind)
 abbrev pub with_predecessors : Pick → List Edge
 with_predecessors pred = with_fence (fences.Fence pred picks.R) ++ with_fence (fences.Fence pred picks.RW) ++ with_fence (fences.Fence pred picks.W)
 
--- the four choices of place and direction
+-- the four choices of location and direction
 abbrev pub four_choices : {A : Type 0} → (Sd → Dir → A) → List A
 four_choices kind = kind Diff dirs.R ∷ kind Diff dirs.W ∷ kind Same dirs.R ∷ kind Same dirs.W ∷ []
 
@@ -53,7 +53,7 @@ four_choices kind = kind Diff dirs.R ∷ kind Diff dirs.W ∷ kind Same dirs.R �
 abbrev pub with_dependency : MarkableDep → List Edge
 with_dependency dep = flat_map with_marks (four_choices (markables.Dep dep))
 
--- the edges whose words begin with `D`
+-- the edges whose names begin with `D`
 abbrev pub edges_of_letter_d : List Edge
 edges_of_letter_d =
     with_barrier Ld ++ with_barrier St ++ with_barrier Sy ++ with_fence fences.Dmb

@@ -1,4 +1,4 @@
--- The edge table: what each edge joins, how far it reaches, and on which architectures it is.
+-- The edge table: what each edge joins, whether it leads to another thread or location, and which architectures have it.
 -- Source: the diy part of the herdtools manual, "Candidate relaxations".
 use Rattle.std.specs.{Prelude.{Bool, true, false, ◌&&◌, cond, Option, Some, None}, Option.option_map}
 use Rattle.relax_edges.specs.{declared.kinds.Dir.Dir, declared.kinds.Sd.Sd, declared.kinds.Sd.TheVariants.{Same, Diff}, declared.kinds.Reach.Reach}
@@ -24,19 +24,19 @@ kind_of (edges.Dep kind sd to) = kinds.Dep kind sd to
 kind_of (edges.Data sd) = kinds.Data sd
 kind_of (edges.Marked marked) = markable_kind marked.kind
 
--- what the access does that a communication leaves
+-- what the access that a communication leaves does
 abbrev pub com_source : Com → Dir
 com_source coms.Rf = dirs.W
 com_source coms.Fr = dirs.R
 com_source coms.Ws = dirs.W
 
--- what the access does that a communication enters
+-- what the access that a communication enters does
 abbrev pub com_target : Com → Dir
 com_target coms.Rf = dirs.R
 com_target coms.Fr = dirs.W
 com_target coms.Ws = dirs.W
 
--- what the access does that an edge leaves, by its kind
+-- what the access that an edge leaves does, by the kind of the edge
 abbrev pub kind_source : Kind → Dir
 kind_source (kinds.Com kind _) = com_source kind
 kind_source (kinds.Po _ from _) = from
@@ -44,11 +44,11 @@ kind_source (kinds.Fenced _ _ from _) = from
 kind_source (kinds.Dep _ _ _) = dirs.R
 kind_source (kinds.Data _) = dirs.R
 
--- what the access does that an edge leaves
+-- what the access that an edge leaves does
 abbrev pub source_of : Edge → Dir
 source_of edge = kind_source (kind_of edge)
 
--- what the access does that an edge enters, by its kind
+-- what the access that an edge enters does, by the kind of the edge
 abbrev pub kind_target : Kind → Dir
 kind_target (kinds.Com kind _) = com_target kind
 kind_target (kinds.Po _ _ to) = to
@@ -56,7 +56,7 @@ kind_target (kinds.Fenced _ _ _ to) = to
 kind_target (kinds.Dep _ _ to) = to
 kind_target (kinds.Data _) = dirs.W
 
--- what the access does that an edge enters
+-- what the access that an edge enters does
 abbrev pub target_of : Edge → Dir
 target_of edge = kind_target (kind_of edge)
 
@@ -102,7 +102,7 @@ kind_place (kinds.Data sd) = sd
 abbrev pub sd_of : Edge → Sd
 sd_of edge = kind_place (kind_of edge)
 
--- a fence is of an architecture: `DMB.ST` of two, each other fence of exactly one
+-- whether an architecture has a fence: two have `DMB.ST`, exactly one has each other fence
 abbrev pub fence_is_of : FenceKind → ArchName → Bool
 fence_is_of fences.MFence X86 = true
 fence_is_of fences.Sync PPC = true
@@ -117,7 +117,7 @@ fence_is_of fences.Dmb ARM = true
 fence_is_of (fences.Fence _ _) RISCV = true
 fence_is_of _ _ = false
 
--- a dependency is of an architecture: one with `isync` of PPC, one with `ISB` of AArch64 and ARM, any other of all but X86
+-- whether an architecture has a dependency: PPC has the one with `isync`, AArch64 and ARM the one with `ISB`, all except X86 the others
 abbrev pub dependency_is_of : DepKind → ArchName → Bool
 dependency_is_of deps.Addr PPC = true
 dependency_is_of deps.Addr AArch64 = true
@@ -132,12 +132,12 @@ dependency_is_of deps.CtrlIsb AArch64 = true
 dependency_is_of deps.CtrlIsb ARM = true
 dependency_is_of _ _ = false
 
--- an architecture has data dependencies: all but X86
+-- whether an architecture has data dependencies: all except X86 have them
 abbrev pub data_is_of : ArchName → Bool
 data_is_of X86 = false
 data_is_of _ = true
 
--- whether an edge without its marks is of an architecture
+-- whether an architecture has an edge, apart from its marks
 abbrev pub kind_is_of : Kind → ArchName → Bool
 kind_is_of (kinds.Com _ _) _ = true
 kind_is_of (kinds.Po _ _ _) _ = true
@@ -145,13 +145,13 @@ kind_is_of (kinds.Fenced kind _ _ _) arch = fence_is_of kind arch
 kind_is_of (kinds.Dep kind _ _) arch = dependency_is_of kind arch
 kind_is_of (kinds.Data _) arch = data_is_of arch
 
--- a mark is of an architecture: acquire and release are of AArch64 only
+-- whether an architecture has a mark: only AArch64 has acquire and release
 abbrev pub mark_is_of : Mark → ArchName → Bool
 mark_is_of Plain _ = true
 mark_is_of _ AArch64 = true
 mark_is_of _ _ = false
 
--- whether an edge is of an architecture: its marks and what is left without them are
+-- whether an architecture has an edge: it has both marks and the edge without them
 abbrev pub is_of_arch : Edge → ArchName → Bool
 is_of_arch edge arch = mark_is_of (source_mark edge) arch && mark_is_of (target_mark edge) arch && kind_is_of (kind_of edge) arch
 
@@ -161,7 +161,7 @@ same_dir dirs.R dirs.R = true
 same_dir dirs.W dirs.W = true
 same_dir _ _ = false
 
--- a mark may be on an access that does this: a read is plain or acquire, a write plain or release
+-- whether an access that does this may have a mark: a read is plain or acquire, a write plain or release
 abbrev pub mark_fits : Dir → Mark → Bool
 mark_fits _ Plain = true
 mark_fits dirs.R Acquire = true
@@ -175,7 +175,7 @@ same_mark Acquire Acquire = true
 same_mark Release Release = true
 same_mark _ _ = false
 
--- an edge joins the next where it enters what the next leaves, and the two agree on its mark
+-- an edge joins the next if the access it enters and the access the next leaves are both reads or both writes, and have the same mark
 abbrev pub joins_to : Edge → Edge → Bool
 joins_to edge next = same_dir (target_of edge) (source_of next) && same_mark (target_mark edge) (source_mark next)
 
@@ -195,7 +195,7 @@ is_diff edge = differs (sd_of edge)
     differs Same = false
     differs Diff = true
 
--- the edge of a kind that marks no access
+-- the edge of a kind without marks
 abbrev pub unmarked : Kind → Edge
 unmarked (kinds.Com kind reach) = edges.Com kind reach
 unmarked (kinds.Po sd from to) = edges.Po sd from to
@@ -203,18 +203,18 @@ unmarked (kinds.Fenced kind sd from to) = edges.Fenced kind sd from to
 unmarked (kinds.Dep kind sd to) = edges.Dep kind sd to
 unmarked (kinds.Data sd) = edges.Data sd
 
--- the edge of a kind that may have marks, with some
+-- the edge of a kind with marks at some ends, if both are given
 abbrev pub marked_by : Option MarkableKind → Option MarkedEnds → Option MarkedEdge
 marked_by (Some kind) (Some ends) = Some (record { kind = kind; ends = ends })
 marked_by _ _ = None
 
--- the edge of a kind with these marks: none where both are plain, where a mark doesn't fit what its access does, or
--- where the kind isn't of AArch64
+-- the edge of a kind with these marks: none if both are plain, if a mark doesn't fit what its access does, or if
+-- AArch64 doesn't have the kind
 unfoldable pub marked_of : Kind → Mark → Mark → Option MarkedEdge
 marked_of kind from to =
     cond (mark_fits (kind_source kind) from && mark_fits (kind_target kind) to) (marked_by (as_markable kind) (ends_marked from to)) None
 
--- the edge of a kind with these marks, also where both are plain
+-- the edge of a kind with these marks, also if both are plain
 unfoldable pub marked_edge : Kind → Mark → Mark → Option Edge
 marked_edge kind Plain Plain = Some (unmarked kind)
 marked_edge kind from to = option_map edges.Marked (marked_of kind from to)

@@ -1,4 +1,4 @@
--- Lists of edges of which each joins the next.
+-- Lists in which each edge joins the next.
 -- Source: the diy part of the herdtools manual, "Candidate relaxations".
 use Rattle.std.specs.Prelude.{Bool, true, ◌&&◌, List, [], ◌∷◌}
 use Rattle.relax_edges.specs.{declared.edge.Edge.Edge, EdgeTable.joins_to}

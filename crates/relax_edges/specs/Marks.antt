@@ -46,17 +46,17 @@ as_markable_dependency deps.Ctrl = Some Ctrl
 as_markable_dependency deps.CtrlIsb = Some CtrlIsb
 as_markable_dependency _ = None
 
--- program order with a barrier of AArch64 between, if there is one
+-- program order with a barrier of AArch64 between, if one is given
 abbrev pub markable_fenced : Option Dmb → Sd → Dir → Dir → Option MarkableKind
 markable_fenced (Some fence) sd from to = Some (markables.Fenced fence sd from to)
 markable_fenced None sd from to = None
 
--- a dependency of AArch64 on a load, if there is one
+-- a dependency of AArch64 on a load, if one is given
 abbrev pub markable_dep : Option MarkableDep → Sd → Dir → Option MarkableKind
 markable_dep (Some dep) sd to = Some (markables.Dep dep sd to)
 markable_dep None sd to = None
 
--- a kind as one that may have marks: each that AArch64 has
+-- a kind as one that may have marks, if AArch64 has it
 abbrev pub as_markable : Kind → Option MarkableKind
 as_markable (kinds.Com kind reach) = Some (markables.Com kind reach)
 as_markable (kinds.Po sd from to) = Some (markables.Po sd from to)
@@ -64,25 +64,25 @@ as_markable (kinds.Fenced fence sd from to) = markable_fenced (as_barrier fence)
 as_markable (kinds.Dep dep sd to) = markable_dep (as_markable_dependency dep) sd to
 as_markable (kinds.Data sd) = Some (markables.Data sd)
 
--- of these ends, the access that an edge leaves is marked
+-- whether these ends include the access that an edge leaves
 abbrev pub marks_source : MarkedEnds → Bool
 marks_source Both = true
 marks_source Source = true
 marks_source Target = false
 
--- of these ends, the access that an edge enters is marked
+-- whether these ends include the access that an edge enters
 abbrev pub marks_target : MarkedEnds → Bool
 marks_target Both = true
 marks_target Source = false
 marks_target Target = true
 
--- the mark of an access: of a marked read acquire, of a marked write release
+-- the mark of an access: acquire for a marked read, release for a marked write, otherwise plain
 abbrev pub mark_of : Bool → Dir → Mark
 mark_of false _ = Plain
 mark_of true dirs.R = Acquire
 mark_of true dirs.W = Release
 
--- which accesses two marks mark, if any
+-- which ends two marks mark, if any
 abbrev pub ends_marked : Mark → Mark → Option MarkedEnds
 ends_marked Plain Plain = None
 ends_marked Plain _ = Some Target

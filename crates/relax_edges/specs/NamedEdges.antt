@@ -1,4 +1,4 @@
--- The edges of which most tests are made, by their names.
+-- Short names for some frequent edges.
 -- Source: the names of edges in the diy part of the herdtools manual.
 use Rattle.relax_edges.specs.{declared.kinds.Dir.Dir, declared.kinds.Sd.TheVariants.Diff, declared.kinds.Reach.TheVariants.{Internal, External}}
 use Rattle.relax_edges.specs.{declared.kinds.Com.TheVariants.{Rf, Fr, Ws}, declared.edge.Edge.Edge, declared.edge.Edge.TheVariants.{Com, Po}}

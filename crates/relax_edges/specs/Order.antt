@@ -1,4 +1,4 @@
--- The order of edges is the byte order of their printed words. The rank of an edge is its place in that order, from 0.
+-- The order of edges is the byte order of their printed names. The rank of an edge is its position in that order, from 0.
 -- Source: own.
 use Rattle.std.specs.Prelude.{ℕ, ◌+◌, ◌*◌}
 use Rattle.relax_edges.specs.{declared.kinds.Dir.Dir, declared.kinds.Sd.Sd, declared.kinds.Sd.TheVariants.{Same, Diff}, declared.kinds.Reach.Reach}
@@ -19,7 +19,7 @@ abbrev pub dir_rank : Dir → ℕ
 dir_rank dirs.R = 0
 dir_rank dirs.W = 1
 
--- the rank of a place: `d` before `s`
+-- the rank of a different or the same location: `d` before `s`
 abbrev pub sd_rank : Sd → ℕ
 sd_rank Diff = 0
 sd_rank Same = 1
@@ -35,13 +35,13 @@ pick_rank picks.R = 0
 pick_rank picks.RW = 1
 pick_rank picks.W = 2
 
--- the rank of the first word of a communication
+-- the rank of the first edge of a communication
 abbrev pub com_rank : Com → ℕ
 com_rank coms.Fr = 244
 com_rank coms.Rf = 308
 com_rank coms.Ws = 324
 
--- the rank of the first word of a fence
+-- the rank of the first edge of a fence
 abbrev pub fence_rank : FenceKind → ℕ
 fence_rank fences.DmbLd = 0
 fence_rank fences.DmbSt = 32
@@ -54,26 +54,26 @@ fence_rank fences.LwSync = 260
 fence_rank fences.MFence = 268
 fence_rank fences.Sync = 316
 
--- how many words a fence has for one choice of place and directions: with marks four
+-- how many edges a fence has for one choice of location and directions: four if they may have marks, otherwise one
 abbrev pub fence_words : FenceKind → ℕ
 fence_words fences.DmbLd = 4
 fence_words fences.DmbSt = 4
 fence_words fences.DmbSy = 4
 fence_words _ = 1
 
--- the rank of the first word of a dependency
+-- the rank of the first edge of a dependency
 abbrev pub dependency_rank : DepKind → ℕ
 dependency_rank deps.Addr = 104
 dependency_rank deps.CtrlIsb = 120
 dependency_rank deps.CtrlIsync = 136
 dependency_rank deps.Ctrl = 140
 
--- how many words a dependency has for one choice of place and direction: with marks four
+-- how many edges a dependency has for one choice of location and direction: four if they may have marks, otherwise one
 abbrev pub dependency_words : DepKind → ℕ
 dependency_words deps.CtrlIsync = 1
 dependency_words _ = 4
 
--- the rank of the edge of a kind that marks no access; those with marks follow it
+-- the rank of the edge of a kind without marks; those with marks follow it
 abbrev pub kind_rank : Kind → ℕ
 kind_rank (kinds.Com kind reach) = com_rank kind + 4 * reach_rank reach
 kind_rank (kinds.Po sd from to) = 276 + 4 * (4 * sd_rank sd + 2 * dir_rank from + dir_rank to)
@@ -81,7 +81,7 @@ kind_rank (kinds.Fenced kind sd from to) = fence_rank kind + fence_words kind * 
 kind_rank (kinds.Dep kind sd to) = dependency_rank kind + dependency_words kind * (2 * sd_rank sd + dir_rank to)
 kind_rank (kinds.Data sd) = 156 + 4 * sd_rank sd
 
--- how far an edge with marks comes after that without: both ends, the source, the target
+-- how many ranks an edge with marks comes after the one without: by whether both ends, the source or the target are marked
 abbrev pub ends_rank : MarkedEnds → ℕ
 ends_rank Both = 1
 ends_rank Source = 2

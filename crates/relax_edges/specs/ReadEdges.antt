@@ -3,7 +3,7 @@
 use Rattle.std.specs.Prelude.{Option, Some, None, List, ◌∷◌}
 use Rattle.relax_edges.specs.declared.edge.Edge.{Edge}
 
--- an edge before some others, where there is the edge and there are the others
+-- an edge before some others, if both are given
 abbrev pub before_edges : Option Edge → Option (List Edge) → Option (List Edge)
 before_edges (Some edge) (Some edges) = Some (edge ∷ edges)
 before_edges (Some edge) None = None

@@ -4,16 +4,16 @@ use Rattle.list_laws.specs.Errors.{unless}
 use Rattle.relax_edges.specs.{declared.edge.Edge.Edge, declared.relax_error.RelaxKind.RelaxKind, declared.relax_error.RelaxError.RelaxError}
 use Rattle.relax_edges.specs.{RelaxText.RelaxItem, Relaxations.{is_same, item_paths, item_errors, too_many}}
 
--- the list with one relaxation more at its end, unless the list has it already
+-- the list with one more relaxation at its end, unless the list already has it
 abbrev pub keep_path : List (List Edge) → List Edge → List (List Edge)
 keep_path kept path = cond (list_any (is_same path) kept) kept (kept ++ path ∷ [])
 
--- the list once some relaxations are kept, one after another
+-- the list after some relaxations are kept, one after another
 abbrev pub keep_all : List (List Edge) → List (List Edge) → List (List Edge)
 keep_all kept [] = kept
 keep_all kept (path ∷ paths) = keep_all (keep_path kept path) paths
 
--- the list itself where it has at most 64 relaxations, and else the refusal
+-- the list itself if it has at most 64 relaxations, otherwise the refusal
 abbrev pub at_most_64 : List (List Edge) → Result (List (List Edge)) RelaxKind
 at_most_64 kept = unless (too_many kept) kept
 

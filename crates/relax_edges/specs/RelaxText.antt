@@ -33,7 +33,7 @@ inside remainder = before_first is_bracket remainder
 abbrev pub has_closed_bracket : List ℕ → Bool
 has_closed_bracket remainder = get_or remainder (length (inside remainder)) 0 == 93
 
--- some words, or none where there is no word: a bracket without words is bad
+-- some words, or `None` if there is no word: a bracket without words is bad
 abbrev pub some_words : List (List ℕ) → Option (List (List ℕ))
 some_words [] = None
 some_words (word ∷ words) = Some (word ∷ words)
@@ -42,7 +42,7 @@ some_words (word ∷ words) = Some (word ∷ words)
 abbrev pub bracket_words : List ℕ → Option (List (List ℕ))
 bracket_words remainder = cond (has_closed_bracket remainder) (some_words (words_of (inside remainder))) None
 
--- an item: the position of its first byte, from 0, and its words, or none where its bracket is bad
+-- an item: the position of its first byte, from 0, and its words, or `None` if its bracket is bad
 pub record RelaxItem : Type 0 where
   pub start : ℕ
   pub words : Option (List (List ℕ))
@@ -51,7 +51,7 @@ pub record RelaxItem : Type 0 where
 abbrev pub words_from : ℕ → List ℕ → Option (List (List ℕ))
 words_from byte remainder = cond (byte == 91) (bracket_words remainder) (cond (byte == 93) None (Some ((byte ∷ before_first ends_word remainder) ∷ [])))
 
--- the last of some bytes, or the given byte where there are none
+-- the last of some bytes, or the given byte if there are none
 abbrev pub last_byte : ℕ → List ℕ → ℕ
 last_byte byte [] = byte
 last_byte _ (byte ∷ bytes) = last_byte byte bytes
@@ -64,7 +64,7 @@ is_open before = last_byte 93 (filter is_bracket before) == 91
 abbrev pub stands_apart : List ℕ → Bool
 stands_apart before = ends_word (last_byte 32 before)
 
--- whether an item begins with the byte after some bytes: it is no separator, no bracket is open there, and it is a bracket or the first byte of a word
+-- whether an item begins with the byte after some bytes: it is no separator, no bracket is open, and it is a bracket or begins a word
 abbrev pub begins_item : List ℕ → ℕ → Bool
 begins_item before byte = not (is_separator byte) && not (is_open before) && (is_bracket byte || stands_apart before)
 

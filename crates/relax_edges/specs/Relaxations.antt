@@ -25,11 +25,11 @@ abbrev pub path_choices : List (List Edge) → List (List Edge)
 path_choices [] = [] ∷ []
 path_choices (edges ∷ remainder) = flat_map (λ edge. map (λ path. edge ∷ path) (path_choices remainder)) edges
 
--- the paths of some words: the choices of one edge for each word in which neighbours join
+-- the paths of some words: the choices of one edge for each word in which each edge joins the next
 abbrev pub paths_of : List (List ℕ) → List (List Edge)
 paths_of words = filter is_joined (path_choices (map word_edges words))
 
--- whether two lists of edges are the same, by the ranks of their edges: no two edges have one rank
+-- whether two lists of edges are the same, by the ranks of their edges: no two edges have the same rank
 abbrev pub is_same : List Edge → List Edge → Bool
 is_same = pointwise (λ a b. rank_of a == rank_of b)
 
@@ -53,11 +53,11 @@ pub record IsRelaxes (paths : List (List Edge)) : Type 0 where
 abbrev pub if_new : List (List Edge) × List Edge → List (List Edge)
 if_new (before, path) = cond (list_any (is_same path) before) [] (path ∷ [])
 
--- each path once, at its first place
+-- each path once, at its first position
 unfoldable pub distinct : List (List Edge) → List (List Edge)
 distinct paths = flat_map if_new (with_before [] paths)
 
--- the paths of an item, by its words, which it has unless its bracket is bad
+-- the paths of an item, by its words; none if its bracket is bad
 abbrev pub item_paths : Option (List (List ℕ)) → List (List Edge)
 item_paths None = []
 item_paths (Some words) = paths_of words
@@ -70,7 +70,7 @@ relaxes_in items = distinct (flat_map (λ item. item_paths item.words) items)
 abbrev pub error_if : Bool → RelaxKind → List RelaxKind
 error_if condition kind = cond condition (kind ∷ []) []
 
--- the errors of an item taken alone, in this order: its bracket is bad; or else some word names no edge, there are more than 8 words, no choice joins
+-- the errors of an item by itself, in this order: its bracket is bad; or some word names no edge, it has more than 8 words, no choice joins
 unfoldable pub item_errors : Option (List (List ℕ)) → List RelaxKind
 item_errors None = BadBracket ∷ []
 item_errors (Some words) =

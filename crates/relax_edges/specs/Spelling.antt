@@ -12,7 +12,7 @@ abbrev pub kind_spellings : Kind → List (List ℕ)
 kind_spellings (kinds.Com coms.Ws reach) = kind_word (kinds.Com coms.Ws reach) ∷ (codes "Co" ++ reach_word reach) ∷ []
 kind_spellings kind = kind_word kind ∷ []
 
--- what comes after that: the letters of the marks. Where both are plain nothing, or `PP` where AArch64 has the edge
+-- what may follow: the letters of the marks; if both are plain, nothing, or also `PP` if AArch64 has the edge
 abbrev pub endings : Bool → Mark → Mark → List (List ℕ)
 endings true Plain Plain = [] ∷ codes "PP" ∷ []
 endings false Plain Plain = [] ∷ []

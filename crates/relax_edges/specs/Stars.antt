@@ -6,10 +6,10 @@ use Rattle.relax_edges.specs.{declared.edge.Edge.Edge, Spelling.edge_of}
 abbrev pub star_choices : ℕ → List ℕ
 star_choices byte = cond (byte == 42) (codes "RW") (byte ∷ [])
 
--- the edges of the words that begin so, with this byte before the last, and a choice of the last byte
+-- the edges that words with this prefix name, with this byte before the last and each choice of the last byte
 unfoldable pub edges_by_last : List ℕ → ℕ → ℕ → List Edge
 edges_by_last prefix before last = filter_map (λ choice. edge_of (prefix ++ before ∷ choice ∷ [])) (star_choices last)
 
--- the edges of the words that begin so, with a choice of each of the last two bytes
+-- the edges that words with this prefix name, with each choice of the last two bytes
 unfoldable pub edges_by_end : List ℕ → ℕ → ℕ → List Edge
 edges_by_end prefix before last = flat_map (λ choice. edges_by_last prefix choice last) (star_choices before)

@@ -1,5 +1,5 @@
--- The printed word of each edge, as bytes.
--- Source: the diy part of the herdtools manual, "Candidate relaxations"; the words of `DpCtrlIsb`, `ISync` and `Fence.p.s` are own.
+-- The printed name of each edge, as bytes.
+-- Source: the diy part of the herdtools manual, "Candidate relaxations"; the names of `DpCtrlIsb`, `ISync` and `Fence.p.s` are own.
 use Rattle.std.specs.Prelude.{ℕ, List, ◌++◌, codes}
 use Rattle.relax_edges.specs.{declared.kinds.Dir.Dir, declared.kinds.Sd.Sd, declared.kinds.Sd.TheVariants.{Same, Diff}, declared.kinds.Reach.Reach}
 use Rattle.relax_edges.specs.{declared.kinds.Reach.TheVariants.{Internal, External}, declared.kinds.Com.Com, declared.kinds.Pick.Pick}
@@ -19,7 +19,7 @@ abbrev pub dir_word : Dir → List ℕ
 dir_word dirs.R = codes "R"
 dir_word dirs.W = codes "W"
 
--- the letter of a place: `s` for the same location, `d` for a different one
+-- the letter of a location: `s` for the same, `d` for a different one
 abbrev pub sd_word : Sd → List ℕ
 sd_word Same = codes "s"
 sd_word Diff = codes "d"
@@ -41,7 +41,7 @@ com_word coms.Rf = codes "Rf"
 com_word coms.Fr = codes "Fr"
 com_word coms.Ws = codes "Ws"
 
--- the word of a fence
+-- the name of a fence
 abbrev pub fence_word : FenceKind → List ℕ
 fence_word fences.MFence = codes "MFence"
 fence_word fences.Sync = codes "Sync"
@@ -54,14 +54,14 @@ fence_word fences.DmbSt = codes "DMB.ST"
 fence_word fences.Dmb = codes "DMB"
 fence_word (fences.Fence pred succ) = codes "Fence." ++ pick_word pred ++ codes "." ++ pick_word succ
 
--- the word of a dependency
+-- the name of a dependency
 abbrev pub dependency_word : DepKind → List ℕ
 dependency_word deps.Addr = codes "DpAddr"
 dependency_word deps.Ctrl = codes "DpCtrl"
 dependency_word deps.CtrlIsync = codes "DpCtrlIsync"
 dependency_word deps.CtrlIsb = codes "DpCtrlIsb"
 
--- the printed word of an edge without its marks
+-- the printed name of an edge without its marks
 abbrev pub kind_word : Kind → List ℕ
 kind_word (kinds.Com kind reach) = com_word kind ++ reach_word reach
 kind_word (kinds.Po sd from to) = codes "Po" ++ sd_word sd ++ dir_word from ++ dir_word to
@@ -79,7 +79,7 @@ mark_word Release = codes "L"
 abbrev pub marks_word : MarkedEdge → List ℕ
 marks_word marked = mark_word (source_mark (edges.Marked marked)) ++ mark_word (target_mark (edges.Marked marked))
 
--- the printed word of an edge: where an access is marked it ends in the letters of the two marks
+-- the printed name of an edge; if an access is marked, the name ends in the letters of the two marks
 abbrev pub word_of : Edge → List ℕ
 word_of (edges.Com kind reach) = kind_word (kinds.Com kind reach)
 word_of (edges.Po sd from to) = kind_word (kinds.Po sd from to)

@@ -1,5 +1,5 @@
--- How a spelling is read from its end: what its last bytes name, and what the text before them names.
--- Source: own; that it reads what the table spells is a lemma.
+-- How the spelling of an edge is read from its end: what its last bytes name, and what the text before them names.
+-- Source: own; that this gives the edge that a text spells is a lemma.
 use Rattle.std.specs.{Prelude.{ℕ, Bool, true, false, cond, Option, Some, None, List, [], ◌∷◌, reverse, codes}, List.find, Option.{option_or, option_map}}
 use Rattle.std.specs.Str.{bytes_eq}
 use Rattle.relax_edges.specs.{declared.kinds.Dir.Dir, declared.kinds.Sd.Sd, declared.kinds.Sd.TheVariants.{Same, Diff}, declared.kinds.Reach.Reach}
@@ -14,7 +14,7 @@ use Rattle.relax_edges.specs.declared.kinds.FenceKind.TheVariants as fences
 use Rattle.relax_edges.specs.declared.kinds.DepKind.TheVariants as deps
 use Rattle.relax_edges.specs.declared.kinds.Kind.TheVariants as kinds
 
--- the first of some kinds whose word is a text
+-- the first of some kinds whose name is the text
 abbrev pub kind_named_by : {K : Type 0} → (K → List ℕ) → List K → List ℕ → Option K
 kind_named_by word kinds text = find (λ kind. bytes_eq text (word kind)) kinds
 
@@ -26,11 +26,11 @@ dirs_read = dirs.R ∷ dirs.W ∷ []
 abbrev pub dir_named : List ℕ → Option Dir
 dir_named = kind_named_by dir_word dirs_read
 
--- the places that a letter may name
+-- the choices of location that a letter may name
 abbrev pub places_read : List Sd
 places_read = Same ∷ Diff ∷ []
 
--- the place that a text names
+-- the choice of location that a text names
 abbrev pub sd_named : List ℕ → Option Sd
 sd_named = kind_named_by sd_word places_read
 
@@ -50,7 +50,7 @@ communications_read = coms.Rf ∷ coms.Fr ∷ coms.Ws ∷ []
 abbrev pub com_named : List ℕ → Option Com
 com_named text = option_or (kind_named_by com_word communications_read text) (kind_named_by (λ _. codes "Co") (coms.Ws ∷ []) text)
 
--- the dependencies that a text may name, without those through data
+-- the dependencies that a text may name, except data dependencies
 abbrev pub dependencies_read : List DepKind
 dependencies_read = deps.Addr ∷ deps.Ctrl ∷ deps.CtrlIsync ∷ deps.CtrlIsb ∷ []
 
@@ -91,43 +91,43 @@ communication _ _ = None
 unfoldable pub communication_of : ℕ → ℕ → ℕ → Option Kind
 communication_of first second reach = communication (com_named (first ∷ second ∷ [])) (reach_named (reach ∷ []))
 
--- the kind of a place, two directions, and program order or else a fence
+-- the kind of a choice of location, two directions, and program order or else a fence
 abbrev pub two_sided : Option Sd → Option Dir → Option Dir → Bool → Option FenceKind → Option Kind
 two_sided (Some sd) (Some from) (Some to) true _ = Some (kinds.Po sd from to)
 two_sided (Some sd) (Some from) (Some to) false (Some kind) = Some (kinds.Fenced kind sd from to)
 two_sided _ _ _ _ _ = None
 
--- the kind that a text spells whose last three bytes name a place and two directions
+-- the kind that a text spells if its last three bytes name a choice of location and two directions
 unfoldable pub two_sided_of : List ℕ → ℕ → ℕ → ℕ → Option Kind
 two_sided_of prefix sd from to =
     two_sided (sd_named (sd ∷ [])) (dir_named (from ∷ [])) (dir_named (to ∷ [])) (bytes_eq prefix (codes "Po")) (fence_named prefix)
 
--- the kind of a place, a direction, and data or else another dependency
+-- the kind of a choice of location, a direction, and a data dependency or else another one
 abbrev pub one_sided : Option Sd → Option Dir → Bool → Option DepKind → Option Kind
 one_sided (Some sd) (Some dirs.W) true _ = Some (kinds.Data sd)
 one_sided (Some sd) (Some to) false (Some kind) = Some (kinds.Dep kind sd to)
 one_sided _ _ _ _ = None
 
--- the kind that a text spells whose last two bytes name a place and a direction
+-- the kind that a text spells if its last two bytes name a choice of location and a direction
 unfoldable pub one_sided_of : List ℕ → ℕ → ℕ → Option Kind
 one_sided_of prefix sd to = one_sided (sd_named (sd ∷ [])) (dir_named (to ∷ [])) (bytes_eq prefix (codes "DpData")) (dependency_named prefix)
 
--- a text of three bytes is read as a communication
+-- the communication that a text of three bytes is read as
 abbrev pub read_as_communication : List ℕ → Option Kind
 read_as_communication (first ∷ second ∷ reach ∷ []) = communication_of first second reach
 read_as_communication _ = None
 
--- a text is read backwards: its last three bytes, and the text before them
+-- the kind of a text, given backwards, by its last three bytes and the text before them
 abbrev pub read_back_two_sided : List ℕ → Option Kind
 read_back_two_sided (to ∷ from ∷ sd ∷ prefix) = two_sided_of (reverse prefix) sd from to
 read_back_two_sided _ = None
 
--- a text is read backwards: its last two bytes, and the text before them
+-- the kind of a text, given backwards, by its last two bytes and the text before them
 abbrev pub read_back_one_sided : List ℕ → Option Kind
 read_back_one_sided (to ∷ sd ∷ prefix) = one_sided_of (reverse prefix) sd to
 read_back_one_sided _ = None
 
--- the edge without marks that a text is read as
+-- the kind that a text is read as
 unfoldable pub kind_read : List ℕ → Option Kind
 kind_read text = option_or (read_as_communication text) (option_or (read_back_two_sided (reverse text)) (read_back_one_sided (reverse text)))
 
@@ -139,22 +139,22 @@ marks_read = Plain ∷ Acquire ∷ Release ∷ []
 abbrev pub mark_named : List ℕ → Option Mark
 mark_named = kind_named_by mark_word marks_read
 
--- the edge of a kind with the marks of two letters, where `PP` may follow edges of AArch64 only
+-- the edge of a kind with the marks of two letters; `PP` may follow only the edges of AArch64
 unfoldable pub edge_spelled : Kind → Mark → Mark → Option Edge
 edge_spelled kind Plain Plain = cond (kind_is_of kind AArch64) (Some (unmarked kind)) None
 edge_spelled kind from to = marked_edge kind from to
 
--- the same, of what is read before the letters
+-- the same for the kind that is read before the letters, if there is one
 abbrev pub spelled_by : Option Kind → Mark → Mark → Option Edge
 spelled_by (Some kind) from to = edge_spelled kind from to
 spelled_by None from to = None
 
--- the edge of a text: that of the text before two letters of marks, or else that of the whole text
+-- the edge of a text: if it ends in the letters of two marks, by the text before them; otherwise by the complete text
 abbrev pub read_by_marks : Option Mark → Option Mark → Option Kind → Option Kind → Option Edge
 read_by_marks (Some from) (Some to) before whole = spelled_by before from to
 read_by_marks _ _ before whole = option_map unmarked whole
 
--- a text is read backwards: its last two bytes, and the text before them
+-- the edge of a text, given backwards, by its last two bytes and the text before them
 abbrev pub read_back : List ℕ → Option Edge
 read_back (to ∷ from ∷ back) =
     read_by_marks (mark_named (from ∷ [])) (mark_named (to ∷ [])) (kind_read (reverse back)) (kind_read (reverse (to ∷ from ∷ back)))

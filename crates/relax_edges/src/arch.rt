@@ -4,7 +4,7 @@ ghost use Rattle.relax_edges.specs.Architectures.{arch_word, arch_of};
 use crate::kinds::ArchName;
 
 impl ArchName {
-    /// The text that names the architecture: `X86`, `PPC`, `AArch64`, `RISCV` or `ARM`.
+    /// The name of the architecture: `X86`, `PPC`, `AArch64`, `RISCV` or `ARM`.
     pub fn name(self) -> &'static str
         ensures { result.now ≡ arch_word self }
     {
@@ -18,8 +18,7 @@ impl ArchName {
     }
 }
 
-/// The architecture that a text names, letter for letter. `None` comes exactly where it names
-/// none.
+/// The architecture that a text names, letter for letter; `None` if it names none.
 pub fn read_arch(text: &str) -> Option<ArchName>
     ensures { result ≡ arch_of text.now }
 {

@@ -15,7 +15,7 @@ pub enum Edge {
         com: Com,
         reach: Reach,
     },
-    /// Program order alone.
+    /// Program order without a fence or dependency.
     Po {
         sd: Sd,
         from: Dir,
@@ -38,7 +38,7 @@ pub enum Edge {
     Data {
         sd: Sd,
     },
-    /// One of these with marks.
+    /// One of the above with a mark at one end or both.
     Marked(MarkedEdge),
 }
 
@@ -173,7 +173,7 @@ impl Kind {
 }
 
 impl Kind {
-    /// The edge of this kind that marks no access.
+    /// The edge of this kind without marks.
     pub(crate) fn without_marks(self) -> Edge
         ensures { result ≡ unmarked self }
     {
@@ -198,9 +198,8 @@ impl Kind {
 }
 
 impl MarkedEdge {
-    /// The edge of a kind with these marks. None where both are plain, where the end that is a
-    /// write has `Acquire` or the end that is a read has `Release`, or where the kind isn't of
-    /// AArch64; else there is one.
+    /// The edge of a kind with these marks. `None` if both are plain, if a write has `Acquire` or a
+    /// read has `Release`, or if AArch64 doesn't have the kind; otherwise there is one.
     #[tactic(auto, unfolding(crate::specs::EdgeTable::marked_of))]
     pub fn new(kind: Kind, from: Mark, to: Mark) -> Option<MarkedEdge>
         ensures { result ≡ marked_of kind from to }
@@ -234,8 +233,8 @@ impl MarkedEdge {
 }
 
 impl Edge {
-    /// The edge of a kind with these marks. Where both are plain it is the edge without marks; else
-    /// there is one exactly where the kind is of AArch64 and each mark fits what its access does.
+    /// The edge of a kind with these marks. If both are plain, it is the edge without marks; otherwise
+    /// there is one exactly when AArch64 has the kind and each mark fits what its access does.
     #[tactic(auto, unfolding(crate::specs::EdgeTable::marked_edge))]
     pub fn with_marks(kind: Kind, from: Mark, to: Mark) -> Option<Edge>
         ensures { result ≡ marked_edge kind from to }
@@ -290,7 +289,7 @@ impl Edge {
         }
     }
 
-    /// What the access does that the edge leaves.
+    /// What the access that the edge leaves does.
     pub fn source(self) -> Dir
         ensures { result ≡ source_of self }
     {
@@ -302,7 +301,7 @@ impl Edge {
         }
     }
 
-    /// What the access does that the edge enters.
+    /// What the access that the edge enters does.
     pub fn target(self) -> Dir
         ensures { result ≡ target_of self }
     {
@@ -353,9 +352,8 @@ impl Edge {
         matches!(self.place(), Sd::Diff)
     }
 
-    /// Whether the edge is of the architecture: its fence or dependency is one of that
-    /// architecture's, and its marks are. Communications and program order are of all, acquire and
-    /// release of AArch64 alone.
+    /// Whether the architecture has the edge: it has its fence or dependency, and its marks. All have
+    /// communications and program order; only AArch64 has acquire and release.
     pub fn of_arch(self, arch: ArchName) -> bool
         ensures { result ≡ is_of_arch self arch }
     {
@@ -368,8 +366,8 @@ impl Edge {
         }
     }
 
-    /// The same where an access has a mark. It is apart so that `of_arch` is short for edges without
-    /// marks, which are met most often.
+    /// The same as `of_arch`, for edges with marks. A separate function keeps `of_arch` short for
+    /// edges without marks, which are the most frequent.
     #[inline(never)]
     fn marks_of_arch(self, arch: ArchName) -> bool
         ensures { result ≡ is_of_arch self arch }
@@ -377,8 +375,8 @@ impl Edge {
         self.source_mark().is_of(arch) && self.target_mark().is_of(arch) && self.kind().is_of(arch)
     }
 
-    /// Whether `next` can follow the edge: the edge enters what `next` leaves, and the two agree on
-    /// the mark of that access.
+    /// Whether `next` can follow the edge: the access that the edge enters and the access that `next`
+    /// leaves are both reads or both writes, and have the same mark.
     pub fn joins(self, next: Edge) -> bool
         ensures { result ≡ joins_to self next }
     {
@@ -388,8 +386,8 @@ impl Edge {
         }
     }
 
-    /// The same where one of the two has marks. It is apart so that `joins` is short for edges
-    /// without marks, which are met most often.
+    /// The same as `joins`, for edges of which one has marks. A separate function keeps `joins` short
+    /// for edges without marks, which are the most frequent.
     #[inline(never)]
     fn joins_by_marks(self, next: Edge) -> bool
         ensures { result ≡ joins_to self next }

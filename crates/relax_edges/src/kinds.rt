@@ -53,7 +53,7 @@ pub enum Pick {
     RW,
 }
 
-/// The fences of the architectures. `DmbSt` is of AArch64 and of ARM, each other of one.
+/// The fences of the architectures. AArch64 and ARM have `DmbSt`; only one architecture has each other.
 #[derive(Clone, Copy, Debug, Default, PartialEq, Eq)]
 pub enum FenceKind {
     #[default]
@@ -69,7 +69,7 @@ pub enum FenceKind {
     Fence { pred: Pick, succ: Pick },
 }
 
-/// The syntactic dependencies on a load, except those through data, which lead only to stores.
+/// The syntactic dependencies on a load, except data dependencies, which lead only to stores.
 #[derive(Clone, Copy, Default, PartialEq, Eq)]
 pub enum DepKind {
     #[default]
@@ -89,7 +89,7 @@ pub enum Mark {
     Release,
 }
 
-/// An edge of a cycle, whatever the marks of its accesses.
+/// An edge of a cycle without the marks of its accesses.
 ///
 /// The rules are those of the diy part of the herdtools manual, "Candidate relaxations".
 #[derive(Clone, Copy)]
@@ -99,7 +99,7 @@ pub enum Kind {
         com: Com,
         reach: Reach,
     },
-    /// Program order alone.
+    /// Program order without a fence or dependency.
     Po {
         sd: Sd,
         from: Dir,
@@ -124,15 +124,16 @@ pub enum Kind {
     },
 }
 
-/// What a register or a location holds: a number, or the address of the place with this number.
+/// What a register or a location holds: a number, or the address of the location with this number.
 #[derive(Clone, Copy, Debug, PartialEq, Eq)]
 pub enum Value {
     Num(u32),
     Place(u8),
 }
 
-/// Which locations get an observer: `Accept`, those whose order of writes would otherwise stay open;
-/// `Avoid`, none, and a cycle that needs one is refused; `Force`, each with two writes or more.
+/// Which locations get an observer: with `Accept`, those whose order of writes would otherwise stay
+/// open; with `Avoid`, none, and a cycle that needs one is refused; with `Force`, each that has two or
+/// more writes.
 #[derive(Clone, Copy, Default, PartialEq, Eq)]
 pub enum ObsMode {
     #[default]

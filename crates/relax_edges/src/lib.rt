@@ -1,4 +1,4 @@
-//! The edges of a cycle: what each one joins, its printed word, and the order of the words.
+//! The edges of a cycle: what each one joins, its printed name, and the order of the names; and lists of relaxations.
 #![tactic(auto)]
 
 mod arch;
@@ -28,5 +28,5 @@ pub use relax::{Relax, Relaxes};
 pub use relax_error::{RelaxError, RelaxKind};
 pub use relax_list::read_relaxes;
 
-/// The most edges that a cycle has.
+/// The most edges that a cycle may have.
 pub const MAX_EDGES: usize = 48;

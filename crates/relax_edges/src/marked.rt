@@ -19,7 +19,7 @@ pub(crate) enum MarkableDep {
     CtrlIsb,
 }
 
-/// An edge that may have marks, without them: one of the 52 that AArch64 has.
+/// The kind of an edge that may have marks: one of the 52 that AArch64 has.
 #[derive(Clone, Copy)]
 pub(crate) enum MarkableKind {
     Com {
@@ -55,8 +55,8 @@ pub(crate) enum MarkedEnds {
     Target,
 }
 
-/// An edge of AArch64 that marks an access or both: a read is a load-acquire, a write a
-/// store-release.
+/// An edge of AArch64 with a mark at one end or both: a marked read is a load-acquire, a marked write
+/// a store-release.
 #[derive(Clone, Copy)]
 pub struct MarkedEdge {
     pub(crate) kind: MarkableKind,
@@ -88,7 +88,7 @@ impl MarkableDep {
 }
 
 impl MarkableKind {
-    /// The same kind as a plain `Kind`, of which it isn't known that it may have marks.
+    /// The same kind as a `Kind`, a type that also has the kinds that can't have marks.
     pub(crate) fn kind(self) -> Kind
         ensures { result ≡ markable_kind self }
     {
@@ -127,7 +127,7 @@ fn fenced_kind(fence: Dmb, sd: Sd, from: Dir, to: Dir) -> Option<MarkableKind>
     })
 }
 
-/// The kind as one that may have marks, if it is of AArch64.
+/// The kind as one that may have marks, if AArch64 has it.
 pub(crate) fn as_markable(kind: Kind) -> Option<MarkableKind>
     ensures { result ≡ as_markable kind }
 {
@@ -171,7 +171,7 @@ pub(crate) fn ends_of(from: Mark, to: Mark) -> Option<MarkedEnds>
 }
 
 impl MarkedEnds {
-    /// The mark of the access that the edge leaves, which does this.
+    /// The mark of the access that the edge leaves, by what the access does.
     pub(crate) fn source_mark(self, dir: Dir) -> Mark
         ensures { result ≡ mark_of (marks_source self) dir }
     {
@@ -181,7 +181,7 @@ impl MarkedEnds {
         }
     }
 
-    /// The mark of the access that the edge enters, which does this.
+    /// The mark of the access that the edge enters, by what the access does.
     pub(crate) fn target_mark(self, dir: Dir) -> Mark
         ensures { result ≡ mark_of (marks_target self) dir }
     {
@@ -192,7 +192,7 @@ impl MarkedEnds {
     }
 }
 
-/// The mark of a marked access that does this.
+/// The mark of a marked access, by what the access does.
 fn mark_of(dir: Dir) -> Mark
     ensures { result ≡ mark_of true dir }
 {

@@ -106,7 +106,7 @@ impl Com {
 }
 
 impl FenceKind {
-    /// The rank of the edge without marks of this fence and of this choice of place and directions.
+    /// The rank of the edge without marks that has this fence and this choice of location and directions.
     fn rank(self, choice: u16) -> u16
         requires { choice < 8 }
         ensures { result ≡ fence_rank self + fence_words self * choice }
@@ -127,7 +127,7 @@ impl FenceKind {
 }
 
 impl DepKind {
-    /// The rank of the edge without marks of this dependency and of this choice of place and
+    /// The rank of the edge without marks that has this dependency and this choice of location and
     /// direction.
     fn rank(self, choice: u16) -> u16
         requires { choice < 4 }
@@ -142,7 +142,7 @@ impl DepKind {
     }
 }
 
-/// The place of a choice of place and directions among the eight.
+/// The position of a choice of location and directions among the eight, from 0.
 fn choice_rank(sd: Sd, from: Dir, to: Dir) -> u16
     ensures value { result ≡ 4 * sd_rank sd + 2 * dir_rank from + dir_rank to }
     ensures below { result < 8 }
@@ -218,7 +218,7 @@ impl MarkedEdge {
     }
 }
 
-/// The edge of a kind that may have marks, without them or with those of this rank.
+/// The edge of a kind that may have marks: without marks if `ends` is 0, otherwise with those of this rank.
 #[tactic(auto, using(crate::proofs::KindRanks::unmarked_rank), unfolding(crate::specs::Order::rank_of))]
 fn edge_at(kind: MarkableKind, ends: u16) -> Edge
     requires { ends < 4 }
@@ -346,7 +346,7 @@ fn riscv_fence_at(k: u16) -> Edge
 }
 
 impl Edge {
-    /// The place of the edge among all edges, in the byte order of their printed words, from 0.
+    /// The position of the edge among all edges, in the byte order of their printed names, from 0.
     #[tactic(auto, unfolding(crate::specs::Order::rank_of))]
     pub fn rank(self) -> u16
         ensures value { result ≡ rank_of self }
@@ -367,8 +367,8 @@ impl Edge {
         }
     }
 
-    /// The edge at a place among all edges, in the byte order of their printed words. The places
-    /// from 0 on, below `EDGES`, give each edge once, in that order.
+    /// The edge of a rank below `EDGES`. The ranks from 0 on give each edge once, in the byte order
+    /// of their printed names.
     pub fn at_rank(k: u16) -> Edge
         requires { k < EDGES }
         ensures { rank_of result ≡ k }
@@ -397,7 +397,7 @@ impl Edge {
     }
 }
 
-/// Two edges are equal exactly where they are the same edge.
+/// Two edges are equal exactly when they are the same edge.
 impl PartialEq for Edge {
     ghost eq = { on rank_of ◌==◌ };
 
@@ -415,7 +415,7 @@ impl Eq for Edge {
     ghost laws = { Prim.search (comparing, rules) };
 }
 
-/// Edges are ordered as their printed words are, byte by byte.
+/// Edges are ordered as their printed names are, byte by byte.
 impl Ord for Edge {
     ghost cmp = { on rank_of nat_cmp };
 

@@ -21,7 +21,7 @@ impl Dir {
 }
 
 impl Sd {
-    /// The place that a letter spells: `s` for the same location, `d` for another.
+    /// The choice of location that a letter spells: `s` for the same, `d` for another.
     #[inline]
     fn from_byte(byte: u8) -> Option<Sd>
         ensures { result ≡ sd_named (byte ∷ []) }
@@ -173,7 +173,7 @@ fn fence_of_six(
 }
 
 impl FenceKind {
-    /// The words of a length are few, so the length is asked first.
+    /// The fence that a text names. Few names have the same length, so the length is tested first.
     fn from_word(text: &[u8]) -> Option<FenceKind>
         ensures { result ≡ fence_named text.now }
     {
@@ -258,8 +258,8 @@ fn end_two_sided(prefix: &[u8], from: u8, to: u8) -> Option<Edge>
     }
 }
 
-/// The edge without marks that a text spells that ends with these two bytes. Which of them are
-/// directions says which form it has.
+/// The edge without marks that is spelled by a prefix and these last two bytes. Which of the two are
+/// directions decides which form it has.
 #[inline(always)]
 fn end_unmarked(prefix: &[u8], before: u8, last: u8) -> Option<Edge>
     ensures { result ≡ option_map unmarked (kind_read (prefix.now ++ before ∷ last ∷ [])) }
@@ -273,8 +273,8 @@ fn end_unmarked(prefix: &[u8], before: u8, last: u8) -> Option<Edge>
     }
 }
 
-/// The edge without marks that a text spells, as its kind. It is apart so that `read_ending` is short
-/// for edges without marks, which are met most often.
+/// The kind of the edge without marks that a text spells. A separate function keeps `read_ending`
+/// short for edges without marks, which are the most frequent.
 #[tactic(auto, using(crate::proofs::KindSpellings::short_is_none, crate::proofs::KindSpellings::kinds_of_unmarked))]
 #[inline(never)]
 fn read_kind(text: &[u8]) -> Option<Kind>
@@ -289,8 +289,7 @@ fn read_kind(text: &[u8]) -> Option<Kind>
     }
 }
 
-/// The edge of a kind with the marks of two letters, where `PP` may follow the edges of
-/// AArch64 only.
+/// The edge of a kind with the marks of two letters; `PP` may follow only the edges of AArch64.
 #[tactic(auto, unfolding(crate::specs::WordReading::edge_spelled))]
 fn edge_of_letters(kind: Kind, from: Mark, to: Mark) -> Option<Edge>
     ensures { result ≡ edge_spelled kind from to }
@@ -305,7 +304,7 @@ fn edge_of_letters(kind: Kind, from: Mark, to: Mark) -> Option<Edge>
     Edge::with_marks(kind, from, to)
 }
 
-/// The edge that a text spells that ends with these two bytes.
+/// The edge that is spelled by a prefix and these last two bytes, if there is one.
 #[tactic(auto, using(crate::proofs::Spellings::ending_is_edge_of))]
 pub(crate) fn read_ending(prefix: &[u8], before: u8, last: u8) -> Option<Edge>
     ensures { result ≡ edge_of (prefix.now ++ before ∷ last ∷ []) }
@@ -324,7 +323,7 @@ pub(crate) fn read_ending(prefix: &[u8], before: u8, last: u8) -> Option<Edge>
 #[error("no edge has this spelling")]
 pub struct UnknownEdge;
 
-/// The edge that these bytes spell, as `read_edge` reads a text.
+/// The edge that these bytes spell, by the rules of `read_edge`.
 #[tactic(auto, using(crate::proofs::Spellings::edge_of_short))]
 pub fn read_edge_bytes(text: &[u8]) -> Result<Edge, UnknownEdge>
     ensures { result_ok result ≡ edge_of text.now }
@@ -337,10 +336,11 @@ pub fn read_edge_bytes(text: &[u8]) -> Result<Edge, UnknownEdge>
 
 /// The edge that a text spells: an edge is spelled as it is printed, and `Wsi` and `Wse` are
 /// spelled `Coi` and `Coe` too, with the same letters of marks after them. `PP`, which marks
-/// nothing, may follow each spelling of an edge without marks that AArch64 has. `UnknownEdge` comes
-/// exactly where no edge has this spelling.
+/// nothing, may follow each spelling of an edge without marks that AArch64 has. `UnknownEdge` if
+/// no edge has this spelling.
 ///
-/// The words are those of the diy part of the herdtools manual, "Candidate relaxations".
+/// The spellings are those of the diy part of the herdtools manual, "Candidate relaxations", except
+/// those with `DpCtrlIsb`, `ISync` and the RISC-V fences, which are own.
 pub fn read_edge(text: &str) -> Result<Edge, UnknownEdge>
     ensures { result_ok result ≡ edge_of text.now }
 {

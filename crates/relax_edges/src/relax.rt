@@ -72,7 +72,7 @@ impl Model for Relaxes {
 }
 
 impl Relaxes {
-    /// No relaxation.
+    /// The empty list.
     pub fn new() -> Relaxes
         ensures { result ≡ [] }
     {
@@ -97,7 +97,7 @@ impl Relaxes {
         self.list.is_empty()
     }
 
-    /// A relaxation by its place, from 0.
+    /// Relaxation `i` of the list, from 0; `i` is below the length.
     pub fn get(&self, i: usize) -> &Relax
         requires { i < length self.now }
         ensures { slice_get self.now i ≡ Some result.now }
@@ -124,7 +124,7 @@ impl Relaxes {
         self.list.iter().any(|kept| path == kept.edges())
     }
 
-    /// Keeps a path, unless it is there already.
+    /// Appends a path, unless the list already has it; `TooManyRelaxes` if the list is full.
     #[tactic(auto, using(crate::proofs::Kept::keep_there, crate::proofs::Kept::keep_full, crate::proofs::Kept::keep_room, crate::proofs::Kept::relaxes_end))]
     pub(crate) fn keep(&mut self, path: &[Edge]) -> Result<(), RelaxKind>
         requires { IsRelax path.now }

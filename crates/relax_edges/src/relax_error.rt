@@ -15,7 +15,7 @@ pub enum RelaxKind {
     TooManyRelaxes,
 }
 
-/// A refusal of a text of relaxations: the byte where the faulty relaxation begins, and why.
+/// A refusal of a text of relaxations: the byte, from 0, where the item with the error begins, and why.
 #[derive(Clone, Copy, Debug, PartialEq, Eq, Error)]
 #[error("byte {at}: {kind}")]
 pub struct RelaxError {

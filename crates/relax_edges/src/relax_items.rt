@@ -9,7 +9,7 @@ use crate::relax_search::keep_paths;
 use crate::relax_words::{count_words, has_unknown, next_word};
 use arrayvec::ArrayVec;
 
-/// The text inside a good bracket, from the text after its `[`.
+/// The text inside a good bracket, from the text after its `[`; `None` if the bracket is bad.
 #[tactic(auto, using(crate::proofs::Prefixes::bracket_open, crate::proofs::Prefixes::bracket_nested, crate::proofs::Prefixes::bracket_empty, crate::proofs::Prefixes::bracket_good))]
 fn inside_bracket(remainder: &[u8]) -> Option<&[u8]>
     ensures { MatchOption result (bracket_words remainder.now ≡ None) (λ words. IsInside remainder.now words.now) }
@@ -34,7 +34,7 @@ fn first_word(text: &[u8]) -> &[u8]
     &text[..run_len(text, RunEnd::Word)]
 }
 
-/// Keeps the relaxations of some words.
+/// Keeps the relaxations of an item with these words, or returns why the item is refused.
 #[tactic(auto, using(crate::proofs::Items::kept_words_unknown, crate::proofs::Items::kept_words_long, crate::proofs::Items::kept_words_some, crate::proofs::Items::kept_words_none, crate::proofs::Items::kept_words_refused))]
 fn keep_words(words: &[u8], kept: &mut Relaxes) -> Result<(), RelaxKind>
     requires some { 0 < length (words_of words.now) }
@@ -56,8 +56,8 @@ fn keep_words(words: &[u8], kept: &mut Relaxes) -> Result<(), RelaxKind>
     }
 }
 
-/// Keeps the relaxations of the item that a text begins with, and answers its length; a separator
-/// is passed over.
+/// Keeps the relaxations of the item that a text begins with, and returns the length of the item; a
+/// separator is skipped.
 pub(crate) fn keep_item(text: &[u8], kept: &mut Relaxes) -> Result<usize, RelaxKind>
     requires some { 0 < length text.now }
     requires few { length kept.old ≤ 64 }
@@ -79,7 +79,7 @@ pub(crate) fn keep_item(text: &[u8], kept: &mut Relaxes) -> Result<usize, RelaxK
     }
 }
 
-/// Keeps the relaxations of a bracket, from the text after its `[`, and answers its length.
+/// Keeps the relaxations of a bracket, from the text after its `[`, and returns the bracket's length.
 fn keep_bracket(remainder: &[u8], kept: &mut Relaxes) -> Result<usize, RelaxKind>
     requires { length kept.old ≤ 64 }
     ensures kept { KeepsRelaxations (kept_prefix kept.old (91 ∷ remainder.now)) kept.new result }
@@ -97,7 +97,7 @@ fn keep_bracket(remainder: &[u8], kept: &mut Relaxes) -> Result<usize, RelaxKind
     }
 }
 
-/// Keeps the relaxations of the word that a text begins with, and answers its length.
+/// Keeps the relaxations of the word that a text begins with, and returns the word's length.
 fn keep_word(text: &[u8], kept: &mut Relaxes) -> Result<usize, RelaxKind>
     requires word { ends_here text.now ≡ false }
     requires few { length kept.old ≤ 64 }

@@ -41,7 +41,7 @@ fn first_end(text: &[u8], end: RunEnd) -> Option<usize>
     text.iter().position(|byte| end.is_at(*byte))
 }
 
-/// How many bytes of a text are before its first end of a run: all where there is none.
+/// How many bytes of a text come before the first that ends a run: all if there is none.
 #[tactic(auto, using(crate::proofs::RelaxWords::position_unwrapped))]
 pub(crate) fn run_len(text: &[u8], end: RunEnd) -> usize
     ensures value { result ≡ position_or_len (end_test end) text.now }

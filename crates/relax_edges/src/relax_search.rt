@@ -19,8 +19,8 @@ fn extends(prefix: &[Edge], edge: Edge) -> bool
     }
 }
 
-/// Keeps each path that begins with the chosen edges and goes on with an edge of each word. The
-/// answer is whether there is one.
+/// Keeps each path that begins with the chosen edges and continues with an edge of each word. Returns
+/// whether there is one.
 #[cycle(relax_search)]
 pub(crate) fn keep_paths(
     words: &[u8],
@@ -48,7 +48,7 @@ pub(crate) fn keep_paths(
     Ok(some)
 }
 
-/// Keeps each path that begins with the chosen edges and one more, if that joins.
+/// The same for the paths that begin with the chosen edges and one more, which has to join.
 #[cycle(relax_search)]
 fn keep_after(
     edge: Edge,

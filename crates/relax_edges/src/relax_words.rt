@@ -8,7 +8,7 @@ use crate::read::read_ending;
 use crate::relax_runs::{RunEnd, is_separator, run_len};
 use arrayvec::ArrayVec;
 
-/// The first word of a text without brackets, and the text after it.
+/// The first word of a text without brackets, and the text after it; `None` if there is no word.
 #[tactic(auto, using(crate::proofs::RelaxWords::words_of_separator, crate::proofs::RelaxWords::words_of_word, crate::proofs::RelaxWords::word_len_some))]
 pub(crate) fn next_word(text: &[u8]) -> Option<(&[u8], &[u8])>
     ensures words { MatchOption result (words_of text.now ≡ []) (λ p. words_of text.now ≡ p.0.now ∷ words_of p.1.now) }

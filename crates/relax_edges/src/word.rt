@@ -4,7 +4,7 @@ ghost use Rattle.relax_edges.specs.{WordParts.{word_of}, AllEdges.{edges_in_orde
 use crate::edge::Edge;
 use arrayvec::ArrayString;
 
-/// The words of all edges, in byte order, so that the place of each is the rank of its edge.
+/// The names of all edges, in byte order, so that the index of each is the rank of its edge.
 const WORDS: [&str; 332] = [
     "DMB.LDdRR",
     "DMB.LDdRRAA",
@@ -348,9 +348,10 @@ fn words() -> &'static [&'static str]
 }
 
 impl Edge {
-    /// The printed word of the edge. A word is ASCII, of 3 to 14 bytes.
+    /// The printed name of the edge: ASCII, 3 to 14 bytes long.
     ///
-    /// The words are those of the diy part of the herdtools manual, "Candidate relaxations".
+    /// The names are those of the diy part of the herdtools manual, "Candidate relaxations", except
+    /// those with `DpCtrlIsb`, `ISync` and the RISC-V fences, which are own.
     pub fn text(self) -> &'static str
         ensures word { result.now ≡ word_of self }
         ensures not_short { 3 ≤ length result.now }
@@ -360,8 +361,7 @@ impl Edge {
         words()[usize::from(self.rank())]
     }
 
-    /// Makes `out` the printed word of the edge, whatever it held. A word is ASCII, of 3 to 14
-    /// bytes.
+    /// Replaces what `out` holds by the printed name of the edge, as `text` gives it.
     pub fn word(self, out: &mut ArrayString<16>)
         ensures word { out.new.bytes ≡ word_of self }
         ensures not_short { 3 ≤ length out.new.bytes }
