@@ -8,12 +8,12 @@ use Rattle.arch_instructions_laws.specs.ClearTables.{is_clear, differ, piece_apa
 use Rattle.arch_instructions_laws.proofs.Ranges.{is_small_form}
 use Rattle.arch_aarch64.specs.Table.{forms}
 
--- the table is clear: what it writes reads back
+-- the table is clear: each form is good, and no instruction has two forms
 pub is_clear_table : is_clear forms ≡ true
 unfolding forms is_clear is_form_good is_piece_good most_of forms_apart pieces_apart piece_apart differ piece_found after_prefix before_suffix immediate_number number_of digits
 is_clear_table = refl
 
--- its operations name registers that the machine has
+-- its forms only name registers that the machine has
 pub few_registers : list_all is_small_form forms ≡ true
 unfolding forms
 few_registers = refl

@@ -7,7 +7,7 @@ use Rattle.arch_trait.specs.{Threads.Puts, Addressed.Instructions, Addressed.put
 use Rattle.arch_instructions_laws.specs.Tables.{table_has}
 use Rattle.arch_aarch64.specs.Table.{table}
 
--- AArch64's instructions: CBNZ, accesses with an index register, and ADD of an immediate
+-- AArch64's own instructions: CBNZ, accesses with an index register, and ADD of an immediate
 abbrev pub instructions : Instructions
 instructions = record {
   name = archs.AArch64;

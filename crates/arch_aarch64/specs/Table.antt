@@ -1,4 +1,4 @@
--- AArch64's instructions, as a table of forms: the word, the operands, what it does.
+-- AArch64's instructions, as a table of forms: the word, the operands, and what an instruction does.
 -- Source: the A64 instruction set in the Arm architecture reference manual, and the litmus format of the herdtools.
 use Rattle.std.specs.Prelude.{List, [], ◌∷◌, codes}
 use Rattle.relax_edges.specs.declared.kinds.FenceKind.TheVariants as fences
@@ -60,6 +60,6 @@ table = record { forms = forms; labels = labels.Known }
 abbrev pub numbered : Numbered
 numbered = record { letter = 88; first = 0; count = 28 }
 
--- how AArch64 writes and reads
+-- how AArch64 writes and reads its instructions
 abbrev pub writing : Writing
 writing = table_writing table (register_names numbered)

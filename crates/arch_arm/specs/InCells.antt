@@ -1,13 +1,13 @@
--- ARM's instructions fit in the cells of a table, and each of its loads and stores is one of them.
+-- ARM's instructions fit into the cells of a table, and the code of each access makes one access.
 use Rattle.arch_trait.specs.{Cells.WritesCells, Cells.MakesOneAccess, Forms.register_names}
 use Rattle.arch_instructions_laws.proofs.InCells as tables
 use Rattle.arch_trait_laws.proofs.AddressedOnce.{accesses_once}
 use Rattle.arch_arm.specs.{Puts.puts, Puts.instructions, Table.table, Table.numbered, Table.writing, Clear.is_clear_table, Laws.own_code}
 
--- the instructions of ARM fit in the cells of a table
+-- the instructions of ARM fit into the cells of a table
 pub writes_cells : WritesCells puts writing
 writes_cells = tables.writes_cells puts table (register_names numbered) is_clear_table (λ op h. h)
 
--- the code of each access of ARM makes one access
+-- the code of each access of ARM makes one access, and that of a link makes none
 pub makes_one_access : MakesOneAccess puts
 makes_one_access = accesses_once instructions own_code

@@ -7,7 +7,7 @@ use Rattle.arch_instructions_laws.specs.Tables.{operands_fit}
 use Rattle.arch_instructions_laws.proofs.Barriers.{fences_had}
 use Rattle.arch_arm.specs.{Table.forms, Table.table, Puts.puts, Puts.instructions}
 
--- ARM's own instructions are of the sorts that the laws ask for
+-- ARM's own instructions are of the sorts that the laws require
 pub own_code : KeepsInstructions instructions
 unfolding forms operands_fit
 own_code = record {

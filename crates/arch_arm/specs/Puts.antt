@@ -7,7 +7,7 @@ use Rattle.arch_trait.specs.{Threads.Puts, Addressed.Instructions, Addressed.put
 use Rattle.arch_instructions_laws.specs.Tables.{table_has}
 use Rattle.arch_arm.specs.Table.{table}
 
--- ARM's instructions: CMP and BEQ, accesses with an index register, and ADD of an immediate
+-- ARM's own instructions: CMP and BEQ, accesses with an index register, and ADD of an immediate
 abbrev pub instructions : Instructions
 instructions = record {
   name = archs.ARM;

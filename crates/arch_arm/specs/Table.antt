@@ -1,4 +1,4 @@
--- ARM's instructions, as a table of forms: the word, the operands, what it does.
+-- ARM's instructions, as a table of forms: the word, the operands, and what an instruction does.
 -- Source: the A32 instruction set in the Arm architecture reference manual for ARMv7, and the litmus format of the herdtools.
 use Rattle.std.specs.Prelude.{List, [], ◌∷◌, codes}
 use Rattle.relax_edges.specs.declared.kinds.FenceKind.TheVariants as fences
@@ -57,6 +57,6 @@ table = record { forms = forms; labels = labels.Known }
 abbrev pub numbered : Numbered
 numbered = record { letter = 82; first = 0; count = 13 }
 
--- how ARM writes and reads
+-- how ARM writes and reads its instructions
 abbrev pub writing : Writing
 writing = table_writing table (register_names numbered)

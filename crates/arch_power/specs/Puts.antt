@@ -7,7 +7,7 @@ use Rattle.arch_trait.specs.{Threads.Puts, Addressed.Instructions, Addressed.put
 use Rattle.arch_instructions_laws.specs.Tables.{table_has}
 use Rattle.arch_power.specs.Table.{table}
 
--- Power's instructions: cmpw and beq, accesses with an index register, and addi
+-- Power's own instructions: cmpw and beq, accesses with an index register, and addi
 abbrev pub instructions : Instructions
 instructions = record {
   name = archs.PPC;

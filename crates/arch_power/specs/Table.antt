@@ -1,4 +1,4 @@
--- Power's instructions, as a table of forms: the word, the operands, what it does.
+-- Power's instructions, as a table of forms: the word, the operands, and what an instruction does.
 -- Source: the Power ISA, and the litmus format of the herdtools.
 use Rattle.std.specs.Prelude.{List, [], ◌∷◌, codes}
 use Rattle.relax_edges.specs.declared.kinds.FenceKind.TheVariants as fences
@@ -50,6 +50,6 @@ table = record { forms = forms; labels = labels.Known }
 abbrev pub numbered : Numbered
 numbered = record { letter = 114; first = 1; count = 28 }
 
--- how Power writes and reads
+-- how Power writes and reads its instructions
 abbrev pub writing : Writing
 writing = table_writing table (register_names numbered)

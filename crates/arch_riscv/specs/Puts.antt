@@ -7,7 +7,7 @@ use Rattle.arch_trait.specs.{Threads.Puts, Addressed.Instructions, Addressed.put
 use Rattle.arch_instructions_laws.specs.Tables.{table_has}
 use Rattle.arch_riscv.specs.Table.{table}
 
--- RISC-V's instructions: bne, an address that is added before the access, and ori of an immediate
+-- RISC-V's own instructions: bne, an address that is added before the access, and ori of an immediate
 abbrev pub instructions : Instructions
 instructions = record {
   name = archs.RISCV;

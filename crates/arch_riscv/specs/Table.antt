@@ -1,4 +1,4 @@
--- RISC-V's instructions, as a table of forms: the word, the operands, what it does.
+-- RISC-V's instructions, as a table of forms: the word, the operands, and what an instruction does.
 -- Source: the unprivileged part of the RISC-V manual, and the litmus format of the herdtools.
 use Rattle.std.specs.Prelude.{List, [], ◌∷◌, codes}
 use Rattle.relax_edges.specs.declared.kinds.Pick.TheVariants as picks
@@ -30,7 +30,7 @@ immediate = piece [] holes.Number []
 abbrev pub label : PieceText
 label = piece [] holes.Label []
 
--- the instructions; of a fence the accesses before it and after it that it orders
+-- the instructions; the operands of a fence are the accesses before it and after it that it orders
 unfoldable pub forms : List FormText
 forms =
     form (codes "lw") (register ∷ address ∷ []) kinds.Load ∷
@@ -58,6 +58,6 @@ table = record { forms = forms; labels = labels.Known }
 abbrev pub numbered : Numbered
 numbered = record { letter = 120; first = 5; count = 27 }
 
--- how RISC-V writes and reads
+-- how RISC-V writes and reads its instructions
 abbrev pub writing : Writing
 writing = table_writing table (register_names numbered)

@@ -42,7 +42,7 @@ impl OwnInstructions for Riscv {
     }
 }
 
-/// What adds an address to the number 0 in `dependency`.
+/// The operation that adds an address to the number 0 in `dependency`.
 fn add_address(dependency: u8, address: u8) -> Micro
     ensures { result ≡ ops.Add dependency dependency address }
 {

@@ -24,7 +24,8 @@ macro_rules! fence {
     };
 }
 
-/// The names of registers in conditions: the number of register 0, and how many registers tests use.
+/// The names of registers in conditions: a letter, the number of register 0, and how many registers
+/// tests use.
 pub const NAMES: Numbered = Numbered {
     letter: b'x',
     first: 5,
@@ -98,7 +99,7 @@ const TEXTS: &FixedTexts = &FixedTexts {
     barriers: FENCES,
 };
 
-/// The fixed texts of the instructions that tests are full of: those that the table writes.
+/// The fixed texts of the most frequent instructions: those that the table writes.
 #[inline(always)]
 pub fn fixed_texts() -> &'static FixedTexts
     ensures { AreOfTable result.now table }

@@ -1,5 +1,5 @@
 -- The code of architectures whose accesses name a register that holds the address: the order in which
--- registers are taken, and where each architecture's own instructions come.
+-- registers are taken, and where each architecture's own instructions come in.
 -- Source: the diy tools' tests for Power, Arm and RISC-V.
 use Rattle.std.specs.Prelude.{ℕ, ◌+◌, Bool, true, List, [], ◌∷◌, ◌++◌, Option, Some, None}
 use Rattle.relax_edges.specs.{declared.kinds.ArchName.ArchName, declared.kinds.Mark.Mark, declared.kinds.Mark.TheVariants.{Acquire, Release}}
@@ -11,7 +11,7 @@ use Rattle.arch_trait.specs.{declared.link.Link.Link, declared.step.Shape.Shape,
 use Rattle.arch_trait.specs.Taking.{Taken, took, address_of, with_address}
 use Rattle.arch_trait.specs.declared.link.Link.TheVariants as links
 
--- the instructions of an architecture, beside loads and stores of any mark at the address in a register:
+-- the instructions of an architecture, besides loads and stores with any mark at the address in a register:
 -- `branch s n` branches to label n and depends on register s; `load d v a` loads register v, and
 -- `store d v a` stores it, at the address in register a, so that the address depends on register d,
 -- which holds 0; `joins d n` makes register d, which holds 0, the number n and keeps its dependency
@@ -24,33 +24,33 @@ pub record Instructions : Type 0 where
   pub store : ℕ → ℕ → ℕ → List Micro
   pub joins : ℕ → ℕ → Micro
 
--- a branch on a register to the label right after it, and what comes after the label
+-- a branch on a register to the label right after it, and then the rest; nothing without a register
 abbrev pub branch_code : Instructions → Option ℕ → ℕ → List Micro → List Micro
 branch_code own (Some s) n rest = own.branch s n ++ ops.Label n ∷ rest
 branch_code own None n rest = []
 
--- a load of a mark at the address in register a
+-- a load with a mark at the address in register a
 abbrev pub load_op : Mark → ℕ → ℕ → Micro
 load_op Acquire v a = ops.LoadAcq v a
 load_op _ v a = ops.Load v a None
 
--- a store of a mark at the address in register a
+-- a store with a mark at the address in register a
 abbrev pub store_op : Mark → ℕ → ℕ → Micro
 store_op Release v a = ops.StoreRel v a
 store_op _ v a = ops.Store v a None
 
--- a load at an address that depends on register d, which holds 0: where it has a mark, the
--- address in register a is added to register d first
+-- a load at the address in register a that depends on register d, which holds 0: for a load-acquire, the
+-- address is added to register d first
 abbrev pub load_through : Instructions → Mark → ℕ → ℕ → ℕ → List Micro
 load_through own Acquire d v a = ops.Add d a d ∷ ops.LoadAcq v d ∷ []
 load_through own _ d v a = own.load d v a
 
--- a store at such an address, where one that has a mark adds the address to register d first
+-- a store at such an address: for a store-release, the address is added to register d first
 abbrev pub store_through : Instructions → Mark → ℕ → ℕ → ℕ → List Micro
 store_through own Release d v a = ops.Add d a d ∷ ops.StoreRel v d ∷ []
 store_through own _ d v a = own.store d v a
 
--- the code of a link: its fence, or a branch on the load before
+-- the code of a link: its fence, or a branch on the load before and the barrier after it; otherwise nothing
 abbrev pub link_code : Instructions → Link → Option ℕ → ℕ → List Micro
 link_code own (links.Fence kind) from n = ops.Barrier (barriers.Fence kind) ∷ []
 link_code own links.Ctrl from n = branch_code own from n []

@@ -1,5 +1,5 @@
 -- How the texts of instructions fit into the table of a test.
--- Source: the litmus format of the herdtools, whose cells are divided by bars and whose rows end at a semicolon.
+-- Source: the litmus format of the herdtools, in which bars divide cells and a semicolon ends a row.
 use Rattle.std.specs.Prelude.{ℕ, ◌≤◌, ◌==◌, ◌≡◌, Bool, true, false, not, ◌&&◌, ◌||◌, nat_le, List, [], ◌∷◌, ◌++◌, codes, length, Option, count_by}
 use Rattle.std.specs.{List.{list_all, list_any}, Str.bytes_eq}
 use Rattle.text_parts_laws.specs.{LeadingRuns.leading_run, Blanks.unblanked, Words.is_argument_byte}
@@ -9,11 +9,11 @@ use Rattle.micro_ops.specs.declared.operation.Micro.TheVariants as ops
 use Rattle.arch_trait.specs.{declared.link.Link.Link, declared.arch.TheConstants.MAX_INSTRUCTION_TEXT, Taking.Taken, Threads.Puts}
 use Rattle.arch_trait.specs.Writing.{Writing, op_text, op_name, is_well_named, label_name}
 
--- a byte of a line of a printed test: a space or a graphic character, but no `*`
+-- a byte of a line of a printed test: a space or a graphic ASCII character other than `*`
 abbrev pub is_line_byte : ℕ → Bool
 is_line_byte byte = (nat_le 32 byte && nat_le byte 126) && not (byte == 42)
 
--- a byte of a cell: one of a line that ends neither a cell nor a row, and no colon
+-- a byte of a cell: one of a line that ends neither a cell nor a row, and is no colon
 abbrev pub is_cell_byte : ℕ → Bool
 is_cell_byte byte = is_line_byte byte && not (byte == 124 || (byte == 59 || byte == 58))
 
@@ -30,8 +30,8 @@ abbrev pub is_label_op : Micro → Bool
 is_label_op (ops.Label label) = true
 is_label_op op = false
 
--- the text of an operation has no byte that ends a cell, a row or a label, but that a label ends in a colon; its first
--- word is none that ends the rows
+-- the text of an operation whose name has its form: it has no byte that ends a cell or a row, and no colon unless it is a label, which
+-- is its name and a colon; its first word doesn't end the rows, and it has at most `MAX_INSTRUCTION_TEXT` bytes
 pub record WritesCells (a : Puts) (w : Writing) : Type 0 where
   pub cells : (names : ℕ → List ℕ) (op : Micro) → a.has op ≡ true → is_well_named (op_name names op) ≡ true → is_label_op op ≡ false
       → list_all is_cell_byte (op_text w names op) ≡ true
@@ -39,7 +39,7 @@ pub record WritesCells (a : Puts) (w : Writing) : Type 0 where
   pub labels : (names : ℕ → List ℕ) (label : ℕ) → a.has (ops.Label label) ≡ true → op_text w names (ops.Label label) ≡ label_name label ++ codes ":"
   pub short : (names : ℕ → List ℕ) (op : Micro) → a.has op ≡ true → is_well_named (op_name names op) ≡ true → length (op_text w names op) ≤ MAX_INSTRUCTION_TEXT
 
--- an operation reads or writes a place
+-- an operation reads or writes a location
 abbrev pub is_access : Micro → Bool
 is_access (ops.Load _ _ _) = true
 is_access (ops.LoadAt _ _) = true
@@ -49,7 +49,7 @@ is_access (ops.StoreAt _ _) = true
 is_access (ops.StoreRel _ _) = true
 is_access _ = false
 
--- how many accesses operations are
+-- how many of the operations are accesses
 abbrev pub access_count : List Micro → ℕ
 access_count code = count_by is_access code
 

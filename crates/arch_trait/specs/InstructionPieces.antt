@@ -27,7 +27,7 @@ abbrev pub raw_seen : Option Raw → Option RawInstr
 raw_seen (Some raw) = Some (record { op = raw.op; name = name_seen raw.name })
 raw_seen None = None
 
--- an operation that was read, with the tables after it; an error leaves them as they were
+-- a result is what the definition reads: an operation with the tables after it, or an error, which leaves the tables as they were
 abbrev pub ReadsPieces : Result Micro InstrError → List (List ℕ) → List (List ℕ) → List (List ℕ) → List (List ℕ) → Result ReadInstr InstrError → Type 0
 ReadsPieces (Ok op) places labels new_places new_labels read =
     read ≡ Ok (record { op = op; places = new_places; labels = new_labels })

@@ -1,5 +1,5 @@
--- How an instruction is read from the text of its cell, and its name gets a number.
--- Source: the litmus format of the herdtools; where blanks may be is own.
+-- How an instruction is read from the text of its cell, and how its name gets a number.
+-- Source: the litmus format of the herdtools; where blanks may come is our own.
 use Rattle.std.specs.{Prelude.{ℕ, ◌≡◌, ◌==◌, true, cond, List, [], ◌∷◌, Option, Some, None, Result, Ok, Err, map}, List.slice_split}
 use Rattle.text_parts_laws.specs.{Names.is_place_name, Blanks.{is_inked, unblanked, trim_blanks}, LeadingRuns.{leading_run, after_run}}
 use Rattle.micro_ops.specs.{declared.operation.Micro.Micro, Machines.InRange}
@@ -16,7 +16,7 @@ few (a ∷ b ∷ c ∷ []) = three a b c
 few (a ∷ b ∷ c ∷ d ∷ []) = four a b c d
 few (a ∷ b ∷ c ∷ d ∷ e ∷ rest) = more
 
--- the operands of a text without blanks at its ends: none where it is empty, else those between its
+-- the operands in a text without blanks at its ends: none if it is empty, otherwise those between its
 -- commas, without the blanks around them
 abbrev pub operands_if : List ℕ → OperandTexts
 operands_if [] = none
@@ -26,33 +26,33 @@ operands_if (b ∷ text) = few (map trim_blanks (slice_split (λ x. x == 44) (b 
 unfoldable pub operands_in : List ℕ → OperandTexts
 operands_in text = operands_if (trim_blanks text)
 
--- an instruction as it is written in a text: blanks may be at both ends and around commas, and one
--- or more come after the first word
+-- an instruction as it is written in a text: blanks may come at both ends and around commas, and the first
+-- word ends at a blank
 abbrev pub written_in : List ℕ → Written
 written_in text = record {
   word = leading_run is_inked (unblanked text);
   operands = operands_in (after_run is_inked (unblanked text));
 }
 
--- an instruction that was read, and the tables of places and labels after it
+-- an instruction that was read, and the tables of locations and labels after it
 pub record ReadInstr : Type 0 where
   pub op : Micro
   pub places : List (List ℕ)
   pub labels : List (List ℕ)
 
--- the operation with the number of its place, if there was room for it
+-- the operation with the number of its location, if the table had space for it
 abbrev pub with_place : Micro → Option ℕ → List (List ℕ) → List (List ℕ) → Result ReadInstr InstrError
 with_place op (Some i) places labels =
     Ok (record { op = with_number op i; places = places; labels = labels })
 with_place op None places labels = Err errors.TooManyPlaces
 
--- the operation with the number of its label, if there was room for it
+-- the operation with the number of its label, if the table had space for it
 abbrev pub with_label : Micro → Option ℕ → List (List ℕ) → List (List ℕ) → Result ReadInstr InstrError
 with_label op (Some i) places labels =
     Ok (record { op = with_number op i; places = places; labels = labels })
 with_label op None places labels = Err errors.TooManyLabels
 
--- an instruction whose name gets its number in the tables, where the name has its form
+-- an instruction whose name gets its number in the tables, if the name has its form
 abbrev pub read_numbered : Micro → Name → List (List ℕ) → List (List ℕ) → Result ReadInstr InstrError
 read_numbered op nothing places labels = Ok (record { op = op; places = places; labels = labels })
 read_numbered op (place name) places labels = cond (is_place_name name)
@@ -67,11 +67,11 @@ abbrev pub number_raw : Option RawInstr → List (List ℕ) → List (List ℕ) 
 number_raw None places labels = Err errors.BadInstruction
 number_raw (Some raw) places labels = read_numbered raw.op raw.name places labels
 
--- the instruction that a text is, with the tables of places and labels before it
+-- the instruction in a text, given the tables of locations and labels before it
 abbrev pub instr_read : Writing → List ℕ → List (List ℕ) → List (List ℕ) → Result ReadInstr InstrError
 instr_read w text places labels = number_raw (w.raw (written_in text)) places labels
 
--- what is read is an instruction of the architecture, and its instructions name registers that the machine of a thread has
+-- what is read is an instruction of the architecture, and its instructions only name registers that the machine of a thread has
 pub record ReadsOwn (a : Puts) (w : Writing) : Type 0 where
   pub had : (written : Written) (raw : RawInstr) → w.raw written ≡ Some raw → a.has raw.op ≡ true
   pub in_range : (op : Micro) → a.has op ≡ true → InRange op

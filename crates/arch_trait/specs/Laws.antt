@@ -1,4 +1,4 @@
--- What the code of every architecture keeps: the laws of links and accesses, over any run.
+-- What holds of the code of every architecture: the laws of links and accesses, for any run.
 -- Source: own.
 use Rattle.std.specs.Prelude.{ℕ, ◌+◌, ◌==◌, ◌<◌, ◌≤◌, ◌≡◌, ◌⊎◌, Bool, true, false, cond, not, ◌||◌, List, [], ◌∷◌, ◌++◌, Option, Some, None, is_some, length}
 use Rattle.std.specs.List.{list_all}
@@ -17,11 +17,11 @@ abbrev pub InOrder : ℕ → List (ℕ × ℕ) → ℕ → Type 0
 InOrder low [] high = low ≤ high
 InOrder low (link ∷ links) high = (low ≤ link.0) × InOrder (link.0 + 1) links high
 
--- registers as they can be: each address register was taken, and once
+-- registers as they can be: the address registers are taken ones, in ascending order, each once
 pub record IsTaken (g : Taken) : Type 0 where
   pub in_order : InOrder 0 g.links g.next
 
--- a place that had no address register got one that was taken for it
+-- a location that had no address register got one that was taken for it
 pub record AddsAddress (g h : Taken) (p : ℕ) : Type 0 where
   pub register : ℕ
   pub is_new : address_in g.links p ≡ None
@@ -29,33 +29,33 @@ pub record AddsAddress (g h : Taken) (p : ℕ) : Type 0 where
   pub below : register < h.next
   pub links : h.links ≡ g.links ++ (register, p) ∷ []
 
--- registers after an access of a place are those before it and some more, one of them perhaps the
--- address register of the place
+-- the registers after an access to a location are those before it and perhaps more, of which one may be the
+-- address register of the location
 pub record Takes (g h : Taken) (p : ℕ) : Type 0 where
   pub count : h.count ≡ g.count
   pub more : g.next ≤ h.next
   pub links : (h.links ≡ g.links) ⊎ AddsAddress g h p
 
--- each address register holds its place and depends on no load
+-- each address register holds the address of its location, which depends on no load
 abbrev pub HoldsPlaces : Run → Taken → Type 0
 HoldsPlaces r g = (p a : ℕ) → address_in g.links p ≡ Some a → r.state.regs a ≡ held_at_place p
 
--- a register is given that holds a number which depends on load number k alone
+-- a register is given that holds a number which depends only on load number k
 pub record HasSource (r : Run) (from : Option ℕ) (k : ℕ) : Type 0 where
   pub register : ℕ
   pub value : ℕ
   pub is : from ≡ Some register
   pub holds : r.state.regs register ≡ num value (bit k)
 
--- a run is ready for an access with the registers g before it and h after it: the address registers,
--- those that the access takes too, hold their places, and a dependency has its load number k
+-- a run is ready for an access with the registers g before it and h after it: the address registers, including
+-- one that the access takes, hold the addresses of their locations, and a dependency has its load number k
 pub record ReadyForAccess (r : Run) (g h : Taken) (link : Link) (from : Option ℕ) (k : ℕ) : Type 0 where
   pub taken : IsTaken g
   pub places : HoldsPlaces r h
   pub source : depends_on_load link ≡ true → HasSource r from k
 
--- a run of code comes to its end: it makes the items, leaves the control mask, the number of loads
--- and the reads as given, writes only registers that were taken in it, and no address register
+-- a run of code comes to its end: it makes the items, leaves the control mask, the number of loads and the
+-- reads as given, changes only registers that were taken in it, and the address registers hold their addresses
 pub record Did (code : List Micro) (r : Run) (g h : Taken) (made : List Item) (control loads : ℕ)
     (reads : List ℕ) : Type 0 where
   pub after : Run
@@ -68,13 +68,14 @@ pub record Did (code : List Micro) (r : Run) (g h : Taken) (made : List Item) (c
   pub above : (s : ℕ) → h.next ≤ s → after.state.regs s ≡ r.state.regs s
   pub places : HoldsPlaces after h
 
--- a load's run of code comes to its end: its register holds the number read, which depends on this load alone
+-- a run of a load's code comes to its end, and the load's register holds the number read, which depends only on this load
 pub record DidLoad (code : List Micro) (r : Run) (g h : Taken) (made : List Item)
     (control loads : ℕ) (reads : List ℕ) (register value : ℕ) : Type 0 where
   pub did : Did code r g h made control loads reads
   pub got : did.after.state.regs register ≡ num value (bit r.state.loads)
 
--- a run of a link's code comes to its end, and changes no register
+-- a run of a link's code comes to its end with these items and this control mask, and changes no register, makes no
+-- load and uses no read
 pub record DidLink (code : List Micro) (r : Run) (made : List Item) (control : ℕ) : Type 0 where
   pub after : Run
   pub ran : exec code (At r) ≡ At after
@@ -84,16 +85,16 @@ pub record DidLink (code : List Micro) (r : Run) (made : List Item) (control : �
   pub reads_is : after.reads ≡ r.reads
   pub regs_is : after.state.regs ≡ r.state.regs
 
--- a run wants a number to read and has none
+-- a run needs a number to read and has none
 pub record IsWanting (p : Point) : Type 0 where
   pub run : Run
   pub is : p ≡ Wants run
 
--- the most operations of a link
+-- the most operations that the code of a link can have
 abbrev pub link_room : Link → ℕ
 link_room link = cond (branches link) 4 (cond (depends_on_load link) 0 1)
 
--- the most operations of an access
+-- the most operations that the code of an access can have
 abbrev pub access_room : Link → ℕ
 access_room link = cond (is_addr link || is_data link) 4 2
 
@@ -106,7 +107,7 @@ abbrev pub IsUsable : ℕ → Option ℕ → Type 0
 IsUsable registers (Some register) = register < registers
 IsUsable registers None = Unit {0}
 
--- an operation names this place or none
+-- an operation names this location or none
 abbrev pub is_at_place : ℕ → Micro → Bool
 is_at_place place (ops.LoadAt _ q) = q == place
 is_at_place place (ops.StoreAt q _) = q == place
@@ -132,7 +133,7 @@ pub record Within (h i : Shape) : Type 0 where
   pub addr : h.addr ≤ i.addr
   pub places : h.places ≤ i.places
 
--- where accesses name address registers, it counts whether the place has one already
+-- if accesses name address registers, `is_new` says whether the location has none yet
 abbrev pub IsFresh : Puts → Taken → ℕ → Bool → Type 0
 IsFresh a g p is_new = a.has_addresses ≡ true → is_new ≡ not (has_address g p)
 
@@ -146,8 +147,8 @@ pub record HasLink (a : Puts) (link : Link) (from : Option ℕ) : Type 0 where
   pub of_arch : link_is_of link a.name ≡ true
   pub given : depends_on_load link ≡ true → is_some from ≡ true
 
--- the code of a link makes exactly the link's barriers, and the branches before the access then
--- depend on the load of a control link; it has its branch's label, once and after the branch
+-- the code of a link makes exactly the link's barriers, and the branches before the access then also
+-- depend on the load of a control link; its only label is that of its branch, once and after the branch
 pub record MakesLinks (a : Puts) : Type 0 where
   pub runs : (link : Link) (from : Option ℕ) (n : ℕ) (r : Run) (k : ℕ) →
       link_is_of link a.name ≡ true → (depends_on_load link ≡ true → HasSource r from k) →
@@ -163,8 +164,8 @@ pub record MakesLinks (a : Puts) : Type 0 where
   pub has : (link : Link) (from : Option ℕ) (n : ℕ) → HasLink a link from →
       IsUsable a.registers from → list_all a.has (a.link link from n) ≡ true
 
--- the code of an access, whatever it does: it takes registers for it alone, as many as the need of
--- the thread grows, and has no label
+-- the code of an access, a load or a store: it takes registers only for the access, as many as the need
+-- of the thread grows by, has no label and no branch, and names no other location
 pub record MakesAccess (a : Puts) (d : Dir) (put : Taken → Link → Mark → Option ℕ → ℕ → Put) : Type 0 where
   pub room : (g : Taken) (link : Link) (mark : Mark) (from : Option ℕ) (p : ℕ) →
       length (put g link mark from p).code ≤ access_room link
@@ -186,8 +187,8 @@ pub record MakesAccess (a : Puts) (d : Dir) (put : Taken → Link → Mark → O
       (put g link mark from p).regs.next ≤ a.registers →
       list_all a.has (put g link mark from p).code ≡ true
 
--- the code of a load makes one read of the place and the mark, which depends as the link says, and
--- its register, taken for it, holds the number read
+-- the code of a load, whose link is no data dependency, makes one read of the location with the mark, which depends
+-- as the link says, and its register, taken for it, holds the number read; without a number to read it stops there
 pub record MakesLoads (a : Puts) : Type 0 where
   pub access : MakesAccess a dirs.R a.load
   pub runs : (g : Taken) (link : Link) (mark : Mark) (from : Option ℕ) (p : ℕ) (r : Run) (k v : ℕ)
@@ -203,7 +204,7 @@ pub record MakesLoads (a : Puts) : Type 0 where
   pub fills : (g : Taken) (link : Link) (mark : Mark) (from : Option ℕ) (p : ℕ) →
       (g.next ≤ a.filled g link from p) × (a.filled g link from p < (a.load g link mark from p).regs.next)
 
--- the code of a store of a byte makes one write of it to the place, of the mark, which depends as the
+-- the code of a store of a byte makes one write of it to the location with the mark, which depends as the
 -- link says
 pub record MakesStores (a : Puts) : Type 0 where
   pub access : (v : ℕ) → v < 256 → MakesAccess a dirs.W (λ g link mark from p. a.store g link mark from p v)
@@ -214,12 +215,12 @@ pub record MakesStores (a : Puts) : Type 0 where
       (items.Access dirs.W mark p v (mask_if (is_addr link) k) (mask_if (is_data link) k) r.state.control ∷ [])
       r.state.control r.state.loads r.reads
 
--- the need of registers: none for no access, and no less for more accesses
+-- the need of registers: none for no access, and no less for a greater shape
 pub record NeedsRegisters (a : Puts) : Type 0 where
   pub none : a.need no_shape ≡ 0
   pub grows : (h i : Shape) → Within h i → a.need h ≤ a.need i
 
--- what every architecture keeps
+-- what holds of every architecture
 pub record IsArch (a : Puts) : Type 0 where
   pub few : a.registers ≤ 32
   pub links : MakesLinks a

@@ -64,16 +64,16 @@ is_data _ = false
 abbrev pub source_if : Bool → Option ℕ → Option ℕ
 source_if on from = cond on from None
 
--- the mask of load number k, for a link that depends on it, else none
+-- the mask of load number k if a dependency is on it, otherwise the mask of no load
 abbrev pub mask_if : Bool → ℕ → ℕ
 mask_if on k = cond on (bit k) 0
 
--- the loads that branches depended on, after those of a link: before them they are c, and load
--- number k comes before the link
+-- the loads that branches depend on after a link, if they are c before it and load number k is the last
+-- one before it
 abbrev pub link_control : Link → ℕ → ℕ → ℕ
 link_control link k c = cond (branches link) (bit_or c (bit k)) c
 
--- the barriers of a link, in order, each with the branches that it depends on
+-- the barriers of a link, in order, each with the loads that the branches before it depend on
 abbrev pub link_items : Link → ℕ → ℕ → List Item
 link_items (links.Fence kind) k c = items.Barrier (barriers.Fence kind) c ∷ []
 link_items links.CtrlIsync k c =

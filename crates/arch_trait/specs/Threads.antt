@@ -16,14 +16,14 @@ pub record Put : Type 0 where
   pub regs : Taken
 
 -- what an architecture's functions mean: its operations, how many registers a thread of a shape
--- needs, the code of a link, of a load and of a store of a mark, and the register that a load fills.
--- A dependency is on the register that is given, a branch goes to the label that is given
+-- needs, the code of a link, of a load and of a store with a mark, and the register that a load fills.
+-- A dependency is on the given register, and a branch goes to the given label.
 pub record Puts : Type 0 where
   pub name : ArchName
   pub registers : ℕ
   pub has : Micro → Bool
   pub need : Shape → ℕ
-  -- accesses name a register that holds the address of the place
+  -- accesses name a register that holds the address of the location
   pub has_addresses : Bool
   pub link : Link → Option ℕ → ℕ → List Micro
   pub load : Taken → Link → Mark → Option ℕ → ℕ → Put
@@ -44,11 +44,11 @@ abbrev pub is_store_dir : Dir → Bool
 is_store_dir dirs.R = false
 is_store_dir dirs.W = true
 
--- a place is that of one of the accesses
+-- a location is that of one of the accesses
 abbrev pub visits : ℕ → List Step → Bool
 visits place ss = list_any (λ s. s.place == place) ss
 
--- at how many locations the accesses are: each counts at its last access
+-- how many locations are accessed: each is counted at its last access
 abbrev pub places_in : List Step → ℕ
 places_in [] = 0
 places_in (s ∷ ss) = cond (visits s.place ss) 0 1 + places_in ss
@@ -57,7 +57,7 @@ places_in (s ∷ ss) = cond (visits s.place ss) 0 1 + places_in ss
 abbrev pub branches_in : List Step → ℕ
 branches_in ss = count_by (λ s. branches s.link) ss
 
--- what the accesses of a thread need registers for
+-- what the accesses of a thread need registers for, counted
 abbrev pub shape_of : List Step → Shape
 shape_of ss = record {
   loads = loads_in ss;
@@ -66,7 +66,7 @@ shape_of ss = record {
   places = places_in ss;
 }
 
--- how far the code of a thread has come: its registers, the register of the access before, if that is a load, and how many
+-- how far the code of a thread has come: its registers, the register of the last access, if that is a load, and how many
 -- branches there were
 pub record Way : Type 0 where
   pub regs : Taken
@@ -135,8 +135,8 @@ abbrev pub thread_loads : Puts → Way → List Step → List ℕ
 thread_loads a w [] = []
 thread_loads a w (s ∷ ss) = put_before (next_filled a w s) (thread_loads a (further a w s) ss)
 
--- the item of an access: of a load with the number that it reads, of a store with its value. Load
--- number k comes before it, c are the loads that branches depended on
+-- the item of an access: for a load with the number v that it reads, for a store with its value. A dependency is on load
+-- number k, and c has the loads that the branches before it depend on.
 abbrev pub access_item : Step → Dir → ℕ → ℕ → ℕ → Item
 access_item s dirs.R v k c = items.Access dirs.R s.mark s.place v (mask_if (is_addr s.link) k) 0 c
 access_item s dirs.W v k c =
@@ -157,9 +157,9 @@ left_after dirs.W vs = vs
 abbrev pub loads_after : Dir → ℕ → ℕ
 loads_after d n = n + cond (is_load_dir d) 1 0
 
--- the items of the accesses that follow where a thread has made n loads and its branches depended on
--- the loads of c: for each access the barriers of its link and then the access, on the numbers vs. A
--- dependency is on the last load
+-- the items of the accesses that follow after n loads and branches that depend on the loads of c: for
+-- each access the barriers of its link and then the access, with the numbers vs for the loads. A
+-- dependency is on the last load.
 abbrev pub thread_items : List Step → ℕ → ℕ → List ℕ → List Item
 thread_items [] n c vs = []
 thread_items (s ∷ ss) n c vs =
@@ -167,9 +167,9 @@ thread_items (s ∷ ss) n c vs =
     access_item s s.dir (first_number vs) (n - 1) (link_control s.link (n - 1) c) ∷ []) ++
     thread_items ss (loads_after s.dir n) (link_control s.link (n - 1) c) (left_after s.dir vs)
 
--- an access can follow on an architecture: its link is one of the architecture's, a dependency
+-- an access can come next on an architecture: its link is one of the architecture's, a dependency
 -- follows a load, a data dependency leads to a store, its mark fits what it does and is one of the
--- architecture's, and what it stores is a byte
+-- architecture's, and its value is a byte
 pub record FitStep (arch : ArchName) (after_load : Bool) (s : Step) : Type 0 where
   pub of_arch : link_is_of s.link arch ≡ true
   pub after : depends_on_load s.link ≡ true → after_load ≡ true
@@ -184,20 +184,20 @@ FitSteps arch after_load [] = Unit {0}
 FitSteps arch after_load (s ∷ ss) =
     FitStep arch after_load s × FitSteps arch (is_load_dir s.dir) ss
 
--- each register holds the number that its load read, which depends on that load alone; the loads are
--- counted from n on
+-- each register holds the number that its load read, which depends only on that load; the loads are
+-- numbered from n on
 abbrev pub Loaded : (ℕ → Held) → List ℕ → List ℕ → ℕ → Type 0
 Loaded regs [] vs n = Unit {0}
 Loaded regs (q ∷ qs) [] n = ⊥
 Loaded regs (q ∷ qs) (v ∷ vs) n = (regs q ≡ num v (bit n)) × Loaded regs qs vs (n + 1)
 
--- the loads that branches depended on after some accesses, where before them a thread has made n loads
--- and its branches depended on those of c
+-- the loads that branches depend on after some accesses, if before them a thread has made n loads and
+-- its branches depend on those of c
 abbrev pub control_after : List Step → ℕ → ℕ → ℕ
 control_after [] n c = c
 control_after (s ∷ ss) n c = control_after ss (loads_after s.dir n) (link_control s.link (n - 1) c)
 
--- the code of a whole thread, its address registers with their places, and the registers of its loads
+-- the code of a whole thread, its address registers with their locations, and the registers of its loads
 pub record ThreadCode : Type 0 where
   pub instrs : List Micro
   pub links : List (ℕ × ℕ)

@@ -2,6 +2,6 @@
 use Rattle.std.proofs.Common.{ℕ, ◌==◌, Bool, not, ◌&&◌}
 use Rattle.text_parts_laws.specs.Blanks.{is_blank}
 
--- a byte of a word: no blank and no comma
+-- a byte of a word: neither a blank nor a comma
 abbrev pub is_instruction_byte : ℕ → Bool
 is_instruction_byte x = not (is_blank x) && not (x == 44)

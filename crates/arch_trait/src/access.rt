@@ -5,7 +5,7 @@ use crate::link::Link;
 use crate::regs::Regs;
 use relax_edges::Mark;
 
-/// What the code of an access is asked for, beside what a store writes.
+/// What is asked of the code of an access, besides the value of a store.
 #[derive(Clone, Copy, PartialEq, Eq)]
 pub struct AskedAccess {
     pub link: Link,
@@ -15,7 +15,7 @@ pub struct AskedAccess {
     pub place: u8,
 }
 
-/// The registers of an access without an address dependency: that of what is loaded or stored, and
+/// The registers of an access without an address dependency: the one that is loaded or stored, and
 /// the one that holds the address.
 #[derive(Clone, Copy)]
 pub struct PlainAccess {
@@ -23,7 +23,7 @@ pub struct PlainAccess {
     pub address: u8,
 }
 
-/// The registers of an access whose address depends on a load, with the one for the dependency.
+/// The registers of an access whose address depends on a load, one of them for the dependency.
 #[derive(Clone, Copy)]
 pub struct DependentAccess {
     pub dependency: u8,
@@ -32,7 +32,7 @@ pub struct DependentAccess {
 }
 
 impl Regs {
-    /// Takes the registers of an access of the place without an address dependency, in their order.
+    /// Takes the registers of an access to a location without an address dependency, in their order.
     #[tactic(auto, using(crate::proofs::Taking::address_next))]
     pub fn take_plain(&mut self, place: u8) -> PlainAccess
         requires { (with_address (took self.old 1) place).next ≤ self.old.count }
@@ -45,7 +45,7 @@ impl Regs {
         PlainAccess { value, address }
     }
 
-    /// Takes the registers of an access of the place whose address depends on a load, in their order.
+    /// Takes the registers of an access to a location whose address depends on a load, in their order.
     #[tactic(auto, using(crate::proofs::Taking::address_next))]
     pub fn take_dependent(&mut self, place: u8) -> DependentAccess
         requires { (with_address (took self.old 2) place).next ≤ self.old.count }
@@ -66,7 +66,7 @@ impl Regs {
 }
 
 impl AskedAccess {
-    /// The register that the address of the access depends on, if it does.
+    /// The register that the address of the access depends on, if there is such a dependency.
     pub fn address_source(self) -> Option<u8>
         ensures { result ≡ source_if (is_addr self.link) self.source }
     {
@@ -77,7 +77,7 @@ impl AskedAccess {
         }
     }
 
-    /// The register that the value of a store depends on, if it does.
+    /// The register that the value of a store depends on, if there is such a dependency.
     pub fn data_source(self) -> Option<u8>
         ensures { result ≡ source_if (is_data self.link) self.source }
     {

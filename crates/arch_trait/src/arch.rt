@@ -18,13 +18,13 @@ use final_cond::RegName;
 use micro_ops::Micro;
 use relax_edges::{ArchName, Edge};
 
-/// The most operations of one access with its link.
+/// The most operations that one access with its link can have.
 pub const MAX_STEP_INSTRS: usize = 6;
 
-/// The most operations of a thread: those of `MAX_STEPS` accesses.
+/// The most operations that a thread can have: those of `MAX_STEPS` accesses.
 pub const MAX_INSTRS: usize = MAX_STEPS * MAX_STEP_INSTRS;
 
-/// The most bytes of an instruction's text.
+/// The most bytes that an instruction's text can have.
 pub const MAX_INSTRUCTION_TEXT: usize = 40;
 
 /// The operations of a thread.
@@ -41,10 +41,10 @@ pub trait Arch {
 
     ghost REGISTERS: { ℕ };
 
-    /// Its name.
+    /// The name of the architecture.
     const NAME: ArchName;
 
-    /// How many registers it has for the threads of a test.
+    /// How many registers it has for a thread of a test.
     const REGISTERS: u8;
 
     /// Whether the operation is that of an instruction of the architecture, on registers that tests
@@ -52,19 +52,20 @@ pub trait Arch {
     fn has(op: &Micro) -> bool
         ensures { result ≡ puts.has op.now };
 
-    /// How many registers a thread of this shape takes.
+    /// How many registers a thread of this shape needs.
     fn need(shape: &Shape) -> u32
         ensures { result ≡ puts.need shape.now };
 
     /// Appends the code that comes before an access for its link. `from` is the register that a
-    /// dependency is on, `label` the number of the label that a branch goes to.
+    /// dependency is on; `label` is the number of the label that a branch goes to.
     fn put_link(link: Link, from: Option<u8>, label: u8, out: &mut Instrs)
         requires of_arch { link_is_of link puts.name ≡ true }
         requires given { depends_on_load link ≡ true → is_some from ≡ true }
         requires room { array_vec_len out.old + link_room link ≤ MAX_INSTRS }
         ensures { out.new.items ≡ out.old.items ++ puts.link link from label };
 
-    /// Appends the code of a load of the mark from the place, and gives the register that it loads to.
+    /// Appends the code of a load with its mark from its location, and returns the register that it
+    /// loads to.
     fn put_load(regs: &mut Regs, access: AskedAccess, out: &mut Instrs) -> u8
         requires of_arch { link_is_of access.link puts.name ≡ true }
         requires to_load { is_data access.link ≡ false }
@@ -77,7 +78,7 @@ pub trait Arch {
         ensures taken { regs.new ≡ (puts.load regs.old access.link access.mark access.source access.place).regs }
         ensures code { out.new.items ≡ out.old.items ++ (puts.load regs.old access.link access.mark access.source access.place).code };
 
-    /// Appends the code of a store of the mark, of the value to the place.
+    /// Appends the code of a store, with its mark, of the value to its location.
     fn put_store(regs: &mut Regs, access: AskedAccess, value: u8, out: &mut Instrs)
         requires of_arch { link_is_of access.link puts.name ≡ true }
         requires mark_fitting { mark_fits dirs.W access.mark ≡ true }
@@ -95,33 +96,33 @@ pub trait Arch {
         requires label { label_below 64 op.now ≡ true }
         ensures { out.new.bytes ≡ op_text writing (name_in places.now) op.now };
 
-    /// The instruction with this first word and these operands, before its name has a number. None
-    /// where the architecture has no instruction of this form; the form of the name isn't looked at.
+    /// The instruction with this first word and these operands, before its name has a number. `None`
+    /// if the architecture has no instruction of this form; the form of the name isn't checked.
     fn read_raw<'a>(word: &'a [u8], operands: Operands<'a>) -> Option<Raw<'a>>
         ensures { raw_seen result ≡ writing.raw (record { word = word.now; operands = operand_texts operands.entry }) };
 
-    /// Makes `out` the name of a register, as it is written in conditions.
+    /// Makes `out` the name of a register, as conditions write it.
     fn register_name(r: u8, out: &mut RegName)
         requires { r < REGISTERS }
         ensures { out.new.bytes ≡ name_in writing.registers r };
 
-    /// Whether it has the edge.
+    /// Whether the architecture has the edge.
     final fn supports(edge: Edge) -> bool
         ensures { result ≡ is_of_arch edge puts.name }
     {
         edge.of_arch(Self::NAME)
     }
 
-    /// The register with this name. None where no register that tests use has it.
+    /// The register with this name, or `None` if no register that tests use has it.
     final fn register_of(name: &str) -> Option<u8>
         ensures { result ≡ number_in writing.registers name.now }
     {
         register_named::<Self>(name.as_bytes())
     }
 
-    /// The instruction that the text of a cell is, with blanks at both ends, after the first word
-    /// and around commas. Its place and its label get the numbers of their names in the tables, to
-    /// which new names are added last. After an error both tables are as they were.
+    /// The instruction in the text of a cell. Blanks may come at both ends, after the first word and
+    /// around commas. A location or label gets the number of its name in the table, to which a new
+    /// name is added last. After an error both tables are as they were.
     final fn read_instr(
         text: &str,
         places: &mut Places,

@@ -9,7 +9,7 @@ use final_cond::{RegName, is_place_name, is_register_name};
 use micro_ops::Micro;
 use text_parts::{Class, split_run, without_blanks};
 
-/// The instruction that the bytes of a cell are, as `Arch::read_instr` reads it.
+/// The instruction in the bytes of a cell, as `Arch::read_instr` reads it.
 pub fn read_cell<A: Arch>(
     text: &[u8],
     places: &mut Places,
@@ -64,7 +64,7 @@ fn number_label(op: Micro, name: &[u8], labels: &mut Places) -> Result<Micro, In
     }
 }
 
-/// The operation with this number for its place or label.
+/// The operation with this number for its location or label, if it has one.
 fn with_number(op: Micro, i: u8) -> Micro
     ensures { result ≡ with_number op i }
 {
@@ -78,7 +78,7 @@ fn with_number(op: Micro, i: u8) -> Micro
     }
 }
 
-/// The register with this name, as `Arch::register_of` gives it.
+/// The register with this name, as `Arch::register_of` returns it.
 pub fn register_named<A: Arch>(name: &[u8]) -> Option<u8>
     ensures { result ≡ number_in A.writing.registers name.now }
 {

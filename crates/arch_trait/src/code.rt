@@ -20,7 +20,7 @@ use relax_edges::Dir;
 pub struct Code {
     /// Its operations.
     pub instrs: Instrs,
-    /// Its address registers with their places, in the order of taking.
+    /// Its address registers with their locations, in the order of taking.
     pub links: Links,
     /// The register of each load, in order.
     pub loads: ArrayVec<u8, MAX_STEPS>,
@@ -31,14 +31,14 @@ pub struct Code {
 #[error("a thread needs more registers than the architecture has")]
 pub struct TooManyRegisters;
 
-/// The code of a thread that makes these accesses in order. A thread has at most `MAX_STEPS`; each
-/// link is one of the architecture's, a dependency follows a load, a data dependency leads to a
-/// store, and each mark is one of the architecture's and fits what its access does. Refused exactly
-/// where the thread needs more registers than the architecture has.
+/// The code of a thread that makes these accesses in order. There are at most `MAX_STEPS`; each link
+/// is one of the architecture's, a dependency follows a load, a data dependency leads to a store, and
+/// each mark is one of the architecture's and fits what its access does. It fails exactly when the
+/// thread needs more registers than the architecture has.
 ///
-/// On any numbers that its loads read, the code makes these accesses, each with its mark and with the
-/// barriers and the dependencies of its link and no others, and leaves the numbers in the registers of
-/// the loads.
+/// Whatever numbers its loads read, the code makes these accesses, each with its mark and with the
+/// barriers and the dependencies of its link and no others, and leaves the numbers in the registers
+/// of the loads.
 pub fn compile_thread<A: Arch>(steps: &[Step]) -> Result<Code, TooManyRegisters>
     requires fit { FitSteps A.puts.name false steps.now }
     requires few { length steps.now ≤ MAX_STEPS }
@@ -52,8 +52,8 @@ pub fn compile_thread<A: Arch>(steps: &[Step]) -> Result<Code, TooManyRegisters>
     Ok(code)
 }
 
-/// Makes `code` the code of the thread, as `compile_thread` does. Where it is refused, `code` stays
-/// as it was.
+/// Makes `code` the code of the thread, as `compile_thread` does. After an error, `code` is as it
+/// was.
 pub fn compile_into<A: Arch>(steps: &[Step], code: &mut Code) -> Result<(), TooManyRegisters>
     requires fit { FitSteps A.puts.name false steps.now }
     requires few { length steps.now ≤ MAX_STEPS }

@@ -1,4 +1,4 @@
-//! What an architecture is, and the code of a thread, made once for every architecture.
+//! What an architecture is, and how the code of a thread is made, once for every architecture.
 #![tactic(auto)]
 
 mod access;

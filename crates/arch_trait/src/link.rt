@@ -6,7 +6,7 @@ use relax_edges::{DepKind, Edge, FenceKind, Kind};
 /// How an access is tied to the one before it in its thread.
 #[derive(Clone, Copy, Default, PartialEq, Eq)]
 pub enum Link {
-    /// By program order alone.
+    /// Only by program order.
     #[default]
     Plain,
     /// By a fence between them.
@@ -15,7 +15,7 @@ pub enum Link {
     Addr,
     /// The value that the access stores depends on the load before it.
     Data,
-    /// A branch on the load before is between them.
+    /// A branch on the load before it comes between them.
     Ctrl,
     /// The same, with an `isync` after the branch.
     CtrlIsync,
@@ -23,7 +23,8 @@ pub enum Link {
     CtrlIsb,
 }
 
-/// The link that an edge within a thread asks for, whatever its marks.
+/// The link that an edge within a thread asks for, whatever its marks. For a communication it is
+/// `Plain`.
 pub fn link_of(edge: Edge) -> Link
     ensures { result ≡ edge_link edge }
 {

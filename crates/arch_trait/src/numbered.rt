@@ -4,7 +4,8 @@ ghost use Rattle.arch_trait.specs.Writing.{register_text};
 use crate::push::{push_ascii, push_number};
 use arrayvec::ArrayString;
 
-/// Registers whose names are a letter and a number, such as r1 to r28: so many from a first number on.
+/// Registers whose names are a letter and a number, such as r1 to r28: `count` of them, numbered from
+/// `first` on.
 #[derive(Clone, Copy)]
 pub struct Numbered {
     pub letter: u8,
@@ -13,7 +14,7 @@ pub struct Numbered {
 }
 
 impl Numbered {
-    /// Appends the name of a register.
+    /// Appends the name of register `r`: the letter, and its number counted from `first`.
     pub fn push<const N: usize>(self, r: u8, out: &mut ArrayString<N>)
         requires ascii { self.letter < 128 }
         requires room { length out.old.bytes + 4 ≤ N }

@@ -5,11 +5,11 @@ use crate::reading::{Named, Operands, Raw};
 use final_cond::number_of;
 use micro_ops::Micro;
 
-/// The greatest number that an instruction holds.
+/// The greatest number that the text of an instruction can hold.
 pub const MAX_IMMEDIATE: u32 = 2047;
 
-/// The number that these digits write, in decimal without leading zeros. None where they write none,
-/// or one above `MAX_IMMEDIATE`.
+/// The number that these digits represent in decimal, without leading zeros. `None` if they represent
+/// none, or one above `MAX_IMMEDIATE`.
 #[tactic(auto, unfolding(crate::specs::Writing::immediate_number))]
 pub fn immediate(digits: &[u8]) -> Option<u32>
     ensures { result ≡ immediate_number digits.now }
@@ -20,7 +20,7 @@ pub fn immediate(digits: &[u8]) -> Option<u32>
     }
 }
 
-/// A label as an instruction of its own, where the word ends with a colon and is alone.
+/// A label as an instruction of its own, if the word ends with a colon and has no operands.
 pub fn read_label_alone<'a>(word: &'a [u8], operands: Operands<'a>) -> Option<Raw<'a>>
     ensures { raw_seen result ≡ label_alone word.now (operand_texts operands.entry) }
 {
@@ -30,7 +30,7 @@ pub fn read_label_alone<'a>(word: &'a [u8], operands: Operands<'a>) -> Option<Ra
     }
 }
 
-/// A label as an instruction of its own, where the word ends with a colon.
+/// A label as an instruction of its own, if the word ends with a colon.
 #[tactic(auto, unfolding(crate::specs::Writing::label_raw))]
 fn read_label(word: &[u8]) -> Option<Raw<'_>>
     ensures { raw_seen result ≡ label_raw word.now }

@@ -8,13 +8,13 @@ use arrayvec::ArrayVec;
 use final_cond::{PlaceName, place_name};
 use std::marker::Model;
 
-/// The most names of a table.
+/// The most names that a table can have.
 pub const MAX_PLACES: usize = 64;
 
 const LETTERS: &[u8; 26] = b"xyzabcdefghijklmnopqrstuvw";
 
-/// A table of names, of places or of labels: each has the form of a place's name and is in it once.
-/// The number of a name is its place in the table.
+/// A table of the names of locations or of labels. Each has the form of a location's name and is in
+/// it once. The number of a name is its position in the table, from 0.
 #[derive(Drop)]
 pub struct Places {
     names: ArrayVec<PlaceName, MAX_PLACES>,
@@ -29,7 +29,7 @@ impl Model for Places {
 }
 
 impl Places {
-    /// No names.
+    /// A table without names.
     #[tactic(auto, using(crate::proofs::Tables::no_names))]
     pub fn new() -> Places
         ensures { result ≡ [] }
@@ -49,7 +49,7 @@ impl Places {
         places
     }
 
-    /// Makes it the names of `n` locations.
+    /// Makes the table the names of `n` locations, as `letters` does.
     #[tactic(auto, using(crate::proofs::Tables::location_new, crate::proofs::Tables::letters_more))]
     pub fn set_letters(&mut self, n: u8)
         requires { n ≤ MAX_STEPS }
@@ -68,7 +68,7 @@ impl Places {
         self.names.len() as u8
     }
 
-    /// Whether there are none.
+    /// Whether there are no names.
     pub fn is_empty(&self) -> bool
         ensures { result ≡ (length self.now == 0) }
     {
@@ -83,8 +83,8 @@ impl Places {
         &self.names.as_slice()[usize::from(i)]
     }
 
-    /// The number of a name, which is added last if it is new. None where it is new and there are
-    /// `MAX_PLACES` names.
+    /// The number of a name of a location's form, which is added last if it is new. `None`, with the
+    /// table as it was, if it is new and there are `MAX_PLACES` names.
     pub fn add(&mut self, name: &str) -> Option<u8>
         requires { is_place_name name.now ≡ true }
         ensures number { result ≡ number_added self.old name.now }
@@ -93,7 +93,7 @@ impl Places {
         self.add_bytes(name.as_bytes())
     }
 
-    /// The number of the name that these bytes are, as `add` gives it.
+    /// The number of the name that these bytes are, as `add` returns it.
     pub fn add_bytes(&mut self, name: &[u8]) -> Option<u8>
         requires { is_place_name name.now ≡ true }
         ensures number { result ≡ number_added self.old name.now }

@@ -4,7 +4,7 @@ ghost use Rattle.arch_trait.specs.Writing.{label_name};
 use arrayvec::ArrayString;
 use itoa::Buffer;
 
-/// Appends a number in decimal, one of one digit or two without a loop.
+/// Appends a number in decimal; one of one or two digits without a loop.
 #[inline(always)]
 #[tactic(auto, using(std::proofs::lemmas::Fmt::decimal_digit, crate::proofs::Digits::two_digits))]
 pub fn push_number<const N: usize>(n: u32, out: &mut ArrayString<N>)
@@ -31,7 +31,7 @@ pub fn push_digit<const N: usize>(digit: u32, out: &mut ArrayString<N>)
     push_ascii(b'0' + digit as u8, out);
 }
 
-/// Appends the name of a label: LC and its number, in two digits where it is below 100.
+/// Appends the name of a label: LC and its number, in two digits if it is below 100.
 #[inline]
 pub fn push_label<const N: usize>(label: u8, out: &mut ArrayString<N>)
     requires room { length out.old.bytes + 4 ≤ N }

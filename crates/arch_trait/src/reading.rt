@@ -4,16 +4,16 @@ ghost use Rattle.arch_trait.specs.{InstructionReading.{operands_in}, Instruction
 use micro_ops::Micro;
 use text_parts::trim_blanks;
 
-/// Why the text of a cell is no instruction, or can't be kept.
+/// Why the text of a cell isn't an instruction, or can't be kept.
 #[derive(Clone, Copy, Debug, PartialEq, Eq, thiserror::Error)]
 pub enum InstrError {
-    /// The architecture has no instruction of this form.
+    /// The architecture has no instruction of this form, or a name in it doesn't have its form.
     #[error("no such instruction")]
     BadInstruction,
-    /// It names one place more than a test may have.
+    /// It names one location more than a test can have.
     #[error("too many places")]
     TooManyPlaces,
-    /// It names one label more than a thread may have.
+    /// It names one label more than a thread can have.
     #[error("too many labels")]
     TooManyLabels,
 }
@@ -30,7 +30,7 @@ pub enum Operands<'a> {
     More,
 }
 
-/// What an instruction names: nothing, a place or a label.
+/// What an instruction names: nothing, a location or a label.
 #[derive(Clone, Copy)]
 pub enum Named<'a> {
     Nothing,
@@ -38,8 +38,8 @@ pub enum Named<'a> {
     Label(&'a [u8]),
 }
 
-/// An instruction as it is read, before its name has a number: its operation, with 0 in place of the
-/// number, and the name.
+/// An instruction as it is read, before its name has a number: its operation, with 0 as the number
+/// of a location or label, and the name.
 #[derive(Clone, Copy)]
 pub struct Raw<'a> {
     pub op: Micro,
@@ -47,7 +47,7 @@ pub struct Raw<'a> {
 }
 
 impl Raw<'_> {
-    /// The instruction of an operation that names neither a place nor a label.
+    /// The instruction of an operation that names neither a location nor a label.
     pub fn without_name(op: Micro) -> Raw<'static>
         ensures op { result.op ≡ op }
         ensures name { name_seen result.name ≡ nothing }
@@ -59,7 +59,7 @@ impl Raw<'_> {
     }
 }
 
-/// The text before the first comma, and the one after it.
+/// The text before the first comma and the text after it, if there is a comma.
 #[tactic(auto, using(crate::proofs::Commas::cut_none, crate::proofs::Commas::cut_some))]
 fn cut_comma(text: &[u8]) -> Option<(&[u8], &[u8])>
     ensures { Cut result text.now }

@@ -6,15 +6,15 @@ use crate::step::MAX_STEPS;
 use arrayvec::ArrayVec;
 use std::marker::Model;
 
-/// The most registers that an architecture has for the threads of a test.
+/// The most registers that an architecture can have for a thread of a test.
 pub const MAX_REGISTERS: u8 = 32;
 
-/// Address registers with their places, in the order of taking. A thread has at most one for each
+/// Address registers with their locations, in the order of taking. A thread has at most one for each
 /// access.
 pub type Links = ArrayVec<(u8, u8), MAX_STEPS>;
 
 /// The registers of a thread, numbered from 0: how many are taken, and which hold the address of a
-/// place.
+/// location.
 #[derive(Drop)]
 pub struct Regs {
     count: u8,
@@ -51,7 +51,7 @@ impl Regs {
         self.count - self.next
     }
 
-    /// Takes the next register.
+    /// Takes the next register. There must be one left.
     pub fn take(&mut self) -> u8
         requires { self.old.next < self.old.count }
         ensures register { result ≡ self.old.next }
@@ -62,7 +62,7 @@ impl Regs {
         register
     }
 
-    /// The address register of a place, taken now where it has none.
+    /// The address register of a location, taken now if it has none.
     pub fn address(&mut self, place: u8) -> u8
         requires { (with_address self.old place).next ≤ self.old.count }
         ensures register { result ≡ address_of self.old place }
@@ -79,14 +79,15 @@ impl Regs {
         }
     }
 
-    /// The address registers with their places, in the order of taking.
+    /// The address registers with their locations, in the order of taking.
     pub fn links(&self) -> &[(u8, u8)]
         ensures { result.now ≡ self.now.links }
     {
         self.links.as_slice()
     }
 
-    /// The address registers with their places, where the registers aren't needed any more.
+    /// The address registers with their locations, in the order of taking, when no more registers
+    /// are needed.
     pub fn into_links(self) -> Links
         ensures { result.items ≡ self.links }
     {

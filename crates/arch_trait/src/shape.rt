@@ -23,7 +23,7 @@ pub fn shape_of(steps: &[Step]) -> Shape
     shape
 }
 
-/// Counts one more access, before the rest: a location counts at its last access.
+/// Counts an access that the rest follows. A location is counted at its last access.
 fn add_step(step: &Step, rest: &[Step], shape: &mut Shape)
     requires loads_room { shape.old.loads < 255 }
     requires stores_room { shape.old.stores < 255 }

@@ -9,8 +9,8 @@ use arrayvec::ArrayVec;
 use relax_edges::MAX_EDGES;
 use std::marker::Model;
 
-/// The code of the threads of a test. After them is what was made for further threads of earlier tests: the code of the next thread is
-/// made in its place, so that no room is cleared for it again.
+/// The code of the threads of a test. It keeps what was made for further threads of earlier tests:
+/// the code of the next thread overwrites that, so that no space is cleared for it again.
 #[derive(Drop)]
 pub struct ThreadCodes {
     codes: ArrayVec<Code, MAX_EDGES>,
@@ -30,7 +30,7 @@ impl Model for ThreadCodes {
 }
 
 impl ThreadCodes {
-    /// No threads.
+    /// The code of no thread.
     pub fn new() -> ThreadCodes
         ensures { result.items ≡ [] }
     {
@@ -40,7 +40,7 @@ impl ThreadCodes {
         }
     }
 
-    /// Leaves no threads.
+    /// Removes all threads.
     pub fn clear(&mut self)
         ensures { self.new.items ≡ [] }
     {
@@ -63,7 +63,8 @@ impl ThreadCodes {
         self.codes.as_slice()[self.count - 1].loads.as_slice()
     }
 
-    /// Makes the code of one more thread, as `compile_into` does. Where it is refused, the threads stay as they were.
+    /// Adds the code of one more thread, as `compile_into` makes it. After an error the threads are
+    /// as they were.
     pub fn compile_next<A: Arch>(&mut self, steps: &[Step]) -> Result<(), TooManyRegisters>
         requires fit { FitSteps A.puts.name false steps.now }
         requires few { length steps.now ≤ MAX_STEPS }
@@ -84,7 +85,7 @@ impl ThreadCodes {
     }
 }
 
-/// Appends a blank thread where there is none at a place.
+/// Appends an empty thread if there is none at this index.
 fn have_place(place: usize, codes: &mut ArrayVec<Code, MAX_EDGES>)
     requires next { place ≤ array_vec_len codes.old }
     requires room { place < MAX_EDGES }

@@ -1,7 +1,7 @@
 use crate::regs::Regs;
 
-/// How far the code of a thread has come: its registers, the register of the load before if the
-/// access before is a load, and how many branches there were.
+/// How far the code of a thread has come: its registers, the register of the last access if that is
+/// a load, and how many branches there were.
 #[derive(Drop)]
 pub(crate) struct Way {
     pub(crate) regs: Regs,

@@ -7,7 +7,7 @@ use Rattle.arch_instructions_laws.specs.Tables.{operands_fit}
 use Rattle.arch_instructions_laws.proofs.{Barriers.fences_had, Fenced.{fence_code, IsFenced, fenced_laws}}
 use Rattle.arch_x86.specs.{Table.{forms, table}, Puts.{puts, x86_link_code}}
 
--- the code of a link is its fence alone
+-- the code of a link is only its fence, if it is one
 link_is : (link : Link) (from : Option ℕ) (n : ℕ) → x86_link_code link from n ≡ fence_code link
 link_is (links.Fence kind) from n = refl
 link_is link from n = refl

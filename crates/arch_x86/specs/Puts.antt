@@ -1,4 +1,4 @@
--- The code of X86: loads and stores at places, and MFENCE.
+-- The code of X86: loads and stores that name their location, and MFENCE.
 -- Source: the diy tools' tests for x86.
 use Rattle.std.specs.Prelude.{ℕ, false, List, [], ◌∷◌, Option}
 use Rattle.relax_edges.specs.declared.kinds.ArchName.TheVariants as archs
@@ -16,7 +16,7 @@ abbrev pub x86_link_code : Link → Option ℕ → ℕ → List Micro
 x86_link_code (links.Fence kind) _ _ = ops.Barrier (barriers.Fence kind) ∷ []
 x86_link_code _ _ _ = []
 
--- a load, which has no mark, takes a register
+-- a load, which has no mark, takes the next register
 abbrev pub load : Taken → Link → Mark → Option ℕ → ℕ → Put
 load g _ _ _ place = record { code = ops.LoadAt g.next place ∷ []; regs = take_next g }
 
@@ -24,7 +24,7 @@ load g _ _ _ place = record { code = ops.LoadAt g.next place ∷ []; regs = take
 abbrev pub register_filled : Taken → Link → Option ℕ → ℕ → ℕ
 register_filled g _ _ _ = g.next
 
--- a store takes none
+-- a store takes no register
 abbrev pub store : Taken → Link → Mark → Option ℕ → ℕ → ℕ → Put
 store g _ _ _ place value = record { code = ops.StoreAt place value ∷ []; regs = g }
 

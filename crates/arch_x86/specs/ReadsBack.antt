@@ -22,6 +22,6 @@ are_names = record { count = refl; formed = registers_formed; once = registers_o
 pub reads_back : WritesBack puts writing
 reads_back = writes_back puts table x86_register_names is_clear_table (λ op h. h) are_names
 
--- what is read is one of its instructions
+-- what is read is one of its instructions, and these only name registers that the machine has
 pub reads_own : ReadsOwn puts writing
 reads_own = ranges.reads_own puts table x86_register_names few_registers (λ op. refl)

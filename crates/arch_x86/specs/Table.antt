@@ -1,4 +1,4 @@
--- X86's instructions, as a table of forms: the word, the operands, what it does.
+-- X86's instructions, as a table of forms: the word, the operands, and what an instruction does.
 -- Source: the instruction manuals of x86, and the litmus format of the herdtools.
 use Rattle.std.specs.Prelude.{ℕ, List, [], ◌∷◌, codes}
 use Rattle.relax_edges.specs.declared.kinds.FenceKind.TheVariants as fences
@@ -9,7 +9,7 @@ use Rattle.arch_instructions_laws.specs.declared.form.Labels.TheVariants as labe
 use Rattle.arch_instructions_laws.specs.declared.kind.Kind.TheVariants as kinds
 use Rattle.arch_instructions_laws.specs.Tables.{PieceText, FormText, TableText, piece, fixed, form, table_writing}
 
--- the place in brackets
+-- a location in brackets
 abbrev pub address : PieceText
 address = piece (codes "[") holes.Place (codes "]")
 
@@ -37,6 +37,6 @@ table = record { forms = forms; labels = labels.Unknown }
 abbrev pub x86_register_names : List (List ℕ)
 x86_register_names = codes "EAX" ∷ codes "EBX" ∷ codes "ECX" ∷ codes "EDX" ∷ codes "ESI" ∷ codes "EDI" ∷ []
 
--- how X86 writes and reads
+-- how X86 writes and reads its instructions
 abbrev pub writing : Writing
 writing = table_writing table x86_register_names

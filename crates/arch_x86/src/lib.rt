@@ -1,4 +1,4 @@
-//! X86: loads and stores at places, and MFENCE.
+//! X86: loads and stores that name their location, and MFENCE.
 #![tactic(auto)]
 
 ghost use Rattle.std.specs.Prelude.{refl};

@@ -12,8 +12,8 @@ use relax_edges::FenceKind;
 /// The text of an instruction.
 type Text = ArrayString<MAX_INSTRUCTION_TEXT>;
 
-/// Makes `out` the text of an operation of those that tests are full of, where its number is one digit: the text by the table, in fewer
-/// instructions. False for any other operation.
+/// Makes `out` the text of a load, of a store of one digit or of the fence: the text by the table, in
+/// fewer machine instructions. Returns false for any other operation.
 #[inline(always)]
 #[tactic(auto, using(crate::proofs::ShortTexts::load_text, crate::proofs::ShortTexts::store_text, crate::proofs::ShortTexts::fence_text))]
 pub(crate) fn print_short(op: &Micro, places: &Places, out: &mut Text) -> bool
@@ -39,7 +39,7 @@ pub(crate) fn print_short(op: &Micro, places: &Places, out: &mut Text) -> bool
     }
 }
 
-/// Makes `out` the text of a load from a place with this name.
+/// Makes `out` the text of a load from a location with this name.
 #[inline(always)]
 #[tactic(auto, using(std::proofs::Common::append_assoc))]
 fn print_load(dst: u8, place: &str, out: &mut Text)
@@ -54,7 +54,7 @@ fn print_load(dst: u8, place: &str, out: &mut Text)
     out.push_str("]");
 }
 
-/// Makes `out` the text of a store of a digit at a place with this name.
+/// Makes `out` the text of a store of a digit to a location with this name.
 #[inline(always)]
 #[tactic(auto, using(std::proofs::Common::append_assoc))]
 fn print_store(place: &str, n: u32, out: &mut Text)

@@ -4,13 +4,13 @@ use Rattle.std.specs.{Prelude.{ℕ, List, [], ◌∷◌, ◌++◌, codes}, Fmt.d
 use Rattle.final_cond.specs.{declared.cond.Quantifier.Quantifier, declared.cond.Quantifier.TheVariants.{Exists, NotExists, Forall}}
 use Rattle.final_cond.specs.Conditions.{LeftSeen, InRegister, AtPlace, TermSeen, CondSeen}
 
--- the word of a quantifier
+-- the keyword of a quantifier
 abbrev pub quantifier_word : Quantifier → List ℕ
 quantifier_word Exists = codes "exists"
 quantifier_word NotExists = codes "~exists"
 quantifier_word Forall = codes "forall"
 
--- `THREAD:NAME` for a register, `[NAME]` for a place
+-- `THREAD:NAME` for a register, `[NAME]` for a location
 unfoldable pub left_text : LeftSeen → List ℕ
 left_text (InRegister thread name) = decimal thread ++ codes ":" ++ name
 left_text (AtPlace name) = codes "[" ++ name ++ codes "]"

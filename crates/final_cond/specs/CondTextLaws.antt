@@ -1,4 +1,4 @@
--- The text of formed terms passes each test of bytes that the bytes of places' names and the signs of such a text pass.
+-- The text of formed terms passes each test of bytes that is passed by the bytes of locations' names and by the signs of such a text.
 use Rattle.std.proofs.Common.{◌≡◌, ℕ, ◌<◌, List, [], ◌∷◌, ◌++◌, refl, arith}
 use Rattle.std.specs.{Prelude.{Bool, true, codes}, Fmt.decimal, List.{AllByRecursion, list_all, flat_map}}
 use Rattle.text_parts_laws.specs.Names.{is_place_byte}
@@ -6,20 +6,20 @@ use Rattle.text_parts_laws.proofs.{NameLaws.{place_passes, letters_pass, decimal
 use Rattle.final_cond.specs.{Conditions.{LeftSeen, InRegister, AtPlace, TermSeen}, CondText.{left_text, term_text, further_term_text, terms_text}}
 use Rattle.final_cond.specs.{ConditionReadBack.IsFormedTerm, ConditionReading.has_form, FormLaws.{FormNamed, form_named}}
 
--- each byte of places' names passes a test, and so do the signs in the text of a left side
+-- each byte of locations' names passes a test, and so do the signs in the text of a left side
 pub record PassLeft (test : ℕ → Bool) : Type 0 where
   pub names : (byte : ℕ) → is_place_byte byte ≡ true → test byte ≡ true
   pub colon : list_all test (codes ":") ≡ true
   pub opening : list_all test (codes "[") ≡ true
   pub closing : list_all test (codes "]") ≡ true
 
--- the signs after a left side and between terms pass a test, too
+-- the signs after a left side and between terms pass the test too
 pub record PassTerms (test : ℕ → Bool) : Type 0 where
   pub left : PassLeft test
   pub equals : list_all test (codes "=") ≡ true
   pub between : list_all test (codes " /\\ ") ≡ true
 
--- such a test is passed by the text of a left side of a form
+-- such a test is passed by the text of a left side that has its form
 pub left_passes : (test : ℕ → Bool) → PassLeft test → (left : LeftSeen) → has_form left ≡ true → list_all test (left_text left) ≡ true
 unfolding left_text
 left_passes test each (InRegister thread name) h =

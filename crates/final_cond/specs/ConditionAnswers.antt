@@ -1,13 +1,13 @@
--- What code that reads a text answers, as the definitions see it.
+-- What code that reads a text returns, as the definitions see it.
 use Rattle.std.specs.{Prelude.{◌≡◌, ℕ, List, Result, Ok, Err}, Borrow.Bor}
 use Rattle.final_cond.specs.{declared.cond.Left.Left, declared.cond.Term.Term, declared.errors.CondFault.CondFault}
 use Rattle.final_cond.specs.{Conditions.{LeftSeen, TermSeen, left_view, term_view}, ConditionReading.Fault}
 
--- an error, with the text from there on as bytes
+-- an error, with the text from it on as bytes
 abbrev pub fault_view : CondFault → Fault
 fault_view fault = record { kind = fault.kind; rest = fault.rest.now }
 
--- an answer is what the definition gives, where view says what it means
+-- a result is what the definition gives: an error as such, and any other value as seen by `view`
 abbrev pub GivesCondition : {X Y : Type 0} → (X → Y) → Result X CondFault → Result Y Fault → Type 0
 GivesCondition view (Ok x) read = read ≡ Ok (view x)
 GivesCondition view (Err fault) read = read ≡ Err (fault_view fault)

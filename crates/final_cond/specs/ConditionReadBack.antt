@@ -2,7 +2,7 @@
 use Rattle.std.specs.{Prelude.{◌≡◌, ◌^◌, ◌<◌, ◌≤◌, true, length}, List.AllByRecursion}
 use Rattle.final_cond.specs.{declared.cond.TheConstants.MAX_TERMS, Conditions.{TermSeen, CondSeen}, ConditionReading.has_form}
 
--- a term of a register of a thread below 64 or of a place, by names of their forms, and a value of 32 bits
+-- a term on a register of a thread below 64 or on a location, with a name of its form and a value of at most 32 bits
 pub record IsFormedTerm (term : TermSeen) : Type 0 where
   pub form : has_form term.left ≡ true
   pub value : term.value < 2 ^ 32

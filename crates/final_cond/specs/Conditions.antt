@@ -3,17 +3,17 @@
 use Rattle.std.specs.Prelude.{ℕ, List, map}
 use Rattle.final_cond.specs.declared.cond.{Quantifier.Quantifier, Left.Left, Left.TheVariants.Register, Left.TheVariants.Place, Term.Term, Cond.Cond}
 
--- what a term looks at: a register of a thread, by its name, or a place, by its name
+-- the left side of a term: a register of a thread, by its name, or a location, by its name
 pub data LeftSeen : Type 0 where
   InRegister : (thread : ℕ) (name : List ℕ) → LeftSeen
   AtPlace : (name : List ℕ) → LeftSeen
 
--- a left side and the value that it is to have
+-- a left side and the value that it must have
 pub record TermSeen : Type 0 where
   pub left : LeftSeen
   pub value : ℕ
 
--- the terms that are to hold together, under a quantifier
+-- the terms that must hold together, under a quantifier
 pub record CondSeen : Type 0 where
   pub quantifier : Quantifier
   pub terms : List TermSeen

@@ -5,12 +5,12 @@ use Rattle.text_parts_laws.specs.Names.{is_place_byte, is_register_name}
 use Rattle.text_parts_laws.proofs.NameLaws.{place_name_bytes, register_name_bytes}
 use Rattle.final_cond.specs.{Conditions.{InRegister, AtPlace}, ConditionReading.has_form}
 
--- what the form of a register says
+-- what follows from the form of a register
 pub record FormNamed (thread : ℕ) (name : List ℕ) : Type 0 where
   pub few : thread < 64
   pub bytes : list_all is_ascii_alphanumeric name ≡ true
 
--- a register of a form has a thread below 64 and a name of a register's form
+-- a register that has its form is of a thread below 64, and its name consists of letters and digits
 pub form_named : (thread : ℕ) (name : List ℕ) → has_form (InRegister thread name) ≡ true → FormNamed thread name
 form_named thread name h =
     let p : (nat_lt thread 64 ≡ true) × (is_register_name name ≡ true) = and_parts (nat_lt thread 64) (is_register_name name) h in
@@ -19,6 +19,6 @@ form_named thread name h =
       bytes = register_name_bytes name p.1;
     }
 
--- each byte of a name of a place's form is one that such names may have
+-- each byte of a location's name that has its form is one that such names may have
 pub place_bytes : (name : List ℕ) → has_form (AtPlace name) ≡ true → list_all is_place_byte name ≡ true
 place_bytes name h = place_name_bytes name h

@@ -1,32 +1,32 @@
 use arrayvec::{ArrayString, ArrayVec};
 
-/// The name of a register, of 1 to 16 bytes.
+/// The name of a register, of at most 16 bytes.
 pub type RegName = ArrayString<16>;
 
-/// The name of a place, of 1 to 16 bytes.
+/// The name of a location, of at most 16 bytes.
 pub type PlaceName = ArrayString<16>;
 
-/// The most terms that a condition has.
+/// The most terms that a condition can have.
 pub const MAX_TERMS: usize = 128;
 
-/// Which executions a condition speaks of, by the litmus format of the herdtools manual.
+/// Over which executions a condition ranges, by the litmus format of the herdtools manual.
 #[derive(Clone, Copy, Default, PartialEq, Eq)]
 pub enum Quantifier {
-    /// `exists`: in some execution the terms hold.
+    /// `exists`: the terms hold in some execution.
     #[default]
     Exists,
-    /// `~exists`: in no execution the terms hold.
+    /// `~exists`: the terms hold in no execution.
     NotExists,
-    /// `forall`: in each execution the terms hold.
+    /// `forall`: the terms hold in every execution.
     Forall,
 }
 
-/// What a term looks at.
+/// The left side of a term: what it compares with its value.
 #[derive(Drop)]
 pub enum Left {
     /// A register of a thread, at the end of the thread.
     Register { thread: u8, name: RegName },
-    /// A place, at the end of all threads.
+    /// A location, at the end of all threads.
     Place { name: PlaceName },
 }
 
@@ -38,7 +38,7 @@ impl Default for Left {
     }
 }
 
-/// A register or place, and the value that it is to have.
+/// A register or location, and the value that it must have.
 #[derive(Default, Drop)]
 pub struct Term {
     pub left: Left,

@@ -1,4 +1,4 @@
-//! The condition of a test, on its final state.
+//! The condition of a test on its final state.
 #![tactic(auto)]
 
 mod cond;

@@ -6,11 +6,11 @@ use arrayvec::ArrayString;
 use std::str;
 use text_parts::Class;
 
-/// The most bytes that the name of a place or a register has.
+/// The most bytes that the name of a location or a register can have.
 pub const MAX_CONDITION_NAME: usize = 16;
 
-/// Whether these bytes have the form of a place's name: a letter or `_`, then letters, digits and
-/// `_`, at most `MAX_CONDITION_NAME` bytes.
+/// Whether these bytes have the form of a location's name: a letter or `_`, then letters, digits
+/// and `_`, at most `MAX_CONDITION_NAME` bytes in all. Letters and digits are those of ASCII.
 #[tactic(auto, using(text_parts_laws::proofs::NameLaws::is_place_name_parts), unfolding(text_parts_laws::specs::Names::is_place_name))]
 pub fn is_place_name(name: &[u8]) -> bool
     ensures { result ≡ is_place_name name.now }
@@ -25,7 +25,7 @@ pub fn is_place_name(name: &[u8]) -> bool
 }
 
 /// Whether these bytes have the form of a register's name: a letter, then letters and digits, at
-/// most `MAX_CONDITION_NAME` bytes.
+/// most `MAX_CONDITION_NAME` bytes in all. Letters and digits are those of ASCII.
 #[tactic(auto, using(text_parts_laws::proofs::NameLaws::is_register_name_parts), unfolding(text_parts_laws::specs::Names::is_register_name))]
 pub fn is_register_name(name: &[u8]) -> bool
     ensures { result ≡ is_register_name name.now }
@@ -53,7 +53,7 @@ fn name_of(bytes: &[u8]) -> ArrayString<MAX_CONDITION_NAME>
     name
 }
 
-/// The name of a place, where these bytes have its form.
+/// The name of a location, if these bytes have the form of one.
 #[tactic(auto, using(text_parts_laws::proofs::NameLaws::place_name_ascii, text_parts_laws::proofs::NameLaws::place_name_short))]
 pub fn place_name(name: &[u8]) -> Option<PlaceName>
     ensures { option_map (λ p. p.bytes) result ≡ cond (is_place_name name.now) (Some name.now) None }
@@ -65,7 +65,7 @@ pub fn place_name(name: &[u8]) -> Option<PlaceName>
     }
 }
 
-/// The name of a register, where these bytes have its form.
+/// The name of a register, if these bytes have the form of one.
 #[tactic(auto, using(text_parts_laws::proofs::NameLaws::register_name_ascii, text_parts_laws::proofs::NameLaws::register_name_short))]
 pub fn register_name(name: &[u8]) -> Option<RegName>
     ensures { option_map (λ p. p.bytes) result ≡ cond (is_register_name name.now) (Some name.now) None }

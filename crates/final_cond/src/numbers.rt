@@ -4,8 +4,8 @@ ghost use Rattle.text_parts_laws.specs.NumberTexts.{number_of};
 use std::str;
 use text_parts::Class;
 
-/// The number that these bytes represent in decimal. There is none where they aren't digits, have a
-/// leading zero, or represent more than `u32::MAX`.
+/// The number that these bytes represent in decimal. There is none if they aren't all digits, if
+/// there are no bytes, if a zero leads other digits, or if the number is above `u32::MAX`.
 #[tactic(auto, using(text_parts_laws::proofs::NumberLaws::not_digits, text_parts_laws::proofs::NumberLaws::leading_zero, text_parts_laws::proofs::NumberLaws::parsed, text_parts_laws::proofs::NumberLaws::digits_ascii))]
 pub fn number_of(digits: &[u8]) -> Option<u32>
     ensures { result ≡ number_of digits.now }

@@ -7,7 +7,7 @@ use crate::cond::{Cond, Left, Quantifier, Term};
 use diy_io::{Failed, LINE_ROOM, Page, Sink};
 use itoa::Buffer;
 
-/// The most bytes of a term with ` /\ ` before it: a thread, a name of 16 bytes, a value.
+/// As many bytes as suffice for a term with ` /\ ` before it: a thread, a name of 16 bytes, a value.
 const TERM_ROOM: usize = 36;
 
 fn opening_text(quantifier: Quantifier) -> &'static [u8]
@@ -21,7 +21,7 @@ fn opening_text(quantifier: Quantifier) -> &'static [u8]
     }
 }
 
-/// Adds a term on a register by its parts, one of the usual length in one piece.
+/// Adds a term on a register, given by its parts; one of the usual length goes in as one piece.
 #[tactic(auto, using(crate::proofs::TermText::register_term_short))]
 fn put_register_term(thread: u8, name: &[u8], value: u32, page: &mut Page)
     requires { length name.now ≤ 16 }
@@ -44,7 +44,7 @@ fn put_register_term(thread: u8, name: &[u8], value: u32, page: &mut Page)
     put_long_register_term(thread, name, value, page);
 }
 
-/// Adds a term on a register by its parts, piece by piece.
+/// Adds a term on a register, given by its parts, piece by piece.
 #[tactic(auto, using(diy_io::specs::PageLaws::page_more, std::proofs::Common::append_assoc))]
 fn put_long_register_term(thread: u8, name: &[u8], value: u32, page: &mut Page)
     ensures { page.new ≡ page_after page.old (decimal thread ++ codes ":" ++ name.now ++ codes "=" ++ decimal value) }
@@ -56,7 +56,7 @@ fn put_long_register_term(thread: u8, name: &[u8], value: u32, page: &mut Page)
     page.put(Buffer::new().format(value).as_bytes());
 }
 
-/// Adds a term on a place by its parts, one of the usual length in one piece.
+/// Adds a term on a location, given by its parts; one of the usual length goes in as one piece.
 #[tactic(auto, using(crate::proofs::TermText::place_term_short))]
 fn put_place_term(name: &[u8], value: u32, page: &mut Page)
     requires { length name.now ≤ 16 }
@@ -72,7 +72,7 @@ fn put_place_term(name: &[u8], value: u32, page: &mut Page)
     put_long_place_term(name, value, page);
 }
 
-/// Adds a term on a place by its parts, piece by piece.
+/// Adds a term on a location, given by its parts, piece by piece.
 #[tactic(auto, using(diy_io::specs::PageLaws::page_more, std::proofs::Common::append_assoc))]
 fn put_long_place_term(name: &[u8], value: u32, page: &mut Page)
     ensures { page.new ≡ page_after page.old (codes "[" ++ name.now ++ codes "]" ++ codes "=" ++ decimal value) }
@@ -136,7 +136,8 @@ fn print_terms(terms: &[Term], page: &mut Page)
     }
 }
 
-/// Adds the text of a condition to a page, without a line feed, for which there is room too.
+/// Adds the text of a condition to a page, without a line feed. A line has space for both, as the
+/// text is shorter than `LINE_ROOM`.
 #[tactic(auto, using(diy_io::specs::PageLaws::page_more, std::proofs::Common::append_assoc), unfolding(crate::specs::CondText::cond_text))]
 pub fn put_cond(cond: &Cond, page: &mut Page)
     ensures text { page.new ≡ page_after page.old (cond_text (cond_view cond.now)) }
@@ -149,7 +150,7 @@ pub fn put_cond(cond: &Cond, page: &mut Page)
 
 /// Appends the text of a condition, without a line feed.
 ///
-/// Where the sink fails, it has taken a prefix of that text.
+/// If the sink fails, it has taken a prefix of that text.
 pub fn print_cond<O: Sink>(cond: &Cond, out: &mut O) -> Result<(), Failed>
     ensures { Wrote (O.seen out.old) (O.seen out.new) (cond_text (cond_view cond.now)) result }
 {

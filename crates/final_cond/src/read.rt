@@ -14,9 +14,9 @@ use text_parts::{Class, split_run, without_blanks};
 /// What follows a term of a condition.
 #[derive(Clone, Copy, PartialEq, Eq)]
 pub enum Follow {
-    /// `/\`, and one more term.
+    /// `/\`, so one more term is expected.
     Term,
-    /// `)`.
+    /// `)`, which ends the terms.
     End,
 }
 
@@ -129,8 +129,8 @@ fn left(text: &[u8]) -> Option<(Left, &[u8])>
     }
 }
 
-/// The left side with which a text begins, of a register of a thread below 64 or of a place, and
-/// the text after it. Blanks may stand before it.
+/// The left side with which a text begins, and the text after it. It is a register of a thread
+/// below 64, or a location. Blanks may come before it.
 #[tactic(auto, unfolding(crate::specs::ConditionReading::left_read))]
 pub fn read_left(text: &[u8]) -> Result<(Left, &[u8]), CondFault<'_>>
     ensures { GivesCondition left_and_rest result (left_read has_form (unblanked text.now)) }
@@ -160,8 +160,8 @@ fn read_value(text: &[u8]) -> Result<(u32, &[u8]), CondFault<'_>>
     }
 }
 
-/// The value after the `=` with which a text begins, and the text after it. Blanks may stand
-/// before both.
+/// The value after the `=` with which a text begins, and the text after it. Blanks may come before
+/// the `=` and before the value.
 #[tactic(auto, unfolding(crate::specs::ConditionReading::right_read))]
 pub fn read_right(text: &[u8]) -> Result<(u32, &[u8]), CondFault<'_>>
     ensures { GivesCondition (λ x. (x.0, x.1.now)) result (right_read text.now) }
@@ -170,7 +170,7 @@ pub fn read_right(text: &[u8]) -> Result<(u32, &[u8]), CondFault<'_>>
     read_value(right)
 }
 
-/// The term with which a text begins, and the text after it. Blanks may stand before it and around
+/// The term with which a text begins, and the text after it. Blanks may come before it and around
 /// its `=`.
 #[tactic(auto, unfolding(crate::specs::ConditionReading::term_read))]
 pub fn read_term(text: &[u8]) -> Result<(Term, &[u8]), CondFault<'_>>
@@ -184,7 +184,7 @@ pub fn read_term(text: &[u8]) -> Result<(Term, &[u8]), CondFault<'_>>
     Ok((Term { left, value }, rest))
 }
 
-/// What follows a term, and the text after it. Blanks may stand before it.
+/// What follows a term, and the text after it. Blanks may come before it.
 #[tactic(auto, unfolding(crate::specs::ConditionReading::follow_read))]
 pub fn read_follow(text: &[u8]) -> Result<(Follow, &[u8]), CondFault<'_>>
     ensures { GivesCondition (λ x. (x.0, x.1.now)) result (follow_read text.now) }
@@ -247,10 +247,10 @@ fn read_parts(text: &[u8]) -> Result<Cond, CondFault<'_>>
 }
 
 /// The condition that a text represents: a quantifier, `(`, terms with `/\` between, and `)`. Blanks
-/// may stand anywhere but inside a word, a left side or a number.
+/// may come anywhere except inside a quantifier, a left side, a number or `/\`.
 ///
-/// There are 1 to `MAX_TERMS` terms, threads are below 64, and names are of their forms. Else the
-/// answer is the first error from the left, and its place.
+/// It needs 1 to `MAX_TERMS` terms, threads below 64, and names of their forms. Otherwise the result
+/// is the first error from the left, with its position.
 #[tactic(auto, unfolding(crate::specs::ConditionReading::cond_read))]
 pub fn read_cond(text: &str) -> Result<Cond, CondError>
     ensures ok { IfOk result (λ cond. cond_read text.now ≡ Ok (cond_view cond)) }

@@ -8,7 +8,7 @@ use std::alloc::Global;
 use std::marker::Model;
 
 impl Left {
-    /// Whether the two are the same register of the same thread, or the same place.
+    /// Whether the two are the same register of the same thread, or the same location.
     pub fn is_same(&self, other: &Left) -> bool
         ensures { result ≡ same_left_seen (left_view self.now) (left_view other.now) }
     {
@@ -28,10 +28,10 @@ impl Left {
     }
 }
 
-/// A final state: the values of registers and places.
+/// A final state: the values of registers and locations.
 ///
-/// Contracts see the list of its pairs, with names as bytes. The first pair for a register or place
-/// has its value.
+/// Contracts see the list of its pairs, with names as bytes. The value of a register or location is
+/// that of the first pair for it.
 #[derive(Drop)]
 pub struct Final {
     pairs: Vec<(Left, Value)>,
@@ -68,7 +68,7 @@ impl Final {
         }
     }
 
-    /// Adds a value after the others. Without memory for it the state is unchanged.
+    /// Adds a value after the others. On `NoMemory` the state is unchanged.
     pub fn add(&mut self, left: Left, value: Value) -> Result<(), NoMemory>
         ensures ok { OnOk result (self.new ≡ self.old ++ (left_view left, value) ∷ []) }
         ensures err { OnErr result (self.new ≡ self.old) }
@@ -77,7 +77,7 @@ impl Final {
         Ok(())
     }
 
-    /// The first value that was added for this register or place.
+    /// The first value that was added for this register or location.
     pub fn get(&self, left: &Left) -> Option<Value>
         ensures { result ≡ value_in_state self.now (left_view left.now) }
     {
@@ -94,8 +94,8 @@ fn term_holds(term: &Term, state: &Final) -> bool
     }
 }
 
-/// Whether each term's register or place has the term's value in the state. The quantifier isn't
-/// looked at.
+/// Whether each term's register or location has the term's value in the state. The quantifier is
+/// ignored.
 #[tactic(auto, using(crate::proofs::StateLaws::one_more_met, crate::proofs::StateLaws::one_not_met))]
 pub fn holds(cond: &Cond, state: &Final) -> bool
     ensures { IsTrue result ↔ Meets (value_in_state state.now) (cond_view cond.now) }

@@ -1,6 +1,7 @@
--- The condition of a test, at the end of its text. Its lines are read as one text, and an error of its form stands at the line where it begins.
--- In what follows `n` is the number of a line, `here` the setting of the condition, and `w` says how the architecture names its registers.
--- Source: the litmus format of the herdtools manual; what is an error, and where, is own.
+-- The condition of a test, at the end of its text. Its lines are read as one text, and an error of its form is reported at the line where
+-- it begins. Below, `n` is the number of a line, `here` the setting of the condition, and `w` says how the architecture names its
+-- registers.
+-- Source: the litmus format of the herdtools manual; what is an error, and where, is our own.
 use Rattle.std.specs.Prelude.{ℕ, zero, suc, ◌-◌, ◌==◌, Bool, true, cond, ◌&&◌, nat_lt, List, [], ◌∷◌, ◌++◌, Option, Some, None, Result, Ok, Err, length, is_some, not}
 use Rattle.std.specs.List.{filter, flat_map}
 use Rattle.list_laws.specs.Errors.{with_before, unless}
@@ -20,7 +21,7 @@ pub record Setting : Type 0 where
   pub begins : ℕ
   pub text : Joined
 
--- what a part of the condition gives, or its error, which stands at the line where the condition begins
+-- what a part of the condition gives, or its error, which is reported at the line where the condition begins
 abbrev pub at_begin : {A : Type 0} → ℕ → Result A Fault → Result A TextError
 at_begin n (Ok x) = Ok x
 at_begin n (Err fault) = bad BadCondition n
@@ -29,23 +30,23 @@ at_begin n (Err fault) = bad BadCondition n
 abbrev pub line_of_rest : Setting → List ℕ → ℕ
 line_of_rest here rest = line_at here.text (length here.text.bytes - length rest)
 
--- a left side may stand in the condition: a place, or a register of a thread of the table
+-- a left side may occur in the condition: it is a location, or a register of a thread of the table
 abbrev pub may_stand : Writing → ℕ → LeftSeen → Bool
 may_stand w threads (InRegister thread name) = nat_lt thread threads && is_some (number_in w.registers name)
 may_stand w threads (AtPlace name) = true
 
--- After its quantifier and `(` the text gives entries: a place that a left side names in a line, a term, or an error, after which nothing is read: the
--- form is wrong, or a term is one too many. A named place is an error of its line, TooLarge, if it is one too many among all places that are named so
--- far, those before the condition included; there is room for MAX_PLACES. The error of the least line counts, and of those of one line the first in the
--- text.
+-- After its quantifier and `(` the text gives entries: a location that a left side names in a line, a term, or an error, after which
+-- nothing is read: the form is wrong, or a term is one too many. A named location is an error of its line, TooLarge, if it is one too
+-- many among all locations that are named so far, those before the condition included; there is space for MAX_PLACES. The error of the
+-- least line counts, and among those of one line the first in the text.
 
--- what stands in the text of a condition: a place that is named in a line, a term, or an error, which has a line
+-- an entry of the text of a condition: a location that is named in a line, a term, or an error, which has a line
 pub data CondEntry : Type 0 where
   a_naming : (n : ℕ) (name : List ℕ) → CondEntry
   a_term : (term : TermSeen) → CondEntry
   an_error : (n : ℕ) (kind : TestKind) → CondEntry
 
--- the entry of a left side in a line, if it names a place
+-- the entry of a left side in a line, if it names a location
 abbrev pub naming_in : ℕ → LeftSeen → List CondEntry
 naming_in n (InRegister thread name) = []
 naming_in n (AtPlace name) = a_naming n name ∷ []
@@ -55,7 +56,7 @@ pub record CondPart : Type 0 where
   pub entries : List CondEntry
   pub rest : Option (List ℕ)
 
--- a part that hasn't its form, of a condition that begins in this line
+-- a part that doesn't have its form, in a condition that begins at this line
 abbrev pub bad_part : ℕ → CondPart
 bad_part begins = record { entries = an_error begins BadCondition ∷ []; rest = None }
 
@@ -68,7 +69,7 @@ abbrev pub value_part : ℕ → LeftSeen → Result (ℕ × List ℕ) Fault → 
 value_part begins left (Err fault) = bad_part begins
 value_part begins left (Ok right) = record { entries = a_term (record { left = left; value = right.0 }) ∷ []; rest = Some right.1 }
 
--- a term by its left side, in a line; a left side that may stand there names its place whatever comes after it
+-- a term by its left side, in a line; a left side that may occur names its location whatever comes after it
 abbrev pub left_part : Writing → Setting → ℕ → Result (LeftSeen × List ℕ) Fault → CondPart
 left_part w here n (Err fault) = bad_part here.begins
 left_part w here n (Ok left) =
@@ -78,7 +79,7 @@ left_part w here n (Ok left) =
 abbrev pub term_part : Writing → Setting → List ℕ → CondPart
 term_part w here text = left_part w here (line_of_rest here (unblanked text)) (left_read has_form (unblanked text))
 
--- the end of the text, with nothing but blanks before it
+-- the end of the text; anything else there is an error
 abbrev pub end_part : ℕ → Result (List ℕ) Fault → CondPart
 end_part begins (Err fault) = bad_part begins
 end_part begins (Ok rest) = record { entries = []; rest = None }
@@ -89,11 +90,11 @@ follow_part begins (Err fault) = bad_part begins
 follow_part begins (Ok (follows.End, rest)) = end_part begins (end_at_start (unblanked rest))
 follow_part begins (Ok (follows.Term, rest)) = record { entries = []; rest = Some rest }
 
--- a term with what follows it, if its form is right
+-- a term, with what follows it if its form is right
 abbrev pub with_follow : ℕ → CondPart → CondPart
 with_follow begins part = elim part.rest as (λ _. CondPart) [ None ↦ part | Some rest ↦ part_after part.entries (follow_part begins (follow_read rest)) ]
 
--- the entries of a text with room for so many terms, up to its end; a term beyond them whose form is right is TooLarge
+-- the entries of a text with space for so many terms, up to its end; a term beyond them whose form is right is TooLarge
 unfoldable pub entries_of : Writing → Setting → ℕ → List ℕ → List CondEntry
 entries_of w here zero text =
     let part = term_part w here text in
@@ -102,7 +103,7 @@ entries_of w here (suc room) text =
     let part = with_follow here.begins (term_part w here text) in
     part.entries ++ elim part.rest as (λ _. List CondEntry) [ None ↦ [] | Some rest ↦ entries_of w here room rest ]
 
--- the name of the place that an entry names, if it names one
+-- the name of the location that an entry names, if it names one
 abbrev pub names_in : CondEntry → List (List ℕ)
 names_in (a_naming n name) = name ∷ []
 names_in entry = []
@@ -112,22 +113,23 @@ abbrev pub term_in : CondEntry → List TermSeen
 term_in (a_term term) = term ∷ []
 term_in entry = []
 
--- the error of a place in a line, if the place gets no number, because it is one too many
+-- the error of a location in a line, if the location gets no number because it is one too many
 abbrev pub over_in_line : ℕ → Option ℕ → List TextError
 over_in_line n (Some place) = []
 over_in_line n None = record { line = n; kind = TooLarge } ∷ []
 
--- the error of an entry, if it has one, given the entries before it and the places that were named before the condition
+-- the error of an entry, if it has one, given the entries before it and the locations that were named before the condition
 abbrev pub error_in : List (List ℕ) → List CondEntry × CondEntry → List TextError
 error_in names (before, a_naming n name) = over_in_line n (number_added (with_names names (flat_map names_in before)) name)
 error_in names (before, a_term term) = []
 error_in names (before, an_error n kind) = record { line = n; kind = kind } ∷ []
 
--- errors in the order of their lines: those reported where the condition begins first, wherever they stand; the lines of the others go up already
+-- errors in the order of their lines: first those that are reported where the condition begins, wherever they are; the others are in this
+-- order already
 abbrev pub by_line : ℕ → List TextError → List TextError
 by_line begins errors = filter (λ error. error.line == begins) errors ++ filter (λ error. not (error.line == begins)) errors
 
--- a condition that was read, and the names of places after it
+-- a condition that was read, and the names of locations after it
 pub record CondRead : Type 0 where
   pub cond : CondSeen
   pub names : List (List ℕ)
@@ -140,13 +142,13 @@ condition_of begins quantifier names entries =
       names = with_names names (flat_map names_in entries);
     })
 
--- the condition that a whole text is, by the names of the places that were named before it
+-- the condition that a whole text is, given the names of the locations that were named before it
 unfoldable pub cond_here : Writing → Setting → List (List ℕ) → Result CondRead TextError
 cond_here w here names = do
   opening ← at_begin here.begins (opening_read here.text.bytes)
   condition_of here.begins opening.0 names (entries_of w here MAX_TERMS opening.1)
 
--- the condition that the lines which are left are, in a test of so many threads, by the names of the places that were named before it
+-- the condition in the lines that are left, for a test of so many threads, given the names of the locations that were named before it
 unfoldable pub condition_read : Writing → ℕ → List (List ℕ) → Lines → Result CondRead TextError
 condition_read w threads names (ends n) = bad EndMissing n
 condition_read w threads names (line n text rest) =

@@ -9,42 +9,42 @@ use Rattle.arch_trait.specs.{PlaceNames.{number_in, number_added, names_added}, 
 use Rattle.litmus_text.specs.{declared.errors.TestKind.TheVariants.{BadCondition, TooLarge}, declared.errors.TextError.TextError, TextLines.bad}
 use Rattle.litmus_text.specs.Condition.{Setting, CondRead, at_begin, line_of_rest}
 
--- the names of places, and the line of the first place that was one too many, after the line where the condition begins
+-- the names of locations, and the line of the first location that was one too many, after the line where the condition begins
 pub record Mentioned : Type 0 where
   pub names : List (List ℕ)
   pub over : Option ℕ
 
--- the first of two lines, where there may be none before the second
+-- the first of two lines, of which the first may be missing
 abbrev pub or_line : Option ℕ → ℕ → Option ℕ
 or_line (Some n) m = Some n
 or_line None m = Some m
 
--- a place that is one too many, at a line: an error at once where the condition begins
+-- a location that is one too many, at a line: an error at once at the line where the condition begins, otherwise noted
 abbrev pub over_at : ℕ → ℕ → Mentioned → Result Mentioned TextError
 over_at begins n s = cond (n == begins) (bad TooLarge n) (Ok (record s { over = or_line s.over n }))
 
--- a place that is named, at a line: it gets its number, or is one too many
+-- a location that is named, at a line: it gets its number, or is one too many
 abbrev pub place_put : ℕ → ℕ → Mentioned → List ℕ → Option ℕ → Result Mentioned TextError
 place_put begins n s name (Some place) = Ok (record s { names = names_added s.names name })
 place_put begins n s name None = over_at begins n s
 
--- a place of a name, at a line, among those that are named so far
+-- a location with a name, at a line, given those that are named so far
 abbrev pub name_mentioned : ℕ → ℕ → Mentioned → List ℕ → Result Mentioned TextError
 name_mentioned begins n s name = place_put begins n s name (number_added s.names name)
 
--- a left side at a line: a register of a thread of the table, or a place
+-- a left side at a line: a register of a thread of the table, or a location
 abbrev pub left_put : Writing → Setting → ℕ → Mentioned → LeftSeen → Result Mentioned TextError
 left_put w here n s (InRegister thread name) =
     cond (nat_lt thread here.threads && is_some (number_in w.registers name)) (Ok s) (bad BadCondition here.begins)
 left_put w here n s (AtPlace name) = name_mentioned here.begins n s name
 
--- a term, what it says of places, and what is left of the text
+-- a term, the locations that are named then, and what is left of the text
 pub record TermRead : Type 0 where
   pub term : TermSeen
   pub state : Mentioned
   pub rest : List ℕ
 
--- a term at the beginning of what is left
+-- the term at the beginning of what is left
 unfoldable pub term_here : Writing → Setting → Mentioned → List ℕ → Result TermRead TextError
 term_here w here s text = do
   left ← at_begin here.begins (left_read has_form (unblanked text))
@@ -52,7 +52,7 @@ term_here w here s text = do
   right ← at_begin here.begins (right_read left.1)
   Ok (record { term = record { left = left.0; value = right.0 }; state = next; rest = right.1 })
 
--- the terms, what they say of places, and what is left of the text
+-- the terms, the locations that are named then, and what is left of the text
 pub record TermsRead : Type 0 where
   pub terms : List TermSeen
   pub state : Mentioned
@@ -62,14 +62,14 @@ pub record TermsRead : Type 0 where
 abbrev pub before_read : TermSeen → TermsRead → TermsRead
 before_read term others = record others { terms = term ∷ others.terms }
 
--- a term, and the further terms where the text goes on with them
+-- a term, and the further terms if `/\` announces them
 abbrev pub and_more : TermRead → (Mentioned → List ℕ → Result TermsRead TextError) → Follow → List ℕ → Result TermsRead TextError
 and_more read further follows.End rest = Ok (record { terms = read.term ∷ []; state = read.state; rest = rest })
 and_more read further follows.Term rest = do
   others ← further read.state rest
   Ok (before_read read.term others)
 
--- at most so many terms, up to the `)` after the last; a term too many is too large
+-- 1 to so many terms, up to the `)` after the last; a term too many is TooLarge
 unfoldable pub terms_here : Writing → Setting → ℕ → Mentioned → List ℕ → Result TermsRead TextError
 terms_here w here zero s text = do
   read ← term_here w here s text
@@ -79,7 +79,7 @@ terms_here w here (suc room) s text = do
   follow ← at_begin here.begins (follow_read read.rest)
   and_more read (terms_here w here room) follow.0 follow.1
 
--- the names of places, where no place is one too many
+-- the names of locations, unless a location is one too many
 abbrev pub none_over : Mentioned → Result (List (List ℕ)) TextError
 none_over s = none_over_if s.over s.names
   where

@@ -1,5 +1,5 @@
 -- The initial state of a test.
--- Source: the litmus format of the herdtools manual; what is an error, and where, is own.
+-- Source: the litmus format of the herdtools manual; what is an error, and where, is our own.
 use Rattle.std.specs.{Prelude.{ℕ, ◌+◌, ◌-◌, ◌==◌, Bool, cond, ◌&&◌, nat_lt, List, [], ◌∷◌, ◌++◌, Option, Some, None, Result, Ok, codes, length}, List.list_any}
 use Rattle.std.specs.Str.{bytes_eq}
 use Rattle.relax_edges.specs.declared.kinds.Value.{Value}
@@ -12,22 +12,22 @@ use Rattle.litmus_text.specs.{declared.errors.TestKind.TheVariants.{BadInit, Too
 use Rattle.litmus_text.specs.{declared.limits.TheConstants.MAX_THREADS, TextLines.{Lines, ends, line, TextRead, bad}, TextCuts.pieces}
 use Rattle.litmus_text.specs.Joined.{Joined, no_text, with_text, line_at}
 
--- what an item gives a register: a number, or the address of a place
+-- what an item gives a register: a number, or the address of a location
 pub data Worth : Type 0 where
   a_number : ℕ → Worth
   a_place : List ℕ → Worth
 
--- an item: empty, `T:REG=PLACE` or `T:REG=NUM` by the number of the register, `PLACE=0` or `[PLACE]=0`
+-- an item: empty, `T:REG=LOCATION` or `T:REG=NUM` with the number of the register, `LOCATION=0` or `[LOCATION]=0`
 pub data InitialItem : Type 0 where
   empty : InitialItem
   gives : (thread register : ℕ) (worth : Worth) → InitialItem
   zero_at : (place : List ℕ) → InitialItem
 
--- the name of a place as the value of a register
+-- the name of a location whose address is the value of a register
 abbrev pub place_worth : List ℕ → Option Worth
 place_worth text = cond (is_place_name text) (Some (a_place text)) None
 
--- the number as the value of a register, else the name of a place
+-- a number as the value of a register, otherwise the name of a location
 abbrev pub worth_if : List ℕ → Option ℕ → Option Worth
 worth_if text (Some n) = Some (a_number n)
 worth_if text None = place_worth text
@@ -41,7 +41,8 @@ abbrev pub given_item : ℕ → Option ℕ → Option Worth → Option InitialIt
 given_item thread (Some register) (Some worth) = Some (gives thread register worth)
 given_item thread _ _ = None
 
--- an item with this left side
+-- the item with this left side and this right side, if there is one: a register that tests use of a thread that a test can have, or a
+-- location, whose value must be 0
 abbrev pub item_with : Writing → LeftSeen → List ℕ → Option InitialItem
 item_with w (InRegister thread name) right =
     cond (nat_lt thread MAX_THREADS) (given_item thread (number_in w.registers name) (worth_of right)) None
@@ -58,7 +59,7 @@ abbrev pub item_if : Writing → Option LeftSeen → List ℕ → Option Initial
 item_if w None right = None
 item_if w (Some left) right = item_with w left right
 
--- the item of the two sides of `=`, around which blanks may be
+-- the item with the two sides of an `=`, around which blanks may come
 abbrev pub item_parts : Writing → Option (List ℕ × List ℕ) → Option InitialItem
 item_parts w None = None
 item_parts w (Some sides) = item_if w (whole_left (left_at_start (trim_blanks sides.0))) (trim_blanks sides.1)
@@ -72,7 +73,7 @@ some_item w (byte ∷ text) = item_parts w (cut_at 61 (byte ∷ text))
 unfoldable pub item_of : Writing → List ℕ → Option InitialItem
 item_of w text = some_item w (trim_blanks text)
 
--- the initial values so far, each with its thread and register, and the names of places
+-- the initial values so far, each with its thread and register, and the names of locations
 pub record Begun : Type 0 where
   pub names : List (List ℕ)
   pub values : List (ℕ × (ℕ × Value))
@@ -92,7 +93,7 @@ with_value begun names thread register value = record {
   values = begun.values ++ (thread, (register, value)) ∷ [];
 }
 
--- a place that a register holds the address of, at a line
+-- a register with the address of a location, at a line
 abbrev pub address_begun : ℕ → Begun → ℕ → ℕ → List ℕ → Option ℕ → Result Begun TextError
 address_begun n begun thread register name None = bad TooLarge n
 address_begun n begun thread register name (Some place) =
@@ -103,16 +104,16 @@ abbrev pub with_worth : ℕ → Begun → ℕ → ℕ → Worth → Result Begun
 with_worth n begun thread register (a_number number) = Ok (with_value begun begun.names thread register (values.Num number))
 with_worth n begun thread register (a_place name) = address_begun n begun thread register name (number_added begun.names name)
 
--- a place that is named, at a line
+-- a location that is named, at a line
 abbrev pub with_named : ℕ → Begun → List ℕ → Option ℕ → Result Begun TextError
 with_named n begun name None = bad TooLarge n
 with_named n begun name (Some place) = Ok (record begun { names = names_added begun.names name })
 
--- a place of a name, at a line, among those that are named so far
+-- a location with a name, at a line, given those that are named so far
 abbrev pub name_begun : ℕ → Begun → List ℕ → Result Begun TextError
 name_begun n begun name = with_named n begun name (number_added begun.names name)
 
--- an item that begins at a line and ends at one
+-- an item, by the line where it begins and the line where it ends
 abbrev pub item_put : ℕ → ℕ → Begun → Option InitialItem → Result Begun TextError
 item_put first last begun None = bad BadInit first
 item_put first last begun (Some empty) = Ok begun
@@ -120,13 +121,13 @@ item_put first last begun (Some (gives thread register worth)) =
     cond (is_given thread register begun.values) (bad BadInit first) (with_worth last begun thread register worth)
 item_put first last begun (Some (zero_at name)) = name_begun first begun name
 
--- the item of a piece that begins at a place of a text
+-- the item in a piece that begins at this byte of a text
 unfoldable pub item_read : Writing → Joined → ℕ → List ℕ → Begun → Result Begun TextError
 item_read w joined place piece begun =
     item_put (line_at joined (place + (length piece - length (unblanked piece)))) (line_at joined (place + (length (before_blanks piece) - 1)))
     begun (item_of w piece)
 
--- the items of pieces, the first of which begins at a place of a text
+-- the items in pieces, the first of which begins at this byte of a text
 unfoldable pub items_read : Writing → Joined → ℕ → List (List ℕ) → Begun → Result Begun TextError
 items_read w joined place [] begun = Ok begun
 items_read w joined place (piece ∷ rest) begun = do
@@ -149,12 +150,12 @@ braced joined n text (ends m) = braced_if joined n (ends m) (cut_at 125 text) (o
 braced joined n text (line m next rest) =
     braced_if joined n (line m next rest) (cut_at 125 text) (braced (with_text (with_text joined n text) m (32 ∷ [])) m next rest)
 
--- nothing comes after the `}`
+-- nothing may come after the `}`
 abbrev pub brace_ends : ℕ → List ℕ → Lines → Begun → TextRead Begun
 brace_ends n [] rest begun = Ok (begun, rest)
 brace_ends n (byte ∷ remainder) rest begun = bad BadInit n
 
--- the initial state that the items between braces give
+-- the initial state that the items between braces give; without a `}` the items that a `;` ends are judged, and then the end is missing
 abbrev pub braced_read : Writing → Braced → TextRead Begun
 braced_read w (closed text n remainder rest) = do
   begun ← items_read w text 0 (pieces 59 text.bytes) nothing_begun
@@ -163,7 +164,7 @@ braced_read w (open_to text n) = do
   begun ← items_read w text 0 (but_last (pieces 59 text.bytes)) nothing_begun
   bad EndMissing n
 
--- the initial state, where its line begins with `{`
+-- the initial state, whose line must begin with `{`
 abbrev pub initial_line : Writing → ℕ → List ℕ → Lines → TextRead Begun
 initial_line w n [] rest = bad BadInit n
 initial_line w n (byte ∷ text) rest = cond (byte == 123) (braced_read w (braced no_text n text rest)) (bad BadInit n)

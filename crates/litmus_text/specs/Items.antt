@@ -7,7 +7,7 @@ use Rattle.text_parts_laws.specs.Names.{is_place_name}
 use Rattle.arch_trait.specs.{Threads.ThreadCode, PlaceNames.{number_in, names_added}, Writing.Writing}
 use Rattle.litmus_text.specs.{declared.limits.TheConstants.MAX_THREADS, Placing.place_in}
 
--- an address register of a thread, and its place
+-- an address register of a thread, and its location
 abbrev pub Link : Type 0
 Link = ℕ × (ℕ × ℕ)
 
@@ -15,7 +15,7 @@ Link = ℕ × (ℕ × ℕ)
 abbrev pub links_of : ℕ → List ThreadCode → List Link
 links_of n threads = flat_map (λ t. map (λ link. (t.0, link)) t.1.links) (enumerate_from n threads)
 
--- the table after the places of address registers were mentioned
+-- the table after the locations of address registers were mentioned
 abbrev pub links_mention : (ℕ → List ℕ) → List (List ℕ) → List Link → List (List ℕ)
 links_mention names s [] = s
 links_mention names s (link ∷ links) = links_mention names (names_added s (names link.1.1)) links
@@ -30,7 +30,7 @@ links_once done [] = true
 links_once done (link ∷ links) =
     not (list_any (λ d. (d.0 == link.0) && (d.1.0 == link.1.0)) done) && links_once (done ++ link ∷ []) links
 
--- an address register of a thread that a test can have, one that tests use, with a place of a table
+-- an address register that tests use, of a thread that a test can have, and of a location whose name has its form and is in a table
 pub record LinkFits (w : Writing) (table : List (List ℕ)) (names : ℕ → List ℕ) (link : Link) : Type 0 where
   pub thread : link.0 < MAX_THREADS
   pub register : link.1.0 < length w.registers

@@ -25,6 +25,6 @@ unfoldable pub all_joined : Joined → Lines → Joined
 all_joined joined (ends n) = joined
 all_joined joined (line n text rest) = all_joined (with_text joined n (32 ∷ text)) rest
 
--- the line of a byte
+-- the line of byte number i, or 0 if there is no such byte
 abbrev pub line_at : Joined → ℕ → ℕ
 line_at joined i = get_or joined.lines i 0

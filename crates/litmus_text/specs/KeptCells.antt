@@ -9,7 +9,7 @@ abbrev pub all_texts : List (List (List ℕ)) → List (List ℕ)
 all_texts [] = []
 all_texts (column ∷ columns) = column ++ all_texts columns
 
--- what is kept at the places of a column, whose first text has this place, is the column's
+-- the texts that are kept for a column, whose first text has this index, are the column's
 abbrev pub HoldsColumn : List (List ℕ) → ℕ → List (List ℕ) → Type 0
 HoldsColumn kept first column =
     (row : ℕ) → row < length column → first + row < length kept → slice_index_or kept (first + row) [] ≡ slice_index_or column row []
@@ -20,7 +20,7 @@ pub record TableSeen : Type 0 where
   pub widths : List ℕ
   pub rows : ℕ
 
--- what is kept is that of the table of a test, whose columns are no wider than a text can be
+-- what is kept belongs to the table of a test, and its columns are no wider than the text of an instruction can be
 pub record HoldsTable (w : Writing) (test : TestSeen) (table : TableSeen) : Type 0 where
   pub texts : table.texts ≡ take KEPT_CELLS (all_texts (columns_of w test.places test.threads))
   pub widths : table.widths ≡ map width_of (columns_of w test.places test.threads)

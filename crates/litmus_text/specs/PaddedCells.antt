@@ -1,4 +1,4 @@
--- What only private functions cite: a cell as it is kept for its row.
+-- A cell as it is kept for its row. Only private functions cite this.
 -- Source: own.
 use Rattle.std.specs.Prelude.{◌≡◌, ◌≤◌, ◌-◌, ◌++◌, ℕ, List, length, codes, take, drop}
 use Rattle.std.proofs.Math.ListN.{replicate}
@@ -9,11 +9,11 @@ use Rattle.litmus_text.specs.{declared.cell.PaddedCell.PaddedCell, declared.cell
 abbrev pub text_in : PaddedCell → List ℕ
 text_in cell = take cell.len (drop 3 cell.bytes)
 
--- a text, filled with blanks up to a width, after ` | ` where it isn't the first of a row
+-- a text, filled with blanks up to a width, and with ` | ` before it unless it is the first of a row
 abbrev pub padded_at : ℕ → List ℕ → ℕ → List ℕ
 padded_at i text width = separator_at (codes " | ") i ++ (text ++ replicate (width - length text) 32)
 
--- number i of the cells of a row was added to a page, and it has room in a padded cell
+-- cell number i of a row was added to a page, and it fits into a padded cell
 pub record PutsCell (i : ℕ) (text : List ℕ) (width : ℕ) (old new : List ℕ) : Type 0 where
   pub put : new ≡ page_after old (padded_at i text width)
   pub short : length (padded_at i text width) ≤ CELL_ROOM

@@ -8,7 +8,7 @@ use Rattle.arch_trait.specs.Cells.{is_line_byte}
 abbrev pub is_row_byte : ℕ → Bool
 is_row_byte byte = is_line_byte byte && not (byte == 124 || byte == 59)
 
--- a name of a test: 1 to 800 bytes of names
+-- a name of a test: 1 to 800 bytes that names of tests may have
 pub record IsTestName (name : List ℕ) : Type 0 where
   pub some : nat_le 1 (length name) ≡ true
   pub short : nat_le (length name) 800 ≡ true

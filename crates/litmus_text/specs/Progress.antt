@@ -13,20 +13,20 @@ pub record RowProgress : Type 0 where
   pub done : List Micro
   pub left : List Micro
 
--- how far a thread was read, by its operations
+-- how far a thread was read: these operations were, and those are left
 abbrev pub progress : List Micro → List Micro → RowProgress
 progress done left = record { done = done; left = left }
 
--- the operations of a thread after one row more was read
+-- the operations of a thread after one more row was read
 abbrev pub moved : List Micro → List Micro → RowProgress
 moved done [] = progress done []
 moved done (op ∷ left) = progress (done ++ op ∷ []) left
 
--- how far a thread was read after one row more
+-- how far a thread was read after one more row
 abbrev pub advanced : RowProgress → RowProgress
 advanced p = moved p.done p.left
 
--- the column that was read so far
+-- the column of a thread that was read so far
 abbrev pub column_at : List (List ℕ) → (ℕ → List ℕ) → ℕ → RowProgress → Column
 column_at table names first p = column_so_far table names first p.done
 
@@ -35,26 +35,26 @@ abbrev pub mentioned_first : (ℕ → List ℕ) → List (List ℕ) → List Mic
 mentioned_first names s [] = s
 mentioned_first names s (op ∷ left) = mentioned names s op
 
--- the table after the first operations that are left of all threads were mentioned
+-- the table after the first operation that is left of each thread was mentioned
 abbrev pub row_mentions : (ℕ → List ℕ) → List (List ℕ) → List RowProgress → List (List ℕ)
 row_mentions names s [] = s
 row_mentions names s (p ∷ ps) = row_mentions names (mentioned_first names s p.left) ps
 
--- the place of an operation has a name of its form in a table
+-- the name of an operation's location, if it has one, has its form and is in a table
 abbrev pub is_placed : List (List ℕ) → (ℕ → List ℕ) → Micro → Bool
 is_placed table names (ops.LoadAt dst place) = is_place_name (names place) && is_some (number_in table (names place))
 is_placed table names (ops.StoreAt place n) = is_place_name (names place) && is_some (number_in table (names place))
 is_placed table names op = true
 
--- an operation after others, with so many labels: it is the architecture's, its place and label get numbers, and
--- it is no access too many
+-- an operation fits after others with so many labels and accesses: it is the architecture's, its location and label get numbers, and it
+-- is no access too many
 pub record OpFits (a : Puts) (table : List (List ℕ)) (names : ℕ → List ℕ) (labels accesses : ℕ) (op : Micro) : Type 0 where
   pub has : a.has op ≡ true
   pub placed : is_placed table names op ≡ true
   pub next : is_next labels op ≡ true
   pub room : (not (is_access op) || nat_lt accesses MAX_ACCESSES) ≡ true
 
--- operations one after another fit so
+-- operations one after another fit, after others with so many labels and accesses
 abbrev pub CodeFits : Puts → List (List ℕ) → (ℕ → List ℕ) → ℕ → ℕ → List Micro → Type 0
 CodeFits a table names labels accesses [] = Unit {0}
 CodeFits a table names labels accesses (op ∷ code) =

@@ -1,14 +1,14 @@
--- What code that reads answers, as the definitions see it.
+-- What code that reads returns, as the definitions see it.
 -- Source: own.
 use Rattle.std.specs.Prelude.{◌≡◌, Result, Ok, Err}
 use Rattle.litmus_text.specs.declared.errors.{TextError.TextError, ReadError.ReadError, ReadError.TheVariants.Text, ReadError.TheVariants.NoMemory}
 
--- an answer of the code is what the definition gives, where `view` says what a value of the code means
+-- a result of the code is what the definition gives: an error as such, and any other value as seen by `view`
 abbrev pub GivesTest : {X Y : Type 0} → (X → Y) → Result X TextError → Result Y TextError → Type 0
 GivesTest view (Ok x) read = read ≡ Ok (view x)
 GivesTest view (Err fault) read = read ≡ Err fault
 
--- an answer is what the definition gives, or there is no memory, and then nothing is said
+-- the same for code that may run out of memory; then nothing is said
 abbrev pub GivesInMemory : {X Y : Type 0} → (X → Y) → Result X ReadError → Result Y TextError → Type 0
 GivesInMemory view (Ok x) read = read ≡ Ok (view x)
 GivesInMemory view (Err (Text fault)) read = read ≡ Err fault

@@ -9,14 +9,14 @@ use Rattle.litmus_text.specs.{declared.limits.TheConstants.{MAX_TEST_TEXT, MAX_T
 use Rattle.litmus_text.specs.{Placing.{place_in, op_renumbered}, Printable.IsTestName, Progress.{CodeFits, code_lands}, Items.{links_of, links_once, LinkFits}}
 use Rattle.litmus_text.specs.ReadTerms.{TermFits}
 
--- a thread with its places numbered by a table
+-- a thread as it is read, with its locations numbered by a table
 abbrev pub thread_reread : List (List ℕ) → (ℕ → List ℕ) → ThreadCode → ThreadRead
 thread_reread table names t = record {
   init = map (λ link. (link.0, values.Place (place_in table (names link.1)))) t.links;
   code = map (op_renumbered table names) t.instrs;
 }
 
--- a test under a name as its text is read, with its places numbered by a table
+-- a test under a name as its text is read, with its locations numbered by a table
 abbrev pub reread : List (List ℕ) → List ℕ → TestSeen → TestRead
 reread table name test = record {
   name = name;
@@ -26,10 +26,10 @@ reread table name test = record {
   cond = test.cond;
 }
 
--- A test whose text reads back: the name has its form, the text is no longer than a text may be, there are 1 to 64
--- threads of at most 1,024 operations, each operation is the architecture's and its place and label get numbers, no
--- thread has too many accesses, branches land, address registers come once in a thread and hold places that have
--- names, and the condition has 1 to 128 terms of registers of the test's threads and of its places.
+-- A test whose text reads back: the name has its form, the text is no longer than a text may be, there are 1 to 64 threads of at most 1,024
+-- operations and at most 64 names of locations, each operation is the architecture's and its location and label get numbers, no thread has
+-- too many accesses, each branch has its label once, after it, address registers come once in a thread and hold the addresses of
+-- locations that have names, and the condition has 1 to 128 terms on registers of the test's threads and on its locations.
 pub record IsReadable (a : Puts) (arch : ArchName) (w : Writing) (name : List ℕ) (test : TestSeen) : Type 0 where
   pub named : IsTestName name
   pub short : length (test_text arch w name test) ≤ MAX_TEST_TEXT

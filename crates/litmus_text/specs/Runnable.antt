@@ -22,7 +22,7 @@ pub record CanRun (init : List (ℕ × Value)) (code : List Micro) : Type 0 wher
   pub registers : NamesRegisters init
   pub runnable : IsRunnable code
 
--- the registers are the machine's among the values of all threads
+-- the registers that get a first value in any thread are the machine's
 abbrev pub AllNameRegisters : List (ℕ × (ℕ × Value)) → Type 0
 AllNameRegisters values = AllByRecursion (λ (v : ℕ × (ℕ × Value)). v.1.0 < 32) values
 

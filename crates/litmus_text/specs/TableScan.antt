@@ -8,7 +8,7 @@ use Rattle.litmus_text.specs.{declared.errors.TestKind.TheVariants.{BadTable, Ba
 use Rattle.litmus_text.specs.{declared.limits.TheConstants.MAX_ROWS, TextLines.{Lines, ends, line, TextRead, bad}}
 use Rattle.litmus_text.specs.TestTable.{cells_of, Column, WithPlaces, with_places, fits_in_column}
 
--- a column with an operation more
+-- a column with one more operation
 abbrev pub with_op : ℕ → Column → ReadInstr → Column
 with_op n column read = record {
   ops = column.ops ++ (record { op = read.op; at_line = n }) ∷ [];

@@ -1,6 +1,6 @@
--- What the text of a test is read as: its parts are read one after another, each from the lines that the one before it leaves, and the first error ends the
--- reading. Where a part gives a pair, `.0` is what it means and `.1` the lines that are left.
--- Source: the litmus format of the herdtools manual; the limits and the order of the errors are own.
+-- What the text of a test is read as: its parts are read one after another, each from the lines that the one before it leaves, and the
+-- first error ends the reading. If a part gives a pair, `.0` is what it means and `.1` the lines that are left.
+-- Source: the litmus format of the herdtools manual; the limits and the order of the errors are our own.
 use Rattle.std.specs.{Prelude.{ℕ, ◌==◌, cond, nat_lt, List, Option, Result, Ok, length, map}, List.{filter, enumerate_from}}
 use Rattle.relax_edges.specs.{declared.kinds.ArchName.ArchName, declared.kinds.Value.Value}
 use Rattle.micro_ops.specs.declared.operation.Micro.{Micro}
@@ -12,13 +12,13 @@ use Rattle.litmus_text.specs.Header.{header_read, quote_read, after_settings, ar
 use Rattle.litmus_text.specs.TestTable.{Column, head_read, rows_read, all_labels_judged, after_locations}
 use Rattle.text_parts_laws.specs.ReadingSteps.{◌>>=◌}
 
--- a thread: its registers that the initial state gives a value, in the order of their items, and its operations
+-- a thread: its registers to which the initial state gives values, in the order of their items, and its operations
 pub record ThreadRead : Type 0 where
   pub init : List (ℕ × Value)
   pub code : List Micro
 
--- a test as it was read: the name in its header, the text in quotes, if there is one, the names of its places, which are numbered as they are first
--- named, its threads, and its condition
+-- a test as it was read: the name in its header, the text in quotes, if there is one, the names of its locations, which are numbered in the
+-- order of first mention, its threads, and its condition
 pub record TestRead : Type 0 where
   pub name : List ℕ
   pub quoted : Option (List ℕ)
@@ -26,7 +26,7 @@ pub record TestRead : Type 0 where
   pub threads : List ThreadRead
   pub cond : CondSeen
 
--- the initial values of a thread, of those of all threads
+-- the initial values of a thread, among those of all threads
 abbrev pub values_of_thread : ℕ → List (ℕ × (ℕ × Value)) → List (ℕ × Value)
 values_of_thread thread values = map (λ v. v.1) (filter (λ v. v.0 == thread) values)
 
@@ -35,8 +35,9 @@ abbrev pub threads_of : Begun → List Column → List ThreadRead
 threads_of begun columns =
     map (λ c. record { init = values_of_thread c.0 begun.values; code = map (λ placed. placed.op) c.1.ops }) (enumerate_from 0 columns)
 
--- the test that lines are read as, or the first error: the header, the text in quotes, the initial state after lines of the form `name=anything`, the header
--- of the table, its rows, the labels of its branches, and the condition, before which a line of locations may be
+-- the test that lines are read as, or the first error: the header, the text in quotes, the initial state after lines of the form
+-- `name=anything`, the header of the table, its rows, the labels of its branches, and the condition, before which a line of locations may
+-- come
 unfoldable pub lines_read : ArchName → Writing → Lines → Result TestRead TextError
 lines_read arch w lines = do
   header ← header_read arch lines
@@ -54,7 +55,7 @@ lines_read arch w lines = do
     cond = condition.cond;
   })
 
--- the test that a text is read as, or its first error; a text of more than MAX_TEST_TEXT bytes is too large, whatever it holds
+-- the test that a text is read as, or its first error; a text of more than MAX_TEST_TEXT bytes is TooLarge, whatever it holds
 unfoldable pub test_read : ArchName → Writing → List ℕ → Result TestRead TextError
 test_read arch w text = cond (nat_lt MAX_TEST_TEXT (length text)) (bad TooLarge 1) (lines_read arch w (lines_from 1 text))
 

@@ -1,4 +1,4 @@
--- A printed test is read back as the test, its places numbered by a table of names that has the places which the test uses.
+-- A printed test is read back as the test, its locations numbered by a table of the names of those that the test uses.
 -- Source: own.
 use Rattle.std.specs.{Prelude.{◌≡◌, ℕ, Bool, true, is_some, List, Ok}, List.{AllByRecursion, IsDistinct}, Str.bytes_eq}
 use Rattle.relax_edges.specs.declared.kinds.ArchName.{ArchName}
@@ -12,19 +12,20 @@ use Rattle.litmus_text.specs.{TestText.test_text, TestReading.test_read, Items.l
 abbrev pub is_in : List (List ℕ) → List ℕ → Bool
 is_in table name = is_some (number_in table name)
 
--- the name of the place of an operation is in a table, if the operation has a place; `names` gives the names of places by their numbers
+-- the name of an operation's location, if it has one, is in a table; `names` gives the names of locations by their numbers
 abbrev pub op_is_in : List (List ℕ) → (ℕ → List ℕ) → Micro → Bool
 op_is_in table names (ops.LoadAt dst place) = is_in table (names place)
 op_is_in table names (ops.StoreAt place n) = is_in table (names place)
 op_is_in table names op = true
 
--- the place that a left side names is in a table, if it names one
+-- the location that a left side names, if it names one, is in a table
 abbrev pub left_is_in : List (List ℕ) → LeftSeen → Bool
 left_is_in table (InRegister thread name) = true
 left_is_in table (AtPlace name) = is_in table name
 
--- The text of a test under a name is read as the test, its places numbered by a table (`read`). The table holds each name once (`once`), no name but those
--- of the test's places (`among`), and each place that an operation (`codes`), an address register (`links`) or a term of the condition (`terms`) names.
+-- The text of a test under a name is read as the test, its locations numbered by a table (`read`). The table has each name once (`once`),
+-- only names of the test's locations (`among`), and each location that an operation (`codes`), an address register (`links`) or a term of
+-- the condition (`terms`) names.
 pub record TestReadsBack (arch : ArchName) (w : Writing) (name : List ℕ) (test : TestSeen) : Type 0 where
   pub table : List (List ℕ)
   pub read : test_read arch w (test_text arch w name test) ≡ Ok (reread table name test)

@@ -11,16 +11,16 @@ use Rattle.final_cond.specs.CondText.{cond_text}
 unfoldable pub header_line : ArchName → List ℕ → List ℕ
 header_line arch name = arch_word arch ++ (codes " " ++ name)
 
--- the words of the edges in double quotes
+-- the names of the edges in double quotes
 unfoldable pub edges_line : List Edge → List ℕ
 edges_line edges = codes "\"" ++ (join_by word_of (codes " ") edges ++ codes "\"")
 
--- `T:REG=PLACE;` for an address register of thread T
+-- `T:REG=LOCATION;` for an address register of thread T
 unfoldable pub item_text : Writing → List (List ℕ) → ℕ → ℕ × ℕ → List ℕ
 item_text w places thread link =
     decimal thread ++ codes ":" ++ name_in w.registers link.0 ++ codes "=" ++ name_in places link.1 ++ codes ";"
 
--- one line of items for a thread that has address registers
+-- one line of items if the thread has address registers, otherwise none
 abbrev pub items_lines : Writing → List (List ℕ) → ℕ → List (ℕ × ℕ) → List (List ℕ)
 items_lines w places thread [] = []
 items_lines w places thread (link ∷ links) = join_by (item_text w places thread) (codes " ") (link ∷ links) ∷ []

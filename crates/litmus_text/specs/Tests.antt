@@ -6,7 +6,7 @@ use Rattle.arch_trait.specs.{Codes.thread_code_of, Writing.{place_below, label_b
 use Rattle.final_cond.specs.Conditions.{cond_view}
 use Rattle.litmus_text.specs.declared.test.Test.{Test}
 
--- what the text of a test shows of it: its edges, the names of its places, the code of its threads, and its condition
+-- what the text of a test shows of it: its edges, the names of its locations, the code of its threads, and its condition
 abbrev pub test_seen : Test → TestSeen
 test_seen test = record {
   edges = test.edges.items;
@@ -15,9 +15,9 @@ test_seen test = record {
   cond = cond_view test.cond;
 }
 
--- The code of a thread can be printed, by an architecture whose operations pass a test and that has so many registers, in a test with so many places:
--- the architecture has its operations, their places have names and their labels are below 64, and the address registers are the architecture's and hold
--- places that have names.
+-- The code of a thread can be printed, for an architecture whose operations `is_of` tells and that has so many registers, in a test
+-- with so many locations: its operations are the architecture's, their locations have names and their labels are below 64, and the
+-- address registers are the architecture's and hold the addresses of locations that have names.
 pub record IsPrintable (is_of : Micro → Bool) (register_count place_count : ℕ) (code : Code) : Type 0 where
   pub has : list_all is_of code.instrs.items ≡ true
   pub op_places : list_all (place_below place_count) code.instrs.items ≡ true

@@ -6,7 +6,7 @@ use Rattle.arch_trait.specs.{Writing.Writing, SeenTests.TestSeen}
 use Rattle.litmus_text.specs.{declared.parts.TextPart.TheVariants.Edges, TestText.{header_line, with_line_feed, test_lines, test_text}}
 use Rattle.litmus_text.specs.TextParts.{rows_from, part_lines, text_from}
 
--- the text of a test is its header, and then that from the edges on
+-- the text of a test is its header, and then the text from the edges on
 pub text_begins : (arch : ArchName) (w : Writing) (name : List ℕ) (test : TestSeen)
     → test_text arch w name test ≡ with_line_feed (header_line arch name) ++ text_from w test (Some Edges)
 unfolding test_text test_lines part_lines rows_from

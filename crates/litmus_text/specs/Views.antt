@@ -26,7 +26,7 @@ use Rattle.relax_edges.specs.declared.kinds.Value.{Value}
 abbrev pub cut_seen : Option (Bor (List ℕ) × Bor (List ℕ)) → Option (List ℕ × List ℕ)
 cut_seen cut = option_map (λ parts. (parts.0.now, parts.1.now)) cut
 
--- the pieces of a text, if it is left
+-- the pieces of a text, if one is left
 abbrev pub pieces_if : ℕ → Option (Bor (List ℕ)) → List (List ℕ)
 pieces_if sign None = []
 pieces_if sign (Some text) = pieces sign text.now
@@ -35,7 +35,7 @@ pieces_if sign (Some text) = pieces sign text.now
 abbrev pub pieces_left : Pieces → List (List ℕ)
 pieces_left p = pieces_if p.sign p.rest
 
--- the first of some pieces, and the pieces that are left, or there is none
+-- the first of all pieces and those after it, or there are none
 abbrev pub FirstPiece : Option (Bor (List ℕ) × Pieces) → List (List ℕ) → Type 0
 FirstPiece None all = all ≡ []
 FirstPiece (Some first) all = all ≡ first.0.now ∷ pieces_left first.1
@@ -44,12 +44,12 @@ FirstPiece (Some first) all = all ≡ first.0.now ∷ pieces_left first.1
 abbrev pub text_left : Text → Lines
 text_left text = lines_from text.number text.bytes.now
 
--- the first line that is left, and those after it
+-- the lines that are left, seen as a first line and those after it
 abbrev pub lines_seen : Left → Lines
 lines_seen (lefts.Ends n) = ends n
 lines_seen (lefts.Line l) = line l.number l.text.now (text_left l.rest)
 
--- what is left after the first line is shorter
+-- what is left after the first line, if there is one, is shorter than this
 abbrev pub IsShorter : Left → ℕ → Type 0
 IsShorter (lefts.Ends n) size = Unit {0}
 IsShorter (lefts.Line l) size = length l.rest.bytes.now < size
@@ -69,12 +69,12 @@ item_seen items.Empty = empty
 item_seen (items.Register thread register worth) = gives thread register (worth_seen worth)
 item_seen (items.Zero name) = zero_at name.bytes
 
--- a place that is the value of a register has a name of its form
+-- a location whose address is the value of a register has a name of its form
 abbrev pub worth_formed : TextWorth → Bool
 worth_formed (worths.Number n) = true
 worth_formed (worths.Place name) = is_place_name name.now
 
--- a place that an item names has a name of its form
+-- a location that an item names has a name of its form
 abbrev pub item_formed : TextItem → Bool
 item_formed items.Empty = true
 item_formed (items.Register thread register worth) = worth_formed worth
@@ -84,7 +84,7 @@ item_formed (items.Zero name) = is_place_name name.bytes
 abbrev pub begun_seen : State → Begun
 begun_seen b = record { names = b.names; values = b.values.items }
 
--- the items of pieces of a text, of which the first is at its beginning, added to what is given so far
+-- the items in the pieces of a text, the first of them at its beginning, added to what is given so far
 abbrev pub pieces_read : Writing → JoinedText → List (List ℕ) → State → Result Begun TextError
 pieces_read w joined ps begun = items_read w (joined_seen joined) 0 ps (begun_seen begun)
 
@@ -101,11 +101,11 @@ cells_seen c = record { texts = pieces_left c.pieces; whole = c.whole }
 abbrev pub column_seen : ThreadColumn → Column
 column_seen c = record { ops = c.ops.items; labels = c.labels }
 
--- one column, with the names of places
+-- one column, with the names of locations
 abbrev pub column_with_places : List (List ℕ) → ThreadColumn → WithPlaces Column
 column_with_places names column = with_places names (column_seen column)
 
--- all columns, with the names of places
+-- all columns, with the names of locations
 abbrev pub columns_with_places : List (List ℕ) → List ThreadColumn → WithPlaces (List Column)
 columns_with_places names columns = with_places names (map column_seen columns)
 
@@ -117,7 +117,7 @@ columns_before names columns text = (columns_with_places names columns, text_lef
 abbrev pub cells_read : Writing → ℕ → RowCells → List (List ℕ) → List ThreadColumn → Result (WithPlaces (List Column)) TextError
 cells_read w n cells names columns = row_read w n (cells_seen cells).whole (cells_seen cells).texts names (map column_seen columns)
 
--- an answer to the cells of a row after its last column, whatever the names of places are
+-- a result is what the definition gives for the cells of a row after its last column, whatever the names of locations are
 abbrev pub EndsRow : ℕ → Bool → List (List ℕ) → Result (Unit {0}) TextError → Type 0
 EndsRow n whole cells answer = (w : Writing) → (names : List (List ℕ)) → GivesTest (λ _. with_places names []) answer (row_read w n whole cells names [])
 
@@ -125,7 +125,7 @@ EndsRow n whole cells answer = (w : Writing) → (names : List (List ℕ)) → G
 abbrev pub setting_seen : Here → Setting
 setting_seen h = record { threads = h.threads; begins = h.begins; text = joined_seen h.text }
 
--- what the code sees of the names of places
+-- what the code sees of the locations that are named so far
 abbrev pub mentioned_seen : Names → Mentioned
 mentioned_seen m = record { names = m.names; over = m.over }
 
@@ -137,15 +137,15 @@ term_read_seen m t = record { term = term_view t.0; state = mentioned_seen m; re
 abbrev pub terms_read_seen : List TermSeen → Names → List ℕ → TermsRead
 terms_read_seen terms m rest = record { terms = terms; state = mentioned_seen m; rest = rest }
 
--- an answer with the names that are mentioned then
+-- a result is what the definition gives, with the locations that are named then
 abbrev pub GivesMentioned : Names → Result (Unit {0}) TextError → Result Mentioned TextError → Type 0
 GivesMentioned new answer read = GivesTest (λ _. mentioned_seen new) answer read
 
--- terms that were read, the names that are mentioned then, and what is left of the text
+-- terms that were read, the locations that are named then, and what is left of the text
 abbrev pub all_terms_seen : List Term → Names → Bor (List ℕ) → TermsRead
 all_terms_seen terms m rest = terms_read_seen (map term_view terms) m rest.now
 
--- the terms of what is left of the text, with the names that are mentioned so far
+-- the terms in what is left of the text, given the locations that are named so far
 abbrev pub terms_from : Writing → Here → Names → List ℕ → Result TermsRead TextError
 terms_from w here m text = terms_here w (setting_seen here) MAX_TERMS (mentioned_seen m) text
 
@@ -153,15 +153,15 @@ terms_from w here m text = terms_here w (setting_seen here) MAX_TERMS (mentioned
 abbrev pub cond_read_seen : Cond × List (List ℕ) → CondRead
 cond_read_seen c = record { cond = cond_view c.0; names = c.1 }
 
--- what the code sees of a text in quotes, which need not be there
+-- what the code sees of a text in quotes, if there is one
 abbrev pub quoted_seen : Option (Bor (List ℕ)) → Option (List ℕ)
 quoted_seen quoted = option_map (λ text. text.now) quoted
 
--- an initial state that gives values and names no place
+-- an initial state that gives these values, without its names of locations
 abbrev pub only_values : List (ℕ × (ℕ × Value)) → Begun
 only_values values = record { names = []; values = values }
 
--- the test of its parts
+-- the test with these parts
 abbrev pub test_of_parts : Head → List (ℕ × (ℕ × Value)) → List ThreadColumn → Cond → List (List ℕ) → TestRead
 test_of_parts head values columns cond places = record {
   name = head.name.now;
@@ -191,7 +191,7 @@ body_read w name quoted ls = do
   head ← head_read initial.0 initial.1
   table_read w name quoted initial.0 head.0 head.1
 
--- the same by the values of the code
+-- a test by the values of the code, from what comes after its table on
 abbrev pub rest_view : Writing → Head → List (ℕ × (ℕ × Value)) → List ThreadColumn → List (List ℕ) → Text → Result TestRead TextError
 rest_view w head values columns names text =
     rest_read w head.name.now (quoted_seen head.quoted) (only_values values) (map column_seen columns) (length columns) names (text_left text)

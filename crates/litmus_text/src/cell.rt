@@ -8,11 +8,11 @@ use arrayvec::ArrayString;
 /// The text of one cell.
 pub(crate) type Cell = ArrayString<MAX_INSTRUCTION_TEXT>;
 
-/// The most bytes of a cell with ` | ` before it.
+/// The most bytes that a cell with ` | ` before it can have.
 pub(crate) const CELL_ROOM: usize = MAX_INSTRUCTION_TEXT + 3;
 
-/// A cell as rows have it: ` | `, its text, and blanks for as wide as a column can be. So each row copies it in one piece of fixed
-/// length, however wide its column is.
+/// A cell as rows have it: ` | `, its text, and blanks up to the greatest width of a column. So each
+/// row copies it in one piece of fixed length, however wide its column is.
 #[derive(Clone, Copy)]
 pub(crate) struct PaddedCell {
     pub(crate) bytes: [u8; CELL_ROOM],

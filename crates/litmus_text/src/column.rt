@@ -31,7 +31,7 @@ pub(crate) fn set_cell<A: Arch>(
     }
 }
 
-/// Appends a number in decimal, of one digit without a loop.
+/// Appends a number in decimal; one of one digit without a loop.
 #[tactic(auto, using(std::proofs::lemmas::Fmt::decimal_digit, std::proofs::lemmas::Str::encode_ascii))]
 fn push_number(number: usize, cell: &mut Cell)
     requires { length cell.old.bytes ≤ 1 }
@@ -47,8 +47,8 @@ fn push_number(number: usize, cell: &mut Cell)
 /// How many cells of a table are kept.
 const KEPT_CELLS: usize = 128;
 
-/// The first cells of a table, column by column. A cell is printed to find how wide its column is, and is copied into its row from
-/// here.
+/// The first cells of a table, column by column. A cell is printed to find how wide its column is, and
+/// is copied into its row from here.
 ///
 /// Contracts see the texts that are kept.
 #[derive(Drop)]
@@ -69,7 +69,7 @@ impl Model for KeptCells {
 }
 
 impl KeptCells {
-    /// Room in which nothing is kept so far.
+    /// Space in which nothing is kept so far.
     pub(crate) fn new() -> KeptCells
         ensures { result ≡ [] }
     {
@@ -85,7 +85,7 @@ impl KeptCells {
         self.count = 0;
     }
 
-    /// Keeps one more text, where there is room.
+    /// Keeps one more text, if there is space.
     fn keep(&mut self, cell: &Cell)
         ensures { self.new ≡ take KEPT_CELLS (self.old ++ cell.now.bytes ∷ []) }
     {
@@ -95,7 +95,7 @@ impl KeptCells {
         }
     }
 
-    /// The cell that is kept at a place, if there is one.
+    /// The cell that is kept at an index, if there is one.
     fn get(&self, place: usize) -> Option<&PaddedCell>
         ensures { IfSome result (λ cell. (place < length self.now) × (text_in cell.now ≡ slice_index_or self.now place [])) }
     {
@@ -107,7 +107,7 @@ impl KeptCells {
     }
 }
 
-/// The width of a column that is as wide as this, with one more cell.
+/// The width of a column with one more cell, if it was as wide as this without it.
 fn widen(width: usize, cell: &Cell) -> usize
     ensures value { result ≡ max width (length cell.now.bytes) }
     ensures short { width ≤ MAX_INSTRUCTION_TEXT → result ≤ MAX_INSTRUCTION_TEXT }
@@ -158,19 +158,19 @@ pub(crate) fn set_widths<A: Arch>(
     }
 }
 
-/// Where a cell stands in a table.
+/// The position of a cell in a table.
 #[derive(Clone, Copy)]
 pub(crate) struct CellSpot {
     pub(crate) row: usize,
     /// The thread of its column.
     pub(crate) thread: usize,
-    /// The place of the first cell of its column, where it is kept.
+    /// The index of the first cell of its column among the cells of the table, column by column.
     pub(crate) first: usize,
     /// How wide its column is.
     pub(crate) width: usize,
 }
 
-/// Appends a thread's cell to a row, from the cells that are kept, or printed again.
+/// Appends a thread's cell to a row: copied, if it is kept, otherwise printed again.
 pub(crate) fn put_cell<A: Arch>(
     spot: CellSpot,
     code: &Code,

@@ -10,10 +10,10 @@ use arrayvec::ArrayString;
 use diy_io::{Failed, LINE_ROOM, Page, Sink};
 use relax_edges::{ArchName, Edge, MAX_EDGES};
 
-/// The most bytes of a word of an edge with a blank before it.
+/// As many bytes as suffice for the name of an edge with a blank before it.
 const WORD_ROOM: usize = 17;
 
-/// Sends the header, which is as long as the name of the test makes it.
+/// Sends the header, however long the name of the test makes it.
 pub(crate) fn send_header<O: Sink>(
     arch: ArchName,
     name: &str,
@@ -31,7 +31,8 @@ fn send_names<O: Sink>(arch: &[u8], name: &[u8], page: &mut Page, out: &mut O) -
     page.send_pieces(&[arch, b" ", name, b"\n"], out)
 }
 
-/// Appends the header to the page.
+/// Appends the header to the page: the architecture and the name of the test, which has at most
+/// `MAX_TEST_NAME` bytes.
 #[tactic(auto, using(diy_io::specs::PageLaws::page_more, std::proofs::Common::append_assoc), unfolding(crate::specs::TestText::header_line))]
 pub fn put_header<A: Arch>(name: &str, page: &mut Page)
     requires { length name.now ≤ MAX_TEST_NAME }

@@ -10,13 +10,13 @@ use diy_io::Page;
 use final_cond::RegName;
 use itoa::Buffer;
 
-/// The most bytes of an item with a blank before it.
+/// The most bytes that an item with a blank before it can have.
 const ITEM_ROOM: usize = 56;
 
-/// The most bytes of the line of the items of a thread.
+/// The most bytes that the line of a thread's items can have.
 pub(crate) const ITEMS_ROOM: usize = ITEM_ROOM * MAX_STEPS + 1;
 
-/// Prints the line of the items of a thread, where it has some.
+/// Appends the line of the items of a thread, if it has any.
 pub(crate) fn print_item_line<A: Arch>(thread: usize, code: &Code, places: &Places, page: &mut Page)
     requires { IsPrintable A.puts.has A.REGISTERS (length places.now) code.now }
     ensures text { page.new ≡ page_after page.old (flat_map with_line_feed (items_lines A.writing places.now thread code.now.links.items)) }
@@ -60,7 +60,8 @@ fn print_item<A: Arch>(i: usize, thread: usize, link: (u8, u8), places: &Places,
     );
 }
 
-/// Appends the item of a register and a place by their names, one of the usual length in one piece.
+/// Appends the item of a register and a location by their names; one of the usual length goes in as
+/// one piece.
 #[inline(always)]
 #[tactic(auto, using(std::proofs::lemmas::Fmt::decimal_digit))]
 fn put_link(thread: usize, register: &[u8], place: &[u8], page: &mut Page)
@@ -78,7 +79,7 @@ fn put_link(thread: usize, register: &[u8], place: &[u8], page: &mut Page)
     put_long_link(thread, register, place, page);
 }
 
-/// Appends the item of a register and a place by their names, piece by piece.
+/// Appends the item of a register and a location by their names, piece by piece.
 #[tactic(auto, using(diy_io::specs::PageLaws::page_more, std::proofs::Common::append_assoc))]
 fn put_long_link(thread: usize, register: &[u8], place: &[u8], page: &mut Page)
     ensures { page.new ≡ page_after page.old (decimal thread ++ codes ":" ++ register.now ++ codes "=" ++ place.now ++ codes ";") }

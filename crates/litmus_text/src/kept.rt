@@ -8,8 +8,8 @@ use arrayvec::ArrayVec;
 use relax_edges::MAX_EDGES;
 use std::marker::Model;
 
-/// What is kept of the table of a test that is printed: its first cells, how wide its columns are, and how many rows it has.
-/// It can be used again and again, and what it held doesn't count.
+/// What is kept of the table of a test that is printed: its first cells, how wide its columns are, and
+/// how many rows it has. It can be reused, whatever it held before.
 #[derive(Drop)]
 pub struct KeptTable {
     pub(crate) cells: KeptCells,
@@ -32,7 +32,7 @@ impl Default for KeptTable {
 }
 
 impl KeptTable {
-    /// Nothing is kept so far.
+    /// Space in which nothing is kept so far.
     pub fn new() -> KeptTable {
         KeptTable {
             cells: KeptCells::new(),
@@ -41,7 +41,7 @@ impl KeptTable {
         }
     }
 
-    /// Keeps the table of a test.
+    /// Keeps what printing needs of the table of a test, instead of what was kept before.
     pub fn keep<A: Arch>(&mut self, test: &Test)
         requires { All (λ code. IsPrintable A.puts.has A.REGISTERS (length test.now.places) code) test.now.threads.items }
         ensures { HoldsTable A.writing (test_seen test.now) self.new }

@@ -1,4 +1,4 @@
-//! The text of a test: how it is printed, and what a text is read as.
+//! The text of a test: how a test is printed, and what a text is read as.
 #![tactic(auto)]
 
 mod cell;

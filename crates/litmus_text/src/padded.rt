@@ -20,7 +20,7 @@ impl Default for PaddedCell {
 }
 
 impl PaddedCell {
-    /// Makes it the cell with this text.
+    /// Makes this the cell with the text.
     pub(crate) fn set(&mut self, text: &Cell)
         ensures { text_in self.new ≡ text.now.bytes }
     {
@@ -30,7 +30,8 @@ impl PaddedCell {
         self.len = text.len() as u8;
     }
 
-    /// Appends the cell of a thread to a row, filled with blanks up to a width, after ` | ` where it isn't the first.
+    /// Appends the cell of a thread to a row, filled with blanks up to a width, and with ` | ` before
+    /// it unless it is the first.
     #[inline(always)]
     pub(crate) fn put(&self, thread: usize, width: usize, page: &mut Page)
         requires within { length (text_in self.now) ≤ width }

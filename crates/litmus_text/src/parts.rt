@@ -15,19 +15,23 @@ use diy_io::{LINE_ROOM, Page};
 /// What closes the initial state.
 const CLOSING: &[u8; 2] = b"}\n";
 
-/// A part of the text of a test after its header, from where on it is printed.
+/// A part of the text of a test after its header, from which printing goes on.
 #[derive(Clone, Copy, PartialEq, Eq)]
 pub enum TextPart {
     /// The line of the edges, and the brace that opens the initial state.
     Edges,
-    /// The items of a thread, by its number; after those of the last thread, the brace that closes the initial state.
+    /// The items of a thread, by its number; after those of the last thread, the brace that closes the
+    /// initial state.
     Items(usize),
     /// A row of the table, by its number; after the last row, the condition.
     Row(usize),
 }
 
-/// Appends a part of the text of a test to the page, and parts after it where there is room for them, at most `LINE_ROOM` bytes in
-/// all, and says from which part on the text goes on, where it does. `TextPart::Edges` comes first, after the header.
+/// Appends a part of the text of a test to the page, perhaps with parts after it, at most `LINE_ROOM`
+/// bytes in all. Returns the part from which the text goes on, if there is more. `TextPart::Edges`
+/// comes first, after the header.
+///
+/// `KeptTable::keep` must have kept the table of this test, and the test must be as `print_test` says.
 pub fn put_part<A: Arch>(
     part: TextPart,
     test: &Test,
@@ -48,7 +52,8 @@ pub fn put_part<A: Arch>(
     }
 }
 
-/// Appends the items of threads, from one on, as far as there is room for them, and the brace after those of the last.
+/// Appends the items of threads, from one thread on, while there is space for them, and the brace
+/// after those of the last.
 fn put_items<A: Arch>(first: usize, test: &Test, page: &mut Page) -> TextPart
     requires { All (λ code. IsPrintable A.puts.has A.REGISTERS (length test.now.places) code) test.now.threads.items }
     ensures { PutsPart A.writing (test_seen test.now) (parts.Items first) page.old page.new (Some result) }
@@ -80,7 +85,7 @@ fn put_row<A: Arch>(row: usize, test: &Test, table: &KeptTable, page: &mut Page)
     }
 }
 
-/// Appends rows of the table, from one on, as many as there is room for.
+/// Appends rows of the table, from one row on, as many as there is space for.
 fn put_rows<A: Arch>(first: usize, test: &Test, table: &KeptTable, page: &mut Page) -> TextPart
     requires printable { All (λ code. IsPrintable A.puts.has A.REGISTERS (length test.now.places) code) test.now.threads.items }
     requires kept { HoldsTable A.writing (test_seen test.now) table.now }

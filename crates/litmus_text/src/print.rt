@@ -12,10 +12,10 @@ use arch_trait::Arch;
 use diy_io::{Failed, LINE_ROOM, Page, Sink};
 use final_cond::{Cond, put_cond};
 
-/// Appends the text of a test under a name, by the layout of the litmus format. Each operation is
-/// the architecture's, its place has a name and its label is below 64; each address register is the
-/// architecture's and holds a place that has a name. Where the sink fails, it has taken a prefix of
-/// the text.
+/// Appends the text of a test under a name, by the layout of the litmus format. Each operation must be
+/// the architecture's, with a location that has a name and a label below 64; each address register
+/// must be the architecture's and hold the address of a location that has a name. If the sink fails,
+/// it has taken a prefix of the text.
 pub fn print_test<A: Arch, O: Sink>(test: &Test, name: &str, out: &mut O) -> Result<(), Failed>
     requires { All (λ code. IsPrintable A.puts.has A.REGISTERS (length test.now.places) code) test.now.threads.items }
     ensures { Wrote (O.seen out.old) (O.seen out.new) (test_text A.NAME A.writing name.now (test_seen test.now)) result }
@@ -24,7 +24,8 @@ pub fn print_test<A: Arch, O: Sink>(test: &Test, name: &str, out: &mut O) -> Res
     print_test_by::<A, O>(test, name, &mut KeptTable::new(), &mut page, out)
 }
 
-/// As `print_test`, by way of a page that is empty before and, where the sink didn't fail, after, and of room for what is kept.
+/// Like `print_test`, but with the caller's `KeptTable` and page. The page must be empty, and it is
+/// empty afterwards unless the sink failed.
 pub fn print_test_by<A: Arch, O: Sink>(
     test: &Test,
     name: &str,

@@ -10,7 +10,7 @@ use arch_trait::{Arch, Code, MAX_INSTRUCTION_TEXT, Places};
 use diy_io::Page;
 use relax_edges::MAX_EDGES;
 
-/// How many bytes a row has before its first cell and after its last one.
+/// How many bytes a row has before its first cell and after its last one, together.
 pub(crate) const ROW_ENDS: usize = 4;
 
 /// Appends a row to the page.

@@ -6,8 +6,8 @@ use arrayvec::ArrayVec;
 use final_cond::Cond;
 use relax_edges::{Edge, MAX_EDGES};
 
-/// A litmus test: the cycle that it is made from, the names of its places, the code of its
-/// threads, and its condition.
+/// A litmus test: the edges of the cycle that it is made from, the names of its locations, the code of
+/// its threads, and its condition.
 #[derive(Drop)]
 pub struct Test {
     /// The edges of the resolved cycle.
@@ -18,8 +18,9 @@ pub struct Test {
 }
 
 impl Test {
-    /// A test without edges, places, threads and terms, whose condition begins with `exists`. It is a
-    /// function of its own in the program too (`inline(never)`), since it needs three times the stack of a test.
+    /// A test without edges, locations, threads and terms, whose condition begins with `exists`. It
+    /// stays a function of its own in the program (`inline(never)`), since it needs three times the
+    /// stack of a test.
     #[inline(never)]
     pub fn new() -> Test
         ensures edges { result.edges.items ≡ [] }

@@ -4,7 +4,7 @@ ghost use Rattle.litmus_text.specs.{TextCuts.{pieces}, Header.{two_words}, Views
 
 use text_parts::{Class, cut, next_word, split_run, without_blanks};
 
-/// The pieces of a text between signs, as far as they are left.
+/// The pieces that are left of a text between signs.
 #[derive(Clone, Copy)]
 pub(crate) struct Pieces<'a> {
     pub(crate) sign: u8,
@@ -22,7 +22,7 @@ impl<'a> Pieces<'a> {
         }
     }
 
-    /// The first piece that is left, and those after it.
+    /// The first piece that is left, and those after it, if any is left.
     pub(crate) fn first(self) -> Option<(&'a [u8], Pieces<'a>)>
         ensures { FirstPiece result (pieces_left self.entry) }
     {
@@ -40,7 +40,7 @@ impl<'a> Pieces<'a> {
     }
 }
 
-/// The words between blanks, where there are two.
+/// The words between blanks, if there are exactly two.
 pub(crate) fn two_words(text: &[u8]) -> Option<(&[u8], &[u8])>
     ensures { cut_seen result ≡ two_words (words text.now) }
 {

@@ -13,7 +13,7 @@ use crate::reading::text::Text;
 use relax_edges::ArchName;
 use text_parts::cut;
 
-/// The architecture with this name.
+/// The architecture with this name, if there is one.
 fn arch_named(word: &[u8]) -> Option<ArchName>
     ensures { result ≡ arch_of word.now }
 {
@@ -75,7 +75,7 @@ fn name_in_header<'a>(
     }
 }
 
-/// The name in the header, which is of this architecture.
+/// The name in the header, which must be of this architecture.
 #[tactic(auto, unfolding(crate::specs::Header::header_read))]
 pub(crate) fn read_header(arch: ArchName, text: Text<'_>) -> Result<(&[u8], Text<'_>), TextError>
     ensures { GivesTest (λ x. (x.0.now, text_left x.1)) result (header_read arch (text_left text.entry)) }
@@ -99,7 +99,7 @@ fn quote_cut<'a>(
     }
 }
 
-/// The quoted text, where the next line begins with a double quote.
+/// The quoted text, if the next line begins with a double quote.
 #[tactic(auto, unfolding(crate::specs::Header::quote_read))]
 pub(crate) fn read_quote(text: Text<'_>) -> Result<(Option<&[u8]>, Text<'_>), TextError>
     ensures { GivesTest (λ x. (option_map (λ t. t.now) x.0, text_left x.1)) result (quote_read (text_left text.entry)) }
@@ -114,7 +114,7 @@ pub(crate) fn read_quote(text: Text<'_>) -> Result<(Option<&[u8]>, Text<'_>), Te
     Ok((Some(quoted), rest))
 }
 
-/// Whether a line is letters, `=` and anything.
+/// Whether a line is one or more letters, `=` and anything.
 #[tactic(auto, unfolding(crate::specs::Header::is_setting))]
 fn is_setting(text: &[u8]) -> bool
     ensures { result ≡ is_setting text.now }
@@ -123,7 +123,7 @@ fn is_setting(text: &[u8]) -> bool
     !letters.is_empty() && matches!(rest, [b'=', ..])
 }
 
-/// What is left after the lines of letters, `=` and anything.
+/// What is left after the lines of letters, `=` and anything that come next.
 #[tactic(auto, using(crate::proofs::PartLoops::settings_more, crate::proofs::PartLoops::settings_stop, crate::proofs::PartLoops::settings_end))]
 pub(crate) fn after_settings(text: Text<'_>) -> Text<'_>
     ensures { text_left result ≡ after_settings (text_left text.entry) }

@@ -65,7 +65,7 @@ impl Begun {
         Ok(())
     }
 
-    /// Names a place, at a line.
+    /// Names a location, at a line.
     fn name(&mut self, line: u64, name: &PlaceName) -> Result<(), ReadError>
         requires { is_place_name name.now.bytes ≡ true }
         ensures { GivesInMemory (λ _. begun_seen self.new) result (name_begun line (begun_seen self.old) name.now.bytes) }
@@ -76,7 +76,7 @@ impl Begun {
         }
     }
 
-    /// Takes an item from its first line to its last.
+    /// Takes an item, given its first line and its last.
     fn put(&mut self, first: u64, last: u64, item: &Option<Item<'_>>) -> Result<(), ReadError>
         requires { IfSome item.now (λ i. item_formed i ≡ true) }
         ensures { GivesInMemory (λ _. begun_seen self.new) result (item_put first last (begun_seen self.old) (option_map item_seen item.now)) }
@@ -101,7 +101,7 @@ impl Begun {
     }
 }
 
-/// Reads the item of a piece that begins at byte number `i` of a text.
+/// Reads the item in a piece that begins at byte number `i` of a text.
 #[tactic(auto, unfolding(crate::specs::InitialState::item_read))]
 fn read_item<A: Arch>(
     joined: &Joined,
@@ -157,11 +157,11 @@ pub(crate) enum Braced<'a> {
         remainder: &'a [u8],
         rest: Text<'a>,
     },
-    /// With the number after that of the last line.
+    /// The text, with the number after that of its last line.
     Open(u64),
 }
 
-/// Appends the text up to the first `}` to `joined`, from the rest of a line on.
+/// Appends the text up to the first `}`, or all of it, to `joined`, from the rest of a line on.
 fn join_braced<'a>(
     joined: &mut Joined,
     number: u64,
@@ -222,7 +222,7 @@ fn read_braced<'a, A: Arch>(
     }
 }
 
-/// Reads the initial state into `begun`, in which nothing is given so far.
+/// Reads the initial state into `begun`, in which nothing may be given so far.
 #[tactic(auto, unfolding(crate::specs::InitialState::initial_read))]
 pub(crate) fn read_initial<'a, A: Arch>(
     alloc: Global,

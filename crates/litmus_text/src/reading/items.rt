@@ -8,7 +8,7 @@ use arch_trait::{Arch, register_named};
 use final_cond::{Left, PlaceName, is_place_name, number_of, read_left};
 use text_parts::{cut, trim_blanks};
 
-/// What an item gives a register: a number, or the address of a place.
+/// What an item gives a register: a number, or the address of a location.
 #[derive(Clone, Copy)]
 pub(crate) enum Worth<'a> {
     Number(u32),
@@ -19,13 +19,13 @@ pub(crate) enum Worth<'a> {
 #[derive(Drop)]
 pub(crate) enum Item<'a> {
     Empty,
-    /// `T:REG=NUM` or `T:REG=PLACE`, with the number of the register.
+    /// `T:REG=NUM` or `T:REG=LOCATION`, with the number of the register.
     Register {
         thread: u8,
         register: u8,
         worth: Worth<'a>,
     },
-    /// `PLACE=0` or `[PLACE]=0`.
+    /// `LOCATION=0` or `[LOCATION]=0`.
     Zero(PlaceName),
 }
 
@@ -83,7 +83,7 @@ fn item_between<'a, A: Arch>(left: &'a [u8], right: &'a [u8]) -> Option<Item<'a>
     item_with::<A>(left, trim_blanks(right))
 }
 
-/// The item that a text is, with blanks at both ends and around its `=`.
+/// The item in a text, if it is one. Blanks may come at both ends and around the `=`.
 #[tactic(auto, unfolding(crate::specs::InitialState::item_of))]
 pub(crate) fn item_of<A: Arch>(text: &[u8]) -> Option<Item<'_>>
     ensures item { option_map item_seen result ≡ item_of A.writing text.now }

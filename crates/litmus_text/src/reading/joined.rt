@@ -56,7 +56,7 @@ impl Joined {
         Ok(())
     }
 
-    /// The line of byte number `i`.
+    /// The line of byte number `i`, or 0 if there is no such byte.
     pub(crate) fn line_at(&self, i: usize) -> u64
         ensures { result ≡ line_at (joined_seen self.now) i }
     {

@@ -22,7 +22,7 @@ fn count_labels(label: u8, ops: &[Placed]) -> usize
     ops.iter().filter(|placed| is_label(label, placed)).count()
 }
 
-/// Whether the label of an operation comes once in its thread, after it, if the operation is a branch.
+/// Whether the label of an operation, if it is a branch, comes exactly once in its thread, after it.
 fn is_landing(op: &Micro, all: &[Placed], remainder: &[Placed]) -> bool
     ensures { result ≡ lands_among is_label_row op.now all.now remainder.now }
 {
@@ -34,7 +34,7 @@ fn is_landing(op: &Micro, all: &[Placed], remainder: &[Placed]) -> bool
     }
 }
 
-/// Judges the labels of the branches from an operation of a thread on.
+/// Judges the labels of a thread's branches from one operation on.
 fn judge_labels(all: &[Placed], remainder: &[Placed]) -> Result<(), TextError>
     ensures { GivesTest (λ judged. judged) result (unless (flat_map (landing_error all.now) (with_after remainder.now)) tt) }
 {

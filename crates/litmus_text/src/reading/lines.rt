@@ -4,7 +4,7 @@ ghost use Rattle.litmus_text.specs.{TextLines.{line_kept, is_passed, is_comment,
 use crate::reading::text::Text;
 use text_parts::{cut, trim_blanks, without_return};
 
-/// A line that isn't passed over, and what is left after it.
+/// A line that isn't skipped, and what is left after it.
 #[derive(Clone, Copy)]
 pub(crate) struct Line<'a> {
     pub(crate) number: u64,
@@ -12,10 +12,10 @@ pub(crate) struct Line<'a> {
     pub(crate) rest: Text<'a>,
 }
 
-/// The lines that are left.
+/// What is left of a text, by its first line that isn't skipped.
 #[derive(Clone, Copy)]
 pub(crate) enum Lines<'a> {
-    /// None, with the number after that of the last line.
+    /// There is no such line; with the number after that of the last line.
     Ends(u64),
     Line(Line<'a>),
 }
@@ -27,7 +27,7 @@ fn is_comment(text: &[u8]) -> bool
     text.starts_with(b"(*") && text.ends_with(b"*)")
 }
 
-/// Whether a line is passed over: blanks alone, or a comment between blanks.
+/// Whether a line is skipped: it is only blanks, or a comment between blanks.
 #[tactic(auto, using(crate::proofs::CutLaws::passed_is))]
 fn is_passed(text: &[u8]) -> bool
     ensures { result ≡ is_passed text.now }
@@ -68,7 +68,7 @@ impl<'a> Text<'a> {
         }
     }
 
-    /// The lines that aren't passed over.
+    /// The first line that isn't skipped, with what is left after it.
     pub(crate) fn lines(self) -> Lines<'a>
         ensures lines { lines_seen result ≡ text_left self.entry }
         ensures shorter { IsShorter result (length self.entry.bytes.now) }

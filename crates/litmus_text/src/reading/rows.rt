@@ -50,7 +50,7 @@ fn count_accesses(ops: &[Placed]) -> usize
     ops.iter().filter(|placed| is_access(&placed.op)).count()
 }
 
-/// Whether one access more is not too many, if the operation is one.
+/// Whether the column has space for the operation: it is no access, or not one too many.
 fn fits_in_column(column: &Column, op: &Micro) -> bool
     ensures { result ≡ fits_in_column (column_seen column.now) op.now }
 {
@@ -121,7 +121,7 @@ fn read_one_cell<A: Arch>(
     }
 }
 
-/// Judges the end of a row after its last column: no cell is left, and the row is whole.
+/// Judges the end of a row after its last column: no cell may be left, and the row must be whole.
 #[tactic(auto, unfolding(crate::specs::TableScan::row_read))]
 fn judge_end(number: u64, pieces: Pieces<'_>, is_whole: bool) -> Result<(), TextError>
     ensures { EndsRow number is_whole (pieces_left pieces.entry) result }

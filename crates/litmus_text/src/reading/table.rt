@@ -27,14 +27,14 @@ pub(crate) struct Column {
     pub(crate) labels: Places,
 }
 
-/// The cells of a row, and whether its `;` is there and ends the line.
+/// The cells of a row, and whether it is whole: its first `;` ends the line.
 #[derive(Clone, Copy)]
 pub(crate) struct Cells<'a> {
     pub(crate) pieces: Pieces<'a>,
     pub(crate) whole: bool,
 }
 
-/// The cells of a line: the pieces between bars before the first `;`.
+/// The cells of a line: the pieces between bars before the first `;`, or of all of it if there is none.
 #[tactic(auto, unfolding(crate::specs::TestTable::cells_of))]
 pub(crate) fn cells_of(text: &[u8]) -> Cells<'_>
     ensures { cells_seen result ≡ cells_of text.now }
@@ -61,7 +61,7 @@ fn is_head(thread: usize, cell: &[u8]) -> bool
     }
 }
 
-/// How many threads the cells of the header are of.
+/// How many threads the cells of the header name.
 #[tactic(auto, using(crate::proofs::TableLoops::heads_end, crate::proofs::TableLoops::heads_more), unfolding(crate::specs::TestTable::heads_read))]
 fn count_heads(number: u64, cells: Cells<'_>) -> Result<usize, TextError>
     ensures heads { GivesTest (λ threads. threads) result (heads_read number (cells_seen cells.entry)) }
@@ -86,7 +86,7 @@ fn count_heads(number: u64, cells: Cells<'_>) -> Result<usize, TextError>
     }
 }
 
-/// Whether each thread that has an initial value is among so many.
+/// Whether each thread that has an initial value is one of so many.
 fn has_threads(begun: &Begun, threads: usize) -> bool
     ensures { result ≡ list_all (λ v. nat_lt v.0 threads) begun.now.values.items }
 {

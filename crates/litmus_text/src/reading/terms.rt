@@ -28,8 +28,8 @@ impl Setting {
     }
 }
 
-/// The names of places, and the line of the first place that was one too many, after the line where
-/// the condition begins.
+/// The names of locations, and the line of the first location that was one too many, after the line
+/// where the condition begins.
 #[derive(Drop)]
 pub(crate) struct Mentioned {
     pub(crate) names: Places,
@@ -61,7 +61,7 @@ fn put_place(
     Ok(())
 }
 
-/// Takes a left side at a line: a register of a thread of the table, or a place.
+/// Takes a left side at a line: a register of a thread of the table, or a location.
 fn put_left<A: Arch>(
     here: &Setting,
     line: u64,

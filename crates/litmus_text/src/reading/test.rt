@@ -47,21 +47,21 @@ impl<A> ReadTest<A> {
         }
     }
 
-    /// The names of the places, which are numbered by first mention.
+    /// The names of the locations, which are numbered by first mention.
     pub fn places(&self) -> &Places
         ensures { result.now ≡ self.now.places }
     {
         &self.places
     }
 
-    /// How many threads it has, at most `MAX_THREADS`.
+    /// How many threads the test has, at most `MAX_THREADS`.
     pub fn threads(&self) -> u8
         ensures { result ≡ length self.now.threads }
     {
         self.threads.len() as u8
     }
 
-    /// The operations of a thread, in order. They can be run.
+    /// The operations of a thread, in order. They can be run, as `IsRunnable` says.
     pub fn code(&self, thread: u8) -> &[Micro]
         requires { thread < length self.now.threads }
         ensures value { option_map (λ t. t.code) (slice_get self.now.threads thread) ≡ Some result.now }
@@ -72,7 +72,7 @@ impl<A> ReadTest<A> {
     }
 
     /// The registers of a thread to which the initial state gives a value, in its order. All others
-    /// hold the number 0.
+    /// begin as the number 0.
     pub fn init(&self, thread: u8) -> &[(u8, Value)]
         requires { thread < length self.now.threads }
         ensures value { option_map (λ t. t.init) (slice_get self.now.threads thread) ≡ Some result.now }
@@ -82,7 +82,7 @@ impl<A> ReadTest<A> {
         thread.init.as_slice()
     }
 
-    /// The condition. Its registers are registers of the test's threads.
+    /// The condition. By the definition of reading, its registers are registers of the test's threads.
     pub fn cond(&self) -> &Cond
         ensures { cond_view result.now ≡ self.now.cond }
     {

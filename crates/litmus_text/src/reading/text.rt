@@ -4,7 +4,7 @@ ghost use Rattle.std.specs.Prelude.{◌<◌, ◌+◌, ◌^◌, length};
 #[derive(Clone, Copy)]
 pub(crate) struct Text<'a> {
     pub(crate) bytes: &'a [u8],
-    /// The number of the line.
+    /// The number of that line.
     pub(crate) number: u64,
     ghost fits: { number + length bytes.now < 2 ^ 64 },
 }

@@ -28,7 +28,8 @@ pub(crate) struct Head<'a> {
     pub(crate) quoted: Option<&'a [u8]>,
 }
 
-/// The architecture that the header of a text names. The error is BadHeader or EndMissing.
+/// The architecture that the header of a text names. The error is `BadHeader`, or `EndMissing` if
+/// there is no header.
 #[tactic(auto, unfolding(crate::specs::TestReading::arch_in_text))]
 pub fn arch_of(bytes: &[u8]) -> Result<ArchName, TextError>
     ensures { GivesTest (λ arch. arch) result (arch_in_text bytes.now) }
@@ -105,7 +106,7 @@ fn quoted_of(alloc: Global, quoted: Option<&[u8]>) -> Result<Option<Vec<u8>>, Al
     }
 }
 
-/// The test of the parts that were read.
+/// The test with the parts that were read.
 fn test_of<A: Arch>(
     alloc: Global,
     head: Head<'_>,
@@ -197,10 +198,11 @@ fn read_lines<A: Arch>(alloc: Global, text: Text<'_>) -> Result<ReadTest<A>, Rea
     read_body::<A>(alloc, Head { name, quoted }, after_settings(text))
 }
 
-/// The test that a text is, as a test of the architecture. A text that is none is answered with its
-/// first faulty line, and the leftmost error in that line.
+/// The test that a text is, as a test of the architecture. If it is none, the result is its first
+/// error, in the order in which a text is judged: part by part, and the labels of branches after all
+/// rows. It may be `NoMemory` instead.
 ///
-/// A text of more than `MAX_TEST_TEXT` bytes is TooLarge at line 1, whatever it holds.
+/// A text of more than `MAX_TEST_TEXT` bytes is `TooLarge` at line 1, whatever it holds.
 #[tactic(auto, unfolding(crate::specs::TestReading::test_read))]
 pub fn read_test<A: Arch>(alloc: Global, bytes: &[u8]) -> Result<ReadTest<A>, ReadError>
     ensures { GivesInMemory (λ test. test) result (test_read A.NAME A.writing bytes.now) }
