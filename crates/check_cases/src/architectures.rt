@@ -26,23 +26,23 @@ struct Thread {
     steps: &'static [Step],
     /// The texts of its instructions, with `; ` between.
     code: &'static str,
-    /// Its address registers with their places.
+    /// Its address registers with their locations.
     links: &'static [(u8, u8)],
 }
 
-/// What is tried of an architecture.
+/// What is tried on an architecture.
 struct Cases {
     /// Threads whose code was worked out by hand.
     threads: &'static [Thread],
-    /// The accesses of a thread that has registers enough.
+    /// The accesses of a thread for which there are enough registers.
     enough: &'static [Step],
     /// The accesses of a thread that needs more registers than there are.
     too_many: &'static [Step],
-    /// Texts in turn and the operations that they are. Before them x and y are named.
+    /// Texts that are read in turn, and the operations that they are. Before them x and y are named.
     spellings: &'static [(&'static str, Micro)],
-    /// How many places and labels have names after these texts.
+    /// How many locations and labels have names after all texts, those of `faults` too.
     named: (u8, u8),
-    /// Texts with `|` between that are no instruction, and that add no name.
+    /// Texts, with `|` between, that are no instruction. They add no names.
     faults: &'static [&'static str],
 }
 
@@ -62,21 +62,21 @@ const WRITE_X: Step = Step {
     link: Link::Plain,
 };
 
-/// Threads, one a line: accesses, their code, and the places in address registers.
+/// Threads, one per line: accesses, their code, and the locations in address registers.
 macro_rules! threads {
     ($([$($step:expr),*] => $code:literal, $links:expr;)*) => {
         &[$(Thread { steps: &[$($step),*], code: $code, links: &$links }),*]
     };
 }
 
-/// Accesses that read the places in turn.
+/// Accesses that read the locations in turn.
 macro_rules! reads_of {
     ($($place:literal)*) => {
         &[$(Step { place: $place, ..READ_X }),*]
     };
 }
 
-/// Pairs, one a line.
+/// Pairs, one per line.
 macro_rules! pairs {
     ($($first:expr => $second:expr;)*) => {
         &[$(($first, $second)),*]
@@ -87,7 +87,7 @@ use pairs;
 use reads_of;
 use threads;
 
-/// Whether the operation can be printed where two places have names.
+/// Whether an operation can be printed if two locations have names.
 fn is_printable(op: &Micro) -> bool
     ensures { result ≡ (place_below 2 op.now && label_below 64 op.now) }
 {
@@ -100,7 +100,7 @@ fn is_printable(op: &Micro) -> bool
     }
 }
 
-/// The code of the thread has these texts, and these places in its address registers.
+/// Asserts that the code of the thread has these texts, and these locations in its address registers.
 fn compiles<A: Arch>(rt: &impl Abort, thread: &Thread)
     requires fit { FitSteps A.puts.name false thread.now.steps.now }
     requires few { length thread.now.steps.now ≤ MAX_STEPS }
@@ -118,7 +118,7 @@ fn compiles<A: Arch>(rt: &impl Abort, thread: &Thread)
     assert_eq!(rt; code.links.as_slice(), thread.links);
 }
 
-/// Each spelling is read as its operation and each error is refused.
+/// Asserts that each spelling is read as its operation, and that each text of `faults` is refused.
 fn reads<A: Arch>(rt: &impl Abort, cases: &Cases) {
     let mut places = Places::letters(2);
     let mut labels = Places::new();
@@ -133,7 +133,7 @@ fn reads<A: Arch>(rt: &impl Abort, cases: &Cases) {
     assert_eq!(rt; (places.len(), labels.len()), cases.named);
 }
 
-/// The cases of the architecture are met.
+/// Asserts all cases of the architecture.
 fn meets<A: Arch>(rt: &impl Abort, cases: &Cases)
     requires fit { All (λ t. FitSteps A.puts.name false t.steps.now × (length t.steps.now ≤ MAX_STEPS)) cases.now.threads.now }
     requires enough { FitSteps A.puts.name false cases.now.enough.now × (length cases.now.enough.now ≤ MAX_STEPS) }

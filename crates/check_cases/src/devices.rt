@@ -5,7 +5,8 @@ use diy_io::{DirShelf, Failed, OpenError, Shelf, Sink, StdSink};
 use std::io::{ErrorKind, Write};
 use std::{fs, io};
 
-/// A writer that takes three bytes a call, fails at call 2 and takes nothing at call 4.
+/// A writer that takes at most three bytes in a call, fails at call 2 and takes nothing at call 4, counted
+/// from 0.
 #[derive(Drop)]
 struct Unsteady {
     calls: u8,
@@ -43,7 +44,7 @@ fn std_sink_writes_until_the_writer_fails(rt: HostRuntime) {
     assert_eq!(rt; writer.taken.as_slice(), b"abcdijk".as_slice());
 }
 
-/// Makes a file of two parts.
+/// Makes a file from two parts.
 fn store<S: Shelf>(shelf: &mut S, name: &str, first: &[u8], second: &[u8]) -> Result<(), Failed>
     requires { (S.seen shelf.old).mode ≡ Idle }
     ensures { (S.seen shelf.new).mode ≡ Idle }
@@ -54,7 +55,7 @@ fn store<S: Shelf>(shelf: &mut S, name: &str, first: &[u8], second: &[u8]) -> Re
     shelf.finish()
 }
 
-/// Reads a file in pieces of at most two bytes, and gives their lengths.
+/// Reads a file in four pieces of at most two bytes, and returns their lengths.
 fn load<S: Shelf>(shelf: &mut S, name: &str, buf: &mut [u8; 8]) -> Result<[usize; 4], OpenError>
     requires { (S.seen shelf.old).mode ≡ Idle }
     ensures { (S.seen shelf.new).mode ≡ Idle }
@@ -78,7 +79,8 @@ fn load_pieces<S: Shelf>(shelf: &mut S, buf: &mut [u8; 8]) -> Result<[usize; 4],
     Ok([first, second, third, last])
 }
 
-/// A file that isn't there, one in a folder that isn't there, one of two parts, and one that is made anew.
+/// Whether a shelf does what is expected with a file that doesn't exist, one in a folder that doesn't exist,
+/// one from two parts, and one that is made anew.
 fn keeps_files<S: Shelf>(shelf: &mut S, buf: &mut [u8; 8]) -> bool
     requires { (S.seen shelf.old).mode ≡ Idle }
 {

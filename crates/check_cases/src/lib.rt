@@ -1,4 +1,4 @@
-//! Cases of the architectures, of conditions, and the devices of the system. Tests alone.
+//! Only tests: cases of the architectures and of conditions, and the devices over the system.
 #![tactic(auto)]
 
 #[cfg(test)]

@@ -2,12 +2,12 @@ use crate::block::{Block, Keyword, first};
 use crate::errors::TableError;
 use std::alloc::Global;
 
-/// The number of a text.
+/// The number that a text is, or `BadRow` if it is none.
 pub fn number_in(text: &str) -> Result<usize, TableError> {
     text.parse::<usize>().ok().ok_or(TableError::BadRow)
 }
 
-/// The number after a keyword of a row, and another where the row doesn't have the keyword.
+/// The number after a keyword of a row, or `otherwise` if the row doesn't have the keyword.
 pub fn number_of(row: &[Block], keyword: Keyword, otherwise: usize) -> Result<usize, TableError> {
     match first(row, keyword) {
         Some(block) => number_in(block.argument.as_str()),
@@ -15,7 +15,7 @@ pub fn number_of(row: &[Block], keyword: Keyword, otherwise: usize) -> Result<us
     }
 }
 
-/// The numbers after a keyword of a row.
+/// The numbers after a keyword of a row; none if the row doesn't have the keyword.
 pub fn numbers_of(alloc: Global, row: &[Block], keyword: Keyword) -> Result<Vec<u64>, TableError> {
     let mut numbers = Vec::new(alloc);
     if let Some(block) = first(row, keyword) {

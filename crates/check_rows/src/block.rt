@@ -1,13 +1,13 @@
-/// The word that a line of a table begins with, where it begins with none of the marks of bytes.
+/// The word that a line of a table begins with, if it isn't a line of bytes.
 #[derive(Clone, Copy, PartialEq, Eq)]
 pub enum Keyword {
     /// Names a text, for lines `=NAME` below.
     Text,
     /// Begins a row, with its name.
     Row,
-    /// Words of the call, with one blank between.
+    /// Arguments of the call, with one blank between.
     Words,
-    /// A word of the call, which may have blanks or be empty. Bytes below are of the word too.
+    /// An argument of the call, which may have blanks or be empty. Bytes below belong to it too.
     Word,
     /// The input is read as a test, of this architecture or of the one that its header names.
     Read,
@@ -25,26 +25,27 @@ pub enum Keyword {
     RoomErr,
     /// How many bytes the shelf takes.
     RoomShelf,
-    /// How many new names the shelf takes; if it isn't said, as many as files are wanted.
+    /// How many new names the shelf takes; by default, as many as the row has lines `wanted`.
     Names,
-    /// A file on the shelf before the call. It is wanted as it was, unless the row says otherwise.
+    /// A file on the shelf before the call. It is expected to stay as it is, unless the row says otherwise.
     File,
-    /// The row represents a call for each length from the first number to the last: the output has so
-    /// much room and takes the prefix of so many bytes, or the prefix of the input is read.
+    /// The row stands for a call for each length from the first number to the second: the output has
+    /// space for this many bytes and takes this prefix, or this prefix of the input is read.
     Prefixes,
-    /// The wanted exit status, and the status with its fields.
+    /// The expected exit status, and the status with its fields; for a text that is read, `Read` or its
+    /// error.
     Status,
-    /// The wanted output.
+    /// The expected output.
     Out,
-    /// The wanted bytes on standard error.
+    /// The expected bytes on standard error.
     Err,
-    /// What the input is to hold after the call.
+    /// What is expected to be left in the input after the call.
     Left,
-    /// A file that is wanted on the shelf after the call.
+    /// A file that is expected on the shelf after the call.
     Wanted,
-    /// A file that isn't to be on the shelf after the call.
+    /// A file that must not be on the shelf after the call.
     Absent,
-    /// How many bytes and line feeds a sink that counts is to have counted.
+    /// How many bytes and line feeds the output, which then only counts, is expected to have counted.
     Tally,
 }
 
@@ -136,7 +137,7 @@ pub fn find_block<'a>(blocks: &'a [Block], keyword: Keyword, name: &str) -> Opti
     blocks.iter().find(|block| block.keyword == keyword && block.argument.as_str() == name)
 }
 
-/// The bytes of the first block with a keyword, none where there is no such block.
+/// The bytes of the first block with a keyword, or no bytes if there is no such block.
 pub fn bytes_of(blocks: &[Block], keyword: Keyword) -> &[u8] {
     match first(blocks, keyword) {
         Some(block) => block.bytes.as_slice(),

@@ -11,7 +11,8 @@ use diy_tools::run;
 use std::alloc::Global;
 use std::str;
 
-/// The words of a row: those that blanks separate, and those that are an argument and the bytes below.
+/// The arguments of a row's call: those that blanks separate, and those of a line of their own with the
+/// bytes below it.
 fn words_of(alloc: Global, row: &[Block]) -> Result<Words, TableError> {
     let mut words = Words::new(alloc);
     for block in row {
@@ -75,7 +76,7 @@ fn put_file(block: &Block, shelf: &mut MemShelf) -> Result<(), TableError>
     Ok(())
 }
 
-/// What a call reads, and where it finds and leaves its files.
+/// The input of a call, and the shelf with its files.
 #[derive(Drop)]
 struct Devices {
     input: MemSource,
@@ -83,8 +84,8 @@ struct Devices {
 }
 
 impl Trial<'_> {
-    /// Calls `run` as a row says, with the room of `length` bytes for the output where it is given, and
-    /// sets what the row wants beside what the call left.
+    /// Calls `run` as the row says, with space for `length` bytes of output if a length is given, and adds
+    /// the parts: what the row expects, and what the call left.
     pub fn call(&mut self) -> Result<(), TableError> {
         let mut devices = Devices {
             input: input_of(self.alloc, self.row)?,
@@ -147,7 +148,7 @@ impl Trial<'_> {
         self.add_part("err", Some(wanted), Some(err.bytes()))
     }
 
-    /// Adds a file to the parts, where the block is one of a file, also of one that isn't to change.
+    /// Adds a file to the parts if the block is about one, including a file that must not change.
     fn add_file(&mut self, block: &Block, shelf: &MemShelf) -> Result<(), TableError> {
         let name = block.argument.as_str();
         let is_changed = find_block(self.row, Keyword::Wanted, name).is_some()

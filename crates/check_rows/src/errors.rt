@@ -1,14 +1,15 @@
 use diy_io::NoMemory;
 use std::alloc::{AllocError, AllocFailed};
 
-/// Why a table or a row of it can't be taken.
+/// Why a table or a row of it can't be tried.
 #[derive(Clone, Copy, PartialEq, Eq)]
 pub enum TableError {
-    /// The line of this number, from 1, has no form of a table.
+    /// The line with this number, from 1, isn't of any form; 0 if the table isn't UTF-8.
     BadLine(u64),
-    /// A line of the row has an argument that isn't of its form.
+    /// A keyword of the row is repeated, or its argument or the bytes below it aren't of their form; or a
+    /// device failed.
     BadRow,
-    /// There is no memory.
+    /// Memory ran out.
     NoMemory,
 }
 

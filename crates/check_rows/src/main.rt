@@ -1,7 +1,8 @@
 //! Reads a table of rows from standard input, runs each row over the devices in memory, and prints a
-//! line for each and their sum. What a table holds is said at `Keyword` and at `read_table`.
+//! line for each and their sum. `Keyword` and `read_table` say what a table may hold.
 //!
-//! The exit status is 1 where a row differs from what it wants, and 2 where the table is faulty.
+//! The exit status is 1 if a row differs from what it expects, and 2 if the table is faulty, can't be
+//! read or doesn't fit into memory, or the output fails.
 #![tactic(auto)]
 
 ghost use Rattle.std.specs.Prelude.{◌<◌, ◌≤◌, length};
@@ -33,7 +34,7 @@ struct Counts {
     differing: u64,
 }
 
-/// Where the row ends that begins at a place: at the next row or named text, or at the end.
+/// The end of the row that begins at index `start`: the next row or named text, or the end of the table.
 fn row_end(blocks: &[Block], start: usize) -> usize
     requires { start < length blocks.now }
     ensures after { start ≤ result }
@@ -63,7 +64,7 @@ fn try_rows(alloc: Global, blocks: &[Block], page: &mut Vec<u8>) -> Result<Count
     Ok(counts)
 }
 
-/// Tries a row. The page names one that is faulty.
+/// Tries a row, and names it on the page if it is faulty. Returns whether nothing differs.
 fn try_named(alloc: Global, row: &[Block], page: &mut Vec<u8>) -> Result<bool, TableError> {
     let answer = if come_once(row) {
         try_row(alloc, row, page)
@@ -81,7 +82,7 @@ fn try_named(alloc: Global, row: &[Block], page: &mut Vec<u8>) -> Result<bool, T
     }
 }
 
-/// Tries the table of a text, and adds the sum to the page.
+/// Tries the table that a text is, and adds the sum to the page.
 fn try_table(alloc: Global, text: &[u8], page: &mut Vec<u8>) -> Result<Counts, TableError> {
     let text = str::from_utf8(text).ok().ok_or(TableError::BadLine(0))?;
     let blocks = read_table(alloc, text)?;
@@ -93,7 +94,7 @@ fn try_table(alloc: Global, text: &[u8], page: &mut Vec<u8>) -> Result<Counts, T
     Ok(counts)
 }
 
-/// Reads and tries the table, and prints the page, also where the table is faulty.
+/// Reads and tries the table, and prints the page, even if the table is faulty.
 fn try_input(rt: &HostRuntime) -> Result<Counts, TableError> {
     let text = read_all(rt.alloc(), &mut StdSource::new(rt.stdin()))?;
     let mut page = Vec::new(rt.alloc());

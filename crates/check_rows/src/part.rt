@@ -4,8 +4,8 @@ use crate::block::{Block, Keyword, bytes_of, first};
 use crate::errors::TableError;
 use std::alloc::Global;
 
-/// What is wanted of a part of a call, as its status or a file, and what the call left there. Nothing
-/// is wanted of a file that isn't to be there.
+/// A part of a call, such as its status or a file: what is expected there, and what the call left, each
+/// `None` for a file that doesn't exist.
 #[derive(Drop)]
 pub struct Part {
     pub name: String,
@@ -14,7 +14,7 @@ pub struct Part {
 }
 
 impl Part {
-    /// Whether what is wanted is there, byte for byte.
+    /// Whether what is there is what is expected, byte for byte.
     pub fn is_met(&self) -> bool
         ensures { IsTrue result ↔ (option_map (λ bytes. bytes.items) self.now.wanted ≡ option_map (λ bytes. bytes.items) self.now.got) }
     {
@@ -26,14 +26,14 @@ impl Part {
     }
 }
 
-/// Whether of each part what is wanted is there, byte for byte.
+/// Whether each part has what is expected, byte for byte.
 pub fn are_met(parts: &[Part]) -> bool
     ensures { IsTrue result ↔ All (λ part. option_map (λ bytes. bytes.items) part.wanted ≡ option_map (λ bytes. bytes.items) part.got) parts.now }
 {
     parts.iter().all(|part| part.is_met())
 }
 
-/// A copy of bytes, where they are there.
+/// A copy of bytes, if there are any.
 fn copy_of(alloc: Global, bytes: Option<&[u8]>) -> Result<Option<Vec<u8>>, TableError> {
     match bytes {
         Some(bytes) => Ok(Some(Vec::from_slice(alloc, bytes)?)),
@@ -46,13 +46,13 @@ fn copy_of(alloc: Global, bytes: Option<&[u8]>) -> Result<Option<Vec<u8>>, Table
 pub struct Trial<'a> {
     pub alloc: Global,
     pub row: &'a [Block],
-    /// Of a row that represents a call for each length: the length of this one.
+    /// The length of this call, if the row stands for a call for each length.
     pub length: Option<usize>,
     pub parts: Vec<Part>,
 }
 
 impl<'a> Trial<'a> {
-    /// The bytes of the first block with a keyword, or their prefix where a length is given.
+    /// The bytes of the first block with a keyword, or their prefix if a length is given.
     pub fn prefix_of(&self, keyword: Keyword) -> Result<&'a [u8], TableError> {
         let bytes = bytes_of(self.row, keyword);
         match self.length {
@@ -61,7 +61,7 @@ impl<'a> Trial<'a> {
         }
     }
 
-    /// Adds a part, of copies.
+    /// Adds a part with copies of these bytes.
     pub fn add_part(
         &mut self,
         name: &str,

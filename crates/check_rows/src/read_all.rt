@@ -2,7 +2,7 @@ use crate::errors::TableError;
 use diy_io::Source;
 use std::alloc::Global;
 
-/// The bytes that a source gives up to its end. An error of the source is one of the row.
+/// The bytes that a source gives up to its end. If the source fails, the error is `BadRow`.
 pub fn read_all<S: Source>(alloc: Global, source: &mut S) -> Result<Vec<u8>, TableError> {
     let mut bytes = Vec::new(alloc);
     let mut piece = [0; 4096];

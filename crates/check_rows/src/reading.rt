@@ -15,7 +15,7 @@ use litmus_text::{ReadError, ReadTest, TextError, arch_of, read_test};
 use relax_edges::ArchName;
 use std::alloc::Global;
 
-/// The architecture of a word, or where there is none that of the header of a text.
+/// The architecture with this name or, if the name is empty, the one that the header of a text names.
 fn arch_named(word: &str, text: &[u8]) -> Result<Result<ArchName, TextError>, TableError> {
     match word {
         "" => Ok(arch_of(text)),
@@ -29,8 +29,8 @@ fn arch_named(word: &str, text: &[u8]) -> Result<Result<ArchName, TextError>, Ta
 }
 
 impl Trial<'_> {
-    /// Reads the input of a row, or its prefix where a length is given, as a test, and sets what the row
-    /// wants beside the answer: the status is `Read` or the error, and the output describes the test whole.
+    /// Reads the input of a row, or its prefix if a length is given, as a test, and adds the parts: the
+    /// status is `Read` or the error, and the output describes the whole test, or is empty after an error.
     pub fn read(&mut self, arch: &str) -> Result<(), TableError> {
         let text = self.prefix_of(Keyword::Input)?;
         match arch_named(arch, text)? {
@@ -65,8 +65,8 @@ impl Trial<'_> {
     }
 }
 
-/// Describes a test whole: the architecture and the name, what it quotes, its places, of each thread
-/// the registers that are given and the operations, and the condition.
+/// Describes a whole test: the architecture and the name, what it quotes, its locations, the registers
+/// that each thread is given and its operations, and the condition.
 fn describe<A: Arch>(alloc: Global, test: &ReadTest<A>) -> Result<Vec<u8>, TableError> {
     let mut page = Vec::new(alloc);
     let arch = A::NAME;
@@ -90,7 +90,7 @@ fn describe<A: Arch>(alloc: Global, test: &ReadTest<A>) -> Result<Vec<u8>, Table
     Ok(page)
 }
 
-/// Adds a line of a word and bytes.
+/// Adds a line with a word and then bytes.
 fn add_line(page: &mut Vec<u8>, word: &str, bytes: &[u8]) -> Result<(), TableError> {
     page.extend_from_slice(word.as_bytes())?;
     page.extend_from_slice(bytes)?;

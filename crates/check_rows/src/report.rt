@@ -4,7 +4,7 @@ use crate::errors::TableError;
 use crate::part::{Trial, are_met};
 use std::alloc::Global;
 
-/// Tries a row, and adds its line to the page, and what differs. Answers whether nothing differs.
+/// Tries a row, and adds its line and what differs to the page. Returns whether nothing differs.
 pub fn try_row(alloc: Global, row: &[Block], page: &mut Vec<u8>) -> Result<bool, TableError> {
     let mut differences = Vec::new(alloc);
     match first(row, Keyword::Prefixes) {
@@ -34,7 +34,7 @@ pub fn name_of(row: &[Block]) -> &str {
     }
 }
 
-/// Tries a row once, and adds the parts that differ to the page, after the length if it is given.
+/// Tries a row once, and adds the parts that differ to the page, after the length if one is given.
 fn try_call(
     alloc: Global,
     row: &[Block],
@@ -67,7 +67,7 @@ fn try_call(
     Ok(())
 }
 
-/// Adds bytes to the page, in lines of a table.
+/// Adds bytes to the page, in lines that begin with a bar, under the name of their part.
 fn add_bytes(
     page: &mut Vec<u8>,
     name: &str,
@@ -86,7 +86,7 @@ fn add_bytes(
     }
 }
 
-/// Adds lines that begin with a bar, and says so where the last one has no line feed.
+/// Adds lines that begin with a bar, and says so if the last one has no line feed.
 fn add_lines(page: &mut Vec<u8>, bytes: &[u8]) -> Result<(), TableError> {
     page.extend_from_slice(b":\n")?;
     let mut is_start = true;

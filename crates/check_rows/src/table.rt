@@ -7,11 +7,11 @@ use std::alloc::Global;
 
 /// The blocks of a table, in order.
 ///
-/// Empty lines and lines that begin with `#` are passed over. A line of bytes begins with its mark:
-/// `|` bytes and a line feed, `>` bytes, `%` bytes by two digits of base 16 each, `=NAME` the bytes of
-/// a text that was named before, `=NAME N` its first N bytes, and `*N ` before one of the first three
-/// its bytes N times. The text after `|` and `>` is taken as it is. Each other line begins with a
-/// keyword; a blank separates it from its argument.
+/// Empty lines and lines that begin with `#` are skipped. A line of bytes begins with its mark: `|`
+/// bytes and a line feed, `>` bytes, `%` bytes as two hexadecimal digits each, `=NAME` the bytes of a
+/// text that was named before, `=NAME N` its first N bytes, and `*N ` before one of the first three its
+/// bytes N times. The text after `|` and `>` is taken as it is. Every other line begins with a keyword;
+/// a blank separates it from its argument.
 pub fn read_table(alloc: Global, text: &str) -> Result<Vec<Block>, TableError> {
     let mut blocks = Vec::new(alloc);
     let mut number: u64 = 0;
@@ -26,7 +26,7 @@ pub fn read_table(alloc: Global, text: &str) -> Result<Vec<Block>, TableError> {
     Ok(blocks)
 }
 
-/// Takes one line of a table. A line that has no form of a table is a `BadRow`, here and below.
+/// Takes one line of a table. A line that isn't of any form is a `BadRow`, here and below.
 fn take_line(alloc: Global, blocks: &mut Vec<Block>, line: &str) -> Result<(), TableError> {
     if line.is_empty() || line.starts_with('#') {
         return Ok(());
@@ -65,7 +65,7 @@ fn add_bytes(blocks: &mut Vec<Block>, bytes: &[u8]) -> Result<(), TableError> {
     }
 }
 
-/// The bytes of a line, and none where it begins with no mark of bytes.
+/// The bytes of a line, or `None` if it begins with no mark of bytes.
 fn bytes_in(alloc: Global, blocks: &[Block], line: &str) -> Result<Option<Vec<u8>>, TableError> {
     if let Some(name) = line.strip_prefix('=') {
         let text = text_named(blocks, name).ok_or(TableError::BadRow)?;
@@ -97,7 +97,7 @@ fn repeat_line(alloc: Global, text: &str) -> Result<Option<Vec<u8>>, TableError>
     Ok(Some(bytes))
 }
 
-/// The bytes that a line gives, and none where it begins with none of the three marks.
+/// The bytes that a line gives, or `None` if it begins with none of the first three marks.
 fn line_bytes(alloc: Global, line: &str) -> Result<Option<Vec<u8>>, TableError> {
     if let Some(text) = line.strip_prefix('|') {
         let mut bytes = Vec::from_slice(alloc, text.as_bytes())?;
@@ -113,7 +113,7 @@ fn line_bytes(alloc: Global, line: &str) -> Result<Option<Vec<u8>>, TableError> 
     }
 }
 
-/// Bytes by their digits of base 16, with blanks between.
+/// The bytes that pairs of hexadecimal digits give, with blanks between; letters are upper case.
 fn by_digits(alloc: Global, text: &str) -> Result<Vec<u8>, TableError> {
     let mut bytes = Vec::new(alloc);
     for word in text.split(' ') {
@@ -126,7 +126,7 @@ fn by_digits(alloc: Global, text: &str) -> Result<Vec<u8>, TableError> {
     Ok(bytes)
 }
 
-/// The value of a digit of base 16.
+/// The value of a hexadecimal digit, upper case.
 fn digit(byte: u8) -> Result<u8, TableError>
     ensures { IfOk result (λ value. value < 16) }
 {

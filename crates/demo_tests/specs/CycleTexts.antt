@@ -8,7 +8,7 @@ use Rattle.arch_trait.specs.{Threads.Puts, Writing.Writing}
 use Rattle.litmus_text.specs.declared.limits.TheConstants.{MAX_TEST_TEXT}
 use Rattle.test_maker.specs.{CycleText.cycle_text, Refusals.refusal_of}
 
--- the printed text of the test of each cycle that isn't refused, under the name of the cycle, is no longer than a text may be
+-- for each cycle that isn't refused, the printed text of its test, under the name of the cycle, has at most `MAX_TEST_TEXT` bytes
 abbrev pub CycleTextsShort : Puts → Writing → Type 0
 CycleTextsShort a w =
     (mode : ObsMode) (cycle : List Edge) →

@@ -1,4 +1,4 @@
--- The cycles that are made of the cycle of a family: an edge is picked for each link.
+-- The cycles that are made from the cycle of a family: an edge is picked for each link.
 -- Source: own.
 use Rattle.std.specs.{Prelude.{◌≡◌, ⊤, Bool, true, not, ◌&&◌, MatchBool, List, [], ◌∷◌, None}, List.IsAmong}
 use Rattle.relax_edges.specs.{declared.kinds.ArchName.ArchName, declared.kinds.Dir.Dir, declared.kinds.Mark.TheVariants.Plain}
@@ -8,8 +8,8 @@ use Rattle.cycle_names.specs.{declared.family.Family.Family, Families.{all_famil
 use Rattle.arch_trait.specs.Threads.{Puts}
 use Rattle.test_maker.specs.Refusals.{refusal_of}
 
--- an edge is a choice for a link from an access to another: it stays in its thread, leads to another location, is of the architecture,
--- and has no marks
+-- an edge is a choice for a link between accesses of these directions: it stays in its thread, leads to another location, joins accesses of
+-- these directions, is of the architecture, and has no marks
 unfoldable pub is_choice : ArchName → Dir → Dir → Edge → Bool
 is_choice arch from to edge =
     not (is_external edge) && is_diff edge && is_of_arch edge arch && same_dir (source_of edge) from && same_dir (target_of edge) to
@@ -22,7 +22,7 @@ IsFilled arch (slot ∷ slots) (edge ∷ edges) =
     MatchBool (is_external slot) (edge ≡ slot) (is_choice arch (source_of slot) (target_of slot) edge ≡ true) × IsFilled arch slots edges
 IsFilled _ _ _ = ⊥
 
--- every cycle that is made of a family's in this way has a test
+-- every cycle that is made from a family's in this way has a test in the mode `accept`
 abbrev pub MakesAll : Puts → Type 0
 MakesAll puts =
     (family : Family) → IsAmong all_families family → (edges : List Edge) →

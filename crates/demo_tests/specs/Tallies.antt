@@ -1,4 +1,4 @@
--- The tests of the demonstration by their numbers, and what is counted of them.
+-- The tests of the demonstration by their numbers, and what is counted in them.
 -- Source: own.
 use Rattle.std.specs.{Prelude.{ℕ, zero, suc, ◌%◌, ◌==◌, List, length, map, filter, slice_index_or}, List.sum_by}
 use Rattle.relax_edges.specs.{declared.kinds.ArchName.ArchName, declared.kinds.ObsMode.TheVariants.Accept, declared.edge.Edge.Edge}
@@ -9,11 +9,11 @@ use Rattle.diy_io.specs.Sink.{line_feed_count}
 use Rattle.test_maker.specs.CycleText.{cycle_text}
 use Rattle.demo_tests.specs.{declared.tally.TestTally.TestTally, Draws.first_seed, FilledLinks.{links_filled, seed_after}}
 
--- the place in the table of the family of a test with this number: the families take turns
+-- the index in the table of the family of a test with this number: the families take turns
 abbrev pub family_tally_place : ℕ → ℕ
 family_tally_place number = number % 14
 
--- the cycle of the family of a test with this number
+-- the edges of the family's cycle for a test with this number
 abbrev pub slots_of : ℕ → List Edge
 slots_of number = family_edges (slice_index_or all_families (family_tally_place number) Other)
 
@@ -32,7 +32,7 @@ numbered_text puts writing number =
     let cycle = numbered_cycle puts.name number in
     cycle_text puts writing Accept (name_of cycle) cycle
 
--- the numbers of the tests of the family at a place, among so many tests
+-- the numbers of the tests of the family at an index, among `count` tests
 abbrev pub family_numbers : ℕ → ℕ → List ℕ
 family_numbers count place = filter (λ number. family_tally_place number == place) (upto count)
 
@@ -44,6 +44,6 @@ tally_of_tests text numbers = record {
   bytes = sum_by (λ number. length (text number)) numbers;
 }
 
--- the same for each family of the table, among so many tests
+-- the tally of the tests of each family of the table, among `count` tests
 unfoldable pub family_tallies : (ℕ → List ℕ) → ℕ → List TestTally
 family_tallies text count = map (λ place. tally_of_tests text (family_numbers count place)) (upto 14)

@@ -10,7 +10,7 @@ const MAX_SLOT_CHOICES: usize = 16;
 
 type LinkChoices = ArrayVec<Edge, MAX_SLOT_CHOICES>;
 
-/// The choices for each link of an architecture, by the accesses that it joins.
+/// The choices for links on an architecture, by the directions of the accesses that a link joins.
 #[derive(Drop)]
 pub(crate) struct Choices {
     pub(crate) arch: ArchName,
@@ -37,7 +37,7 @@ impl Choices {
         }
     }
 
-    /// The choices for a link from an access to another.
+    /// The choices for a link between accesses of these directions.
     #[tactic(auto, using(crate::proofs::ChoiceLaws::some_choices))]
     fn edges_between(&self, from: Dir, to: Dir) -> &[Edge]
         ensures choices { result.now ≡ choices_of self.now.arch from to }
@@ -55,7 +55,7 @@ impl Choices {
         }
     }
 
-    /// The choice for a link by the number that was drawn.
+    /// The choice for a link by the drawn number.
     #[tactic(auto, unfolding(crate::specs::FilledLinks::choice_of))]
     pub(crate) fn choice(&self, drawn: u32, link: Edge) -> Edge
         ensures { result ≡ choice_of self.now.arch drawn link }
@@ -65,7 +65,7 @@ impl Choices {
     }
 }
 
-/// The choices for a link from an access to another, in the byte order of their words.
+/// The choices for a link between accesses of these directions, in the byte order of their names.
 fn choices_of(arch: ArchName, from: Dir, to: Dir) -> LinkChoices
     ensures { result.items ≡ choices_of arch from to }
 {
@@ -76,7 +76,7 @@ fn choices_of(arch: ArchName, from: Dir, to: Dir) -> LinkChoices
     choices
 }
 
-/// Adds an edge where it is a choice for a link from an access to another.
+/// Adds an edge if it is a choice for a link between accesses of these directions.
 fn add_choice(arch: ArchName, from: Dir, to: Dir, edge: Edge, choices: &mut LinkChoices)
     requires { is_choice arch from to edge ≡ true → length choices.old.items < 16 }
     ensures { choices.new.items ≡ choices.old.items ++ (if is_choice arch from to edge then edge ∷ [] else []) }
@@ -86,7 +86,7 @@ fn add_choice(arch: ArchName, from: Dir, to: Dir, edge: Edge, choices: &mut Link
     }
 }
 
-/// Whether an edge is a choice for a link from an access to another.
+/// Whether an edge is a choice for a link between accesses of these directions.
 #[tactic(auto, unfolding(crate::specs::Filled::is_choice))]
 fn is_choice(arch: ArchName, from: Dir, to: Dir, edge: Edge) -> bool
     ensures { result ≡ is_choice arch from to edge }

@@ -7,7 +7,7 @@ use arrayvec::ArrayVec;
 use cycle_names::{FAMILIES, edges_of};
 use relax_edges::Edge;
 
-/// The edges of the cycle of each family of the table, in its order.
+/// The edges of the cycle of each family, in the order of the table.
 #[derive(Drop)]
 pub(crate) struct FamilyCycles {
     cycles: ArrayVec<Edges, FAMILY_COUNT>,
@@ -23,7 +23,7 @@ impl FamilyCycles {
         FamilyCycles { cycles }
     }
 
-    /// The edges of the cycle of the family at a place of the table.
+    /// The edges of the cycle of the family at an index of the table.
     pub(crate) fn edges(&self, place: usize) -> &[Edge]
         requires { place < 14 }
         ensures { result.now ≡ family_edges (slice_index_or all_families place Other) }

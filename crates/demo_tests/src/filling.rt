@@ -36,8 +36,8 @@ fn fill(slots: &[Edge], choices: &Choices, draws: &mut Draws, edges: &mut Edges)
     }
 }
 
-/// The cycle of a test of a family whose cycle has the edges `slots`. It is drawn in `edges`, and what these were before doesn't
-/// count.
+/// The next cycle that is drawn for the family whose cycle has the edges `slots`. Its edges are collected in `edges`, whose old
+/// contents don't matter.
 pub(crate) fn draw_cycle(
     slots: &[Edge],
     choices: &Choices,

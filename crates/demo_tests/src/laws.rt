@@ -2,8 +2,8 @@ ghost use Rattle.demo_tests.specs.CycleTexts.{CycleTextsShort};
 
 use arch_trait::Arch;
 
-/// On every architecture, the printed text of the test of each cycle that isn't refused is, under the
-/// name of the cycle, no longer than a text may be.
+/// On every architecture, for each cycle that isn't refused, the printed text of its test, under the
+/// name of the cycle, has at most `MAX_TEST_TEXT` bytes.
 pub fn cycle_texts_short<A: Arch>()
     ensures { CycleTextsShort A.puts A.writing }
 {}

@@ -1,4 +1,4 @@
-//! The tests of the demonstration, made one after another of the families in turn, and their summary; every cycle of a family has a test.
+//! The tests of the demonstration, made for each family in turn, and their summary; every cycle made from a family's has a test.
 #![tactic(auto)]
 
 mod choices;

@@ -14,16 +14,17 @@ use cycle_names::FAMILIES;
 use diy_io::{Failed, Sink};
 use litmus_text::Test;
 
-/// Makes so many tests and writes a summary of them: for each family that had one, in the order of
-/// the table of families, and then for all, a line on how many tests there are, and how many lines
-/// and bytes are in their texts. It takes no memory.
+/// Makes `count` tests and writes a summary of them: for each family that had one, in the order of
+/// the table of families, and then for all, a line that says how many tests there are, and how many
+/// line feeds and bytes are in their texts. It takes no memory.
 ///
-/// The families take turns. The cycle of a test is that of its family, but for each link: a draw
-/// picks it among the edges of the architecture that lead from the same access to the same access
-/// at another location. The sequence of draws begins anew with each call. A test is made in mode
-/// `Accept`, under the name of its cycle.
+/// The families take turns. The cycle of a test is that of its family, except for the links: a draw
+/// picks each among the architecture's edges without marks that stay in their thread, lead to another
+/// location and join accesses of the same directions. The sequence of draws begins anew with each
+/// call. A test is made in the mode `Accept`, under the name of its cycle.
 ///
-/// `Failed` comes only where the count of `out` rose. Then `out` has a prefix of the summary.
+/// `Failed` comes only if the error count of `out` rose, or is at its maximum. Then `out` has taken a
+/// prefix of the summary.
 #[inline(never)]
 pub fn demo<A: Arch, O: Sink>(count: u32, out: &mut O) -> Result<(), Failed>
     requires tests { MakesAll A.puts }
@@ -33,7 +34,7 @@ pub fn demo<A: Arch, O: Sink>(count: u32, out: &mut O) -> Result<(), Failed>
     summary.write(out)
 }
 
-/// Makes so many tests, each in `test`, and counts them.
+/// Makes `count` tests, each in `test`, and counts them.
 #[inline(never)]
 fn tally_tests<A: Arch>(count: u32, test: &mut Test) -> Summary
     requires { MakesAll A.puts }

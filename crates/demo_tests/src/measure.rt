@@ -13,8 +13,8 @@ use litmus_text::{KeptTable, Test, print_test_by};
 use relax_edges::ObsMode;
 use test_maker::make_into;
 
-/// Where tests are measured, one after another: the name of a test, what is kept of its table, and the page that it is printed
-/// to. What these held before doesn't count.
+/// What it takes to measure tests, one after another: the name of a test, what is kept of its table, and the page that it is
+/// printed to. What these held before doesn't matter.
 #[derive(Drop)]
 pub(crate) struct Desk {
     name: ArrayString<MAX_CYCLE_NAME>,
@@ -32,7 +32,7 @@ impl Desk {
         }
     }
 
-    /// The bytes and line feeds of the text of the test of a cycle that has one, under its name. The test is made in `test`.
+    /// The tally of the bytes and line feeds of the text of a cycle's test, under the cycle's name. The test is made in `test`.
     pub(crate) fn measure<A: Arch>(&mut self, cycle: &Cycle, test: &mut Test) -> TallySink
         requires { refusal_of A.puts cycle.now Accept ≡ None }
         ensures { result ≡ text_tally (cycle_text A.puts A.writing Accept (name_of cycle.now) cycle.now) }

@@ -11,7 +11,7 @@ use itoa::Buffer;
 /// How many families have a cycle.
 pub(crate) const FAMILY_COUNT: usize = 14;
 
-/// What is counted of the tests of each family, and of all.
+/// What is counted in the tests of each family, and in all.
 #[derive(Drop)]
 pub(crate) struct Summary {
     pub(crate) families: [TestTally; FAMILY_COUNT],
@@ -30,7 +30,7 @@ impl Summary {
         }
     }
 
-    /// Counts one test more, of the family at a place of the table, by the tally of its text.
+    /// Counts one more test, of the family at an index of the table, given the tally of its text.
     pub(crate) fn count(&mut self, place: usize, text: &TallySink)
         requires place { place < length self.old.families }
         requires families { All (Fits text.now) self.old.families }
@@ -42,8 +42,8 @@ impl Summary {
         self.all.count(text);
     }
 
-    /// Writes a line for each family that had a test, and then one for all. Where the sink fails, it
-    /// has taken a prefix of them.
+    /// Writes a line for each family that had a test, and then one for all. If the sink fails, it has
+    /// taken a prefix of them.
     pub(crate) fn write<O: Sink>(&self, out: &mut O) -> Result<(), Failed>
         ensures { Wrote (O.seen out.old) (O.seen out.new) (summary_lines self.now.families self.now.all) result }
     {

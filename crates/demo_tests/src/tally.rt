@@ -23,7 +23,7 @@ impl TestTally {
         }
     }
 
-    /// Counts one test more, by the tally of its text.
+    /// Counts one more test, given the tally of its text.
     pub(crate) fn count(&mut self, text: &TallySink)
         requires { Fits text.now self.old }
         ensures { self.new ≡ test_counted text.now self.old }

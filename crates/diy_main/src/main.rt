@@ -1,4 +1,4 @@
-//! The program: its words, the standard streams and the files of the folder, handed to `run`.
+//! The program: hands its arguments, the standard streams and the files of the current folder to `run`.
 #![tactic(auto)]
 
 use diy_io::{DirShelf, NoMemory, StdSink, StdSource, Words};
@@ -7,7 +7,8 @@ use std::env;
 use std::io::ErrorKind;
 use std::process::ExitCode;
 
-/// The words that the program was called with, or the status with which it ends where there are none.
+/// The arguments after the program's name, or the status with which the program ends if it gets none:
+/// 4 if there is no memory for them, and 3 if the system fails to supply them for another reason.
 fn words_of(rt: &HostRuntime) -> Result<Words, ExitCode> {
     let args = match env::args(rt) {
         Ok(args) => args,
@@ -26,7 +27,7 @@ fn words_of(rt: &HostRuntime) -> Result<Words, ExitCode> {
     Ok(words)
 }
 
-/// Says that there is no memory for the words, and returns the status for that.
+/// Says that there is no memory for the arguments, and returns the status for that.
 fn no_memory(rt: &HostRuntime) -> ExitCode {
     let _ = rt.eprintln("diy: no memory");
     ExitCode::from(4)

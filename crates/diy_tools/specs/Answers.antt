@@ -1,4 +1,4 @@
--- What a call of `run` answers and what it leaves on its devices, by what the words ask for.
+-- How a call of `run` ends and what it leaves on its devices, by what the arguments ask for.
 -- Source: own.
 use Rattle.std.specs.Prelude.{ℕ, ◌≡◌, List, Result, Ok, Err}
 use Rattle.diy_words.specs.declared.usage.Usage.{Usage}
@@ -9,8 +9,8 @@ use Rattle.diy_tools.specs.{DemoAnswers.demo_asked, CheckAnswers.AnswersCheck, P
 use Rattle.diy_tools.specs.{CoherenceAnswers.AnswersCoherence, ExecutionAnswers.{AnswersExecution, AnswersCoherenceExecution}}
 use Rattle.diy_tools.specs.declared.status.Status.TheVariants as statuses
 
--- words make no request, and no device changes; or each tool answers what it is asked for, and the devices that it doesn't
--- use stay as they were
+-- the arguments make no request, the status says why, and no device changes; or the tool does what it is asked for, and the devices that it
+-- doesn't use stay as they were
 abbrev pub AnswersAsked : List (List ℕ) → Result Task Usage → Status → Devices → Devices → Type 0
 AnswersAsked words (Err usage) status old new = (status ≡ statuses.Usage usage.word usage.kind) × (new ≡ old)
 AnswersAsked words (Ok (AsksTest asked)) status old new = OutAlone (AnswersTest asked status) old new
@@ -27,6 +27,6 @@ AnswersAsked words (Ok (AsksExecution asked)) status old new = OutAlone (Answers
 AnswersAsked words (Ok (AsksCoherenceExecution asked)) status old new = OutAlone (AnswersCoherenceExecution asked status) old new
 AnswersAsked words (Ok (AsksLines asked)) status old new = OutAlone (AnswersListed asked status) old new
 
--- a call with these words ends with this status, and takes the devices from old to new
+-- a call with these arguments ends with this status, and takes the devices from old to new
 abbrev pub Answers : List (List ℕ) → Status → DevicesSeen → DevicesSeen → Type 0
 Answers words status old new = AnswersAsked words (asked_of words) status (devices old) (devices new)

@@ -1,4 +1,4 @@
--- An architecture as the tools use it: its code, and how that is written.
+-- The architectures as the tools use them: the code of each, and how it is written.
 -- Source: own.
 use Rattle.relax_edges.specs.declared.kinds.ArchName.{ArchName}
 use Rattle.relax_edges.specs.declared.kinds.ArchName.TheVariants as archs
@@ -14,7 +14,7 @@ use Rattle.arch_riscv.specs.Table as riscv_table
 use Rattle.arch_arm.specs.Puts as arm
 use Rattle.arch_arm.specs.Table as arm_table
 
--- an architecture: the code of its accesses, and how that is written
+-- an architecture: the code of its accesses, and how this code is written
 pub record Machine : Type 0 where
   pub puts : Puts
   pub writing : Writing
@@ -23,7 +23,7 @@ pub record Machine : Type 0 where
 abbrev pub machine : Puts → Writing → Machine
 machine puts writing = record { puts = puts; writing = writing }
 
--- the architecture with a name
+-- the architecture with this name
 abbrev pub machine_of : ArchName → Machine
 machine_of archs.X86 = machine x86.puts x86_table.writing
 machine_of archs.PPC = machine power.puts power_table.writing

@@ -1,4 +1,4 @@
--- Why a call ends with its status, and what the devices then hold: one cause for each status.
+-- Why a call ends with its status, and what it leaves on its devices: one cause for each status.
 -- Source: own.
 use Rattle.std.specs.Prelude.{◌≡◌, ◌≤◌, ◌<◌, ◌+◌, ◌^◌, ◌⊎◌, ℕ, List, [], ◌∷◌, Option, Some, None, Result, Ok, Err}
 use Rattle.relax_edges.specs.declared.kinds.ArchName.{ArchName}
@@ -34,27 +34,27 @@ pub record NothingWritten (old new : Devices) : Type 0 where
   pub out : new.out ≡ old.out
   pub files : new.shelf.files ≡ old.shelf.files
 
--- a count rose by more than 2^40, or is at its last value
+-- a count rose by more than 2^40, or is at its maximum
 abbrev pub RoseFar : ℕ → ℕ → Type 0
 RoseFar old new = count_of (old + 2 ^ 40 + 1) ≤ new
 
--- the word at this place is the name that norm7 seeks, and no cycle of the architecture has it
+-- the argument at this index is the name that norm7 is given, no cycle of the architecture has it, and the error is `UnknownName`
 abbrev pub SeeksNone : ArchName → Sought → ℕ → UsageKind → Type 0
 SeeksNone arch (OfName at name) word kind = (word ≡ at) × (kind ≡ UnknownName) × NamesNone name arch
 SeeksNone arch _ word kind = ⊥
 
--- the word at this place shows that the words make no request
+-- this is the usage error: the arguments make no request, or no cycle has the name that norm7 is given
 abbrev pub IsUsage : Result Task Usage → ℕ → UsageKind → Type 0
 IsUsage (Err usage) word kind = (word ≡ usage.word) × (kind ≡ usage.kind)
 IsUsage (Ok (AsksName asked)) word kind = SeeksNone asked.arch asked.cycle word kind
 IsUsage _ word kind = ⊥
 
--- the first reason why the edges are refused whose name norm7 seeks, if it is given edges
+-- the first reason why the edges that norm7 is given are refused, if it is given edges
 abbrev pub sought_refused : ArchName → Sought → Option Refusal
 sought_refused arch (OfEdges edges) = refused_list arch edges
 sought_refused arch _ = None
 
--- the first reason why the edges that words ask for are refused, if they ask for edges
+-- the first reason why the edges that the arguments name are refused, if they name edges
 abbrev pub asked_refused : Result Task Usage → Option Refusal
 asked_refused (Ok (AsksTest asked)) = test_refused asked
 asked_refused (Ok (AsksWhy asked)) = why_unshown asked
@@ -64,8 +64,7 @@ asked_refused (Ok (AsksExecution asked)) = test_refused asked
 asked_refused (Ok (AsksCoherenceExecution asked)) = coherence_refused asked
 asked_refused _ = None
 
--- norm7 or classify7 reads lines of cycles, up to where they can't be read on; norm7 has written the lines of the cycles
--- before, classify7 nothing
+-- norm7 or classify7 reads lines of cycles up to this error; norm7 has written the lines of the cycles before it, and classify7 nothing
 abbrev pub LinesStop : Result Task Usage → LinesError → Devices → Devices → Type 0
 LinesStop (Ok (AsksName asked)) error old new =
     (asked.cycle ≡ OfLines) × InputAndOut (λ input input' out out'. NormedUpTo asked.arch input input' out out' error) old new
@@ -73,32 +72,33 @@ LinesStop (Ok (AsksFamilies asked)) error old new =
     (asked.files ≡ []) × InputAndOut (λ input input' out out'. ReadsUpTo asked.arch input input' error × (out' ≡ out)) old new
 LinesStop _ error old new = ⊥
 
--- classify7 reads files, up to where they can't be read on, and nothing is written
+-- the reading of files by classify7 ends in this way, and nothing is written
 abbrev pub FilesStop : List (List ℕ) → Result Task Usage → FilesEnd → Devices → Devices → Type 0
 FilesStop words (Ok (AsksFamilies asked)) end old new = EndsFamilies words asked.arch asked.files end old new × NothingWritten old new
 FilesStop words _ end old new = ⊥
 
--- the file of the word at a place has this error
+-- the file of classify7 that the argument at an index names has this error, and nothing is written
 abbrev pub FileStops : List (List ℕ) → Result Task Usage → Option ℕ → ℕ → FileKind → Devices → Devices → Type 0
 FileStops words asked (Some file) line kind old new = FilesStop words asked (classing.Wrong file line kind) old new
 FileStops words asked None line kind old new = ⊥
 
--- mcheck7 reads its two files, up to where they can't be read on, and nothing is written
+-- the reading of the two files of mcheck7 ends in this way, and nothing is written
 abbrev pub CheckStops : List (List ℕ) → Result Task Usage → CheckEnd → Devices → Devices → Type 0
 CheckStops words (Ok (AsksCheck asked)) end old new = EndsCheck words asked end old new × NothingWritten old new
 CheckStops words _ end old new = ⊥
 
--- the file of the word at a place has this error
+-- the file of mcheck7 that the argument at an index names has this error, and nothing is written
 abbrev pub CheckedStops : List (List ℕ) → Result Task Usage → Option ℕ → ℕ → CheckedKind → Devices → Devices → Type 0
 CheckedStops words asked (Some file) line kind old new = CheckStops words asked (checking.Wrong file line kind) old new
 CheckedStops words asked None line kind old new = ⊥
 
--- msum7 reads logs, up to where they can't be read on, and nothing is written
+-- the reading of logs by msum7 ends in this way, and nothing is written
 abbrev pub SumStops : List (List ℕ) → Result Task Usage → SumEnd → Devices → Devices → Type 0
 SumStops words (Ok AsksSum) end old new = EndsSum words end old new × NothingWritten old new
 SumStops words _ end old new = ⊥
 
--- more than 2^40 bytes were taken: of the input of norm7, classify7 or msum7; or of a log of msum7, a file
+-- more than 2^40 bytes were taken: from the input of norm7, classify7 or msum7, or its count is at its maximum; or from a file that is a
+-- log of msum7
 abbrev pub PassesLimit : List (List ℕ) → Result Task Usage → Option ℕ → ℕ → Devices → Devices → Type 0
 PassesLimit words asked None line old new =
     RoseFar old.input.taken new.input.taken
@@ -108,49 +108,49 @@ PassesLimit words asked (Some file) line old new =
     × (2 ^ 40 < new.shelf.taken)
     × SumStops words asked (sums.TooMuch (Some file) line) old new
 
--- diyone7 has written two executions, as far as this status says
+-- nothing refuses the request, and diyone7 -why has written the test and two executions, as far as this status says
 abbrev pub WhyStops : WhyTask → Status → Devices → Devices → Type 0
 WhyStops asked status old new =
     (why_unshown asked ≡ None)
     × ShelfAndOut (WritesRuns (machine_of asked.arch) asked.folder (test_name asked.name asked.edges) asked.edges status) old new
 
--- diyone7 has written the intended execution of a test, as far as this status says
+-- nothing refuses the request, and diyone7 -exec has written the intended execution of a test, as far as this status says
 abbrev pub ExecutionStops : TestTask → Status → Devices → Devices → Type 0
 ExecutionStops asked status old new =
     (test_refused asked ≡ None)
     × OutAlone (PrintsRun (machine_of asked.arch) (asked_text asked) (intended_by asked.edges asked.mode) status) old new
 
--- and that of a coherence test
+-- nothing refuses the request, and diyone7 -exec has written the execution of a coherence test, as far as this status says
 abbrev pub CoherenceExecutionStops : CoherenceTask → Status → Devices → Devices → Type 0
 CoherenceExecutionStops asked status old new =
     (coherence_refused asked ≡ None)
     × OutAlone (PrintsRun (machine_of asked.arch) (incoherent_text asked) (incoherent_by asked.edges) status) old new
 
--- diy7, diycross7 or diyone7 with -why writes files, up to where the shelf fails
+-- diy7, diycross7 or diyone7 -why has written files up to the one at which the shelf failed
 abbrev pub ListStops : Result Task Usage → Devices → Devices → Type 0
 ListStops (Ok (AsksWhy asked)) old new = WhyStops asked (statuses.WriteFault Shelf) old new
 ListStops (Ok (AsksList asked)) old new = ShelfAndOut (EndsAsked asked listings.ShelfFault) old new
 ListStops (Ok (AsksCross asked)) old new = ShelfAndOut (EndsCrossed asked listings.ShelfFault) old new
 ListStops _ old new = ⊥
 
--- norm7 has written all lines
+-- norm7 has written all its lines
 abbrev pub NamesAllSought : ArchName → Sought → SourceSeen → SourceSeen → SinkSeen → SinkSeen → Type 0
 NamesAllSought arch (OfEdges edges) old new before after =
     (new ≡ old) × (refused_list arch edges ≡ None) × WroteAll before after (name_line edges)
 NamesAllSought arch (OfName at name) old new before after = (new ≡ old) × PrintsNamed arch name statuses.Done before after
 NamesAllSought arch OfLines old new before after = NormedAll arch old new before after
 
--- classify7 has written all families
+-- classify7 has written the lines of all families
 abbrev pub FamiliesAll : List (List ℕ) → ArchName → List ℕ → Devices → Devices → Type 0
 FamiliesAll words arch [] old new = InputAndOut (ClassifiedAll arch) old new
 FamiliesAll words arch (file ∷ files) old new = EndsFamilies words arch (file ∷ files) classing.Done old new
 
--- classify7 has written a prefix of them
+-- classify7 has written a prefix of the lines of all families
 abbrev pub FamiliesPart : List (List ℕ) → ArchName → List ℕ → Devices → Devices → Type 0
 FamiliesPart words arch [] old new = InputAndOut (ClassifiedPart arch) old new
 FamiliesPart words arch (file ∷ files) old new = EndsFamilies words arch (file ∷ files) classing.OutFault old new
 
--- what was asked for is written, and what the tool reads was read to its end
+-- what was asked for is written, and everything that the tool reads was read to its end
 abbrev pub Finishes : List (List ℕ) → Result Task Usage → Devices → Devices → Type 0
 Finishes words (Err usage) old new = ⊥
 Finishes words (Ok (AsksTest asked)) old new =
@@ -169,14 +169,14 @@ Finishes words (Ok (AsksExecution asked)) old new = ExecutionStops asked statuse
 Finishes words (Ok (AsksCoherenceExecution asked)) old new = CoherenceExecutionStops asked statuses.Done old new
 Finishes words (Ok (AsksLines asked)) old new = OutAlone (AnswersListed asked statuses.Done) old new
 
--- norm7 has written a prefix of the lines, over lines of cycles of those before the first error of what was read
+-- norm7 has written a prefix of its lines; if it reads the input, these are the lines of the cycles before the first error of what was read
 abbrev pub NamesPart : ArchName → Sought → SourceSeen → SourceSeen → SinkSeen → SinkSeen → Type 0
 NamesPart arch (OfEdges edges) old new before after =
     (new ≡ old) × (refused_list arch edges ≡ None) × WrotePart before after (name_line edges)
 NamesPart arch (OfName at name) old new before after = (new ≡ old) × PrintsNamed arch name (statuses.WriteFault Out) before after
 NamesPart arch OfLines old new before after = NormedPart arch old new before after
 
--- a prefix of what goes to standard output is written; of diy7, diycross7 and diyone7 with -why all files are
+-- a prefix of what goes to standard output is written, and by diy7, diycross7 and diyone7 -why all files
 abbrev pub OutStops : List (List ℕ) → Result Task Usage → Devices → Devices → Type 0
 OutStops words (Err usage) old new = ⊥
 OutStops words (Ok (AsksTest asked)) old new =
@@ -195,35 +195,35 @@ OutStops words (Ok (AsksExecution asked)) old new = ExecutionStops asked (status
 OutStops words (Ok (AsksCoherenceExecution asked)) old new = CoherenceExecutionStops asked (statuses.WriteFault Out) old new
 OutStops words (Ok (AsksLines asked)) old new = OutAlone (AnswersListed asked (statuses.WriteFault Out)) old new
 
--- the cause of a status, and what the devices then hold
+-- the cause of a status, and what is left on the devices
 abbrev pub CausesAsked : List (List ℕ) → Result Task Usage → Status → Devices → Devices → Type 0
--- all is done
+-- everything is done
 CausesAsked words asked statuses.Done old new = Finishes words asked old new
--- the edges of diyone7, or those of norm7, are refused for this reason; no device changed
+-- the edges of diyone7 or of norm7 are refused for this reason, the first that holds; no device changed
 CausesAsked words asked (statuses.Refused refusal) old new = (asked_refused asked ≡ Some refusal) × (new ≡ old)
--- the words make no request; no device changed
+-- the arguments make no request, or no cycle has the name that norm7 is given; no device changed
 CausesAsked words asked (statuses.Usage word kind) old new = IsUsage asked word kind × (new ≡ old)
 -- a line of cycles of norm7 or classify7 has this error, the first such
 CausesAsked words asked (statuses.BadText file line (texts.Line kind)) old new = (file ≡ None) × LinesStop asked (lines.Wrong line kind) old new
 -- a log of msum7 has this error, the first such
 CausesAsked words asked (statuses.BadText file line (texts.Log kind)) old new = SumStops words asked (sums.Wrong file line kind) old new
--- a file of classify7, or the test of mcheck7, has this error, the first such: it is no test, or one of another architecture
+-- a file of classify7, or the test of mcheck7, has this error, the first such: it is no test, or is one of another architecture
 CausesAsked words asked (statuses.BadText file line (texts.Test kind)) old new =
     FileStops words asked file line (kinds.Test kind) old new ⊎ CheckedStops words asked file line (checked.Test kind) old new
 CausesAsked words asked (statuses.BadText file line texts.WrongArch) old new =
     FileStops words asked file line kinds.WrongArch old new ⊎ CheckedStops words asked file line checked.WrongArch old new
--- a file of classify7, the first such, is a test that quotes no cycle
+-- a file of classify7 has this error, the first such: it is a test that quotes no cycle of the architecture
 CausesAsked words asked (statuses.BadText file line texts.NoCycle) old new = FileStops words asked file line kinds.NoCycle old new
--- the execution of mcheck7 has this error, the first such
+-- the file of the execution of mcheck7 has this error, the first such
 CausesAsked words asked (statuses.BadText file line (texts.Exec kind)) old new = CheckedStops words asked file line (checked.Exec kind) old new
 -- a text of norm7, classify7 or msum7 has more than 2^40 bytes
 CausesAsked words asked (statuses.BadText file line texts.TooMuch) old new = PassesLimit words asked file line old new
--- msum7 is to sum, or classify7 or mcheck7 to read, a file that isn't there, and the shelf's count of faults is what it was; where
--- the shelf doesn't show its files, that count rose
+-- a file that msum7 is to sum, or classify7 or mcheck7 to read, doesn't exist, and the shelf's error count is what it was; or, if the shelf
+-- doesn't show its files, that count rose or is at its maximum
 CausesAsked words asked (statuses.NoFile word) old new =
     (LogFileMissing old.shelf new.shelf words 1 word × SumStops words asked (sums.NoFile word) old new)
     ⊎ (FilesStop words asked (classing.NoFile word) old new ⊎ CheckStops words asked (checking.NoFile word) old new)
--- the input of norm7, classify7 or msum7 failed
+-- the input of norm7, classify7 or msum7 failed: its error count rose or is at its maximum
 CausesAsked words asked (statuses.ReadFault Input) old new =
     Rose old.input.faults new.input.faults
     × (LinesStop asked lines.InputFault old new ⊎ SumStops words asked sums.InputFault old new)
@@ -235,12 +235,12 @@ CausesAsked words asked (statuses.ReadFault Shelf) old new =
 CausesAsked words asked (statuses.ReadFault Out) old new = ⊥
 -- standard output failed
 CausesAsked words asked (statuses.WriteFault Out) old new = Rose old.out.faults new.out.faults × OutStops words asked old new
--- the shelf failed while diy7, diycross7 or diyone7 with -why wrote a file
+-- the shelf failed while diy7, diycross7 or diyone7 -why wrote a file
 CausesAsked words asked (statuses.WriteFault Shelf) old new = Rose old.shelf.faults new.shelf.faults × ListStops asked old new
 CausesAsked words asked (statuses.WriteFault Input) old new = ⊥
--- classify7, msum7, diycross7, mcheck7 or diyone7 with -why or -exec wants memory
+-- classify7, msum7, diycross7, mcheck7 or diyone7 with -why or -exec ran out of memory; nothing is written
 CausesAsked words asked statuses.NoMemory old new = MayWantMemory asked × NothingWritten old new
 
--- a call with these words ends with this status for its cause, and takes the devices from old to new
+-- a call with these arguments ends with this status for its cause, and takes the devices from old to new
 abbrev pub Causes : List (List ℕ) → Status → DevicesSeen → DevicesSeen → Type 0
 Causes words status old new = CausesAsked words (asked_of words) status (devices old) (devices new)

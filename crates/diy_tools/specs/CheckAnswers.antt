@@ -1,4 +1,4 @@
--- What mcheck7 answers.
+-- What mcheck7 does.
 -- Source: own.
 use Rattle.std.specs.Prelude.{◌≡◌, ℕ, List, Some}
 use Rattle.exec_check.specs.declared.{checked_errors.CheckEnd.CheckEnd, checked_errors.CheckedKind.CheckedKind, shown.Shown.Shown}
@@ -14,13 +14,13 @@ use Rattle.diy_tools.specs.declared.status.Status.TheVariants.{Done, BadText, No
 use Rattle.diy_tools.specs.declared.status.TextKind.TheVariants as texts
 use Rattle.diy_tools.specs.{Devices.Devices, Devices.ShelfAndOut, ArchMachines.machine_of}
 
--- what is wrong with the file of a test, or with that of an execution
+-- an error in the file of a test or in that of an execution, as an error in a text
 abbrev pub checked_kind : CheckedKind → TextKind
 checked_kind (kinds.Test kind) = texts.Test kind
 checked_kind kinds.WrongArch = texts.WrongArch
 checked_kind (kinds.Exec kind) = texts.Exec kind
 
--- the status of the end of checking
+-- the status for each way in which the checking can end
 abbrev pub check_status : CheckEnd → Status
 check_status ends.Done = Done
 check_status (ends.Wrong file line kind) = BadText (Some file) line (checked_kind kind)
@@ -34,12 +34,12 @@ abbrev pub shown_of : CheckForm → Shown
 shown_of forms.Verdict = shown.Verdict
 shown_of forms.Graph = shown.Graph
 
--- the checking of the execution in one file of the test in another ends so, and no file changes
+-- the checking of the execution in one file, as one of the test in another, ends in this way, and no file changes
 pub record EndsChecked (words : List (List ℕ)) (asked : Check) (end : CheckEnd) (old new : ShelfSeen) (before after : SinkSeen) : Type 0 where
   pub checked : FilesChecked (shown_of asked.form) asked.arch (machine_of asked.arch).writing old new words asked.test asked.execution before after end
   pub stay : new.files ≡ old.files
 
--- the same, and the input stays as it was
+-- the checking ends in this way, and the input stays as it was
 abbrev pub EndsCheck : List (List ℕ) → Check → CheckEnd → Devices → Devices → Type 0
 EndsCheck words asked end old new = ShelfAndOut (EndsChecked words asked end) old new
 

@@ -1,4 +1,4 @@
--- What diyone7 answers with the option -co.
+-- What diyone7 does with the option -co and without -exec.
 -- Source: own.
 use Rattle.std.specs.{Prelude.{ℕ, List, Option}, Option.option_or}
 use Rattle.relax_edges.specs.declared.edge.Edge.{Edge}
@@ -13,7 +13,7 @@ use Rattle.diy_tools.specs.{declared.status.Status.Status, ArchMachines.machine_
 abbrev pub incoherence_refused : Puts → List Edge → Option Refusal
 incoherence_refused a edges = option_or (refused_list a.name edges) (coherence_refusal_of a edges)
 
--- the text of the coherence test that words ask for
+-- the text of the coherence test that the arguments ask for
 abbrev pub incoherent_text : CoherenceTask → List ℕ
 incoherent_text asked =
     let m = machine_of asked.arch in

@@ -1,4 +1,4 @@
--- Where words ask for what can be done and no device fails, it is done.
+-- If the arguments ask for what can be done and no device fails, it is done, unless a tool that can run out of memory does.
 -- Source: own.
 use Rattle.std.specs.Prelude.{◌≡◌, ◌≤◌, ◌+◌, ◌⊎◌, ⊤, ℕ, true, List, ◌∷◌, [], length, Option, Some, None, Result, Ok, Err}
 use Rattle.relax_edges.specs.{declared.edge.Edge.Edge, declared.kinds.ArchName.ArchName}
@@ -25,14 +25,14 @@ pub record IsRightLog (log : List ℕ) : Type 0 where
   pub short : IsShort log
   pub right : AreWholeLogs (log ∷ [])
 
--- the words after the first name files that are there, each of at most 2^40 bytes, and as logs they have no error
+-- the arguments after the first name files that exist, each of at most 2^40 bytes, and as logs they have no error
 pub record AreRightLogs (files : Files) (words : List (List ℕ)) : Type 0 where
   pub logs : List (List ℕ)
   pub all : 1 + length logs ≡ length words
   pub are : AreLogs (Some files) words 1 logs
   pub right : AreWholeLogs logs
 
--- this holds of every text that a device can have: of the one that it shows, where it shows one
+-- this holds of every text that a device may have: of the one that it shows, or of every text if it shows none
 abbrev pub OfItsText : Option (List ℕ) → (List ℕ → Type 0) → Type 0
 OfItsText shown Holds = (text : List ℕ) → IsText shown text → Holds text
 
@@ -41,34 +41,35 @@ abbrev pub OfItsFiles : Option Files → (Files → Type 0) → Type 0
 OfItsFiles None Holds = ⊥
 OfItsFiles (Some files) Holds = Holds files
 
--- norm7 can name: the cycle that edges make, a cycle of the architecture with the name, or those of the input's lines
+-- norm7 can do what it is asked for: the edges make a cycle of the architecture; or some cycle of the architecture has the name; or the
+-- input has at most 2^40 bytes, and none of its lines has an error
 abbrev pub CanName : ArchName → Sought → Devices → Type 0
 CanName arch (OfEdges edges) old = refused_list arch edges ≡ None
 CanName arch (OfName at name) old = NamesNone name arch → ⊥
 CanName arch OfLines old = OfItsText old.input.left (IsSoundText arch)
 
--- msum7 can sum the logs that the words after the first name, or the input where there is no such word
+-- msum7 can sum the logs that the arguments after the first name, or the input if there are none
 abbrev pub CanSum : List (List ℕ) → Devices → Type 0
 CanSum (tool ∷ log ∷ logs) old = OfItsFiles old.shelf.files (λ files. AreRightLogs files (tool ∷ log ∷ logs))
 CanSum _ old = OfItsText old.input.left IsRightLog
 
--- the words at these places name files that each say a cycle
+-- the arguments at these indices name files, each of which is a test of the architecture that quotes a cycle
 pub record AreRightTests (files : Files) (words : List (List ℕ)) (arch : ArchName) (places : List ℕ) : Type 0 where
   pub texts : List (List ℕ)
   pub cycles : List (List Edge)
   pub read : ReadFiles (read_on arch) (Some files) words places texts cycles
 
--- classify7 can read the files that the words at these places name, or the input's lines where there is none
+-- classify7 can read the files that the arguments at these indices name, or the input's lines if there are none
 abbrev pub CanClassify : List (List ℕ) → ArchName → List ℕ → Devices → Type 0
 CanClassify words arch [] old = OfItsText old.input.left (IsSoundText arch)
 CanClassify words arch (file ∷ rest) old = OfItsFiles old.shelf.files (λ files. AreRightTests files words arch (file ∷ rest))
 
--- mcheck7 can check: its words name files, a test of the architecture and an execution of it
+-- mcheck7 can do what it is asked for: its arguments name the files of a test of the architecture and of an execution of it
 abbrev pub CanCheck : List (List ℕ) → Check → Devices → Type 0
 CanCheck words asked old =
     OfItsFiles old.shelf.files (λ files. AreTestAndExecution files asked.arch (machine_of asked.arch).writing words asked.test asked.execution)
 
--- words make a request that can be done
+-- the arguments make a request that can be done
 abbrev pub CanBeDone : List (List ℕ) → Result Task Usage → Devices → Type 0
 CanBeDone words (Err usage) old = ⊥
 CanBeDone words (Ok (AsksTest asked)) old = test_refused asked ≡ None
@@ -85,20 +86,21 @@ CanBeDone words (Ok (AsksExecution asked)) old = test_refused asked ≡ None
 CanBeDone words (Ok (AsksCoherenceExecution asked)) old = coherence_refused asked ≡ None
 CanBeDone words (Ok (AsksLines asked)) old = ⊤
 
--- no count of faults rises
+-- no error count rises or is at its maximum
 pub record NoFaults (old new : Devices) : Type 0 where
   pub input : Rose old.input.faults new.input.faults → ⊥
   pub out : Rose old.out.faults new.out.faults → ⊥
   pub shelf : Rose old.shelf.faults new.shelf.faults → ⊥
 
--- all is done, or there is no memory, where the tool may want it
+-- everything is done; or there is no memory, and the tool can run out of it
 abbrev pub IsDone : Result Task Usage → Status → Type 0
 IsDone asked status = (status ≡ Done) ⊎ ((status ≡ NoMemory) × MayWantMemory asked)
 
--- where words make a request that can be done and no count of faults rises, it is done
+-- if the arguments make a request that can be done, and no error count rises or is at its maximum, it is done, or there is no memory for a
+-- tool that can run out of it
 abbrev pub CompleteAsked : List (List ℕ) → Result Task Usage → Status → Devices → Devices → Type 0
 CompleteAsked words asked status old new = CanBeDone words asked old → NoFaults old new → IsDone asked status
 
--- a call with these words does what can be done, and takes the devices from old to new
+-- the same for a call with these arguments that ends with this status and takes the devices from old to new
 abbrev pub Complete : List (List ℕ) → Status → DevicesSeen → DevicesSeen → Type 0
 Complete words status old new = CompleteAsked words (asked_of words) status (devices old) (devices new)

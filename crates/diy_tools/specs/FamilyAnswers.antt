@@ -1,4 +1,4 @@
--- What classify7 answers.
+-- What classify7 does.
 -- Source: own.
 use Rattle.std.specs.Prelude.{◌≡◌, ℕ, List, [], ◌∷◌, Some, Result}
 use Rattle.relax_edges.specs.declared.kinds.ArchName.{ArchName}
@@ -19,13 +19,13 @@ pub record AnswersFamilies (arch : ArchName) (status : Status) (old new : Source
   pub classifies : Classifies arch old new before after result
   pub status_is : status ≡ classify_status result
 
--- what is wrong with a file of a test
+-- an error in the file of a test, as an error in a text
 abbrev pub file_kind : FileKind → TextKind
 file_kind (kinds.Test kind) = texts.Test kind
 file_kind kinds.WrongArch = texts.WrongArch
 file_kind kinds.NoCycle = texts.NoCycle
 
--- the status of the end of classifying files
+-- the status for each way in which the classifying of files can end
 abbrev pub files_status : FilesEnd → Status
 files_status ends.Done = Done
 files_status (ends.Wrong file line kind) = BadText (Some file) line (file_kind kind)
@@ -34,16 +34,16 @@ files_status ends.ShelfFault = ReadFault Shelf
 files_status ends.OutFault = WriteFault Out
 files_status ends.NoMemory = NoMemory
 
--- an architecture, as files are read on it
+-- an architecture, as the reading of files takes it
 abbrev pub read_on : ArchName → Asked
 read_on arch = record { arch = arch; writing = (machine_of arch).writing }
 
--- the classifying of the files that the words at these places name ends so, and no file changes
+-- the classifying of the files that the arguments at these indices name ends in this way, and no file changes
 pub record EndsNamed (words : List (List ℕ)) (arch : ArchName) (files : List ℕ) (end : FilesEnd) (old new : ShelfSeen) (before after : SinkSeen) : Type 0 where
   pub classified : FilesClassified (read_on arch) old new words files before after end
   pub stay : new.files ≡ old.files
 
--- there is such a file, and the classifying ends so
+-- there is at least one such file, the classifying ends in this way, and the input stays as it was
 abbrev pub EndsFamilies : List (List ℕ) → ArchName → List ℕ → FilesEnd → Devices → Devices → Type 0
 EndsFamilies words arch [] end old new = ⊥
 EndsFamilies words arch (file ∷ files) end old new = ShelfAndOut (EndsNamed words arch (file ∷ files) end) old new
@@ -54,7 +54,7 @@ pub record AnswersFiles (words : List (List ℕ)) (arch : ArchName) (files : Lis
   pub ends : EndsFamilies words arch files end old new
   pub status_is : status ≡ files_status end
 
--- classify7 does so with the files of the words at these places, or with the input's lines where there is none
+-- the same for the files that the arguments at these indices name, or for the input's lines if there are none
 abbrev pub AnswersClassify : List (List ℕ) → ArchName → List ℕ → Status → Devices → Devices → Type 0
 AnswersClassify words arch [] status old new = InputAndOut (AnswersFamilies arch status) old new
 AnswersClassify words arch (file ∷ files) status old new = AnswersFiles words arch (file ∷ files) status old new

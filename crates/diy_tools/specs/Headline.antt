@@ -1,6 +1,6 @@
--- The claim of the tools: for every accepted cycle the test that is printed forces the cycle; a listing writes such tests of
--- exactly the listed cycles, each once, in order, and so do choices of relaxations; what shows why a cycle needs an observer is
--- two executions that no condition tells apart; and a coherence test shows incoherence.
+-- The claim of the tools: for every accepted cycle the printed test forces the cycle; a listing writes such tests of exactly the listed
+-- cycles, each once, in order, and choices of relaxations write such tests of their cycles; two executions that no condition distinguishes
+-- show why a cycle needs an observer; and a coherence test shows incoherence.
 -- Source: own.
 use Rattle.std.specs.Prelude.{◌≡◌, ◌⊎◌, ℕ, List, Result, Ok, None}
 use Rattle.relax_edges.specs.declared.{edge.Edge.Edge, kinds.ObsMode.ObsMode}
@@ -19,19 +19,19 @@ use Rattle.diy_tools.specs.{CoherenceAnswers.coherence_refused, CoherenceAnswers
 use Rattle.diy_tools.specs.{CrossAnswers.cycles_asked, CrossAnswers.crossed_text, ListAnswers.AnswersList, ListAnswers.AnswersListed, ListAnswers.plan_asked, ExecutionAnswers.PrintsRun}
 use Rattle.cycle_enum_laws.specs.Listing.{IsOneOf}
 
--- a text is printed, and its bytes force a cycle
+-- a text is printed, or a prefix of it if standard output fails, and the bytes of the text force a cycle
 pub record PrintsForcing (m : Machine) (text : List ℕ) (cycle : List Edge) (mode : ObsMode) (status : Status) (old new : SinkSeen) : Type 0 where
   pub prints : Prints text status old new
   pub forces : BytesForce m.puts.name m.writing text (turned cycle) mode
 
--- a text is printed, and its bytes show incoherence: one candidate execution alone meets their condition, all edges of the
--- cycle stand in it, and it isn't coherent per location
+-- a text is printed, or a prefix of it if standard output fails, and the bytes of the text show incoherence: exactly one candidate
+-- execution meets their condition, all edges of the cycle stand in it, and it isn't coherent per location
 pub record PrintsIncoherence (m : Machine) (text : List ℕ) (cycle : List Edge) (status : Status) (old new : SinkSeen) : Type 0 where
   pub prints : Prints text status old new
   pub shows : BytesShowIncoherence m.puts.name m.writing text (turned cycle)
 
 -- the execution that a test asks for is printed, and the bytes of the test force its cycle: that execution is coherent per location and
--- meets the condition, no other does, and all edges of the cycle stand in it
+-- meets the condition, no other candidate execution does both, and all edges of the cycle stand in it
 pub record PrintsIntended (m : Machine) (text : List ℕ) (cycle : List Edge) (mode : ObsMode) (status : Status) (old new : SinkSeen) : Type 0 where
   pub prints : PrintsRun m text (intended_by cycle mode) status old new
   pub forces : BytesForce m.puts.name m.writing text (turned cycle) mode
@@ -41,31 +41,31 @@ pub record PrintsIncoherent (m : Machine) (text : List ℕ) (cycle : List Edge) 
   pub prints : PrintsRun m text (incoherent_by cycle) status old new
   pub shows : BytesShowIncoherence m.puts.name m.writing text (turned cycle)
 
--- the lines of a listing are written as they are asked for, and the bytes of the text of each listed cycle force that cycle
+-- the lines of a listing are written as asked for, and the bytes of the text of each listed cycle force that cycle
 pub record ListsLines (asked : ListTask) (status : Status) (old new : SinkSeen) : Type 0 where
   pub lists : AnswersListed asked status old new
   pub forces : (cycle : List Edge) → IsPlanned (plan_asked asked) cycle →
       BytesForce (machine_of asked.arch).puts.name (machine_of asked.arch).writing (planned_text (plan_asked asked) cycle) (turned cycle) asked.mode
 
--- a listing is written as it is asked for, and the bytes of the text of each listed cycle force that cycle
+-- the tests of a listing are written as asked for, and the bytes of the text of each listed cycle force that cycle
 pub record ListsForcing (asked : ListTask) (status : Status) (old new : ShelfSeen) (before after : SinkSeen) : Type 0 where
   pub lists : AnswersList asked status old new before after
   pub forces : (cycle : List Edge) → IsPlanned (plan_asked asked) cycle →
       BytesForce (machine_of asked.arch).puts.name (machine_of asked.arch).writing (planned_text (plan_asked asked) cycle) (turned cycle) asked.mode
 
--- the tests of the choices' cycles are written as they are asked for, and the bytes of the text of each force its cycle
+-- the tests of the choices' cycles are written as asked for, or there is no memory, and the bytes of the text of each force its cycle
 pub record CrossesForcing (asked : CrossTask) (status : Status) (old new : ShelfSeen) (before after : SinkSeen) : Type 0 where
   pub crosses : AnswersCross asked status old new before after
   pub forces : (cycle : List Edge) → IsOneOf (cycles_asked asked) cycle →
       BytesForce (machine_of asked.arch).puts.name (machine_of asked.arch).writing (crossed_text asked cycle) (turned cycle) asked.mode
 
--- where the words ask for the test of edges that nothing refuses, it is printed and forces the cycle that they make; where
--- they ask for a listing, or for the tests of choices, it is written and each of its tests forces its cycle; where they ask why
--- the mode avoid refuses edges, and nothing refuses to show that, there is no memory, or two executions of the test
--- without observers are written that no condition tells apart, though all edges stand in the first and one doesn't in the second;
--- where they ask for the coherence test of edges that nothing refuses, it is printed and shows incoherence; where they ask for the
--- execution of either in its place, there is no memory, or that execution is printed; where they ask for the lines of a listing, they
--- are written, and the tests of these cycles force them
+-- If the arguments ask for the test of edges that nothing refuses, it is printed, and forces the cycle that they make. If they ask why the
+-- mode avoid refuses edges, and nothing refuses to show that, there is no memory, or two executions of the test without observers are
+-- written that no condition distinguishes, though all edges stand in the first and one doesn't in the second. If they ask for the
+-- coherence test of edges that nothing refuses, it is printed, and shows incoherence. If they ask for the execution of either test instead,
+-- there is no memory, or that execution is printed, and the bytes of the test force the cycle or show incoherence. If they ask for the
+-- lines of a listing, these are written, and the tests of its cycles force them. If they ask for the tests of a listing or of choices,
+-- these are written, or for choices there is no memory, and each test forces its cycle.
 abbrev pub HeadlineAsked : Result Task Usage → Status → Devices → Devices → Type 0
 HeadlineAsked (Ok (AsksTest asked)) status old new =
     refused_of (machine_of asked.arch).puts asked.mode asked.edges ≡ None →
@@ -88,6 +88,6 @@ HeadlineAsked (Ok (AsksList asked)) status old new = ListsForcing asked status o
 HeadlineAsked (Ok (AsksCross asked)) status old new = CrossesForcing asked status old.shelf new.shelf old.out new.out
 HeadlineAsked _ status old new = Unit {0}
 
--- the claim of a call with these words, by its status and the devices before and after it
+-- the claim about a call with these arguments, by its status and the devices before and after it
 abbrev pub Headline : List (List ℕ) → Status → DevicesSeen → DevicesSeen → Type 0
 Headline words status old new = HeadlineAsked (asked_of words) status (devices old) (devices new)

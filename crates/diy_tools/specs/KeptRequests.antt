@@ -1,4 +1,4 @@
--- What only private functions cite: requests as they are kept, and the parts of a test, of a listing and of a sum.
+-- Only for private functions: what is done for requests as they are kept, and the parts of this for a test, a listing, a sum and the rest.
 use Rattle.std.specs.{Prelude.{ℕ, ◌≡◌, ◌⊎◌, List, [], Option, Some, None, Result, Ok, Err}, Borrow.Bor, Option.{option_map, option_or}}
 use Rattle.arrayvec.specs.ArrayString.{ArrayString}
 use Rattle.relax_edges.specs.{declared.edge.Edge.Edge, declared.kinds.ArchName.ArchName, declared.kinds.ObsMode.ObsMode}
@@ -27,25 +27,25 @@ use Rattle.exec_text.specs.Written.{text_of_execution}
 use Rattle.co_tests_laws.specs.CoRefusals.{coherence_refusal_of, coherence_text}
 use Rattle.diy_tools.specs.declared.status.Status.TheVariants as statuses
 
--- the edges that are kept
+-- the edges that are kept; none if there are too many
 abbrev pub edges_kept : EdgeList → List Edge
 edges_kept (Whole list) = list.items
 edges_kept TooLong = []
 
--- what is refused of edges as they are kept
+-- the first reason why kept edges make no cycle of an architecture
 abbrev pub refused_edges : ArchName → EdgeList → Option Refusal
 refused_edges arch (Whole list) = refused_list arch list.items
 refused_edges arch TooLong = Some refusals.TooLong
 
--- the same, where they are to make a test
+-- the first reason why kept edges have no test on an architecture in a mode
 abbrev pub refused_kept : Machine → ObsMode → EdgeList → Option Refusal
 refused_kept m mode list = option_or (refused_edges m.puts.name list) (refusal_of m.puts (edges_kept list) mode)
 
--- the same, where two executions of the test are to be written
+-- the first reason why two executions of the test of kept edges aren't shown
 abbrev pub refused_why : Machine → EdgeList → Option Refusal
 refused_why m list = option_or (refused_edges m.puts.name list) (why_refused m.puts (edges_kept list))
 
--- a call gives the cycle that edges make, where nothing is refused, or the reason that is given
+-- a call gives the cycle that edges make if nothing is refused, or otherwise the reason
 abbrev pub MakesCycle : Option Refusal → List Edge → Result (List Edge) Refusal → Type 0
 MakesCycle refused edges (Ok cycle) = (refused ≡ None) × (cycle ≡ edges)
 MakesCycle refused edges (Err refusal) = refused ≡ Some refusal
@@ -54,11 +54,11 @@ MakesCycle refused edges (Err refusal) = refused ≡ Some refusal
 abbrev pub name_kept : Option ArrayString → Option (List ℕ)
 name_kept name = option_map (λ name. name.bytes) name
 
--- the name that is kept, or that of the cycle where there is none
+-- the name that is kept, or by default that of the cycle
 abbrev pub chosen_name : Option ArrayString → List Edge → List ℕ
 chosen_name name cycle = test_name (name_kept name) cycle
 
--- a cycle has no test in a mode, and that is the refusal; or its test is printed
+-- a cycle is refused because it has no test in a mode; or its test is printed
 abbrev pub AnswersCycle : Machine → ObsMode → Option ArrayString → List Edge → Status → SinkSeen → SinkSeen → Type 0
 AnswersCycle m mode name cycle =
     AnswersEdges (refusal_of m.puts cycle mode) (cycle_text m.puts m.writing mode (chosen_name name cycle) cycle)
@@ -76,16 +76,16 @@ AnswersIntended m request =
     (cycle_text m.puts m.writing request.mode (chosen_name request.name (edges_kept request.edges)) (edges_kept request.edges))
     (intended_by (edges_kept request.edges) request.mode)
 
--- the same of a cycle under a name, on an architecture with this code that is written so
+-- the same for a cycle under a name, on an architecture with this code that is written in this way
 abbrev pub RunsOn : Puts → Writing → ObsMode → List ℕ → List Edge → Status → SinkSeen → SinkSeen → Type 0
 RunsOn puts writing mode name cycle =
     AnswersRun (machine puts writing) (refusal_of puts cycle mode) (cycle_text puts writing mode name cycle) (intended_by cycle mode)
 
--- a text is printed, or there is no memory, and nothing is
+-- a text is printed, or there is no memory and nothing is printed
 abbrev pub PrintsInMemory : List ℕ → Status → SinkSeen → SinkSeen → Type 0
 PrintsInMemory text status old new = ((status ≡ statuses.NoMemory) × (new ≡ old)) ⊎ Prints text status old new
 
--- a folder that is lent, where one is given
+-- a folder that is lent, if one is given
 abbrev pub folder_lent : Option (Bor (List ℕ)) → Option (List ℕ)
 folder_lent folder = option_map (λ folder. folder.now) folder
 
@@ -97,7 +97,7 @@ folder_kept request = folder_lent request.folder
 abbrev pub named_kept : Why → List ℕ
 named_kept request = test_name (name_kept request.name) (edges_kept request.edges)
 
--- files are written on the shelf and a line is written, or there is no memory, and nothing is written
+-- files are written on the shelf and a line is written, or there is no memory and nothing is written
 abbrev pub WritesInMemory : List (List ℕ × List ℕ) → List ℕ → Status → ShelfSeen → ShelfSeen → SinkSeen → SinkSeen → Type 0
 WritesInMemory files line status old new before after =
     ((status ≡ statuses.NoMemory) × (new ≡ old) × (after ≡ before)) ⊎ WritesFiles files line status old new before after
@@ -107,31 +107,31 @@ abbrev pub AnswersShowing : Machine → Why → Status → ShelfSeen → ShelfSe
 AnswersShowing m request =
     AnswersRuns m (folder_kept request) (named_kept request) (refused_why m request.edges) (edges_kept request.edges)
 
--- the same of a cycle under a name, on an architecture with this code that is written so
+-- the same for a cycle under a name, on an architecture with this code that is written in this way
 abbrev pub ShowsOn : Puts → Writing → Option (Bor (List ℕ)) → List ℕ → List Edge → Status → ShelfSeen → ShelfSeen → SinkSeen → SinkSeen → Type 0
 ShowsOn puts writing folder name cycle =
     AnswersRuns (machine puts writing) (folder_lent folder) name (why_refused puts cycle) cycle
 
--- the files of a test with this text and of two executions with these are put on the shelf, and the line on them is written
+-- the files with these texts of a test and of two executions are put on the shelf, and the line about them is written
 abbrev pub PutsRuns : Option (Bor (List ℕ)) → List ℕ → List ℕ → List ℕ → List ℕ → Status → ShelfSeen → ShelfSeen → SinkSeen → SinkSeen → Type 0
 PutsRuns folder name text one two = WritesFiles (why_files (folder_lent folder) name text one two) (why_line name)
 
--- the same of two executions that aren't texts yet, or there is no memory, and nothing is written
+-- the same for two executions that aren't texts yet, or there is no memory and nothing is written
 abbrev pub WritesRunsOf : {A : Type 0} → Option (Bor (List ℕ)) → List ℕ → TwoRuns A → Status → ShelfSeen → ShelfSeen → SinkSeen → SinkSeen → Type 0
 WritesRunsOf folder name runs =
     WritesInMemory
     (why_files (folder_lent folder) name runs.text.items (text_of_execution runs.test.places runs.one) (text_of_execution runs.test.places runs.two))
     (why_line name)
 
--- the tests of the choices from lists are written, as a request asks for them; or there is no memory, and nothing is
+-- the tests of the choices from lists are written, as a request asks for them; or there is no memory and nothing is written
 abbrev pub CrossesFor : Cross → List (List (List Edge)) → Status → ShelfSeen → ShelfSeen → SinkSeen → SinkSeen → Type 0
 CrossesFor request = AnswersChoices (machine_of request.arch) request.mode (folder_lent request.folder)
 
--- the same on an architecture with this code that is written so
+-- the same on an architecture with this code that is written in this way
 abbrev pub CrossesOn : Puts → Writing → ObsMode → Option (Bor (List ℕ)) → List (List (List Edge)) → Status → ShelfSeen → ShelfSeen → SinkSeen → SinkSeen → Type 0
 CrossesOn puts writing mode folder = AnswersChoices (machine puts writing) mode (folder_lent folder)
 
--- the answer for the cycles that are sought, as they are kept
+-- what norm7 does for the cycles that are sought, as they are kept
 abbrev pub AnswersKept : ArchName → Sought → Status → SourceSeen → SourceSeen → SinkSeen → SinkSeen → Type 0
 AnswersKept arch (sought.Edges list) status old new before after =
     (new ≡ old) × AnswersEdges (refused_edges arch list) (name_line (edges_kept list)) status before after
@@ -139,17 +139,17 @@ AnswersKept arch (sought.Named source) status old new before after =
     (new ≡ old) × AnswersName arch source.word source.name.now status before after
 AnswersKept arch sought.Lines status old new before after = AnswersLines arch status old new before after
 
--- what is refused of edges as they are kept, where they are to make a coherence test
+-- the first reason why kept edges have no coherence test on an architecture
 abbrev pub refused_incoherent : Machine → EdgeList → Option Refusal
 refused_incoherent m list = option_or (refused_edges m.puts.name list) (coherence_refusal_of m.puts (edges_kept list))
 
--- the edges of a request for a coherence test, as they are kept, are refused; or the test is printed
+-- the edges of a request for a coherence test are refused; or the test is printed
 abbrev pub AnswersIncoherence : Machine → Coherence → Status → SinkSeen → SinkSeen → Type 0
 AnswersIncoherence m request =
     AnswersEdges (refused_incoherent m request.edges)
     (coherence_text m.puts m.writing (chosen_name request.name (edges_kept request.edges)) (edges_kept request.edges))
 
--- a cycle has no coherence test, and that is the refusal; or the test is printed
+-- a cycle is refused because it has no coherence test; or the test is printed
 abbrev pub AnswersLoop : Machine → Option ArrayString → List Edge → Status → SinkSeen → SinkSeen → Type 0
 AnswersLoop m name cycle =
     AnswersEdges (coherence_refusal_of m.puts cycle) (coherence_text m.puts m.writing (chosen_name name cycle) cycle)
@@ -161,17 +161,17 @@ AnswersIncoherent m request =
     (coherence_text m.puts m.writing (chosen_name request.name (edges_kept request.edges)) (edges_kept request.edges))
     (incoherent_by (edges_kept request.edges))
 
--- the same of a cycle under a name, on an architecture with this code that is written so
+-- the same for a cycle under a name, on an architecture with this code that is written in this way
 abbrev pub LoopRunsOn : Puts → Writing → List ℕ → List Edge → Status → SinkSeen → SinkSeen → Type 0
 LoopRunsOn puts writing name cycle =
     AnswersRun (machine puts writing) (coherence_refusal_of puts cycle) (coherence_text puts writing name cycle) (incoherent_by cycle)
 
--- what is answered of words that ask for the tests of choices
+-- what is done for arguments that ask for the tests of choices
 abbrev pub AnswersCrossing : Result Task Usage → Status → ShelfSeen → ShelfSeen → SinkSeen → SinkSeen → Type 0
 AnswersCrossing (Ok (AsksCross asked)) status old new before after = AnswersCross asked status old new before after
 AnswersCrossing _ status old new before after = ⊥
 
--- what a listing that is lent leaves, on an architecture
+-- what a listing that is handed over leaves on the devices, on an architecture
 abbrev pub EndsOn : Machine → Listing → ListingEnd → ShelfSeen → ShelfSeen → SinkSeen → SinkSeen → Type 0
 EndsOn m listing end old new before after =
     EndsListing (λ (sink : SinkSeen). sink)
@@ -179,7 +179,7 @@ EndsOn m listing end old new before after =
     listing.relaxes listing.limits)
     listing.after end old new before after
 
--- what is asked for of a listing that is lent, on an architecture
+-- what is asked for by a listing that is handed over, on an architecture
 abbrev pub asked_listing : ArchName → Listing → ListTask
 asked_listing arch listing = record {
   arch = arch;
@@ -193,23 +193,23 @@ asked_listing arch listing = record {
   folder = folder_lent listing.folder;
 }
 
--- what the writing of the lines of a listing that is lent leaves, on an architecture
+-- what the writing of the lines of a listing that is handed over leaves on the sink, on an architecture
 abbrev pub EndsLinesOn : Machine → Listing → SinkSeen → SinkSeen → Result (Unit {0}) Failed → Type 0
 EndsLinesOn m listing = EndsLines (plan_in m.puts m.writing listing) listing.after
 
--- the files of the words at these places are classified, or there is a reason why they can't be; no file changes
+-- the files that the arguments at these indices name are classified, or there is a reason why they can't be; no file changes
 pub record ClassifiesNamedFiles (words : List (List ℕ)) (arch : ArchName) (files : List ℕ) (status : Status) (old new : ShelfSeen) (before after : SinkSeen) : Type 0 where
   pub end : FilesEnd
   pub ends : EndsNamed words arch files end old new before after
   pub status_is : status ≡ files_status end
 
--- the execution in one file is checked of the test in another, or there is a reason why it can't be; no file changes
+-- the execution in one file is checked as one of the test in another, or there is a reason why it can't be; no file changes
 pub record ChecksFiles (words : List (List ℕ)) (asked : Check) (status : Status) (old new : ShelfSeen) (before after : SinkSeen) : Type 0 where
   pub end : CheckEnd
   pub ends : EndsChecked words asked end old new before after
   pub status_is : status ≡ check_status end
 
--- the checking that words ask for ended so, by what is seen of the devices before and after
+-- the checking that the arguments ask for ended in this way, by what is seen of the devices before and after
 abbrev pub CheckEndsFor : List (List ℕ) → Check → CheckEnd → ShelfSeen → ShelfSeen → SinkSeen → SinkSeen → Type 0
 CheckEndsFor words request end old new before after =
     FilesChecked (shown_of request.form) request.arch (machine_of request.arch).writing old new words request.test request.execution before after end
@@ -220,13 +220,13 @@ pub record SumsInput (status : Status) (old new : SourceSeen) (before after : Si
   pub summed : InputSummed old new before after end
   pub status_is : status ≡ sum_status end
 
--- the logs that the words after the first name are summed, or there is a reason why they can't be; no file changes
+-- the logs that the arguments after the first name are summed, or there is a reason why they can't be; no file changes
 pub record SumsFiles (words : List (List ℕ)) (status : Status) (old new : ShelfSeen) (before after : SinkSeen) : Type 0 where
   pub end : SumEnd
   pub summed : FilesSummed old new words 1 before after end
   pub files : new.files ≡ old.files
   pub status_is : status ≡ sum_status end
 
--- the logs that the words name are summed, or the input where they name none, by what is seen of the devices
+-- what msum7 does with the logs that the arguments name, or with the input if they name none, by what is seen of the devices
 abbrev pub AnswersSumOf : List (List ℕ) → Status → DevicesSeen → DevicesSeen → Type 0
 AnswersSumOf words status old new = AnswersSum words status (devices old) (devices new)

@@ -1,4 +1,4 @@
--- What diy7 answers.
+-- What diy7 does.
 -- Source: own.
 use Rattle.std.specs.Prelude.{◌≡◌, Ok, Err}
 use Rattle.diy_io.specs.{Shelf.ShelfSeen, Wrote.SinkSeen}
@@ -7,7 +7,7 @@ use Rattle.tests_to_files.specs.{declared.ending.ListingEnd.ListingEnd, ListedLi
 use Rattle.diy_tools.specs.{declared.status.Status.Status, declared.status.Device.TheVariants.Out, ArchMachines.machine_of, Statuses.listing_status}
 use Rattle.diy_tools.specs.declared.status.Status.TheVariants as statuses
 
--- the plan of a listing that words ask for
+-- the plan of the listing that the arguments ask for
 abbrev pub plan_asked : ListTask → Plan
 plan_asked asked = record {
   puts = (machine_of asked.arch).puts;
@@ -20,12 +20,12 @@ plan_asked asked = record {
   limits = record { size = asked.size; exact = asked.exact };
 }
 
--- what that listing leaves with an end
+-- what that listing leaves on the devices when it ends in this way
 abbrev pub EndsAsked : ListTask → ListingEnd → ShelfSeen → ShelfSeen → SinkSeen → SinkSeen → Type 0
 EndsAsked asked end old new before after =
     EndsListing (λ (sink : SinkSeen). sink) (plan_asked asked) asked.after end old new before after
 
--- the lines of the cycles of a listing are written, or a prefix of the first ones, where standard output failed
+-- the lines of the cycles of a listing are written, or a prefix of the first ones if standard output failed
 abbrev pub AnswersListed : ListTask → Status → SinkSeen → SinkSeen → Type 0
 AnswersListed asked statuses.Done old new = EndsLines (plan_asked asked) asked.after old new (Ok tt)
 AnswersListed asked (statuses.WriteFault Out) old new = EndsLines (plan_asked asked) asked.after old new (Err (record {}))

@@ -1,12 +1,12 @@
--- Which tools may want memory.
+-- Which tools can run out of memory.
 -- Source: own.
 use Rattle.std.specs.Prelude.{ℕ, ◌≡◌, ⊤, List, Result, Ok}
 use Rattle.diy_words.specs.declared.usage.Usage.{Usage}
 use Rattle.diy_words.specs.Requests.{Task, AsksWhy, AsksFamilies, AsksSum, AsksCross, AsksCheck, AsksExecution, AsksCoherenceExecution, asked_of}
 use Rattle.diy_tools.specs.declared.status.{Status.Status, Status.TheVariants.NoMemory}
 
--- classify7, msum7, diycross7, mcheck7 and diyone7 with -why or -exec may want memory, no other tool may, nor may words without a
--- request
+-- classify7, msum7, diycross7, mcheck7 and diyone7 with -why or -exec can run out of memory; no other tool can, nor can a call whose
+-- arguments make no request
 abbrev pub MayWantMemory : Result Task Usage → Type 0
 MayWantMemory (Ok (AsksWhy asked)) = ⊤
 MayWantMemory (Ok (AsksFamilies asked)) = ⊤
@@ -17,6 +17,6 @@ MayWantMemory (Ok (AsksExecution asked)) = ⊤
 MayWantMemory (Ok (AsksCoherenceExecution asked)) = ⊤
 MayWantMemory _ = ⊥
 
--- only these answer that there is no memory
+-- the status is that of no memory only if the arguments ask for one of these tools
 abbrev pub NeverWantsMemory : List (List ℕ) → Status → Type 0
 NeverWantsMemory words status = status ≡ NoMemory → MayWantMemory (asked_of words)

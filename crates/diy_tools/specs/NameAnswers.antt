@@ -1,4 +1,4 @@
--- What norm7 answers.
+-- What norm7 does.
 -- Source: own.
 use Rattle.std.specs.Prelude.{ℕ, ◌≡◌, ◌⊎◌, List, Result}
 use Rattle.relax_edges.specs.{declared.edge.Edge.Edge, declared.kinds.ArchName.ArchName}
@@ -15,20 +15,20 @@ pub record PrintsNamed (arch : ArchName) (name : List ℕ) (status : Status) (ol
   pub named : IsNamed name arch cycle
   pub prints : Prints (name_line cycle) status old new
 
--- a name, the word at a place, names no cycle of the architecture, and nothing is written; or the line of the cycle that
+-- a name, which is the argument at an index, names no cycle of the architecture, and nothing is written; or the line of the cycle that
 -- has it is printed
 abbrev pub AnswersName : ArchName → ℕ → List ℕ → Status → SinkSeen → SinkSeen → Type 0
 AnswersName arch at name status old new =
     (NamesNone name arch × (status ≡ Usage at UnknownName) × (new ≡ old))
     ⊎ PrintsNamed arch name status old new
 
--- the lines of cycles of the input are named, or those before the first reason why they can't be
+-- the cycles of the input's lines are named, or those before the first reason why they can't be
 pub record AnswersLines (arch : ArchName) (status : Status) (old new : SourceSeen) (before after : SinkSeen) : Type 0 where
   pub result : Result (Unit {0}) NormError
   pub norms : Norms arch old new before after result
   pub status_is : status ≡ norm_status result
 
--- the cycle whose name is sought is refused, or none has the name, and nothing is written; or its line is printed; or the
+-- the edges whose name is sought are refused, or no cycle has the name, and nothing is written; or the line of the cycle is printed; or the
 -- cycles of the input's lines are named
 abbrev pub AnswersSought : ArchName → Sought → Status → SourceSeen → SourceSeen → SinkSeen → SinkSeen → Type 0
 AnswersSought arch (OfEdges edges) status old new before after =

@@ -7,7 +7,8 @@ use Rattle.diy_tools.specs.declared.status.Status.{Status}
 use Rattle.diy_tools.specs.declared.status.Status.TheVariants as statuses
 use Rattle.diy_tools.specs.declared.status.Device.TheVariants as devices
 
--- all of a text is printed, with no fault; or the device takes a prefix of it, and its count of faults rises, or is at its last value
+-- all of a text is printed without an error, with the status `Done`; or the device takes a prefix of it, its error count rises or is at its
+-- maximum, and the status says that standard output failed
 abbrev pub Prints : List ℕ → Status → SinkSeen → SinkSeen → Type 0
 Prints text statuses.Done old new = WroteAll old new text
 Prints text (statuses.WriteFault devices.Out) old new = WrotePart old new text

@@ -7,7 +7,7 @@ use Rattle.arch_trait.specs.Threads.{Puts}
 use Rattle.test_maker.specs.{declared.refusal.Refusal.Refusal, Refusals.{composing_refusal, foreign_edge, refusal_of}}
 use Rattle.test_maker.specs.declared.refusal.Refusal.TheVariants as refusals
 
--- what composing refuses, if anything
+-- why edges don't compose, if they don't
 abbrev pub refused_composing : Result (List Edge) CycleError → Option Refusal
 refused_composing (Err error) = Some (composing_refusal error)
 refused_composing (Ok cycle) = None
@@ -20,6 +20,6 @@ refused_list arch (edge ∷ edges) =
     then Some refusals.TooLong
     else option_or (foreign_edge arch (edge ∷ edges)) (refused_composing (composed (edge ∷ edges)))
 
--- the first reason why a list of edges is refused, on an architecture in a mode
+-- the first reason why a list of edges has no test on an architecture in a mode
 abbrev pub refused_of : Puts → ObsMode → List Edge → Option Refusal
 refused_of a mode edges = option_or (refused_list a.name edges) (refusal_of a edges mode)

@@ -1,4 +1,4 @@
--- The line on standard error for a status.
+-- The exit status of each status, and its line on standard error.
 -- Source: own.
 use Rattle.std.specs.{Prelude.{ℕ, ⊤, ◌⊎◌, List, [], ◌++◌, codes, slice_get, unwrap_or, Option, Some, None}, Fmt.decimal}
 use Rattle.arch_trait.specs.PlaceNames.{location_name}
@@ -46,7 +46,7 @@ refusal_text refusals.NothingToShow = codes "NothingToShow"
 refusal_text refusals.NotCoherence = codes "NotCoherence"
 refusal_text refusals.ManyWrites = codes "ManyWrites"
 
--- the name of what is wrong with words
+-- the name of a usage error
 abbrev pub usage_text : UsageKind → List ℕ
 usage_text usages.UnknownTool = codes "UnknownTool"
 usage_text usages.UnknownOption = codes "UnknownOption"
@@ -116,7 +116,7 @@ exec_text executions.EndMissing = codes "EndMissing"
 exec_text executions.StrayLine = codes "StrayLine"
 exec_text executions.TooLarge = codes "TooLarge"
 
--- the name of what is wrong with a line
+-- the name of what is wrong with a text or one of its lines
 abbrev pub kind_text : TextKind → List ℕ
 kind_text (texts.Line kind) = line_text kind
 kind_text (texts.Log kind) = log_text kind
@@ -126,7 +126,7 @@ kind_text texts.WrongArch = codes "WrongArch"
 kind_text texts.NoCycle = codes "NoCycle"
 kind_text texts.TooMuch = codes "TooMuch"
 
--- a word that shows an error, where there is one
+-- the argument at fault as it is shown, if there is one
 abbrev pub shown_word : Option (List ℕ) → List ℕ
 shown_word (Some word) = codes ": " ++ word
 shown_word None = []
@@ -137,11 +137,11 @@ device_text devices.Input = codes "input"
 device_text devices.Out = codes "out"
 device_text devices.Shelf = codes "shelf"
 
--- the word at a place, where there is one
+-- the argument at an index, or the empty text if there is none
 abbrev pub word_at : List (List ℕ) → ℕ → List ℕ
 word_at words place = unwrap_or (slice_get words place) []
 
--- the name of a text, which is that of the input where no word names it
+-- the name of a text: the argument that names it, or `-` if no argument does and it is the input
 abbrev pub file_text : List (List ℕ) → Option ℕ → List ℕ
 file_text words None = codes "-"
 file_text words (Some word) = word_at words word
@@ -150,11 +150,11 @@ file_text words (Some word) = word_at words word
 abbrev pub refusal_line : List ℕ → List ℕ
 refusal_line text = codes "diy: refused " ++ text ++ codes "\n"
 
--- the line of what is wrong with a line of a text, by the name of the text and that of the error
+-- the line of an error in a text, with the name of the text, the number of its line, and the name of the error
 abbrev pub text_line : List ℕ → ℕ → List ℕ → List ℕ
 text_line file line kind = codes "diy: " ++ file ++ codes ":" ++ decimal line ++ codes ": " ++ kind ++ codes "\n"
 
--- the line of words that make no request: what is wrong, and the word that shows it
+-- the line of a usage error: its name, and the argument at fault as it is shown
 abbrev pub usage_line : List ℕ → List ℕ → List ℕ
 usage_line name shown = codes "diy: usage " ++ name ++ shown ++ codes "\n"
 
@@ -171,7 +171,7 @@ status_line words (statuses.ReadFault device) = codes "diy: read fault: " ++ dev
 status_line words (statuses.WriteFault device) = codes "diy: write fault: " ++ device_text device ++ codes "\n"
 status_line words statuses.NoMemory = codes "diy: no memory\n"
 
--- a line is written, with no fault; or the device takes a prefix of it, and its count of faults rises, or is at its last value
+-- a line is written without an error; or the device takes a prefix of it, and its error count rises or is at its maximum
 abbrev pub TakesLine : List ℕ → SinkSeen → SinkSeen → Type 0
 TakesLine line old new = (WroteAll old new line) ⊎ (WrotePart old new line)
 

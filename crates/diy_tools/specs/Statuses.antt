@@ -1,4 +1,4 @@
--- The statuses that the ends of the tools' work give.
+-- The status for each way in which norm7 and classify7 over lines, and a listing, can end.
 -- Source: own.
 use Rattle.std.specs.Prelude.{None, Result, Ok, Err}
 use Rattle.cycles_from_lines.specs.declared.errors.{LinesError.LinesError, NormError.NormError, ClassifyError.ClassifyError}
@@ -11,26 +11,26 @@ use Rattle.diy_tools.specs.declared.status.{Status.Status, TextKind.TheVariants.
 use Rattle.diy_tools.specs.declared.status.{Device.TheVariants.Out, Device.TheVariants.Shelf}
 use Rattle.diy_tools.specs.declared.status.Status.TheVariants.{Done, BadText, ReadFault, WriteFault, NoMemory}
 
--- the status where the lines of the input weren't read to its end
+-- the status if the input's lines weren't read to its end
 abbrev pub lines_status : LinesError → Status
 lines_status (lines.Wrong line kind) = BadText None line (Line kind)
 lines_status (lines.TooMuch line) = BadText None line TooMuch
 lines_status lines.InputFault = ReadFault Input
 
--- the status of norm7 over lines
+-- the status of norm7 over the input's lines
 abbrev pub norm_status : Result (Unit {0}) NormError → Status
 norm_status (Ok _) = Done
 norm_status (Err (norms.Lines error)) = lines_status error
 norm_status (Err norms.OutFault) = WriteFault Out
 
--- the status of classify7 over lines
+-- the status of classify7 over the input's lines
 abbrev pub classify_status : Result (Unit {0}) ClassifyError → Status
 classify_status (Ok _) = Done
 classify_status (Err (classifies.Lines error)) = lines_status error
 classify_status (Err classifies.OutFault) = WriteFault Out
 classify_status (Err classifies.NoMemory) = NoMemory
 
--- the status of diy7
+-- the status of diy7 without -list and of diycross7
 abbrev pub listing_status : ListingEnd → Status
 listing_status listings.Done = Done
 listing_status listings.ShelfFault = WriteFault Shelf

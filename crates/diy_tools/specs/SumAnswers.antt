@@ -1,4 +1,4 @@
--- What msum7 answers.
+-- What msum7 does.
 -- Source: own.
 use Rattle.std.specs.Prelude.{◌≡◌, ℕ, List, ◌∷◌}
 use Rattle.diy_io.specs.{Shelf.ShelfSeen, Wrote.SinkSeen}
@@ -9,7 +9,7 @@ use Rattle.diy_tools.specs.declared.status.Device.TheVariants.{Input, Out, Shelf
 use Rattle.diy_tools.specs.declared.status.Status.TheVariants.{Done, BadText, NoFile, ReadFault, WriteFault, NoMemory}
 use Rattle.diy_tools.specs.Devices.{Devices, InputAndOut, ShelfAndOut}
 
--- the status of the end of a sum
+-- the status for each way in which the summing can end
 abbrev pub sum_status : SumEnd → Status
 sum_status sums.Done = Done
 sum_status (sums.Wrong file line kind) = BadText file line (Log kind)
@@ -20,16 +20,16 @@ sum_status sums.ShelfFault = ReadFault Shelf
 sum_status sums.OutFault = WriteFault Out
 sum_status sums.NoMemory = NoMemory
 
--- the summing of the logs that the words after the first name ends so, and no file changes
+-- the summing of the logs that the arguments after the first name ends in this way, and no file changes
 pub record EndsFiles (words : List (List ℕ)) (end : SumEnd) (old new : ShelfSeen) (before after : SinkSeen) : Type 0 where
   pub summed : FilesSummed old new words 1 before after end
   pub files : new.files ≡ old.files
 
--- the summing of the input ends so
+-- the summing of the input ends in this way, and the shelf stays as it was
 abbrev pub EndsInput : SumEnd → Devices → Devices → Type 0
 EndsInput end old new = InputAndOut (λ input input' out out'. InputSummed input input' out out' end) old new
 
--- the summing ends so: of the logs that the words after the first name, or of the input where there is no such word
+-- the summing ends in this way: that of the logs that the arguments after the first name, or of the input if there are none
 abbrev pub EndsSum : List (List ℕ) → SumEnd → Devices → Devices → Type 0
 EndsSum (tool ∷ log ∷ logs) end old new = ShelfAndOut (EndsFiles (tool ∷ log ∷ logs) end) old new
 EndsSum _ end old new = EndsInput end old new

@@ -1,4 +1,4 @@
--- What diyone7 answers.
+-- What diyone7 does without -why, -co and -exec.
 -- Source: own.
 use Rattle.std.specs.Prelude.{ℕ, List, Option, Some, None}
 use Rattle.relax_edges.specs.declared.edge.Edge.{Edge}
@@ -8,12 +8,12 @@ use Rattle.diy_words.specs.Requests.{TestTask}
 use Rattle.test_maker.specs.{CycleText.cycle_text, declared.refusal.Refusal.Refusal}
 use Rattle.diy_tools.specs.{declared.status.Status.Status, ArchMachines.machine_of, PrintAnswers.AnswersEdges, Refused.refused_of}
 
--- the name of a test: the one that is given, or else that of its cycle
+-- the name of a test: the given one, or by default that of its cycle
 abbrev pub test_name : Option (List ℕ) → List Edge → List ℕ
 test_name (Some name) cycle = name
 test_name None cycle = name_of cycle
 
--- the text of the test that words ask for
+-- the text of the test that the arguments ask for
 abbrev pub asked_text : TestTask → List ℕ
 asked_text asked =
     let m = machine_of asked.arch in

@@ -10,7 +10,7 @@ use exec_check::{CheckEnd, CheckedKind, FileWords, Shown, check_files};
 use relax_edges::ArchName;
 use std::alloc::Global;
 
-/// Writes what is so of the execution that one file holds, of the test that another file holds.
+/// Writes what holds of the execution in one file, as one of the test in another.
 pub(crate) fn check<H: Shelf, O: Sink>(
     alloc: Global,
     words: &Words,

@@ -15,7 +15,7 @@ use relax_edges::{ArchName, ObsMode, Relaxes};
 use std::alloc::Global;
 use tests_to_files::put_cycles;
 
-/// Writes the tests of the choices of one relaxation a place, each in a file.
+/// Writes the tests of the choices of one relaxation for each position, each test in a file.
 #[tactic(auto, using(crate::proofs::Crossed::asks_choices, crate::proofs::Crossed::choices_answered, crate::proofs::Crossed::choices_unread))]
 pub(crate) fn cross<H: Shelf, O: Sink>(
     alloc: Global,
@@ -36,7 +36,7 @@ pub(crate) fn cross<H: Shelf, O: Sink>(
     }
 }
 
-/// Writes the tests of the choices from lists, on the architecture that is asked for.
+/// Writes the tests of the choices from lists, on the requested architecture.
 #[tactic(auto, using(crate::proofs::Crossed::choices_on))]
 fn cross_places<H: Shelf, O: Sink>(
     alloc: Global,

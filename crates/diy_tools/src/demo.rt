@@ -10,7 +10,7 @@ use diy_io::{Failed, Sink};
 use diy_words::Demo;
 use relax_edges::ArchName;
 
-/// Makes as many tests as are asked for, and prints how many there are of each family.
+/// Makes as many tests as are asked for, and prints how many there are of each family and how long they are.
 #[inline(never)]
 pub(crate) fn demo<O: Sink>(request: &Demo, out: &mut O) -> Status
     requires form { HasForm (requests.Demo request.now) }

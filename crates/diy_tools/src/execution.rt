@@ -19,7 +19,7 @@ use relax_edges::{ArchName, ObsMode};
 use std::alloc::Global;
 use two_runs::{IntendedRun, RunError, coherence_run, intended_run};
 
-/// Prints the execution that the test of a cycle asks for.
+/// Prints the execution that the test of the requested cycle asks for.
 #[tactic(auto, using(crate::proofs::Executed::intended_on))]
 pub(crate) fn execution<O: Sink>(alloc: Global, request: &DiyOne, out: &mut O) -> Status
     requires form { HasForm (requests.Execution request.now) }
@@ -29,7 +29,7 @@ pub(crate) fn execution<O: Sink>(alloc: Global, request: &DiyOne, out: &mut O) -
     on_machine!(request.arch, execution_on[O](alloc, request, out))
 }
 
-/// The same on an architecture.
+/// Prints it on an architecture.
 #[inline(never)]
 fn execution_on<A: Arch, O: Sink>(alloc: Global, request: &DiyOne, out: &mut O) -> Status
     requires form { HasForm (requests.Execution request.now) }
@@ -45,7 +45,7 @@ fn execution_on<A: Arch, O: Sink>(alloc: Global, request: &DiyOne, out: &mut O) 
     }
 }
 
-/// The same of a cycle, whose test has a name.
+/// Prints the execution that the test of a cycle, under a name, asks for.
 fn print_intended<A: Arch, O: Sink>(
     alloc: Global,
     cycle: &Cycle,
@@ -64,7 +64,7 @@ fn print_intended<A: Arch, O: Sink>(
     }
 }
 
-/// Prints the execution that the coherence test of a cycle asks for.
+/// Prints the execution that the coherence test of the requested cycle asks for.
 #[tactic(auto, using(crate::proofs::Executed::incoherent_on))]
 pub(crate) fn coherence_execution<O: Sink>(
     alloc: Global,
@@ -78,7 +78,7 @@ pub(crate) fn coherence_execution<O: Sink>(
     on_machine!(request.arch, coherence_execution_on[O](alloc, request, out))
 }
 
-/// The same on an architecture.
+/// Prints it on an architecture.
 #[inline(never)]
 fn coherence_execution_on<A: Arch, O: Sink>(
     alloc: Global,
@@ -98,7 +98,7 @@ fn coherence_execution_on<A: Arch, O: Sink>(
     }
 }
 
-/// The same of a cycle, whose test has a name.
+/// Prints the execution that the coherence test of a cycle, under a name, asks for.
 fn print_incoherent<A: Arch, O: Sink>(
     alloc: Global,
     cycle: &Cycle,

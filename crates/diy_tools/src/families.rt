@@ -16,8 +16,8 @@ use relax_edges::ArchName;
 use std::alloc::Global;
 use tests_from_files::{FileKind, FilesEnd, classify_files};
 
-/// Prints the names of cycles by their families: of those that are quoted in the files that operands name, or of
-/// those of the input's lines where there is no operand.
+/// Prints the names of cycles by their families: those that are quoted in the files that the operands name, or
+/// those of the input's lines if there is no operand.
 #[tactic(auto, using(crate::proofs::Classed::asks_families))]
 pub(crate) fn families<I: Source, O: Sink, H: Shelf>(
     alloc: Global,
@@ -65,7 +65,8 @@ fn lines_end(end: Result<(), ClassifyError>) -> Status
     }
 }
 
-/// Prints the names of the cycles that are quoted in the files that the words at these places name.
+/// Prints, by their families, the names of the cycles that are quoted in the files that the arguments at these
+/// indices name.
 fn of_files<H: Shelf, O: Sink>(
     alloc: Global,
     words: &Words,

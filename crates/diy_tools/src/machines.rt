@@ -4,8 +4,8 @@ pub(crate) use arch_power::Power;
 pub(crate) use arch_riscv::Riscv;
 pub(crate) use arch_x86::X86;
 
-/// Calls a function of an architecture for the architecture with this name:
-/// `on_machine!(arch, call[H, O](a, b))` is `call::<X86, H, O>(a, b)` for X86. No other place of the crate
+/// Calls a function that is generic over the architecture for the architecture with this name:
+/// `on_machine!(arch, call[H, O](a, b))` is `call::<X86, H, O>(a, b)` for X86. No other code of the crate
 /// lists the architectures.
 macro_rules! on_machine {
     ($arch:expr, $call:ident[$($more:ident),*]($($argument:expr),*)) => {

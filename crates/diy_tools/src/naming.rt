@@ -79,7 +79,7 @@ fn norm_status(end: Result<(), NormError>) -> Status
     }
 }
 
-/// The status where the lines of the input weren't read to its end.
+/// The status if the input's lines weren't read to its end.
 pub(crate) fn lines_status(error: LinesError) -> Status
     ensures status { result ≡ lines_status error }
     ensures location { StatusNamesLocation result }

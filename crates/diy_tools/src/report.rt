@@ -16,7 +16,7 @@ use litmus_text::TestKind;
 use log_sum::LogKind;
 use test_maker::Refusal;
 
-/// Writes the line of a status, where it has one.
+/// Writes the line of a status, if it has one. If the sink fails, it has taken a prefix of the line.
 #[inline(never)]
 pub(crate) fn report<E: Sink>(status: Status, words: &Words, err: &mut E) -> Result<(), Failed>
     requires { StatusNamesLocation status }
@@ -30,7 +30,7 @@ pub(crate) fn report<E: Sink>(status: Status, words: &Words, err: &mut E) -> Res
     page.flush(err)
 }
 
-/// Sends the line of a status by way of a page.
+/// Sends the line of a status through a page.
 fn send_line<E: Sink>(
     status: Status,
     words: &Words,
@@ -60,7 +60,7 @@ fn send_line<E: Sink>(
     }
 }
 
-/// Sends the line of words that make no request.
+/// Sends the line of a usage error.
 fn send_usage<E: Sink>(
     word: usize,
     kind: UsageKind,
@@ -78,7 +78,7 @@ fn send_usage<E: Sink>(
     }
 }
 
-/// Sends the line of a word that is wrong.
+/// Sends the line of a usage error at an argument.
 fn send_word<E: Sink>(name: &[u8], word: &[u8], page: &mut Page, err: &mut E) -> Result<(), Failed>
     ensures { Sends (E.seen err.old) page.old (E.seen err.new) page.new (usage_line name.now (codes ": " ++ word.now)) result }
 {
@@ -199,7 +199,7 @@ fn kind_name(kind: TextKind) -> &'static [u8]
     }
 }
 
-/// The word at a place, where there is one.
+/// The argument at an index, or the empty text if there is none.
 fn word_at(place: usize, words: &Words) -> &[u8]
     ensures { result.now ≡ word_at words.now place }
 {
@@ -210,7 +210,7 @@ fn word_at(place: usize, words: &Words) -> &[u8]
     }
 }
 
-/// The name of a text, which is that of the input where no word names it.
+/// The name of a text: the argument that names it, or `-` for the input.
 fn file_name(file: Option<usize>, words: &Words) -> &[u8]
     ensures { result.now ≡ file_text words.now file }
 {
@@ -220,7 +220,7 @@ fn file_name(file: Option<usize>, words: &Words) -> &[u8]
     }
 }
 
-/// Sends the line of a text that is wrong.
+/// Sends the line of an error in a text.
 fn send_text<E: Sink>(
     file: &[u8],
     line: u64,
@@ -270,7 +270,7 @@ fn refuse_at<E: Sink>(name: &[u8], number: u8, page: &mut Page, err: &mut E) -> 
     page.send_pieces(&[b"diy: refused ", name, digits, b"\n"], err)
 }
 
-/// Sends the line of a write that needs an observer.
+/// Sends the line of the refusal that a write needs an observer.
 #[tactic(auto, using(crate::proofs::Reported::letter_at, crate::proofs::Reported::letters_long))]
 fn refuse_unobserved<E: Sink>(
     location: u8,

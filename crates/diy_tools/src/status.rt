@@ -11,35 +11,37 @@ use test_maker::Refusal;
 /// How a call of `run` ended.
 #[derive(Clone, Copy, Debug, PartialEq, Eq)]
 pub enum Status {
-    /// All that was asked for is written.
+    /// Everything that was asked for is written.
     Done,
-    /// The edges make no cycle, the cycle has no test, or nothing shows that it needs an observer.
+    /// The edges make no cycle of the architecture, the cycle has no test of the kind that was asked for,
+    /// or nothing can be shown of it with `-why`.
     Refused(Refusal),
-    /// A line of a text that was read is wrong, the first such; `file` is the place of the word that
-    /// names the text, and none where it is the input. Lines are counted from 1.
+    /// A text that was read has an error, and this is the first; `file` is the index of the argument that
+    /// names the text, or `None` for the input. Lines are counted from 1.
     BadText {
         file: Option<usize>,
         line: u64,
         kind: TextKind,
     },
-    /// There is no file of the name that is the word at this place.
+    /// There is no file with the name that the argument at this index gives.
     NoFile {
         word: usize,
     },
-    /// The words make no request; `word` is the place of the word that shows it.
+    /// The arguments make no request, or no cycle has the name that norm7 is given. `word` is the index of
+    /// the argument at fault, or the number of arguments if no single one is.
     Usage {
         word: usize,
         kind: UsageKind,
     },
-    /// A device didn't give what was to be read.
+    /// A device failed to supply what was to be read.
     ReadFault {
         of: Device,
     },
-    /// A device didn't take what was written.
+    /// A device failed to take what was written.
     WriteFault {
         of: Device,
     },
-    /// There is no memory.
+    /// The tool ran out of memory.
     NoMemory,
 }
 
@@ -54,30 +56,30 @@ pub enum Device {
     Shelf,
 }
 
-/// What is wrong with a line of a text.
+/// What is wrong with a text or one of its lines.
 #[derive(Clone, Copy, Debug, PartialEq, Eq)]
 pub enum TextKind {
-    /// It is a line of cycles.
+    /// An error in a line of cycles.
     Line(LineKind),
-    /// It is a line of a log.
+    /// An error in a line of a log.
     Log(LogKind),
-    /// It is a line of a test.
+    /// An error in a line of a test.
     Test(TestKind),
-    /// It is a line of an execution.
+    /// An error in a line of an execution.
     Exec(ExecKind),
     /// The header names another architecture than the one asked for; the line is 1.
     WrongArch,
     /// The test quotes no cycle of the architecture; the line is 2.
     NoCycle,
-    /// The text has more than `MAX_INPUT` bytes; the line is the one after the last line feed among
-    /// the first so many.
+    /// The text has more than `MAX_INPUT` bytes; the line is the one after the last line feed among the
+    /// first `MAX_INPUT` bytes.
     TooMuch,
 }
 
 impl Status {
-    /// The exit status of the program: 0 where all is done, 1 for a refusal, a text that is wrong and a
-    /// file that isn't there, 2 for words that make no request, 3 for a device that failed, 4 where
-    /// there is no memory.
+    /// The exit status of the program: 0 if everything is done, 1 for a refusal, an error in a text and a
+    /// file that doesn't exist, 2 for a usage error, 3 if a device failed, and 4 if the tool ran out of
+    /// memory.
     pub fn exit(self) -> u8
         ensures { result ≡ exit_of self }
     {

@@ -7,7 +7,7 @@ use diy_io::{Shelf, Sink, Source, Words};
 use msum7_files::{SumEnd, sum_files, sum_input};
 use std::alloc::Global;
 
-/// Sums the logs that the words after the first name, or the input where there is no such word.
+/// Sums the logs that the arguments after the first name, or the input if there are none.
 #[tactic(auto, using(crate::proofs::Summed::files_answered, crate::proofs::Summed::input_answered))]
 #[inline(never)]
 pub(crate) fn sum<I: Source, O: Sink, H: Shelf>(
@@ -29,7 +29,7 @@ pub(crate) fn sum<I: Source, O: Sink, H: Shelf>(
     }
 }
 
-/// Sums the logs that the words after the first name.
+/// Sums the logs that the arguments after the first name.
 fn sum_logs<H: Shelf, O: Sink>(alloc: Global, words: &Words, shelf: &mut H, out: &mut O) -> Status
     requires idle { (H.seen shelf.old).mode ≡ Idle }
     requires some { 1 < length words.now }

@@ -50,7 +50,7 @@ pub(crate) fn cycle_on<A: Arch>(list: &EdgeList) -> Result<Cycle, Refusal>
     cycle_of_edges(list, A::NAME)
 }
 
-/// The name of the test of a cycle: the one that is given, or else that of the cycle.
+/// The name of the test of a cycle: the given one, or by default that of the cycle.
 pub(crate) fn name_for(name: &Option<TestName>, cycle: &Cycle) -> TestName
     requires form { IfSome name.now (λ name. is_name name.bytes ≡ true) }
     ensures name { result.bytes ≡ chosen_name name.now cycle.now }
@@ -66,7 +66,7 @@ pub(crate) fn name_for(name: &Option<TestName>, cycle: &Cycle) -> TestName
     chosen
 }
 
-/// Prints the test of a cycle.
+/// Prints the test of a cycle, if it has one.
 #[tactic(auto, unfolding(test_maker::specs::CycleText::cycle_text))]
 fn answer_cycle<A: Arch, O: Sink>(
     cycle: &Cycle,
@@ -77,8 +77,8 @@ fn answer_cycle<A: Arch, O: Sink>(
     ensures answers { AnswersCycle (machine A.puts A.writing) mode name.now cycle.now result (O.seen out.old) (O.seen out.new) }
     ensures location { StatusNamesLocation result }
 {
-    // It is written out here, and not made by a call of `Test::new`: so the program clears it once where it
-    // is, and copies nothing of its 125 KB.
+    // The test is written out here, and not made by a call of `Test::new`: so the program clears it once in
+    // place, and copies none of its 125 KB.
     let mut test = Test {
         edges: ArrayVec::new(),
         places: Places::new(),
@@ -91,7 +91,7 @@ fn answer_cycle<A: Arch, O: Sink>(
     }
 }
 
-/// Prints a test of a cycle under the name that is given, or else under that of the cycle.
+/// Prints a test of a cycle under the given name, or by default under that of the cycle.
 pub(crate) fn print_named<A: Arch, O: Sink>(
     test: &Test,
     cycle: &Cycle,
@@ -112,7 +112,7 @@ pub(crate) fn print_named<A: Arch, O: Sink>(
     }
 }
 
-/// Prints a test.
+/// Prints a test under a name.
 fn print<A: Arch, O: Sink>(test: &Test, name: &str, out: &mut O) -> Status
     requires { CanPrint A.puts A.REGISTERS test.now }
     ensures prints { Prints (test_text A.puts.name A.writing name.now (test_seen test.now)) result (O.seen out.old) (O.seen out.new) }

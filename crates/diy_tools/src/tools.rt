@@ -20,19 +20,18 @@ use diy_io::{Shelf, Sink, Source, Words};
 use diy_words::{Request, read_request};
 use std::alloc::Global;
 
-/// Does what the words ask for: it prints the test of a cycle to `out`, or its coherence test, or the
-/// execution that one of them asks for, or the names of cycles, or those of a listing, or the sum of
-/// logs, or how long some tests are, or what is so of an execution of a test, or a picture of it; or it
-/// writes the tests of a listing, or of choices, to the shelf, or two executions of a test that show why
-/// an observer is needed.
+/// Does what the arguments ask for: it prints to `out` the test of a cycle, or its coherence test, or the
+/// execution that one of them asks for, or the names of cycles, or the lines of a listing's cycles, or the
+/// sum of logs, or how many tests of each family were made and how long they are, or what holds of an
+/// execution of a test, or a picture of it; or it writes to the shelf the tests of a listing or of choices,
+/// or a test with two executions that show why an observer is needed.
 ///
-/// Where the words make no request, or the edges are refused, no device changes but `err`. What each
-/// tool reads of `input` and of the shelf, what it writes to `out` and to the shelf, and what they hold
-/// after each status, is as `Answers` says. Where what is asked for can be done and no device fails, it
-/// is done (`Complete`); only the tools that may want memory answer that there is none; and each status
-/// has the one cause that `Causes` gives. The call asks that no file of the shelf is open, and leaves
-/// none open. The line of the status is written to `err`, which doesn't change the status where it
-/// fails.
+/// If the arguments make no request, or the edges are refused, no device but `err` changes. `Answers` says
+/// what each tool reads from `input` and the shelf, what it writes to `out` and the shelf, and what is left
+/// there after each status. If what is asked for can be done and no device fails, it is done, unless a tool
+/// that can run out of memory does (`Complete`); no other tool returns `NoMemory`; and each status has the one
+/// cause that `Causes` gives. No file of the shelf may be open, and none is open afterwards. The line of the
+/// status is written to `err`; if this fails, the status stays the same.
 #[tactic(auto, using(crate::proofs::Reported::takes_line, crate::proofs::Forced::answers_force))]
 pub fn run<I: Source, O: Sink, E: Sink, H: Shelf>(
     alloc: Global,
@@ -57,10 +56,10 @@ pub fn run<I: Source, O: Sink, E: Sink, H: Shelf>(
     status
 }
 
-/// Answers the words, all but the line of the status.
+/// Does what the arguments ask for, except for the line of the status.
 ///
-/// Each tool is a function of its own in the program too (`inline(never)`), so that a call needs the
-/// stack of its tool alone.
+/// Each tool is a function of its own in the program too (`inline(never)`), so that a call needs only the
+/// stack of its tool.
 fn answer<I: Source, O: Sink, H: Shelf>(
     alloc: Global,
     words: &Words,

@@ -21,7 +21,7 @@ use tests_to_files::{File, put_files, test_path};
 use two_runs::{RunError, TwoRuns, two_runs};
 
 /// Writes the test of a cycle without observers, and two executions of it that no condition on the final
-/// state tells apart.
+/// state distinguishes.
 #[tactic(auto, using(crate::proofs::Running::runs_on))]
 pub(crate) fn why<H: Shelf, O: Sink>(
     alloc: Global,
@@ -37,7 +37,7 @@ pub(crate) fn why<H: Shelf, O: Sink>(
     on_machine!(request.arch, why_on[H, O](alloc, request, shelf, out))
 }
 
-/// The same on an architecture.
+/// Writes them on an architecture.
 #[inline(never)]
 fn why_on<A: Arch, H: Shelf, O: Sink>(
     alloc: Global,
@@ -58,7 +58,7 @@ fn why_on<A: Arch, H: Shelf, O: Sink>(
     why_named::<A, H, O>(alloc, &cycle, name.as_str(), request.folder, shelf, out)
 }
 
-/// The same of a cycle, under a name.
+/// Writes them for a cycle, under a name.
 fn why_named<A: Arch, H: Shelf, O: Sink>(
     alloc: Global,
     cycle: &Cycle,
@@ -121,7 +121,7 @@ struct RunTexts<'a> {
     two: &'a [u8],
 }
 
-/// Writes the three files on the shelf, and then the line on them.
+/// Writes the three files on the shelf, and then the line about them.
 fn put_runs<H: Shelf, O: Sink>(
     folder: Option<&str>,
     name: &str,
@@ -154,7 +154,7 @@ fn put_runs<H: Shelf, O: Sink>(
     }
 }
 
-/// Writes the line on the files.
+/// Writes the line about the files.
 fn finish_line<O: Sink>(name: &str, out: &mut O) -> Status
     ensures prints { Prints (why_line name.now) result (O.seen out.old) (O.seen out.new) }
     ensures location { StatusNamesLocation result }

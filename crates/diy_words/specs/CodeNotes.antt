@@ -1,4 +1,4 @@
--- For private functions of the code alone: how what they note is one of `Notes`, and what each call leaves of them.
+-- Only for private functions of the code: which value of `Notes` stands for what the code has noted, and what each call leaves there.
 use Rattle.std.specs.{Prelude.{ℕ, ◌≡◌, ◌<◌, nat_lt, List, [], ◌∷◌, drop, slice_get, Option, Some, None, Result, Ok, Err}, Option.option_map, Result.result_ok}
 use Rattle.relax_edges.specs.declared.edge.Edge.{Edge}
 use Rattle.edges_from_text.specs.{declared.list.EdgeList.EdgeList, declared.list.EdgeList.TheVariants.{Whole, TooLong}, KeptEdges.kept_edges}
@@ -9,7 +9,7 @@ use Rattle.diy_words.specs.{declared.request.TheConstants.MAX_CHOICES, declared.
 use Rattle.diy_words.specs.{Sayings.{Saying, dashed_said, said_by}, Gathered.Gathered, Requests.{Task, choice_count, tool_asked}, Given.GivesTask}
 use Rattle.diy_words.specs.Notes.{Notes, with_saying, before_noted, gathered_noted, said_noted}
 
--- what the code notes
+-- the code's notes as a value of `Notes`
 abbrev pub code_notes : code.Notes → Notes
 code_notes notes = record {
   given = record {
@@ -42,20 +42,20 @@ code_notes notes = record {
   taken = notes.taken;
 }
 
--- the notes after a part of the words, or its error
+-- the notes after one part of the arguments, or its error
 abbrev pub notes_after : Notes → Result Saying Usage → Result Notes Usage
 notes_after notes (Ok saying) = Ok (with_saying notes saying)
 notes_after notes (Err usage) = Err usage
 
--- the notes after an option at a place with its value, or its error
+-- the notes after an option at an index with its value, or its error
 abbrev pub notes_valued : Tool → Notes → OptionName → ℕ → List ℕ → Result Notes Usage
 notes_valued tool notes option at value = notes_after notes (said_by tool (before_noted notes) (Valued option at value))
 
--- the notes after a word at a place that is no option with a value, or its error
+-- the notes after an argument at an index that is no option with a value, or its error
 abbrev pub notes_alone : Tool → Notes → ℕ → List ℕ → Result Notes Usage
 notes_alone tool notes at text = notes_after notes (said_by tool (before_noted notes) (Alone at text))
 
--- the notes after a word at a place that begins with `-` and takes no value, or its error
+-- the notes after an argument at an index that begins with `-` and is no option with a value, or its error
 abbrev pub notes_dashed : Tool → Notes → ℕ → List ℕ → Result Notes Usage
 notes_dashed tool notes at text = notes_after notes (dashed_said tool (before_noted notes) at text)
 
@@ -64,48 +64,48 @@ abbrev pub notes_left : Result (Unit {0}) Usage → Notes → Result Notes Usage
 notes_left (Ok _) notes = Ok notes
 notes_left (Err usage) notes = Err usage
 
--- the notes after parts of the words, one after another, or the first error
+-- the notes after what several parts of the arguments say, one after another, or the first error
 abbrev pub all_notes : Result Notes Usage → List (Result Saying Usage) → Result Notes Usage
 all_notes notes [] = notes
 all_notes (Ok notes) (said ∷ rest) = all_notes (notes_after notes said) rest
 all_notes (Err usage) (said ∷ rest) = all_notes (Err usage) rest
 
--- what the words from a place on say, after words of which so much is noted
+-- what the arguments from an index on say, after those that left these notes
 abbrev pub sayings_from : Tool → Notes → List (List ℕ) → ℕ → List (Result Saying Usage)
 sayings_from tool notes words at = said_noted tool notes (parts_of tool at (drop at words))
 
--- the notes after all words, from those before the words from a place on
+-- the notes after all arguments, or their first error, from the notes before the argument at an index
 abbrev pub notes_at_end : Tool → List (List ℕ) → ℕ → Notes → Result Notes Usage
 notes_at_end tool words at notes = all_notes (Ok notes) (sayings_from tool notes words at)
 
--- a call that takes in the part of the words at a place gives the place after it, or the error there: the notes after all words
--- stay the same
+-- a call that takes in the part at an index returns the index after it, and the notes after all arguments are then the same as before;
+-- or it returns the error, which is then the first of all arguments from there on
 abbrev pub Steps : Tool → List (List ℕ) → ℕ → Notes → Notes → Result ℕ Usage → Type 0
 Steps tool words at old new (Ok next) =
     (at < next) × (notes_at_end tool words next new ≡ notes_at_end tool words at old)
 Steps tool words at old new (Err usage) = Err usage ≡ notes_at_end tool words at old
 
--- a call gives the request that is asked for by what is gathered, whichever edges, places and files are gathered with these notes
+-- a call gives the request that is asked for by what is gathered, with whichever edges, positions and files agree with these notes
 abbrev pub GivesFrom : (Gathered → Result Task Usage) → Notes → Result Request Usage → Type 0
 GivesFrom asked notes result =
     (edges : List Edge) (places : List (List (List Edge))) (files : List ℕ) → notes.edges ≡ kept_edges edges
     → nat_lt MAX_CHOICES notes.choices ≡ nat_lt MAX_CHOICES (choice_count places) → GivesTask result (asked (gathered_noted notes edges places files))
 
--- a call gives the request of a tool from these notes
+-- a call gives the request of a tool from these notes; `count` is the number of arguments
 abbrev pub GivesAtEnd : Tool → ℕ → Notes → Result Request Usage → Type 0
 GivesAtEnd tool count notes result = GivesFrom (λ given. tool_asked tool count given) notes result
 
--- the word at a place is no option that takes a value
+-- the argument at an index is no option that takes a value
 abbrev pub IsPlain : Tool → List (List ℕ) → ℕ → Type 0
 IsPlain tool words at = (word : List ℕ) → slice_get words at ≡ Some word → option_named tool word ≡ None
 
--- the word at a place is this option
+-- the argument at an index is this option
 pub record IsOption (tool : Tool) (words : List (List ℕ)) (at : ℕ) (option : OptionName) : Type 0 where
   pub word : List ℕ
   pub word_is : slice_get words at ≡ Some word
   pub named : option_named tool word ≡ Some option
 
--- the cycle that edges make, as they are kept, if they make one
+-- the cycle that kept edges make, if they make one
 abbrev pub cycle_kept : EdgeList → Option (List Edge)
 cycle_kept (Whole list) = result_ok (composed list.items)
 cycle_kept TooLong = None

@@ -1,64 +1,65 @@
--- What is gathered of all that words say: of each thing that a request reads, the last that was given; of operands, all.
+-- What is gathered from all that the arguments say: the last of each thing that a request reads, but all operands that are edges,
+-- positions or files.
 use Rattle.std.specs.{Prelude.{ℕ, Bool, true, false, List, [], ◌∷◌, ◌++◌, Option, Some, None}, List.list_any, Option.{option_or, unwrap_or}}
 use Rattle.relax_edges.specs.{declared.kinds.ArchName.ArchName, declared.kinds.ObsMode.ObsMode, declared.edge.Edge.Edge}
 use Rattle.diy_words.specs.Sayings.{Saying, SaysArch, SaysName, SaysMode, SaysFrom, SaysEdges, SaysRelaxes, SaysSize, SaysExact, SaysWhy, SaysCo, SaysExec, SaysLines, SaysGraph, SaysThreads, SaysAccesses, SaysAfter, SaysFolder, SaysFile, SaysTest, SaysExecution, SaysPlace, SaysCount}
 
--- the architecture that is given
+-- the value of `-arch`
 abbrev pub arch_of_saying : Saying → Option ArchName
 arch_of_saying (SaysArch arch) = Some arch
 arch_of_saying _ = None
 
--- the name of the test
+-- the value of `-name`
 abbrev pub name_of_saying : Saying → Option (List ℕ)
 name_of_saying (SaysName name) = Some name
 name_of_saying _ = None
 
--- the observer mode
+-- the value of `-obs`
 abbrev pub mode_of_saying : Saying → Option ObsMode
 mode_of_saying (SaysMode mode) = Some mode
 mode_of_saying _ = None
 
--- the value of `-from` with its place
+-- the value of `-from` with its index
 abbrev pub from_of_saying : Saying → Option (ℕ × List ℕ)
 from_of_saying (SaysFrom at name) = Some (at, name)
 from_of_saying _ = None
 
--- the place of an operand of edges
+-- the index of an operand of edges
 abbrev pub operand_of_saying : Saying → Option ℕ
 operand_of_saying (SaysEdges at _) = Some at
 operand_of_saying _ = None
 
--- the relaxations of a listing
+-- the value of `-edges`, the relaxations of a listing
 abbrev pub relaxes_of_saying : Saying → Option (List (List Edge))
 relaxes_of_saying (SaysRelaxes relaxes) = Some relaxes
 relaxes_of_saying _ = None
 
--- the size of the cycles of a listing
+-- the value of `-size`, the size of the cycles of a listing
 abbrev pub size_of_saying : Saying → Option ℕ
 size_of_saying (SaysSize size) = Some size
 size_of_saying _ = None
 
--- that the cycles of a listing have exactly so many edges
+-- that `-exact` is given: the cycles of a listing have exactly that many edges
 abbrev pub is_exact : Saying → Bool
 is_exact SaysExact = true
 is_exact _ = false
 
--- the most threads of a cycle
+-- the value of `-nprocs`, the most threads of a cycle
 abbrev pub threads_of_saying : Saying → Option ℕ
 threads_of_saying (SaysThreads threads) = Some threads
 threads_of_saying _ = None
 
--- the most accesses of a thread
+-- the value of `-accesses`, the most accesses of a thread
 abbrev pub accesses_of_saying : Saying → Option ℕ
 accesses_of_saying (SaysAccesses accesses) = Some accesses
 accesses_of_saying _ = None
 
--- the cycle after which a listing begins
+-- the value of `-after`, the cycle after which a listing begins
 abbrev pub after_of_saying : Saying → Option (List Edge)
 after_of_saying (SaysAfter cycle) = Some cycle
 after_of_saying _ = None
 
--- the folder of the files
+-- the value of `-o`, the folder of the files
 abbrev pub folder_of_saying : Saying → Option (List ℕ)
 folder_of_saying (SaysFolder folder) = Some folder
 folder_of_saying _ = None
@@ -93,12 +94,12 @@ abbrev pub count_of_saying : Saying → Option ℕ
 count_of_saying (SaysCount count) = Some count
 count_of_saying _ = None
 
--- the place of the file of the test of mcheck7
+-- the index of the argument that names the test's file for mcheck7
 abbrev pub test_of_saying : Saying → Option ℕ
 test_of_saying (SaysTest at) = Some at
 test_of_saying _ = None
 
--- the place of the file of the execution of mcheck7
+-- the index of the argument that names the execution's file for mcheck7
 abbrev pub execution_of_saying : Saying → Option ℕ
 execution_of_saying (SaysExecution at) = Some at
 execution_of_saying _ = None
@@ -108,32 +109,32 @@ abbrev pub edges_of_saying : Saying → List Edge
 edges_of_saying (SaysEdges _ edges) = edges
 edges_of_saying _ = []
 
--- the relaxations of a place of the cycles of diycross7
+-- the relaxations of one position of the cycles of diycross7
 abbrev pub places_of_word : Saying → List (List (List Edge))
 places_of_word (SaysPlace relaxes) = relaxes ∷ []
 places_of_word _ = []
 
--- the place of a file of classify7
+-- the index of the argument that names a file for classify7
 abbrev pub files_of_saying : Saying → List ℕ
 files_of_saying (SaysFile at) = at ∷ []
 files_of_saying _ = []
 
--- the last of the things of a kind that words give
+-- the last of the things of a kind that the arguments give
 abbrev pub last_given : {X : Type 0} → (Saying → Option X) → List Saying → Option X
 last_given given [] = None
 last_given given (saying ∷ rest) = option_or (last_given given rest) (given saying)
 
--- the first of the things of a kind that words give
+-- the first of the things of a kind that the arguments give
 abbrev pub first_given : {X : Type 0} → (Saying → Option X) → List Saying → Option X
 first_given given [] = None
 first_given given (saying ∷ rest) = option_or (given saying) (first_given given rest)
 
--- all the things of a kind that words give, in their order
+-- all the things of a kind that the arguments give, in order
 abbrev pub all_given : {X : Type 0} → (Saying → List X) → List Saying → List X
 all_given given [] = []
 all_given given (saying ∷ rest) = given saying ++ all_given given rest
 
--- what a request is made of
+-- what a request is made from
 pub record Gathered : Type 0 where
   pub arch : Option ArchName
   pub name : Option (List ℕ)
@@ -159,8 +160,8 @@ pub record Gathered : Type 0 where
   pub lines : Bool
   pub graph : Bool
 
--- what is gathered of all that words say: the last that was given, but of the operands of edges the place of the first, and of
--- edges, places and files all; a cycle of a listing has at most 6 edges and 4 threads unless words say otherwise
+-- what is gathered from all that the arguments say: the last of each thing, but for `operand` the index of the first operand of edges, and
+-- all edges, positions and files; by default the size of a listing is 6, and its cycles have at most 4 threads
 abbrev pub gathered_of : List Saying → Gathered
 gathered_of said = record {
   arch = last_given arch_of_saying said;

@@ -1,4 +1,4 @@
--- How a request holds what words ask for.
+-- How a request holds what the arguments ask for.
 use Rattle.std.specs.{Prelude.{ℕ, ◌≡◌, ◌<◌, ◌≤◌, true, IfSome, length, Result, Ok, Err}, Option.{option_map, ForSome}}
 use Rattle.relax_edges.specs.declared.TheConstants.{MAX_EDGES}
 use Rattle.edges_from_text.specs.KeptEdges.{kept_edges}
@@ -10,7 +10,7 @@ use Rattle.diy_words.specs.declared.request.Request.TheVariants as requests
 use Rattle.diy_words.specs.declared.request.Sought.TheVariants as sought
 use Rattle.diy_words.specs.Requests as req
 
--- the request holds the cycle that is sought
+-- the request holds the cycles that are sought
 abbrev pub IsSought : Sought → req.Sought → Type 0
 IsSought (sought.Edges list) (OfEdges es) = list ≡ kept_edges es
 IsSought (sought.Named from) (OfName at name) = (from.word ≡ at) × (from.name.now ≡ name)
@@ -31,17 +31,17 @@ list_kept request = record {
   folder = option_map (λ folder. folder.now) request.folder;
 }
 
--- a request holds what is asked of the test of a cycle
+-- a request holds what is asked for of the test of a cycle
 abbrev pub HoldsTest : DiyOne → TestTask → Type 0
 HoldsTest request asked =
     (request.arch ≡ asked.arch) × (option_map (λ name. name.bytes) request.name ≡ asked.name) × (request.mode ≡ asked.mode) × (request.edges ≡ kept_edges asked.edges)
 
--- and of a coherence test
+-- a request holds what is asked for of a coherence test
 abbrev pub HoldsCoherence : Coherence → CoherenceTask → Type 0
 HoldsCoherence request asked =
     (request.arch ≡ asked.arch) × (option_map (λ name. name.bytes) request.name ≡ asked.name) × (request.edges ≡ kept_edges asked.edges)
 
--- the request holds what is asked for
+-- the request holds what is asked for; the operands of diycross7 and of classify7 are no part of it
 abbrev pub HoldsTask : Request → Task → Type 0
 HoldsTask (requests.Test request) (AsksTest asked) = HoldsTest request asked
 HoldsTask (requests.Execution request) (AsksExecution asked) = HoldsTest request asked
@@ -61,16 +61,15 @@ HoldsTask (requests.Demo request) (AsksDemo asked) = request ≡ asked
 HoldsTask (requests.Check request) (AsksCheck asked) = request ≡ asked
 HoldsTask _ _ = ⊥
 
--- a call gives the request that words make, or their first error
+-- a call gives the request that the arguments make, or their first error
 abbrev pub GivesTask : Result Request Usage → Result Task Usage → Type 0
 GivesTask (Ok request) (Ok asked) = HoldsTask request asked
 GivesTask (Ok request) (Err usage) = ⊥
 GivesTask (Err usage) (Ok asked) = ⊥
 GivesTask (Err usage) (Err fault) = usage ≡ fault
 
--- the name of a test that is asked for, if one is given, has its form; the cycles of a listing have at most as many edges as
--- there may be, its folder and those of diyone7 and diycross7 have at most as many bytes as they may have, and demo makes at
--- least one test and at most so many
+-- a given name of a test has its form; the size of a listing is at most `MAX_EDGES`; a given folder has at most `MAX_FOLDER` bytes; and
+-- demo makes 1 to `MAX_TESTS` tests
 abbrev pub HasForm : Request → Type 0
 HasForm (requests.Test request) = IfSome request.name (λ name. is_name name.bytes ≡ true)
 HasForm (requests.Why request) =
@@ -84,7 +83,7 @@ HasForm (requests.Cross request) = ForSome request.folder (λ folder. length fol
 HasForm (requests.Demo request) = (1 ≤ request.count) × (request.count ≤ MAX_TESTS)
 HasForm _ = Unit {0}
 
--- the files of mcheck7 are words among so many
+-- the files of mcheck7 are named by two of `count` arguments
 abbrev pub WithinWords : ℕ → Request → Type 0
 WithinWords count (requests.Check request) = (request.test < count) × (request.execution < count)
 WithinWords count _ = Unit {0}

@@ -1,5 +1,5 @@
--- For private functions of the code alone: what they note of the words so far, word by word, and how it holds what the
--- words said. What words ask for is defined without it.
+-- Only for private functions of the code: what they note of the arguments so far, one after another, and how the notes hold what the
+-- arguments said. What the arguments ask for is defined without it.
 use Rattle.std.specs.{Prelude.{ℕ, ◌+◌, ◌*◌, true, min, List, [], ◌∷◌, length, Some, is_some, Result, Ok, Err}, Option.option_or}
 use Rattle.relax_edges.specs.declared.edge.Edge.{Edge}
 use Rattle.edges_from_text.specs.{declared.list.EdgeList.EdgeList, KeptEdges.{kept_edges, edges_added}}
@@ -7,8 +7,8 @@ use Rattle.diy_words.specs.{declared.options.Tool.Tool, declared.request.TheCons
 use Rattle.diy_words.specs.Gathered.{Gathered, gathered_of}
 use Rattle.diy_words.specs.Sayings.{Saying, SaysArch, SaysName, SaysMode, SaysFrom, SaysEdges, SaysRelaxes, SaysSize, SaysExact, SaysWhy, SaysCo, SaysExec, SaysLines, SaysGraph, SaysThreads, SaysAccesses, SaysAfter, SaysFolder, SaysLog, SaysFile, SaysTest, SaysExecution, SaysPlace, SaysCount, Before, said_by}
 
--- what is gathered so far, but for edges, places and files, of which nothing is gathered here; the edges, as many as a list holds; in
--- how many ways a relaxation can be chosen for each place, up to one more than may be; and how many operands were taken, of those
+-- what is gathered so far, except for edges, positions and files, of which nothing is gathered here; the edges, as many as a list holds;
+-- in how many ways a relaxation can be chosen for each position, up to one more than allowed; and how many operands were taken of those
 -- whose number is limited
 pub record Notes : Type 0 where
   pub given : Gathered
@@ -16,16 +16,16 @@ pub record Notes : Type 0 where
   pub choices : ℕ
   pub taken : ℕ
 
--- the notes before the first word
+-- the notes before the first argument after the tool's name
 abbrev pub no_notes : Notes
 no_notes = record { given = gathered_of []; edges = kept_edges []; choices = 1; taken = 0 }
 
--- in how many ways relaxations are chosen with those of one more place: all numbers of ways above the limit count as one
+-- in how many ways relaxations can be chosen with those of one more position: every number above the limit counts as the limit plus one
 abbrev pub more_choices : ℕ → ℕ → ℕ
 more_choices choices relaxes = min (choices * relaxes) (MAX_CHOICES + 1)
 
--- the notes with what one more word says: the later of two takes the place of the earlier, but of the operands of edges the place
--- of the first stays; the number of demo and the files of mcheck7 are the operands whose number is limited
+-- the notes with what one more part of the arguments says: the later of two values replaces the earlier, but the index of the first operand
+-- of edges stays; the number of demo and the files of mcheck7 are the operands whose number is limited
 abbrev pub with_saying : Notes → Saying → Notes
 with_saying notes (SaysArch arch) = record notes { given = record notes.given { arch = Some arch } }
 with_saying notes (SaysName name) = record notes { given = record notes.given { name = Some name } }
@@ -52,21 +52,21 @@ with_saying notes (SaysCount count) = record notes { given = record notes.given 
 with_saying notes (SaysTest at) = record notes { given = record notes.given { test = Some at }; taken = notes.taken + 1 }
 with_saying notes (SaysExecution at) = record notes { given = record notes.given { execution = Some at }; taken = notes.taken + 1 }
 
--- the notes before the next word: a faulty word adds nothing to them
+-- the notes before the next part: an invalid one adds nothing to them
 abbrev pub with_next : Notes → Result Saying Usage → Notes
 with_next notes (Ok saying) = with_saying notes saying
 with_next notes (Err usage) = notes
 
--- the notes with what more words say, one after another
+-- the notes with what more parts say, one after another
 abbrev pub notes_with : Notes → List Saying → Notes
 notes_with notes [] = notes
 notes_with notes (saying ∷ rest) = notes_with (with_saying notes saying) rest
 
--- the notes of all that words say
+-- the notes of all that the arguments say
 abbrev pub notes_of : List Saying → Notes
 notes_of = notes_with no_notes
 
--- what the notes hold of what bears on the error of the next word
+-- from the notes, what decides whether the next part is an error
 abbrev pub before_noted : Notes → Before
 before_noted notes = record {
   taken = notes.taken;
@@ -78,12 +78,12 @@ before_noted notes = record {
   lines = notes.given.lines;
 }
 
--- what the parts of the words say, one after another, after words of which so much is noted
+-- what the parts of the arguments say, one after another, after those that left these notes
 abbrev pub said_noted : Tool → Notes → List Part → List (Result Saying Usage)
 said_noted tool notes [] = []
 said_noted tool notes (part ∷ parts) =
     said_by tool (before_noted notes) part ∷ said_noted tool (with_next notes (said_by tool (before_noted notes) part)) parts
 
--- what the notes have gathered, with edges, places and files
+-- what the notes have gathered, with these edges, positions and files
 abbrev pub gathered_noted : Notes → List Edge → List (List (List Edge)) → List ℕ → Gathered
 gathered_noted notes edges places files = record notes.given { edges = edges; places = places; files = files }

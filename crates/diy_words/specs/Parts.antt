@@ -1,4 +1,4 @@
--- The words after the tool's name: options, each with the word after it as its value, and the other words.
+-- The parts of the arguments after the tool's name: options that take a value, each with the argument after it, and the other arguments.
 use Rattle.std.specs.{Prelude.{ℕ, ◌+◌, List, [], ◌∷◌, Option, Some, None, codes, if◌then◌else◌}, Str.bytes_eq}
 use Rattle.relax_edges.specs.declared.kinds.ObsMode.{ObsMode}
 use Rattle.relax_edges.specs.declared.kinds.ObsMode.TheVariants as modes
@@ -6,7 +6,7 @@ use Rattle.diy_words.specs.{declared.options.Tool.Tool, declared.options.OptionN
 use Rattle.diy_words.specs.declared.options.Tool.TheVariants as tools
 use Rattle.diy_words.specs.declared.options.OptionName.TheVariants as opts
 
--- the first of some named things whose name is the text
+-- the first of the named things whose name is the text
 abbrev pub of_name : {X : Type 0} → List (List ℕ × X) → List ℕ → Option X
 of_name [] text = None
 of_name (row ∷ rows) text = if bytes_eq text row.0 then Some row.1 else of_name rows text
@@ -38,23 +38,24 @@ option_named tool = of_name (options_of tool)
 abbrev pub mode_named : List ℕ → Option ObsMode
 mode_named = of_name ((codes "accept", modes.Accept) ∷ (codes "avoid", modes.Avoid) ∷ (codes "force", modes.Force) ∷ [])
 
--- a part of the words: a word by itself, at its place, or an option at its place with its value, if there is one
+-- a part of the arguments: an argument by itself, with its index; or an option that takes a value, with its index and its value, if one
+-- comes after it
 pub data Part : Type 0 where
   Alone : ℕ → List ℕ → Part
   Valued : OptionName → ℕ → List ℕ → Part
   Unvalued : OptionName → ℕ → Part
 
--- what waits for its value after a word at its place: an option, if it is one
+-- the option that waits for its value after an argument, with its index, if the argument is such an option
 abbrev pub waiting_at : Option OptionName → ℕ → Option (OptionName × ℕ)
 waiting_at (Some option) at = Some (option, at)
 waiting_at None at = None
 
--- a word that is no such option is a part by itself before the rest
+-- an argument that is no option with a value is a part by itself before the rest
 abbrev pub alone_before : Option OptionName → ℕ → List ℕ → List Part → List Part
 alone_before (Some _) at word rest = rest
 alone_before None at word rest = Alone at word ∷ rest
 
--- the parts of the words of a tool from a place on, after an option at its place that waits for its value, if there is one
+-- the parts of a tool's arguments from an index on, after an option, with its index, that waits for its value, if there is one
 abbrev pub parts_from : Tool → Option (OptionName × ℕ) → ℕ → List (List ℕ) → List Part
 parts_from tool None at [] = []
 parts_from tool (Some waiting) at [] = Unvalued waiting.0 waiting.1 ∷ []
@@ -62,6 +63,6 @@ parts_from tool (Some waiting) at (value ∷ words) = Valued waiting.0 waiting.1
 parts_from tool None at (word ∷ words) =
     alone_before (option_named tool word) at word (parts_from tool (waiting_at (option_named tool word) at) (at + 1) words)
 
--- the parts of the words of a tool from a place on
+-- the parts of a tool's arguments from an index on
 abbrev pub parts_of : Tool → ℕ → List (List ℕ) → List Part
 parts_of tool at words = parts_from tool None at words

@@ -1,5 +1,5 @@
--- The request that words make, or the first error among them. Words are judged from left to right, an option with its
--- value; then all of them. Source: own, after the command lines of the diy tools.
+-- The request that the arguments make, or the first error among them. They are judged from left to right, an option together with its
+-- value, and then as a whole. Source: own, after the command lines of the diy tools.
 use Rattle.std.specs.{Prelude.{ℕ, ◌*◌, Bool, nat_lt, if◌then◌else◌, List, [], ◌∷◌, length, Option, Some, None, Result, Ok, Err}, Option.unwrap_or}
 use Rattle.relax_edges.specs.{declared.kinds.ArchName.ArchName, declared.kinds.ObsMode.ObsMode, declared.kinds.ObsMode.TheVariants.Accept}
 use Rattle.relax_edges.specs.declared.edge.Edge.{Edge}
@@ -9,29 +9,30 @@ use Rattle.diy_words.specs.declared.usage.UsageKind.TheVariants.{UnknownTool, St
 use Rattle.diy_words.specs.{Parts.{parts_of, tool_named}, Sayings.Saying, Gathered.{Gathered, gathered_of}, SaidInOrder.{sayings, said_all}}
 use Rattle.diy_words.specs.declared.options.Tool.TheVariants as tools
 
--- what diyone7 is asked for without `-why` and `-co`: a test, or its execution, under a name that is given or that of its cycle
+-- what diyone7 is asked for without `-why` and `-co`: a test, or the execution that it asks for, under the given name or that of its cycle
 pub record TestTask : Type 0 where
   pub arch : ArchName
   pub name : Option (List ℕ)
   pub mode : ObsMode
   pub edges : List Edge
 
--- what diyone7 is asked for with `-why`: why a cycle needs an observer, shown by a test and two executions of it, each in a file,
--- under a name that is given or that of the cycle; the mode is `avoid`
+-- what diyone7 is asked for with `-why`: why a cycle needs an observer, shown by a test and two executions of it, each in a file, under the
+-- given name or that of the cycle; the mode is `avoid`
 pub record WhyTask : Type 0 where
   pub arch : ArchName
   pub name : Option (List ℕ)
   pub edges : List Edge
   pub folder : Option (List ℕ)
 
--- what diyone7 is asked for with `-co`: the coherence test of a cycle, under a name that is given or that of the cycle
+-- what diyone7 is asked for with `-co`: the coherence test of a cycle, or the execution that it asks for, under the given name or that of
+-- the cycle
 pub record CoherenceTask : Type 0 where
   pub arch : ArchName
   pub name : Option (List ℕ)
   pub edges : List Edge
 
--- of which cycles norm7 is asked for the names: of the one that edges make, of the one that has a name, the word at a place,
--- or of those that the lines of the input hold
+-- the cycles whose names norm7 is asked for: the one that edges make; the one that has a name, which is the argument at an index; or those
+-- of the lines of the input
 pub data Sought : Type 0 where
   OfEdges : List Edge → Sought
   OfName : ℕ → List ℕ → Sought
@@ -42,8 +43,8 @@ pub record NameTask : Type 0 where
   pub arch : ArchName
   pub cycle : Sought
 
--- what diy7 is asked for: the tests of the cycles of a listing, each in a file; no limit is set to the accesses of a thread
--- unless words give one
+-- what diy7 is asked for: the tests of the cycles of a listing, each in a file, or the lines of these cycles; the accesses of a thread have
+-- no limit unless one is given
 pub record ListTask : Type 0 where
   pub arch : ArchName
   pub relaxes : List (List Edge)
@@ -55,25 +56,25 @@ pub record ListTask : Type 0 where
   pub after : Option (List Edge)
   pub folder : Option (List ℕ)
 
--- what diycross7 is asked for: the tests of the cycles that have, at each place, one relaxation of the place's list, each test
--- in a file; the lists are in the order of the operands
+-- what diycross7 is asked for: the tests of the cycles that have, at each position, one relaxation of the position's list, each test in a
+-- file; the lists are in the order of the operands
 pub record CrossTask : Type 0 where
   pub arch : ArchName
   pub mode : ObsMode
   pub folder : Option (List ℕ)
   pub places : List (List (List Edge))
 
--- what classify7 is asked for: the names of cycles by their families, of the tests in the files that the words at these places
--- name, or of the input's lines where there is none
+-- what classify7 is asked for: the names of cycles by their families, those of the tests in the files that the arguments at these indices
+-- name, or those of the input's lines if there are no files
 pub record FamiliesTask : Type 0 where
   pub arch : ArchName
   pub files : List ℕ
 
--- what words ask for: a test; why a cycle needs an observer; a coherence test; the names of cycles; the tests of a listing; the
--- names of cycles by their families; the sum of the logs that the words after the first name, or of the input where there is none;
--- the tests of the choices of relaxations; some number of tests; what is so of an execution of a test; in place of a test, the
--- execution that it asks for; in place of the tests of a listing, the lines of its cycles. What demo and mcheck7 are asked for is as
--- the request holds it
+-- what the arguments ask for: a test; why a cycle needs an observer; a coherence test; the names of cycles; the tests of a listing; the
+-- names of cycles by their families; the sum of the logs that the arguments after the first name, or of the input if there are none; the
+-- tests of the choices of relaxations; a number of tests; what holds of an execution of a test; instead of a test or a coherence test, the
+-- execution that it asks for; instead of the tests of a listing, the lines of its cycles. For demo and mcheck7 the request itself has the
+-- same type
 pub data Task : Type 0 where
   AsksTest : TestTask → Task
   AsksWhy : WhyTask → Task
@@ -89,16 +90,16 @@ pub data Task : Type 0 where
   AsksCoherenceExecution : CoherenceTask → Task
   AsksLines : ListTask → Task
 
--- in how many ways a relaxation can be chosen for each place: one way for no place
+-- in how many ways a relaxation can be chosen for each position; if there is no position, in one way
 abbrev pub choice_count : List (List (List Edge)) → ℕ
 choice_count [] = 1
 choice_count (place ∷ places) = length place * choice_count places
 
--- the mode that was given, or else `accept`
+-- the given mode, or `accept` by default
 abbrev pub mode_or_accept : Option ObsMode → ObsMode
 mode_or_accept mode = unwrap_or mode Accept
 
--- the request of diyone7 without `-why` and `-co` from what was given: a folder is a fault; `count` is the number of words
+-- the request of diyone7 without `-why` and `-co` from what was given: a folder is an error; `count` is the number of arguments
 abbrev pub test_with : ℕ → Option ArchName → Option (List ℕ) → ObsMode → List Edge → Option (List ℕ) → Result TestTask Usage
 test_with count None name mode edges folder = Err (record { word = count; kind = MissingArch })
 test_with count (Some arch) name mode edges (Some folder) = Err (record { word = count; kind = MissingWhy })
@@ -115,7 +116,8 @@ coherence_with count None name edges folder = Err (record { word = count; kind =
 coherence_with count (Some arch) name edges (Some folder) = Err (record { word = count; kind = MissingWhy })
 coherence_with count (Some arch) name edges None = Ok (record { arch = arch; name = name; edges = edges })
 
--- the request of norm7 from what was given: `-from` or operands, and not both, or else the lines of the input
+-- the request of norm7 from what was given: the cycle of `-from` or that of the operands, or without both the cycles of the input's lines;
+-- together with `-from`, the first operand is stray
 abbrev pub named_with : ℕ → Option ArchName → Option (ℕ × List ℕ) → Option ℕ → List Edge → Result NameTask Usage
 named_with count None _ _ edges = Err (record { word = count; kind = MissingArch })
 named_with count (Some arch) None None edges = Ok (record { arch = arch; cycle = OfLines })
@@ -156,7 +158,7 @@ check_with count (Some arch) (Some test) (Some execution) form =
 check_with count (Some arch) (Some test) None form = Err (record { word = count; kind = MissingFile })
 check_with count (Some arch) None execution form = Err (record { word = count; kind = MissingFile })
 
--- a request of one of the tools
+-- the request of one of the tools as a task, or its error
 abbrev pub asks : {X : Type 0} → (X → Task) → Result X Usage → Result Task Usage
 asks request (Ok asked) = Ok (request asked)
 asks request (Err usage) = Err usage
@@ -165,24 +167,24 @@ asks request (Err usage) = Err usage
 abbrev pub test_asked : ℕ → Gathered → Result TestTask Usage
 test_asked count given = test_with count given.arch given.name (mode_or_accept given.mode) given.edges given.folder
 
--- and with `-why`
+-- what it is asked for with `-why`
 abbrev pub why_asked : ℕ → Gathered → Result WhyTask Usage
 why_asked count given = why_with count given.arch given.name given.edges given.folder
 
--- and with `-co`
+-- what it is asked for with `-co`
 abbrev pub coherence_asked : ℕ → Gathered → Result CoherenceTask Usage
 coherence_asked count given = coherence_with count given.arch given.name given.edges given.folder
 
--- a test, or in its place the execution that it asks for
+-- a test or, with `-exec`, the execution that it asks for
 abbrev pub test_or_execution : ℕ → Gathered → Result Task Usage
 test_or_execution count given = if given.exec then asks AsksExecution (test_asked count given) else asks AsksTest (test_asked count given)
 
--- the same of a coherence test
+-- a coherence test or, with `-exec`, the execution that it asks for
 abbrev pub coherence_or_execution : ℕ → Gathered → Result Task Usage
 coherence_or_execution count given =
     if given.exec then asks AsksCoherenceExecution (coherence_asked count given) else asks AsksCoherence (coherence_asked count given)
 
--- the request of diyone7 where `-why` isn't given
+-- the request of diyone7 without `-why`
 abbrev pub one_asked : ℕ → Gathered → Result Task Usage
 one_asked count given = if given.co then coherence_or_execution count given else test_or_execution count given
 
@@ -199,7 +201,7 @@ abbrev pub diy_asked : ℕ → Gathered → Result ListTask Usage
 diy_asked count given =
     list_with count given.arch given.relaxes given.size given.exact given.threads given.accesses (mode_or_accept given.mode) given.after given.folder
 
--- the tests of a listing, or in their place the lines of its cycles
+-- the tests of a listing or, with `-list`, the lines of its cycles
 abbrev pub list_or_lines : ℕ → Gathered → Result Task Usage
 list_or_lines count given = if given.lines then asks AsksLines (diy_asked count given) else asks AsksList (diy_asked count given)
 
@@ -222,37 +224,37 @@ tool_asked tools.Cross count given = asks AsksCross (cross_asked count given)
 tool_asked tools.Demo count given = asks AsksDemo (demo_with count given.arch given.count)
 tool_asked tools.Check count given = asks AsksCheck (check_asked count given)
 
--- the request of a tool from what its words say, where no word is faulty
+-- the request of a tool from what its arguments say, or their first error
 abbrev pub said_asked : Tool → ℕ → Result (List Saying) Usage → Result Task Usage
 said_asked tool count (Err usage) = Err usage
 said_asked tool count (Ok said) = tool_asked tool count (gathered_of said)
 
--- the request of a tool from its words but the first
+-- the request of a tool from the arguments after the first, if the first names a tool
 abbrev pub asked_for : Option Tool → ℕ → List (List ℕ) → Result Task Usage
 asked_for None count words = Err (record { word = 0; kind = UnknownTool })
 asked_for (Some tool) count words = said_asked tool count (said_all (sayings tool [] (parts_of tool 1 words)))
 
--- the request that words make: the first names the tool
+-- the request that the arguments make, the first of which names the tool, or their first error
 abbrev pub asked_of : List (List ℕ) → Result Task Usage
 asked_of [] = Err (record { word = 0; kind = UnknownTool })
 asked_of (tool ∷ words) = asked_for (tool_named tool) (length (tool ∷ words)) words
 
--- words ask for something of diycross7
+-- the arguments ask for something of diycross7
 abbrev pub IsCrossing : Result Task Usage → Type 0
 IsCrossing (Ok (AsksCross _)) = Unit {0}
 IsCrossing _ = ⊥
 
--- the relaxations of the places of the cycles, where words ask for something of diycross7
+-- the relaxations of each position of the cycles, if the arguments ask for something of diycross7
 abbrev pub places_of : Result Task Usage → List (List (List Edge))
 places_of (Ok (AsksCross asked)) = asked.places
 places_of _ = []
 
--- words ask for something of classify7
+-- the arguments ask for something of classify7
 abbrev pub IsClassifying : Result Task Usage → Type 0
 IsClassifying (Ok (AsksFamilies _)) = Unit {0}
 IsClassifying _ = ⊥
 
--- the places of the files, where words ask for something of classify7
+-- the indices of the arguments that name files, if the arguments ask for something of classify7
 abbrev pub files_of : Result Task Usage → List ℕ
 files_of (Ok (AsksFamilies asked)) = asked.files
 files_of _ = []

@@ -1,17 +1,17 @@
--- What the words say one after another, each judged by what those before it said, or the first error among them.
+-- What the parts of the arguments say one after another, each judged by what those before it said, or the first error among them.
 use Rattle.std.specs.{Prelude.{Bool, true, false, List, [], ◌∷◌, ◌++◌, length, filter, is_some, Result, Ok, Err}, List.list_any}
 use Rattle.diy_words.specs.{declared.usage.Usage.Usage, declared.options.Tool.Tool, Parts.Part}
 use Rattle.diy_words.specs.Sayings.{Saying, SaysCount, SaysTest, SaysExecution, Before, said_by}
 use Rattle.diy_words.specs.Gathered.{mode_of_saying, folder_of_saying, is_why, is_co, is_exec, is_lines, last_given}
 
--- the number of demo and the files of mcheck7 are the operands whose number is limited
+-- one of the operands whose number is limited: the number of demo and the files of mcheck7
 abbrev pub is_limited : Saying → Bool
 is_limited (SaysCount _) = true
 is_limited (SaysTest _) = true
 is_limited (SaysExecution _) = true
 is_limited _ = false
 
--- what bears on the error of the next word, of all that the words before it said
+-- of all that was said so far, what decides whether the next part is an error
 abbrev pub before_of : List Saying → Before
 before_of said = record {
   taken = length (filter is_limited said);
@@ -23,23 +23,23 @@ before_of said = record {
   lines = list_any is_lines said;
 }
 
--- what a word adds to what is said: a faulty word says nothing
+-- what a part adds to what is said: an invalid one says nothing
 abbrev pub said_in : Result Saying Usage → List Saying
 said_in (Ok saying) = saying ∷ []
 said_in (Err usage) = []
 
--- what the parts of the words say, one after another, after words that said so much
+-- what the parts of the arguments say, one after another, after those that said `before`
 abbrev pub sayings : Tool → List Saying → List Part → List (Result Saying Usage)
 sayings tool before [] = []
 sayings tool before (part ∷ parts) =
     said_by tool (before_of before) part ∷ sayings tool (before ++ said_in (said_by tool (before_of before) part)) parts
 
--- something said before the rest, where the rest has no error
+-- a saying before the rest, if the rest has no error
 abbrev pub said_first : Saying → Result (List Saying) Usage → Result (List Saying) Usage
 said_first saying (Ok rest) = Ok (saying ∷ rest)
 said_first saying (Err usage) = Err usage
 
--- all that words say, or the first error among them
+-- all that the arguments say, or the first error among them
 abbrev pub said_all : List (Result Saying Usage) → Result (List Saying) Usage
 said_all [] = Ok []
 said_all (Ok saying ∷ rest) = said_first saying (said_all rest)

@@ -1,5 +1,5 @@
--- What each word says, an option with its value, or what is wrong with it, by what the words before it said. Source: own, after
--- the command lines of the diy tools.
+-- What each argument says, an option together with its value, or what is wrong with it, given what those before it said. Source: own,
+-- after the command lines of the diy tools.
 use Rattle.std.specs.Prelude.{ℕ, ◌+◌, ◌==◌, ◌&&◌, ◌||◌, Bool, false, nat_lt, nat_le, if◌then◌else◌, List, [], ◌∷◌, length, Option, Some, None, Result, Ok, Err, codes}
 use Rattle.std.specs.Str.{bytes_eq}
 use Rattle.relax_edges.specs.{declared.TheConstants.MAX_EDGES, declared.relax_error.RelaxKind.RelaxKind, declared.relax_error.RelaxError.RelaxError}
@@ -15,9 +15,9 @@ use Rattle.diy_io.specs.declared.shelf.TheConstants.{MAX_FOLDER}
 use Rattle.diy_words.specs.declared.options.Tool.TheVariants as tools
 use Rattle.diy_words.specs.declared.options.OptionName.TheVariants as opts
 
--- what a word says, an option with its value; the value of `-from` and an operand of edges with their places; an operand of
--- diycross7, the relaxations of a place of its cycles; the operand of demo, a number; an operand of classify7, which names a
--- file, by its place; the operands of mcheck7, the file of a test and that of an execution, by their places
+-- what an argument says, an option together with its value. The value of `-from` and an operand of edges come with their indices; an
+-- operand of diycross7 is the relaxations of one position of its cycles; the operand of demo is a number. An operand of classify7, which
+-- names a file, and those of mcheck7, which name the file of a test and that of an execution, are given by their indices
 pub data Saying : Type 0 where
   SaysArch : ArchName → Saying
   SaysName : List ℕ → Saying
@@ -43,8 +43,8 @@ pub data Saying : Type 0 where
   SaysPlace : List (List Edge) → Saying
   SaysCount : ℕ → Saying
 
--- what the words before a word said that bears on its error: how many operands were taken, of those whose number is limited, and
--- whether `-obs`, `-why`, `-co`, `-exec`, `-o` and `-list` were among them
+-- what was said before an argument that decides whether it is an error: how many operands were taken of those whose number is limited,
+-- and whether each of `-obs`, `-why`, `-co`, `-exec`, `-o` and `-list` was given
 pub record Before : Type 0 where
   pub taken : ℕ
   pub obs : Bool
@@ -54,50 +54,50 @@ pub record Before : Type 0 where
   pub folder : Bool
   pub lines : Bool
 
--- an error at a word
+-- an error at the argument with this index
 abbrev pub usage_fault : ℕ → UsageKind → Result Saying Usage
 usage_fault word kind = Err (record { word = word; kind = kind })
 
--- the value of `-arch`, at its place
+-- the value of `-arch`, at its index
 abbrev pub arch_said : ℕ → Option ArchName → Result Saying Usage
 arch_said at (Some arch) = Ok (SaysArch arch)
 arch_said at None = usage_fault at UnknownArch
 
--- the value of `-name`, at its place
+-- the value of `-name`, at its index
 abbrev pub name_said : ℕ → List ℕ → Result Saying Usage
 name_said at text = if is_name text then Ok (SaysName text) else usage_fault at BadName
 
--- the value of `-obs`, at its place
+-- the value of `-obs`, at its index
 abbrev pub mode_said : ℕ → Option ObsMode → Result Saying Usage
 mode_said at (Some mode) = Ok (SaysMode mode)
 mode_said at None = usage_fault at BadMode
 
--- `-obs` at its place with its value: after `-why` or `-co` it is excluded, whatever its value
+-- `-obs` at its index with its value: after `-why` or `-co` it is excluded, whatever its value
 abbrev pub obs_said : Before → ℕ → List ℕ → Result Saying Usage
 obs_said before at value = if before.why || before.co then usage_fault at ExcludedOption else mode_said (at + 1) (mode_named value)
 
--- `-why` at its place: after `-obs`, `-co` or `-exec` it is excluded
+-- `-why` at its index: after `-obs`, `-co` or `-exec` it is excluded
 abbrev pub why_said : Before → ℕ → Result Saying Usage
 why_said before at = if before.obs || before.co || before.exec then usage_fault at ExcludedOption else Ok SaysWhy
 
--- `-co` at its place: after `-obs` or `-why` it is excluded
+-- `-co` at its index: after `-obs` or `-why` it is excluded
 abbrev pub co_said : Before → ℕ → Result Saying Usage
 co_said before at = if before.obs || before.why then usage_fault at ExcludedOption else Ok SaysCo
 
--- `-exec` at its place: after `-why` it is excluded
+-- `-exec` at its index: after `-why` it is excluded
 abbrev pub exec_said : Before → ℕ → Result Saying Usage
 exec_said before at = if before.why then usage_fault at ExcludedOption else Ok SaysExec
 
--- `-list` at its place: after `-o` it is excluded
+-- `-list` at its index: after `-o` it is excluded
 abbrev pub lines_said : Before → ℕ → Result Saying Usage
 lines_said before at = if before.folder then usage_fault at ExcludedOption else Ok SaysLines
 
--- the edges of an operand, at its place
+-- the edges of an operand, at its index
 abbrev pub edges_said : ℕ → Option (List Edge) → Result Saying Usage
 edges_said at (Some es) = Ok (SaysEdges at es)
 edges_said at None = usage_fault at UnknownEdge
 
--- what is wrong with relaxations, as an error of words
+-- what is wrong with relaxations, as a usage error
 abbrev pub relax_usage : RelaxKind → UsageKind
 relax_usage relaxing.UnknownEdge = UnknownEdge
 relax_usage relaxing.BadBracket = BadBracket
@@ -105,32 +105,32 @@ relax_usage relaxing.RelaxTooLong = RelaxTooLong
 relax_usage relaxing.DoesNotJoin = DoesNotJoin
 relax_usage relaxing.TooManyRelaxes = TooManyRelaxes
 
--- the value of `-edges` or an operand of diycross7, at its place: relaxations, and what they are said to be
+-- the value of `-edges` or an operand of diycross7, at its index: relaxations, with the saying that they make
 abbrev pub relaxes_said : (List (List Edge) → Saying) → ℕ → Result (List (List Edge)) RelaxError → Result Saying Usage
 relaxes_said says at (Ok relaxes) = Ok (says relaxes)
 relaxes_said says at (Err error) = usage_fault at (relax_usage error.kind)
 
--- the value of an option that takes a number, or the operand of demo, at its place, and what the number is said to be
+-- the value of an option that takes a number, or the operand of demo, at its index, with the saying that the number makes
 abbrev pub number_said : (ℕ → Saying) → ℕ → Option ℕ → Result Saying Usage
 number_said says at (Some number) = Ok (says number)
 number_said says at None = usage_fault at BadNumber
 
--- the value of `-after`, at its place: edges that make a cycle, of whatever architecture
+-- the cycle that the edges of `-after` make, or `BadAfter` if they make none
 abbrev pub cycle_word_said : ℕ → Result (List Edge) CycleError → Result Saying Usage
 cycle_word_said at (Ok cycle) = Ok (SaysAfter cycle)
 cycle_word_said at (Err error) = usage_fault at BadAfter
 
--- the cycle that the edges of `-after` make, or what is wrong with them
+-- the value of `-after`, at its index: edges of whatever architecture that make a cycle
 abbrev pub after_said : ℕ → Option (List Edge) → Result Saying Usage
 after_said at (Some edges) = cycle_word_said at (composed edges)
 after_said at None = usage_fault at UnknownEdge
 
--- the value of `-o`, at its place
+-- the value of `-o`, at its index
 abbrev pub folder_said : ℕ → List ℕ → Result Saying Usage
 folder_said at text =
     if nat_lt 0 (length text) && nat_le (length text) MAX_FOLDER then Ok (SaysFolder text) else usage_fault at BadFolder
 
--- `-o` at its place with its value: after `-list` it is excluded, whatever its value
+-- `-o` at its index with its value: after `-list` it is excluded, whatever its value
 abbrev pub file_folder_said : Before → ℕ → List ℕ → Result Saying Usage
 file_folder_said before at value = if before.lines then usage_fault at ExcludedOption else folder_said (at + 1) value
 
@@ -139,7 +139,7 @@ abbrev pub begins_option : List ℕ → Bool
 begins_option [] = false
 begins_option (byte ∷ _) = byte == 45
 
--- a word that begins with `-` and takes no value, at its place
+-- an argument that begins with `-` and is no option with a value, at its index
 abbrev pub dashed_said : Tool → Before → ℕ → List ℕ → Result Saying Usage
 dashed_said tools.DiyOne before at text =
     if bytes_eq text (codes "-why") then why_said before at
@@ -153,12 +153,12 @@ dashed_said tools.Diy before at text =
 dashed_said tools.Check before at text = if bytes_eq text (codes "-dot") then Ok SaysGraph else usage_fault at UnknownOption
 dashed_said _ before at text = usage_fault at UnknownOption
 
--- a file that is an operand of mcheck7, at its place, where so many were taken before: the first is that of the test, the
--- second that of the execution, and a third is stray
+-- an operand of mcheck7, at its index, after `taken` others: the first names the file of the test, the second that of the execution, and
+-- a third is stray
 abbrev pub checked_said : ℕ → ℕ → Result Saying Usage
 checked_said taken at = if taken == 0 then Ok (SaysTest at) else if taken == 1 then Ok (SaysExecution at) else usage_fault at StrayWord
 
--- an operand of a tool, at its place, where so many of those whose number is limited were taken before: demo takes one
+-- an operand of a tool, at its index, after `taken` operands whose number is limited: diy7 takes none, demo one and mcheck7 two
 abbrev pub operand_said : Tool → ℕ → ℕ → List ℕ → Result Saying Usage
 operand_said tools.DiyOne _ at text = edges_said at (text_edges text)
 operand_said tools.Diy _ at text = usage_fault at StrayWord
@@ -169,7 +169,7 @@ operand_said tools.Msum _ at text = Ok SaysLog
 operand_said tools.Demo taken at text = if taken == 0 then number_said SaysCount at (number_to MAX_TESTS text) else usage_fault at StrayWord
 operand_said tools.Check taken at text = checked_said taken at
 
--- what a word says, an option with its value, or what is wrong with it, where the words before it said so much
+-- what a part of the arguments says, or what is wrong with it, given what those before it said
 abbrev pub said_by : Tool → Before → Part → Result Saying Usage
 said_by tool before (Alone at text) = if begins_option text then dashed_said tool before at text else operand_said tool before.taken at text
 said_by tool before (Valued opts.Arch at value) = arch_said (at + 1) (arch_of value)

@@ -5,10 +5,10 @@ use crate::options::{Tool, option_named};
 use diy_io::{NoMemory, Words};
 use std::alloc::Global;
 
-/// The places of the operands of classify7, which name files, in their order. The error comes for want
-/// of memory alone, and only where there is an operand.
+/// The indices of the operands of classify7, which name files, in order. The only error is running out
+/// of memory, and it comes only if there is an operand.
 pub fn read_files(alloc: Global, words: &Words) -> Result<Vec<usize>, NoMemory>
-    // The words ask for something of classify7.
+    // The arguments ask for something of classify7.
     requires { IsClassifying (asked_of words.now) }
     ensures files { IfOk result (λ files. files.items ≡ files_of (asked_of words.now)) }
     ensures some { OnErr result (files_of (asked_of words.now) ≡ [] → ⊥) }

@@ -1,4 +1,4 @@
-//! From the words of a call to the request that they make, or the first error among them.
+//! From the arguments of a call to the request that they make, or the first error among them.
 #![tactic(auto)]
 
 mod files;

@@ -20,7 +20,7 @@ use relax_edges::{
     ArchName, Edge, MAX_EDGES, ObsMode, RelaxKind, Relaxes, read_arch, read_relaxes,
 };
 
-/// What is noted of the words so far.
+/// What is noted of the arguments so far.
 #[derive(Drop)]
 pub struct Notes<'a> {
     pub arch: Option<ArchName>,
@@ -29,25 +29,25 @@ pub struct Notes<'a> {
     pub mode: Option<ObsMode>,
     /// The value of `-from`.
     pub from: Option<Source<'a>>,
-    /// The place of the first operand of edges.
+    /// The index of the first operand of edges.
     pub operand: Option<usize>,
     pub edges: EdgeList,
     pub relaxes: Option<Relaxes>,
     pub limits: Limits,
     pub threads: u8,
-    /// The most accesses of a thread, where one is given.
+    /// The most accesses of a thread, if a limit is given.
     pub accesses: Option<u8>,
     pub after: Option<Cycle>,
     pub folder: Option<&'a str>,
-    /// In how many ways a relaxation can be chosen for each place, up to one more than may be.
+    /// In how many ways a relaxation can be chosen for each position, up to one more than allowed.
     pub choices: u32,
     /// How many tests demo makes.
     pub count: Option<u32>,
-    /// Which word names the file of the test of mcheck7.
+    /// The index of the argument that names the file of the test, for mcheck7.
     pub test: Option<usize>,
-    /// Which word names the file of its execution.
+    /// The index of the argument that names the file of the execution, for mcheck7.
     pub execution: Option<usize>,
-    /// How many operands were taken, of demo or of mcheck7.
+    /// How many operands of demo or of mcheck7 were taken.
     pub taken: u8,
     /// Whether `-why` was given.
     pub why: bool,
@@ -96,7 +96,7 @@ impl<'a> Notes<'a> {
         }
     }
 
-    /// Takes in an option of a tool at place `at` with its value, which comes after it.
+    /// Takes in an option of a tool at index `at` with its value, which comes after it.
     pub fn take_value(
         &mut self,
         tool: Tool,
@@ -145,7 +145,7 @@ impl<'a> Notes<'a> {
         Ok(())
     }
 
-    /// Takes in `-obs` at place `at` with its value, unless `-why` or `-co` comes before it.
+    /// Takes in `-obs` at index `at` with its value, unless `-why` or `-co` comes before it.
     fn take_obs(&mut self, at: usize, value: &str) -> Result<(), Usage>
         requires { at + 1 < 2 ^ 64 }
         ensures { notes_left result (code_notes self.new) ≡ notes_after (code_notes self.old) (obs_said (before_noted (code_notes self.old)) at value.now) }
@@ -223,7 +223,7 @@ impl<'a> Notes<'a> {
         }
     }
 
-    /// Takes in `-o` at place `at` with its value, unless `-list` comes before it.
+    /// Takes in `-o` at index `at` with its value, unless `-list` comes before it.
     fn take_file_folder(&mut self, at: usize, value: &'a str) -> Result<(), Usage>
         requires { at + 1 < 2 ^ 64 }
         ensures { notes_left result (code_notes self.new) ≡ notes_after (code_notes self.old) (file_folder_said (before_noted (code_notes self.old)) at value.now) }
@@ -244,7 +244,7 @@ impl<'a> Notes<'a> {
         Ok(())
     }
 
-    /// Takes in a word of a tool at place `at` that is no option with a value.
+    /// Takes in an argument of a tool at index `at` that is no option with a value.
     pub fn take_alone(&mut self, tool: Tool, at: usize, text: &str) -> Result<(), Usage>
         ensures { notes_left result (code_notes self.new) ≡ notes_alone tool (code_notes self.old) at text.now }
     {
@@ -255,7 +255,7 @@ impl<'a> Notes<'a> {
         }
     }
 
-    /// Takes in a word that begins with `-`.
+    /// Takes in an argument that begins with `-` and is no option with a value.
     fn take_dashed(&mut self, tool: Tool, at: usize, text: &str) -> Result<(), Usage>
         ensures { notes_left result (code_notes self.new) ≡ notes_dashed tool (code_notes self.old) at text.now }
     {
@@ -345,7 +345,7 @@ impl<'a> Notes<'a> {
         }
     }
 
-    /// Takes in the relaxations of one more place.
+    /// Takes in the relaxations of one more position.
     fn take_place(&mut self, at: usize, text: &str) -> Result<(), Usage>
         ensures { notes_left result (code_notes self.new) ≡ notes_after (code_notes self.old) (relaxes_said SaysPlace at (relaxes_of text.now)) }
     {
@@ -359,7 +359,7 @@ impl<'a> Notes<'a> {
         }
     }
 
-    /// Takes in a file of mcheck7: that of the test before that of the execution, and no third.
+    /// Takes in a file for mcheck7: first that of the test, then that of the execution, and no third.
     fn take_checked(&mut self, at: usize) -> Result<(), Usage>
         ensures { notes_left result (code_notes self.new) ≡ notes_after (code_notes self.old) (checked_said self.old.taken at) }
     {
@@ -392,7 +392,7 @@ impl<'a> Notes<'a> {
     }
 }
 
-/// In how many ways relaxations are chosen with those of one more place, up to one more than may be.
+/// In how many ways relaxations can be chosen with those of one more position, up to one more than allowed.
 fn more_choices(choices: u32, relaxes: usize) -> u32
     requires { relaxes ≤ 64 }
     ensures { result ≡ more_choices choices relaxes }
@@ -400,7 +400,7 @@ fn more_choices(choices: u32, relaxes: usize) -> u32
     (choices as u64 * relaxes as u64).min(MAX_CHOICES as u64 + 1) as u32
 }
 
-/// What is wrong with relaxations, as an error of words.
+/// What is wrong with relaxations, as a usage error.
 fn relax_usage(kind: RelaxKind) -> UsageKind
     ensures { result ≡ relax_usage kind }
 {
@@ -413,7 +413,7 @@ fn relax_usage(kind: RelaxKind) -> UsageKind
     }
 }
 
-/// The cycle that edges make, if they make one.
+/// The cycle that kept edges make, if they make one.
 fn cycle_of(list: &EdgeList) -> Option<Cycle>
     ensures { result ≡ cycle_kept list.now }
 {
@@ -423,14 +423,14 @@ fn cycle_of(list: &EdgeList) -> Option<Cycle>
     }
 }
 
-/// What is wrong with an option at place `at` that comes after one that excludes it.
+/// The error of an option at index `at` that comes after one that excludes it.
 fn excluded_option(at: usize) -> Usage
     ensures { result ≡ record { word = at; kind = ExcludedOption } }
 {
     usage_at(at, UsageKind::ExcludedOption)
 }
 
-/// What is wrong with an option at place `at` that is the last word.
+/// The error of an option with a value at index `at` that is the last argument.
 pub fn missing_value(tool: Tool, option: OptionName, at: usize) -> Usage
     ensures { (before : Before) → said_by tool before (Unvalued option at) ≡ Err result }
 {

@@ -1,7 +1,7 @@
 ghost use Rattle.std.specs.{Prelude.{◌≡◌, ◌≤◌, true, false, IfSome}, Char.{is_ascii_digit}, List.{list_all}, Result.{result_ok}, Str.Parse.{digits_value}};
 ghost use Rattle.diy_words.specs.NumberWords.{is_number, number_to};
 
-/// The number from 1 to `greatest` that a text is, if it is one: 1 to 7 digits.
+/// The number from 1 to `greatest` that a text of 1 to 7 digits is, or `None`.
 pub fn number_to(greatest: u32, text: &str) -> Option<u32>
     ensures value { result ≡ number_to greatest text.now }
     ensures range { IfSome result (λ number. (1 ≤ number) × (number ≤ greatest)) }

@@ -4,7 +4,7 @@ ghost use Rattle.diy_words.specs.Parts.{tool_named, option_named, mode_named};
 
 use relax_edges::ObsMode;
 
-/// The tools that a first word can name.
+/// The tools that the first argument can name.
 #[derive(Clone, Copy)]
 pub enum Tool {
     DiyOne,
@@ -49,7 +49,7 @@ pub fn tool_named(text: &str) -> Option<Tool>
     }
 }
 
-/// The option of a tool with this name that takes a value.
+/// The option of a tool that has this name and takes a value.
 pub fn option_named(tool: Tool, text: &str) -> Option<OptionName>
     ensures { result ≡ option_named tool text.now }
 {
@@ -102,7 +102,7 @@ fn cross_option(text: &str) -> Option<OptionName>
     }
 }
 
-/// The option of a tool that has `-arch` alone.
+/// The option with this name of a tool that has only `-arch`.
 fn arch_option(text: &str) -> Option<OptionName>
     ensures { result ≡ option_named tools.Classify text.now }
 {

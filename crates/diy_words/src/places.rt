@@ -7,10 +7,10 @@ use diy_io::{NoMemory, Words};
 use relax_edges::{Relaxes, read_relaxes};
 use std::alloc::Global;
 
-/// The lists of relaxations of the operands of diycross7, in their order. The error comes for want
-/// of memory alone.
+/// The lists of relaxations of the operands of diycross7, in order. The only error is running out of
+/// memory.
 pub fn read_places(alloc: Global, words: &Words) -> Result<Vec<Relaxes>, NoMemory>
-    // The words ask for something of diycross7.
+    // The arguments ask for something of diycross7.
     requires { IsCrossing (asked_of words.now) }
     ensures { IfOk result (λ places. places.items ≡ places_of (asked_of words.now)) }
 {

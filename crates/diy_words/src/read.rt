@@ -12,17 +12,16 @@ use crate::usage::{Usage, UsageKind, usage_at};
 use diy_io::{MAX_FOLDER, Words};
 use relax_edges::ObsMode;
 
-/// The request that the words make, or the first error among them: words are judged from left to
-/// right, an option with its value, and then all of them.
+/// The request that the arguments make, or the first error among them: they are judged from left to
+/// right, an option together with its value, and then as a whole.
 pub fn read_request(words: &Words) -> Result<Request<'_>, Usage>
     ensures given { GivesTask result (asked_of words.now) }
 
-    // The name of a test has its form; the cycles of a listing have at most `MAX_EDGES` edges, its
-    // folder and those of diyone7 and diycross7 have at most `MAX_FOLDER` bytes, and demo makes 1 to
-    // `MAX_TESTS` tests.
+    // A given name of a test has its form; the size of a listing is at most `MAX_EDGES`; a given folder
+    // has at most `MAX_FOLDER` bytes; and demo makes 1 to `MAX_TESTS` tests.
     ensures form { IfOk result HasForm }
 
-    // The files of mcheck7 are places of words.
+    // The files of mcheck7 are named by arguments that there are.
     ensures within { IfOk result (WithinWords (length words.now)) }
 {
     if words.len() == 0 {
@@ -46,7 +45,7 @@ fn read_words(tool: Tool, words: &Words) -> Result<Request<'_>, Usage>
     finish(tool, words.len(), notes)
 }
 
-/// Takes in the part of the words that begins at place `at`, and gives the place after it.
+/// Takes in the part of the arguments that begins at index `at`, and returns the index after it.
 fn read_part<'a>(
     tool: Tool,
     words: &'a Words,
@@ -96,7 +95,7 @@ fn read_option_at<'a>(
     }
 }
 
-/// The request of a tool that the notes give at the end of `count` words.
+/// The request that the notes give for a tool after all `count` arguments.
 fn finish(tool: Tool, count: usize, notes: Notes<'_>) -> Result<Request<'_>, Usage>
     ensures { GivesAtEnd tool count (code_notes notes.entry) result }
 {
@@ -321,7 +320,7 @@ fn missing_arch(count: usize) -> Usage
     usage_at(count, UsageKind::MissingArch)
 }
 
-/// What is wrong where a folder is given and no option that writes files.
+/// The error of a folder that is given to diyone7 without `-why`.
 fn missing_why(count: usize) -> Usage
     ensures { result ≡ record { word = count; kind = MissingWhy } }
 {

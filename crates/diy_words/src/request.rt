@@ -5,43 +5,43 @@ use edge_algebra::Cycle;
 use edges_from_text::EdgeList;
 use relax_edges::{ArchName, ObsMode, Relaxes};
 
-/// The most bytes that the name of a test has.
+/// The most bytes that a given name of a test can have.
 pub const MAX_GIVEN_NAME: usize = 800;
 
-/// The most ways in which diycross7 chooses a relaxation for each place of a cycle.
+/// The most ways in which diycross7 can choose a relaxation for each position of a cycle.
 pub const MAX_CHOICES: u32 = 65_536;
 
-/// The most tests that demo makes.
+/// The most tests that demo can be asked for.
 pub const MAX_TESTS: u32 = 1_000_000;
 
 /// The name of a test.
 pub type TestName = ArrayString<MAX_GIVEN_NAME>;
 
-/// What words ask for.
+/// What the arguments ask for.
 #[derive(Drop)]
 pub enum Request<'a> {
     /// A test, of diyone7 without `-why` and `-co`.
     Test(DiyOne),
     /// Why a cycle needs an observer, of diyone7 with `-why`.
     Why(Why<'a>),
-    /// A test that no coherent execution meets, of diyone7 with `-co`.
+    /// A test whose condition no coherent execution meets, of diyone7 with `-co`.
     Coherence(Coherence),
     /// The names of cycles, of norm7.
     Name(Norm<'a>),
     /// The tests of a listing, of diy7.
     List(Diy<'a>),
     /// The names of cycles of the architecture by their families, of classify7: those of the tests in
-    /// the files that its operands name, which `read_files` finds, or those of the input's lines where
-    /// there is no operand.
+    /// the files that its operands name, which `read_files` finds, or those of the input's lines if there
+    /// is no operand.
     Families(ArchName),
-    /// The sum of the logs that the words after the first name, or of the input where there is no
-    /// such word, of msum7.
+    /// The sum of the logs that the arguments after the first name, or of the input if there are none, of
+    /// msum7.
     Sum,
     /// The tests of the choices of relaxations, of diycross7.
     Cross(Cross<'a>),
-    /// Some number of tests, of demo.
+    /// A number of tests, of demo.
     Demo(Demo),
-    /// What is so of one execution of one test, of mcheck7.
+    /// What holds of one execution of one test, of mcheck7.
     Check(Check),
     /// The execution that a test asks for, of diyone7 with `-exec`.
     Execution(DiyOne),
@@ -63,9 +63,9 @@ pub struct Norm<'a> {
 /// The cycles whose names are asked for.
 #[derive(Drop)]
 pub enum Sought<'a> {
-    /// The one that these edges make.
+    /// The one that these edges make, if they make one.
     Edges(EdgeList),
-    /// The one that has this name.
+    /// The one that has this name, if there is one.
     Named(Source<'a>),
     /// Those of the input's lines.
     Lines,
@@ -74,13 +74,13 @@ pub enum Sought<'a> {
 /// The value of `-from`.
 #[derive(Clone, Copy)]
 pub struct Source<'a> {
-    /// Which word it is.
+    /// The index of the argument.
     pub word: usize,
     /// The name.
     pub name: &'a str,
 }
 
-/// What diyone7 is asked for without `-why` and `-co`, with `-exec` and without it.
+/// What diyone7 is asked for without `-why` and `-co`, with or without `-exec`.
 #[derive(Drop)]
 pub struct DiyOne {
     /// The architecture of the test.
@@ -107,8 +107,8 @@ pub struct Why<'a> {
     pub folder: Option<&'a str>,
 }
 
-/// What diyone7 is asked for with `-co`: a test of edges at one location that no coherent execution
-/// meets.
+/// What diyone7 is asked for with `-co`, with or without `-exec`: a test of edges at one location,
+/// whose condition no coherent execution meets, or the execution that it asks for.
 #[derive(Drop)]
 pub struct Coherence {
     /// The architecture of the test.
@@ -124,13 +124,13 @@ pub struct Coherence {
 pub struct Diy<'a> {
     /// The architecture of the tests.
     pub arch: ArchName,
-    /// The relaxations of which the cycles are made.
+    /// The relaxations from which the cycles are built.
     pub relaxes: Relaxes,
-    /// How many edges the cycles have.
+    /// How many edges the cycles may have.
     pub limits: Limits,
-    /// The most threads of a cycle, those of observers not counted.
+    /// The most threads of a cycle, not counting observers.
     pub threads: u8,
-    /// The most accesses of a thread, where there is a limit; those of observers are not counted.
+    /// The most accesses of a thread of a cycle, if there is a limit; it doesn't apply to observers.
     pub accesses: Option<u8>,
     /// When locations have observers.
     pub mode: ObsMode,
@@ -140,7 +140,7 @@ pub struct Diy<'a> {
     pub folder: Option<&'a str>,
 }
 
-/// What diycross7 is asked for. The relaxations of its operands are read by `read_places`.
+/// What diycross7 is asked for. `read_places` reads the relaxations of its operands.
 #[derive(Drop)]
 pub struct Cross<'a> {
     /// The architecture of the tests.
@@ -160,12 +160,12 @@ pub struct Demo {
     pub count: u32,
 }
 
-/// What mcheck7 writes of an execution.
+/// What mcheck7 writes about an execution.
 #[derive(Clone, Copy, PartialEq, Eq)]
 pub enum CheckForm {
     /// The verdict on it.
     Verdict,
-    /// A picture of it, with `-dot`, where it is a candidate; else the verdict.
+    /// A picture of it, with `-dot`, if it is a candidate; otherwise the verdict.
     Graph,
 }
 
@@ -174,9 +174,9 @@ pub enum CheckForm {
 pub struct Check {
     /// The architecture of the test.
     pub arch: ArchName,
-    /// Which word names the file of the test.
+    /// The index of the argument that names the file of the test.
     pub test: usize,
-    /// Which word names the file of the execution.
+    /// The index of the argument that names the file of the execution.
     pub execution: usize,
     /// What is written.
     pub form: CheckForm,

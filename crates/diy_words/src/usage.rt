@@ -1,21 +1,21 @@
 ghost use Rattle.std.specs.Prelude.{◌≡◌};
 
-/// Why words make no request, and the word that shows it. Where no word shows it, `word` is the
-/// number of words.
+/// Why the arguments make no request, and the index of the one at fault, where 0 is the tool's name. If
+/// no single argument is at fault, `word` is the number of arguments.
 #[derive(Clone, Copy, PartialEq, Eq)]
 pub struct Usage {
     pub word: usize,
     pub kind: UsageKind,
 }
 
-/// What is wrong with a word, or with all of them.
+/// What is wrong with an argument, or with all of them together.
 #[derive(Clone, Copy, Debug, PartialEq, Eq)]
 pub enum UsageKind {
-    /// There is no word, or the first names no tool.
+    /// There is no argument, or the first names no tool.
     UnknownTool,
-    /// A word begins with `-` and is no option of the tool.
+    /// An argument that begins with `-`, where an option may come, is no option of the tool.
     UnknownOption,
-    /// An option that takes a value is the last word.
+    /// An option that takes a value is the last argument.
     MissingValue,
     /// A number isn't 1 to 7 digits, or is out of its range.
     BadNumber,
@@ -27,40 +27,40 @@ pub enum UsageKind {
     BadName,
     /// The value of `-o` is empty, or has more than 1,024 bytes.
     BadFolder,
-    /// A word among edges is no edge.
+    /// A word in a list of edges or of relaxations isn't the name of an edge.
     UnknownEdge,
-    /// A bracket among relaxations is not closed, is empty, holds a bracket, or closes nothing.
+    /// A bracket in a list of relaxations isn't closed, is empty, has a bracket in it, or closes nothing.
     BadBracket,
-    /// A bracket among relaxations has more than 8 edges.
+    /// A bracket in a list of relaxations has more than 8 edges.
     RelaxTooLong,
-    /// No choice of the edges of a relaxation joins.
+    /// No choice of a bracket's edges joins.
     DoesNotJoin,
-    /// There are more than 64 relaxations.
+    /// A list has more than 64 relaxations.
     TooManyRelaxes,
     /// No cycle of the architecture has the name that `-from` gives.
     UnknownName,
-    /// The edges of `-after` make no cycle.
+    /// The edges of `-after` make no cycle: there are none, more than 48, or some that don't compose.
     BadAfter,
-    /// An operand comes where the tool takes none, or no other, or beside `-from`.
+    /// The tool takes no operand, or no further one, or an operand comes together with `-from`.
     StrayWord,
     /// An option comes after one that excludes it: `-obs`, `-why` and `-co` exclude each other, and so do
     /// `-why` and `-exec`, and `-list` and `-o`.
     ExcludedOption,
-    /// The tool needs `-arch`, and it isn't there.
+    /// The tool requires `-arch`, which is missing.
     MissingArch,
-    /// The tool needs `-edges`, and it isn't there.
+    /// The tool requires `-edges`, which is missing.
     MissingEdges,
-    /// The tool needs a number, and it isn't there.
+    /// The tool requires a number, which is missing.
     MissingNumber,
-    /// The tool needs two files, and one of them isn't there.
+    /// The tool requires two files, of which at least one is missing.
     MissingFile,
-    /// `-o` of diyone7 needs `-why`, and it isn't there.
+    /// `-o` of diyone7 requires `-why`, which is missing.
     MissingWhy,
-    /// There are more than 65,536 ways to choose a relaxation for each place.
+    /// There are more than 65,536 ways to choose a relaxation for each position.
     TooManyChoices,
 }
 
-/// What is wrong with the word that comes after `word` others.
+/// An error with the index of its argument, or with the number of arguments if it is at none of them.
 pub fn usage_at(word: usize, kind: UsageKind) -> Usage
     ensures { result ≡ record { word = word; kind = kind } }
 {

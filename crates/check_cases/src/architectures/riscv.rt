@@ -15,7 +15,7 @@ const WRITE_X_TWO: Step = Step {
     ..WRITE_X
 };
 
-/// An access after the fence between accesses of these kinds.
+/// An access after a fence between accesses of these kinds.
 macro_rules! after {
     ($pred:ident, $succ:ident, $step:expr) => {
         Step {
