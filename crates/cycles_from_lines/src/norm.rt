@@ -21,7 +21,7 @@ use relax_edges::ArchName;
 ///
 /// If a line has an error, if there are more than `MAX_INPUT` bytes, or if the source fails, the lines
 /// of the cycles before that are written. If the sink fails, it has taken a prefix of the lines of the
-/// cycles before the first line with an error.
+/// cycles before the first line with an error, or of all if no line has one.
 pub fn norm_lines<I: Source, O: Sink>(
     arch: ArchName,
     input: &mut I,
