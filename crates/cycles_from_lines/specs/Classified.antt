@@ -1,4 +1,4 @@
--- What is written of cycles by their families.
+-- What is written of the names of cycles by their families.
 -- Source: own; the lines are those of classify7 of the herdtools suite.
 use Rattle.std.specs.{Prelude.{◌≡◌, ◌≤◌, ℕ, Bool, List, [], ◌∷◌, ◌++◌, codes, length, map, filter, fold, Result, Ok, Err}, List.flat_map, Ordering.nat_cmp}
 use Rattle.std.specs.{Cmp.Lexicographic.slice_cmp, BTreeSet.insert_key, Str.bytes_eq}
@@ -9,15 +9,15 @@ use Rattle.cycle_names.specs.Rotations.{family_of}
 use Rattle.cycles_from_lines.specs.{declared.errors.LinesError.LinesError, declared.errors.ClassifyError.ClassifyError}
 use Rattle.cycles_from_lines.specs.{declared.errors.ClassifyError.TheVariants.{Lines, OutFault, NoMemory}, LineReading.{ReadAll, ReadUpTo, TookUpTo}}
 
--- the families of the table, and that of the cycles of none
+-- the families of the table, and then `Other`, for the cycles of none of them
 abbrev pub families_in_order : List Family
 families_in_order = all_families ++ Other ∷ []
 
--- the same family
+-- two families are the same
 abbrev pub is_family : Family → Family → Bool
 is_family f g = bytes_eq (family_word f) (family_word g)
 
--- texts in byte order, each once, and one more
+-- texts in byte order, each once, with one more
 abbrev pub with_cycle_name : List (List ℕ) → List ℕ → List (List ℕ)
 with_cycle_name texts text = insert_key (slice_cmp nat_cmp) texts text
 
@@ -29,7 +29,7 @@ family_names f cycles = fold with_cycle_name [] (map name_of (filter (λ cycle. 
 abbrev pub name_entry : List ℕ → List ℕ
 name_entry name = codes "  " ++ name ++ codes "\n"
 
--- the lines of a family: its word and a colon, and each name; none where there is no name
+-- the lines of a family: its word and a colon, and each name; none if there is no name
 unfoldable pub family_text : Family → List (List ℕ) → List ℕ
 family_text f [] = []
 family_text f (name ∷ names) = (family_word f ++ codes ":\n") ++ flat_map name_entry (name ∷ names)
@@ -38,31 +38,32 @@ family_text f (name ∷ names) = (family_word f ++ codes ":\n") ++ flat_map name
 unfoldable pub families_text : List (List Edge) → List ℕ
 families_text cycles = flat_map (λ f. family_text f (family_names f cycles)) families_in_order
 
--- a source was read to its end, and the families of its cycles were written
+-- a source was read to its end, and the names of its cycles were written by their families
 pub record ClassifiedAll (arch : ArchName) (old new : SourceSeen) (before after : SinkSeen) : Type 0 where
   pub cycles : List (List Edge)
   pub read : ReadAll arch old new cycles
   pub wrote : WroteAll before after (families_text cycles)
 
--- a source was read to its end, and the sink failed and took a prefix of what was to be written
+-- a source was read to its end, and then the sink failed and took a prefix of what was to be written
 pub record ClassifiedPart (arch : ArchName) (old new : SourceSeen) (before after : SinkSeen) : Type 0 where
   pub cycles : List (List Edge)
   pub read : ReadAll arch old new cycles
   pub wrote : WrotePart before after (families_text cycles)
 
--- a source wasn't read to its end
+-- a source wasn't read to its end, for this reason
 pub record ReadsUpTo (arch : ArchName) (old new : SourceSeen) (error : LinesError) : Type 0 where
   pub cycles : List (List Edge)
   pub read : ReadUpTo arch old new cycles error
 
--- a source was read up to where there was no memory
+-- a part of a source was read, without an error of the source and not beyond the limit
 pub record ReadsPart (old new : SourceSeen) : Type 0 where
   pub text : List ℕ
   pub took : TookUpTo old new text
   pub few : length text ≤ MAX_INPUT
   pub no_fault : new.faults ≡ old.faults
 
--- the families of the cycles of a source are written; or nothing is, for the reason that is given; or the sink fails
+-- the names of the cycles of a source were written by their families; or the sink failed; or nothing was written, since the source
+-- wasn't read to its end or there was no memory
 abbrev pub Classifies : ArchName → SourceSeen → SourceSeen → SinkSeen → SinkSeen → Result (Unit {0}) ClassifyError → Type 0
 Classifies arch old new before after (Ok _) = ClassifiedAll arch old new before after
 Classifies arch old new before after (Err OutFault) = ClassifiedPart arch old new before after

@@ -13,33 +13,33 @@ use Rattle.cycles_from_lines.specs.declared.errors.LineKind.TheVariants.{LineToo
 abbrev pub is_long_line : List ℕ → Bool
 is_long_line line = nat_lt MAX_CYCLE_LINE (length line)
 
--- what comes after the first colon, where there is one
+-- what comes after the first colon, if there is one
 unfoldable pub after_colon : List ℕ → Option (List ℕ)
 after_colon [] = None
 after_colon (byte ∷ text) = cond (byte == 58) (Some text) (after_colon text)
 
--- a line without a label: all of it, if it has no colon
+-- a line without its label, which ends with the first colon: all of the line if it has no colon
 abbrev pub without_label : List ℕ → List ℕ
 without_label line = unwrap_or (after_colon line) line
 
--- a list of edges as a cycle, or the error that it composes to none
+-- the cycle of a composition, or the error that edges don't compose
 abbrev pub composed_or : Result (List Edge) CycleError → Result (Option (List Edge)) LineKind
 composed_or (Ok cycle) = Ok (Some cycle)
 composed_or (Err _) = Err DoesNotCompose
 
--- the cycle of an architecture that edges make, or the first error that they have
+-- the cycle of an architecture that edges compose to, or the first error that they have
 abbrev pub cycle_made : ArchName → List Edge → Result (Option (List Edge)) LineKind
 cycle_made arch [] = Err Empty
 cycle_made arch (e ∷ u) =
     cond (nat_lt MAX_EDGES (length (e ∷ u))) (Err TooLong)
     (cond (are_of_arch arch (e ∷ u)) (composed_or (composed (e ∷ u))) (Err NotOfArch))
 
--- what a line says whose edges were read: the cycle that they make or their error, or that a word in it is no edge
+-- what the edges of a text say: the cycle that they compose to or their first error, or that a name in the text is no edge
 abbrev pub spelled_made : ArchName → Option (List Edge) → Result (Option (List Edge)) LineKind
 spelled_made arch None = Err UnknownEdge
 spelled_made arch (Some edges) = cycle_made arch edges
 
--- the cycle that edges make, where they have no error
+-- the cycle that was said, or none if there was an error
 abbrev pub cycle_if_made : Result (Option (List Edge)) LineKind → Option (List Edge)
 cycle_if_made (Ok cycle) = cycle
 cycle_if_made (Err _) = None
@@ -48,12 +48,12 @@ cycle_if_made (Err _) = None
 abbrev pub cycle_spelled : ArchName → List ℕ → Option (List Edge)
 cycle_spelled arch text = cycle_if_made (spelled_made arch (text_edges text))
 
--- the cycle of an architecture that a quoted text spells, if there is one
+-- the cycle of an architecture that a quoted text spells, if a text is quoted and spells one
 abbrev pub quoted_cycle : ArchName → Option (List ℕ) → Option (List Edge)
 quoted_cycle arch None = None
 quoted_cycle arch (Some text) = cycle_spelled arch text
 
--- what a line of cycles says: its cycle, nothing where it has no byte but blanks, or the first error that it has
+-- what a line of cycles says: its cycle, or nothing if it has only blanks, or the first error that it has
 unfoldable pub line_said : ArchName → List ℕ → Result (Option (List Edge)) LineKind
 line_said arch line =
     cond (is_long_line line) (Err LineTooLong)
@@ -67,7 +67,7 @@ line_fault arch line = result_err (line_said arch line)
 abbrev pub is_sound : ArchName → List ℕ → Bool
 is_sound arch line = is_ok (line_said arch line)
 
--- the cycle that was said, if there is one
+-- the cycle that was said, if any, as a list
 abbrev pub cycle_said : Result (Option (List Edge)) LineKind → List (List Edge)
 cycle_said (Ok (Some cycle)) = cycle ∷ []
 cycle_said (Ok None) = []
@@ -77,11 +77,11 @@ cycle_said (Err _) = []
 abbrev pub are_sound : ArchName → List (List ℕ) → Bool
 are_sound arch lines = list_all (is_sound arch) lines
 
--- the cycles of lines
+-- the cycles that lines say, in order
 abbrev pub cycles_of : ArchName → List (List ℕ) → List (List Edge)
 cycles_of arch lines = flat_map (λ line. cycle_said (line_said arch line)) lines
 
--- the line of a number, counted from 1, has this error, and it is the first that has one: these are the lines before it
+-- the line with this number, counted from 1, has this error, and is the first that has one; these are the lines before it
 pub record FirstFault (arch : ArchName) (lines before : List (List ℕ)) (number : ℕ) (kind : LineKind) : Type 0 where
   pub line : List ℕ
   pub later : List (List ℕ)

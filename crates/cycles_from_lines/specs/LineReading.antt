@@ -8,21 +8,21 @@ use Rattle.cycles_from_lines.specs.declared.errors.LinesError.TheVariants.{Wrong
 use Rattle.cycles_from_lines.specs.Cycles.{FirstFault, are_sound, cycles_of, is_sound, is_long_line}
 use Rattle.text_parts_laws.specs.Lines.{without_return, ended_lines, unended, lines_of}
 
--- what was taken of a source and, where its text is known, what is left of it: then all that it had
+-- what was taken of a source, followed by what is left of it if that is shown: then this is all that it had
 abbrev pub whole_of : List ℕ → SourceSeen → List ℕ
 whole_of text seen = text ++ unwrap_or seen.left []
 
--- nothing was taken
+-- there are no bytes, and nothing was taken
 pub record Untouched (old new : SourceSeen) (bytes : List ℕ) : Type 0 where
   pub none : bytes ≡ []
   pub kept : Keeps old.left new.left
   pub taken_is : new.taken ≡ old.taken
 
--- these bytes were taken, or there are none and nothing was taken
+-- these bytes were taken, or there are none and nothing was taken, as far as is shown and counted
 abbrev pub TookUpTo : SourceSeen → SourceSeen → List ℕ → Type 0
 TookUpTo old new bytes = Took old new bytes ⊎ Untouched old new bytes
 
--- a source was read to its end, no line has an error, and these are the cycles of its lines
+-- a source was read to its end without an error, within the limit; no line has an error, and these are the cycles of its lines
 pub record ReadAll (arch : ArchName) (old new : SourceSeen) (cycles : List (List Edge)) : Type 0 where
   pub text : List ℕ
   pub took : Took old new text
@@ -32,7 +32,7 @@ pub record ReadAll (arch : ArchName) (old new : SourceSeen) (cycles : List (List
   pub sound : are_sound arch (lines_of text) ≡ true
   pub cycles_are : cycles ≡ cycles_of arch (lines_of text)
 
--- a line has an error, the first of what the source had, and these are the cycles of the lines before it
+-- this line is the first with an error, of all that the source had as far as that is shown, and these are the cycles of the lines before
 pub record ReadToFault (arch : ArchName) (old new : SourceSeen) (cycles : List (List Edge)) (line : ℕ) (kind : LineKind) : Type 0 where
   pub text : List ℕ
   pub before : List (List ℕ)
@@ -42,8 +42,8 @@ pub record ReadToFault (arch : ArchName) (old new : SourceSeen) (cycles : List (
   pub first : FirstFault arch (lines_of (whole_of text new)) before line kind
   pub cycles_are : cycles ≡ cycles_of arch before
 
--- a source has more bytes than are read, no line that ends among these has an error, nor is the last of them too long
--- already, and these are the cycles of those lines; the line is the one after the last line feed among these bytes
+-- a source has more bytes than the limit, no line that ends within the limit has an error, nor is what comes after them too long so
+-- far, and these are the cycles of those lines; this line is the one after the last line feed within the limit
 pub record ReadToLimit (arch : ArchName) (old new : SourceSeen) (cycles : List (List Edge)) (line : ℕ) : Type 0 where
   pub text : List ℕ
   pub took : Took old new text
@@ -54,7 +54,7 @@ pub record ReadToLimit (arch : ArchName) (old new : SourceSeen) (cycles : List (
   pub line_is : line ≡ line_feed_count (take MAX_INPUT text) + 1
   pub cycles_are : cycles ≡ cycles_of arch (ended_lines (take MAX_INPUT text))
 
--- a source failed, no line that had ended has an error, nor was the last one too long already, and these are the cycles of
+-- a source failed, no line that had ended has an error, nor was what came after them too long so far, and these are the cycles of
 -- those lines
 pub record ReadToStop (arch : ArchName) (old new : SourceSeen) (cycles : List (List Edge)) : Type 0 where
   pub text : List ℕ
@@ -66,18 +66,18 @@ pub record ReadToStop (arch : ArchName) (old new : SourceSeen) (cycles : List (L
   pub short : is_long_line (without_return (unended text)) ≡ false
   pub cycles_are : cycles ≡ cycles_of arch (ended_lines text)
 
--- a source wasn't read to its end, for the reason that is given, and these are the cycles of the lines before
+-- a source wasn't read to its end, for this reason, and these are the cycles of the lines before
 abbrev pub ReadUpTo : ArchName → SourceSeen → SourceSeen → List (List Edge) → LinesError → Type 0
 ReadUpTo arch old new cycles (Wrong line kind) = ReadToFault arch old new cycles line kind
 ReadUpTo arch old new cycles (TooMuch line) = ReadToLimit arch old new cycles line
 ReadUpTo arch old new cycles InputFault = ReadToStop arch old new cycles
 
--- a source was read so far, without an error of its own
+-- this text was read from a source, within the limit and without an error of the source
 pub record ReadSome (old new : SourceSeen) (text : List ℕ) : Type 0 where
   pub took : Took old new text
   pub few : length text ≤ MAX_INPUT
   pub no_fault : new.faults ≡ old.faults
 
--- the cycles of the lines before the first that has an error; of all lines where none has one
+-- the cycles of the lines before the first that has an error, or of all lines if none has one
 abbrev pub cycles_before : ArchName → List ℕ → List (List Edge)
 cycles_before arch text = cycles_of arch (take_while (is_sound arch) (lines_of text))

@@ -7,7 +7,7 @@ use Rattle.cycle_names.specs.{CycleNames.name_of, Rotations.named_rotation}
 use Rattle.cycles_from_lines.specs.{declared.errors.LinesError.LinesError, declared.errors.NormError.NormError}
 use Rattle.cycles_from_lines.specs.{declared.errors.NormError.TheVariants.{Lines, OutFault}, LineReading.{ReadAll, ReadUpTo, ReadSome, cycles_before, whole_of}}
 
--- the line of a cycle: its name, and its edges in the rotation that it is named from
+-- the line of a cycle: its name, a colon and a blank, and its edges in the rotation that it is named from
 unfoldable pub name_line : List Edge → List ℕ
 name_line cycle = name_of cycle ++ codes ": " ++ join_by word_of (codes " ") (named_rotation cycle) ++ codes "\n"
 
@@ -20,7 +20,7 @@ abbrev pub last_lines : Option (List Edge) → List ℕ
 last_lines (Some cycle) = name_line cycle
 last_lines None = []
 
--- a text is written, or a prefix of it where the sink fails
+-- a text was written, or a prefix of it if the sink failed
 abbrev pub WritesLast : List ℕ → SinkSeen → SinkSeen → Result (Unit {0}) NormError → Type 0
 WritesLast text before after (Ok _) = WroteAll before after text
 WritesLast text before after (Err OutFault) = WrotePart before after text
@@ -32,19 +32,20 @@ pub record NormedAll (arch : ArchName) (old new : SourceSeen) (before after : Si
   pub read : ReadAll arch old new cycles
   pub wrote : WroteAll before after (name_lines cycles)
 
--- a source wasn't read to its end, and the lines of the cycles before were written
+-- a source wasn't read to its end, for this reason, and the lines of the cycles before were written
 pub record NormedUpTo (arch : ArchName) (old new : SourceSeen) (before after : SinkSeen) (error : LinesError) : Type 0 where
   pub cycles : List (List Edge)
   pub read : ReadUpTo arch old new cycles error
   pub wrote : WroteAll before after (name_lines cycles)
 
--- the sink failed, and took a prefix of the lines of the cycles before the first fault of what the source had
+-- the sink failed, and took a prefix of the lines of these cycles: those before the first line with an error, in all that the source
+-- had as far as that is shown
 pub record NormedPart (arch : ArchName) (old new : SourceSeen) (before after : SinkSeen) : Type 0 where
   pub text : List ℕ
   pub read : ReadSome old new text
   pub wrote : WrotePart before after (name_lines (cycles_before arch (whole_of text new)))
 
--- the lines of the cycles of a source are written, or those before the first reason why they can't be
+-- the lines of all cycles of a source were written; or those before the reason why it wasn't read to its end; or the sink failed
 abbrev pub Norms : ArchName → SourceSeen → SourceSeen → SinkSeen → SinkSeen → Result (Unit {0}) NormError → Type 0
 Norms arch old new before after (Ok _) = NormedAll arch old new before after
 Norms arch old new before after (Err (Lines error)) = NormedUpTo arch old new before after error

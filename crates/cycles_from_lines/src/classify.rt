@@ -14,8 +14,8 @@ use std::alloc::Global;
 /// that has a cycle, in the order of `Family`, a line of its name and a colon, and the names of its
 /// cycles, each once and after two blanks, in byte order.
 ///
-/// Where the lines can't be read to the end, or there is no memory, nothing is written. Where the
-/// sink fails, it has taken a prefix of the text.
+/// If the lines can't be read to the end, or there is no memory, nothing is written. If the sink
+/// fails, it has taken a prefix of the text.
 pub fn classify_lines<I: Source, O: Sink>(
     alloc: Global,
     arch: ArchName,

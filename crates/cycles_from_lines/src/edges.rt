@@ -10,8 +10,8 @@ use edge_algebra::Cycle;
 use edges_from_text::{EdgeList, Separators, read_edges};
 use relax_edges::{ArchName, Com, Dir, Edge, MAX_EDGES, Mark, UnknownEdge};
 
-/// Makes `cycle` the cycle of an architecture that a text spells, whose edges blanks separate, or
-/// finds the first fault that it has. `edges` is room for the edges: what it held doesn't count.
+/// Sets `cycle` to the cycle of an architecture that a text spells, with blanks between its edges, or
+/// returns the first error that it has. `edges` is space for the edges: what it held doesn't matter.
 #[tactic(auto, using(crate::proofs::Words::read_made, crate::proofs::Words::read_none))]
 pub(crate) fn read_cycle(
     arch: ArchName,
@@ -28,8 +28,9 @@ pub(crate) fn read_cycle(
     }
 }
 
-/// The cycle of an architecture that a text spells, whose edges blanks separate. `None` comes where a
-/// word in it spells no edge, and where the edges make no cycle of the architecture.
+/// The cycle of an architecture that a text spells, with blanks between its edges. It is `None` if a
+/// name in the text is not that of an edge, if there are no edges or more than `MAX_EDGES`, if one is
+/// not of the architecture, and if they don't compose to a cycle.
 pub fn cycle_spelled(arch: ArchName, text: &[u8]) -> Option<Cycle>
     ensures { result ≡ cycle_spelled arch text.now }
 {
@@ -41,8 +42,8 @@ pub fn cycle_spelled(arch: ArchName, text: &[u8]) -> Option<Cycle>
     }
 }
 
-/// The cycle of an architecture that a quoted text spells, as `cycle_spelled` finds it. `None` comes too
-/// where no text is quoted.
+/// The cycle of an architecture that a quoted text spells, as `cycle_spelled` finds it. It is `None`
+/// also if no text is quoted.
 pub fn quoted_cycle(arch: ArchName, quoted: Option<&[u8]>) -> Option<Cycle>
     ensures { result ≡ quoted_cycle arch (option_map (λ text. text.now) quoted.entry) }
 {
@@ -52,8 +53,8 @@ pub fn quoted_cycle(arch: ArchName, quoted: Option<&[u8]>) -> Option<Cycle>
     }
 }
 
-/// Makes `cycle` the cycle of an architecture that the edges of a line make, or finds their first
-/// error.
+/// Sets `cycle` to the cycle of an architecture that the edges of a line compose to, or returns their
+/// first error.
 fn make_of(arch: ArchName, edges: &EdgeList, cycle: &mut Option<Cycle>) -> Result<(), LineKind>
     ensures { said_with result cycle.new ≡ made_kept arch edges.now }
 {
@@ -102,8 +103,8 @@ fn are_joined(edges: &[Edge], next: &Edge) -> bool
     }
 }
 
-/// Whether edges follow an access that does this and has this mark: whether each joins the next one,
-/// where `next` comes after the last.
+/// Whether edges follow an access of this direction and mark, and each joins the next one, where
+/// `next` comes after the last.
 fn follow(dir: Dir, mark: Mark, edges: &[Edge], next: &Edge) -> bool
     ensures { (edge : Edge) → target_of edge ≡ dir → target_mark edge ≡ mark → result ≡ is_joined (edge ∷ (edges.now ++ next.now ∷ [])) }
 {
@@ -119,9 +120,9 @@ fn follow(dir: Dir, mark: Mark, edges: &[Edge], next: &Edge) -> bool
     }
 }
 
-/// What the access does that an edge leaves, and its mark, and the same of the access that it enters.
-/// Edges without marks, which are met most often, are read where they are, which `Edge::source` and
-/// `Edge::target` don't do, and once for all.
+/// The direction and mark of the access that an edge leaves, and of the one that it enters. Edges
+/// without marks, the most frequent ones, are read in place, which `Edge::source` and `Edge::target`
+/// don't do, and only once.
 #[inline(always)]
 fn accesses(edge: &Edge) -> (Dir, Mark, Dir, Mark)
     ensures source { result.0 ≡ source_of edge.now }
@@ -148,8 +149,8 @@ fn accesses(edge: &Edge) -> (Dir, Mark, Dir, Mark)
     (source, Mark::Plain, target, Mark::Plain)
 }
 
-/// Makes `cycle` the one of edges that are known to make one. It is apart so that the edges are copied
-/// straight to their place.
+/// Sets `cycle` to that of edges that are known to make one. It is a function of its own so that the
+/// edges are copied straight to where they stay.
 fn keep(edges: &[Edge], cycle: &mut Option<Cycle>)
     requires { IsCycle edges.now }
     ensures { cycle.new ≡ Some edges.now }

@@ -1,24 +1,25 @@
 use thiserror::Error;
 
-/// What is wrong with a line of cycles: the first of these that applies, in this order.
+/// What is wrong with a line of cycles: the first of these that applies, in this order. All but the
+/// first are about what follows the label.
 #[derive(Clone, Copy, Debug, PartialEq, Eq, Error)]
 pub enum LineKind {
     /// It has more than `MAX_CYCLE_LINE` bytes.
     #[error("the line has too many bytes")]
     LineTooLong,
-    /// A word of it spells no edge.
+    /// A name in it is not that of an edge.
     #[error("a word of the line is no edge")]
     UnknownEdge,
-    /// It has a label, and no edge.
+    /// There is no edge after its label.
     #[error("the line has no edge")]
     Empty,
     /// It has more than `MAX_EDGES` edges.
     #[error("the line has too many edges")]
     TooLong,
-    /// An edge isn't of the architecture.
+    /// An edge is not of the architecture.
     #[error("an edge of the line isn't of the architecture")]
     NotOfArch,
-    /// The edges compose to no cycle.
+    /// The edges don't compose to a cycle.
     #[error("the edges of the line compose to no cycle")]
     DoesNotCompose,
 }
@@ -29,11 +30,11 @@ pub enum LinesError {
     /// The line of this number, counted from 1, has an error, and no line before it has one.
     #[error("line {line}: {kind}")]
     Wrong { line: u64, kind: LineKind },
-    /// There are more than `MAX_INPUT` bytes. The line is the one after the last line feed among the first of these,
-    /// and no line before it has an error.
+    /// There are more than `MAX_INPUT` bytes. The line is the one after the last line feed among the first
+    /// `MAX_INPUT` of them, and no line before it has an error.
     #[error("line {line}: there are too many bytes")]
     TooMuch { line: u64 },
-    /// The source failed.
+    /// The source failed, and no line that had ended by then has an error.
     #[error("the source failed")]
     InputFault,
 }

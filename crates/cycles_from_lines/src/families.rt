@@ -18,7 +18,7 @@ use std::marker::Model;
 #[derive(Drop)]
 pub struct Families {
     table: Vec<FamilyNames>,
-    /// Room for a name.
+    /// Space for a name.
     name: ArrayString<MAX_CYCLE_NAME>,
 }
 
@@ -34,7 +34,7 @@ impl Model for Families {
 }
 
 impl Families {
-    /// Those of no cycle.
+    /// The families without any name. It fails only if there is no memory.
     pub fn new(alloc: Global) -> Result<Families, NoMemory>
         ensures { IfOk result (λ families. HoldsCycles families []) }
     {
@@ -44,7 +44,7 @@ impl Families {
         })
     }
 
-    /// Adds the name of a cycle to those of its family. The error comes for want of memory alone.
+    /// Adds the name of a cycle to those of its family. It fails only if there is no memory.
     pub fn put(&mut self, cycle: &Cycle) -> Result<(), NoMemory>
         ensures { OnOk result ((cycles : List (List Edge)) → HoldsCycles self.old cycles → HoldsCycles self.new (cycles ++ cycle.now ∷ [])) }
     {
@@ -52,8 +52,8 @@ impl Families {
     }
 
     /// Writes, for each family that has a cycle, in the order of `Family`, a line of its name and a
-    /// colon, and its names, each after two blanks, in byte order. Where the sink fails, it has taken
-    /// a prefix of that.
+    /// colon, and its names, each after two blanks, in byte order. If the sink fails, it has taken a
+    /// prefix of that.
     pub fn write<O: Sink>(&self, out: &mut O) -> Result<(), Failed>
         ensures { (cycles : List (List Edge)) → HoldsCycles self.now cycles → Wrote (O.seen out.old) (O.seen out.new) (families_text cycles) result }
     {

@@ -1,4 +1,4 @@
-//! Lines of cycles: each is read as a cycle, and the names of the cycles are written.
+//! Lines of cycles: each is read, and the names of the cycles are written.
 #![tactic(auto)]
 
 mod classify;
@@ -17,5 +17,5 @@ pub use errors::{ClassifyError, LineKind, LinesError, NormError};
 pub use families::Families;
 pub use norm::{norm_lines, send_name_line, write_name_line};
 
-/// The most bytes of a line, neither its line feed nor a carriage return right before that counted: 4,096.
+/// The most bytes of a line, without its line feed and a carriage return right before that: 4,096.
 pub const MAX_CYCLE_LINE: usize = 4_096;

@@ -10,11 +10,11 @@ use edges_from_text::{EdgeList, Separators};
 use relax_edges::ArchName;
 use text_parts::{Class, cut};
 
-/// Makes `cycle` what a line says: its cycle, or none where it has no byte but blanks; or finds the
-/// first fault that it has. `edges` is room for the edges: what it held doesn't count.
+/// Sets `cycle` to what a line says: its cycle, or none if it has only blanks; or returns the first
+/// error that it has. `edges` is space for the edges: what it held doesn't matter.
 ///
-/// Most lines have no label, and no edge is spelled with a colon, so a label is sought only where the
-/// whole line makes no cycle.
+/// Most lines have no label, and no edge name has a colon, so a label is sought only if the whole line
+/// makes no cycle.
 #[tactic(auto, using(crate::proofs::Labels::read_unlabelled), unfolding(crate::specs::Cycles::line_said))]
 pub(crate) fn read_line(
     arch: ArchName,

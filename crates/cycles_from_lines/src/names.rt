@@ -10,16 +10,16 @@ use std::collections::{BTreeSet, HashSet};
 #[derive(Drop)]
 pub(crate) struct FamilyNames {
     pub(crate) family: Family,
-    /// Texts, since these are compared many bytes at a time, and lists of bytes aren't.
+    /// Strings, since these are compared many bytes at a time, and lists of bytes aren't.
     pub(crate) names: BTreeSet<String>,
-    /// Those names again where the family is of the table: they are short and few, and come again and
+    /// Some of these names, if the family isn't `Other`: they are short and few, and come again and
     /// again, so each is looked up by its hash.
     known: HashSet<String>,
     ghost known_are: { AreAmong names known.keys },
 }
 
 impl FamilyNames {
-    /// No name of a family.
+    /// A family without any name.
     pub(crate) fn new(alloc: Global, family: Family) -> FamilyNames
         ensures family { result.family ≡ family }
         ensures none { names_in_set result.names ≡ [] }
@@ -42,7 +42,7 @@ impl FamilyNames {
         }
     }
 
-    /// Adds a name, unless it is known.
+    /// Adds a name, unless it is known already.
     fn keep_known(&mut self, alloc: Global, name: &str) -> Result<(), NoMemory>
         ensures put { OnOk result (names_in_set self.new.names ≡ with_cycle_name (names_in_set self.old.names) name.now) }
         ensures same { self.new.family ≡ self.old.family }
@@ -56,7 +56,7 @@ impl FamilyNames {
         self.know(alloc, name)
     }
 
-    /// Adds a name to those in order.
+    /// Adds a name to the sorted ones.
     fn keep(&mut self, alloc: Global, name: &str) -> Result<(), NoMemory>
         ensures put { OnOk result (names_in_set self.new.names ≡ with_cycle_name (names_in_set self.old.names) name.now) }
         ensures same { self.new.family ≡ self.old.family }
@@ -66,7 +66,7 @@ impl FamilyNames {
         Ok(())
     }
 
-    /// Makes one of the names known.
+    /// Makes a name known that is among the sorted ones.
     fn know(&mut self, alloc: Global, name: &str) -> Result<(), NoMemory>
         requires { list_any (bytes_eq name.now) (names_in_set self.old.names) ≡ true }
         ensures names { self.new.names ≡ self.old.names }

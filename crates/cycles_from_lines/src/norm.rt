@@ -13,15 +13,15 @@ use relax_edges::ArchName;
 
 /// Reads lines of cycles of an architecture, and writes for each cycle the line of its name and its
 /// edges, in order. These lines are gathered on a page, and each is at the sink before more of the
-/// input is read. No memory is taken.
+/// input is read. No memory is allocated.
 ///
 /// A line ends with a line feed, and a carriage return right before that is dropped; a last line
-/// without a line feed counts if it has a byte. A line of blanks alone is passed over; else all up
-/// to its first colon is dropped, and the rest is edges, which blanks (spaces and tabs) separate.
+/// without a line feed counts if it isn't empty. A line of only blanks (spaces and tabs) is skipped. In
+/// any other, all up to the first colon is dropped, and the rest is edges with blanks between them.
 ///
-/// Where a line has an error, where there are more than `MAX_INPUT` bytes, or where the source fails,
-/// the lines of the cycles before that are written. Where the sink fails, it has taken a prefix of
-/// them.
+/// If a line has an error, if there are more than `MAX_INPUT` bytes, or if the source fails, the lines
+/// of the cycles before that are written. If the sink fails, it has taken a prefix of the lines of the
+/// cycles before the first line with an error, or of all if no line has one.
 pub fn norm_lines<I: Source, O: Sink>(
     arch: ArchName,
     input: &mut I,
@@ -73,7 +73,7 @@ pub fn norm_lines<I: Source, O: Sink>(
     }
 }
 
-/// Hands on what a page holds, if it holds anything.
+/// Writes out what a page holds, if it holds anything.
 fn hand_on<O: Sink>(page: &mut Page, out: &mut O) -> Result<(), Failed>
     ensures wrote { Wrote (O.seen out.old) (O.seen out.new) page.old result }
     ensures empty { OnOk result (page.new ≡ []) }
@@ -99,7 +99,7 @@ fn write_last<O: Sink>(cycle: &Option<Cycle>, out: &mut O) -> Result<(), NormErr
 }
 
 /// Writes the line of a cycle: its name, a colon and a blank, and its edges in the rotation that it
-/// is named from, joined by blanks. Where the sink fails, it has taken a prefix of the line.
+/// is named from, joined by blanks. If the sink fails, it has taken a prefix of the line.
 pub fn write_name_line<O: Sink>(cycle: &Cycle, out: &mut O) -> Result<(), Failed>
     ensures { Wrote (O.seen out.old) (O.seen out.new) (name_line cycle.now) result }
 {
@@ -109,8 +109,8 @@ pub fn write_name_line<O: Sink>(cycle: &Cycle, out: &mut O) -> Result<(), Failed
     out.write_all(line.as_str().as_bytes())
 }
 
-/// Sends the line of a cycle, as `write_name_line` writes it, by way of a page, as a whole. What
-/// `words` and `line` held doesn't count.
+/// Sends the line of a cycle, as `write_name_line` writes it, by way of a page: if the page is full
+/// enough, it is written out first. What `words` and `line` held doesn't matter.
 pub fn send_name_line<O: Sink>(
     cycle: &Cycle,
     words: &mut ArrayString<MAX_CYCLE_NAME>,
@@ -126,7 +126,7 @@ pub fn send_name_line<O: Sink>(
     Ok(())
 }
 
-/// Makes `line` the line of a cycle. What `words` and `line` held doesn't count.
+/// Sets `line` to the line of a cycle. What `words` and `line` held doesn't matter.
 fn make_line(
     cycle: &Cycle,
     words: &mut ArrayString<MAX_CYCLE_NAME>,

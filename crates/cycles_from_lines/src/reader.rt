@@ -14,40 +14,41 @@ use relax_edges::ArchName;
 use std::marker::Model;
 use text_parts::{cut, without_return};
 
-/// The most bytes that are read at once: 36,864. What `norm7` writes for so many mostly fits a page.
+/// The most bytes that are read at once: 36,864. What `norm7` writes for this many usually fits on a page.
 const INPUT_ROOM: usize = 36_864;
 
-/// Room for a piece, after a line of `MAX_CYCLE_LINE` bytes and its carriage return.
+/// Space for a piece, after a line of `MAX_CYCLE_LINE` bytes and its carriage return.
 const BUFFER: usize = INPUT_ROOM + MAX_CYCLE_LINE + 1;
 
-/// What is found after the lines that were given. The cycle that it says is stored where it is to be.
+/// What comes after the lines that were given. The cycle that it says, if any, is stored where the
+/// caller asked.
 #[derive(Clone, Copy)]
 pub(crate) enum Found {
     /// The next line.
     Next,
-    /// The end, and a last line that no line feed ends, if there is one.
+    /// The end, after a last line without a line feed, if there is one.
     Last,
 }
 
 /// Whether the next line was read.
 #[derive(Clone, Copy)]
 pub(crate) enum Line {
-    /// It was, and the cycle that it says, if any, is stored where it is to be.
+    /// It was, and the cycle that it says, if any, is stored where the caller asked.
     Read,
     /// It has an error.
     Wrong(LineKind),
-    /// It isn't pending as a whole.
+    /// Its line feed is not pending yet.
     Unended,
 }
 
 /// Reads the lines of a source.
 ///
-/// It is read in pieces of up to 36,864 bytes, and read on only where no whole line is pending. Of a
-/// line that isn't whole at most `MAX_CYCLE_LINE` bytes and a carriage return are held then, and the next
+/// A source is read in pieces of up to 36,864 bytes, and read on only if no complete line is pending.
+/// Of an incomplete line at most `MAX_CYCLE_LINE` bytes and a carriage return are held then, and the next
 /// piece comes after them: a line of more bytes is too long, and nothing is read after it.
 ///
-/// Contracts see the bytes that were taken and aren't given yet, the number of the line that they
-/// begin with, and how many bytes were taken.
+/// Contracts see the bytes that were taken and not yet given, the number of the line that they begin
+/// with, and how many bytes were taken.
 #[derive(Drop)]
 pub(crate) struct LineReader {
     buffer: [u8; BUFFER],
@@ -83,8 +84,8 @@ impl LineReader {
         }
     }
 
-    /// Makes `cycle` what the next line of the source says, or finds why there is none. `edges` is room
-    /// for the edges.
+    /// Sets `cycle` to what the next line of the source says, or returns why the source can't be read
+    /// on. `edges` is space for the edges.
     pub(crate) fn next_found<I: Source>(
         &mut self,
         arch: ArchName,
@@ -116,7 +117,7 @@ impl LineReader {
         self.line
     }
 
-    /// The bytes that were taken and aren't given yet.
+    /// The bytes that were taken and not yet given.
     fn pending_bytes(&self) -> &[u8]
         ensures pending { result.now ≡ self.now.pending }
         ensures held { length result.now ≤ BUFFER }
@@ -124,8 +125,8 @@ impl LineReader {
         &self.buffer[self.start..self.end]
     }
 
-    /// Makes `cycle` what the next line says, which is given then, if all of it is pending. `edges` is
-    /// room for the edges.
+    /// Sets `cycle` to what the next line says, and gives that line, if its line feed is pending.
+    /// `edges` is space for the edges.
     pub(crate) fn next_line(
         &mut self,
         arch: ArchName,
@@ -144,7 +145,7 @@ impl LineReader {
         line
     }
 
-    /// The end, and what the last line says, if there is one.
+    /// Sets `cycle` to what the last line says, if there is one, and returns the end.
     fn last_found(
         &self,
         arch: ArchName,
@@ -161,8 +162,8 @@ impl LineReader {
         }
     }
 
-    /// Makes `cycle` what the last line says, which no line feed ends, and none where there is no such
-    /// line. `edges` is room for the edges.
+    /// Sets `cycle` to what the last line says, which has no line feed, or to none if there is no such
+    /// line. `edges` is space for the edges.
     pub(crate) fn last_line(
         &self,
         arch: ArchName,
@@ -185,8 +186,8 @@ impl LineReader {
         }
     }
 
-    /// Reads on, as `refill` does, once the page with the lines of the cycles is handed on:
-    /// no line of a cycle that was read before waits for more input.
+    /// Reads on, as `refill` does, once the page with the lines of the cycles is written out: no line
+    /// of a cycle that was read before waits for more input.
     pub(crate) fn read_more<I: Source>(
         &mut self,
         page: &Page,
@@ -201,7 +202,9 @@ impl LineReader {
         self.refill(input)
     }
 
-    /// Reads a piece after the bytes that are pending, which is empty only at the end of the source.
+    /// Reads a piece after the pending bytes, which is empty only at the end of the source, and returns
+    /// its length. It fails if the pending line is too long already, if there are too many bytes, or if
+    /// the source fails.
     fn refill<I: Source>(&mut self, input: &mut I) -> Result<usize, LinesError>
         requires { Without 10 self.old.pending }
         ensures refills { Refills (I.seen input.old) (I.seen input.new) self.old self.new result }
@@ -223,7 +226,7 @@ impl LineReader {
         }
     }
 
-    /// Whether a source ends where no more of it is read.
+    /// Returns 0 if a source ends after `MAX_INPUT` bytes, and fails if it has more or fails itself.
     fn end_at_limit<I: Source>(&self, input: &mut I) -> Result<usize, LinesError>
         requires one_line { Without 10 self.now.pending }
         requires short { is_long_line (without_return self.now.pending) ≡ false }
@@ -239,7 +242,7 @@ impl LineReader {
         }
     }
 
-    /// Reads a piece after the bytes that are pending.
+    /// Reads a piece after the pending bytes.
     fn fill<I: Source>(&mut self, input: &mut I) -> Result<usize, Failed>
         requires short { is_long_line (without_return self.old.pending) ≡ false }
         requires few { self.old.taken < MAX_INPUT }
@@ -266,7 +269,7 @@ fn line_of(read: Result<(), LineKind>) -> Line
     }
 }
 
-/// Moves a part of a buffer to its beginning, and gives the place where it ends there.
+/// Moves a part of a buffer to its beginning, and returns where it ends there.
 fn move_to_start(buffer: &mut [u8], start: usize, end: usize) -> usize
     requires order { start ≤ end }
     requires within { end ≤ length buffer.old }
@@ -277,7 +280,7 @@ fn move_to_start(buffer: &mut [u8], start: usize, end: usize) -> usize
     end - start
 }
 
-/// Reads bytes into a part of a buffer.
+/// Reads at most `room` bytes into a buffer, from `start` on.
 fn read_part<I: Source>(
     input: &mut I,
     buffer: &mut [u8],

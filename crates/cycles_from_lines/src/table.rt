@@ -12,7 +12,7 @@ use edge_algebra::Cycle;
 use std::alloc::Global;
 use std::collections::BTreeSet;
 
-/// The place of a family in the table.
+/// The index of a family in the table.
 fn place_of(family: Family) -> usize
     ensures place { result ≡ place_of_family family }
     ensures within { result < 15 }
@@ -36,7 +36,7 @@ fn place_of(family: Family) -> usize
     }
 }
 
-/// No names of any family.
+/// The table without any names.
 pub(crate) fn no_names(alloc: Global) -> Result<Vec<FamilyNames>, NoMemory>
     ensures holds { IfOk result (λ table. HoldsCycles (map family_view table.items) []) }
     ensures whole { IfOk result (λ table. length table.items ≡ 15) }
@@ -49,7 +49,7 @@ pub(crate) fn no_names(alloc: Global) -> Result<Vec<FamilyNames>, NoMemory>
     Ok(table)
 }
 
-/// Keeps the name of a cycle, which is made in `text`. What that held doesn't count.
+/// Keeps the name of a cycle, which is made in `text`. What that held doesn't matter.
 pub(crate) fn put_cycle(
     table: &mut Vec<FamilyNames>,
     cycle: &Cycle,
@@ -77,7 +77,7 @@ fn put_name(
     table[place].put(alloc, name)
 }
 
-/// Writes the lines of the families that have a name. Where the sink fails, it has taken a prefix of
+/// Writes the lines of the families that have a name. If the sink fails, it has taken a prefix of
 /// them.
 pub(crate) fn write_families<O: Sink>(table: &[FamilyNames], out: &mut O) -> Result<(), Failed>
     ensures { Wrote (O.seen out.old) (O.seen out.new) (flat_map (λ entry. entry_text (family_view entry)) table.now) result }

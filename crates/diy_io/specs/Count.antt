@@ -1,7 +1,7 @@
--- Counts of 64 bits, which stay at their last value once they reach it.
+-- Counts of 64 bits, which stay at their maximum once they reach it.
 use Rattle.std.specs.Prelude.{ℕ, ◌+◌, ◌-◌, ◌^◌, ◌≤◌, min}
 
--- the last value of a count
+-- the maximum of a count
 abbrev pub last_count : ℕ
 last_count = 2 ^ 64 - 1
 
@@ -9,10 +9,10 @@ last_count = 2 ^ 64 - 1
 abbrev pub count_of : ℕ → ℕ
 count_of n = min n last_count
 
--- a count after one more
+-- a count after one more is counted
 abbrev pub next_count : ℕ → ℕ
 next_count n = count_of (n + 1)
 
--- a count rose by one at least, or is at its last value
+-- a count rose by at least one, or is at its maximum
 abbrev pub Rose : ℕ → ℕ → Type 0
 Rose old new = next_count old ≤ new

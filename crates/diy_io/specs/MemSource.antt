@@ -2,7 +2,7 @@
 use Rattle.std.specs.Prelude.{ℕ, List, Some}
 use Rattle.diy_io.specs.{Count.next_count, SureSource.SureSourceState, SureSource.sure_source_after, Taken.SourceSeen}
 
--- what it gives, the numbers of the calls that fail, the number of the next call, and how many calls failed
+-- the source of its bytes, the numbers of the calls that fail, the number of the next call, and how many calls failed
 pub record MemSourceState : Type 0 where
   pub source : SureSourceState
   pub fail : List ℕ

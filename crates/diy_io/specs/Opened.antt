@@ -3,25 +3,27 @@
 use Rattle.std.specs.Prelude.{◌≡◌, ◌+◌, ℕ, List, [], ◌∷◌, length, slice_index_or, Option, Some, None, IfSome, MatchOption}
 use Rattle.diy_io.specs.{Count.Rose, Count.count_of, Shelf.Files, Shelf.ShelfSeen}
 
--- the word at a place, which names a file
+-- the argument at a position, which names a file
 abbrev pub name_at : List (List ℕ) → ℕ → List ℕ
 name_at words place = slice_index_or words place []
 
--- a file of a name is there and has these bytes, where the files are known
+-- if the files are shown, there is one with this name, and it has these bytes
 abbrev pub IsFile : Option Files → List ℕ → List ℕ → Type 0
 IsFile files name bytes = IfSome files (λ there. there name ≡ Some bytes)
 
--- how many bytes were taken of the file that was opened last, where these were taken of one file each, one after another
+-- how many bytes were taken from the last file, if these bytes were taken from one file each, in order; the earlier count if from none
 abbrev pub last_taken : ℕ → List (List ℕ) → ℕ
 last_taken taken [] = taken
 last_taken taken (bytes ∷ more) = last_taken (length bytes) more
 
--- these bytes were taken of one file each, one after another, and no other file was opened, as far as that is counted
+-- these bytes were taken from one file each, in order, and no other file was opened, as far as the counts show: the number of files
+-- opened, and how many bytes were taken from the last one
 pub record TookFiles (old new : ShelfSeen) (taken : List (List ℕ)) : Type 0 where
   pub opened : count_of new.opened ≡ count_of (old.opened + length taken)
   pub last : count_of new.taken ≡ count_of (last_taken old.taken taken)
 
--- a file isn't there, and no fault came; where the files aren't shown, that it isn't there is a fault
+-- a file doesn't exist, and none was opened or read: if the files are shown, none has this name, and there was no error; otherwise the
+-- error count rose
 pub record FileAbsent (old new : ShelfSeen) (name : List ℕ) : Type 0 where
   pub absent : MatchOption old.files (Rose old.faults new.faults) (λ there. there name ≡ None)
   pub no_fault : IfSome old.files (λ there. new.faults ≡ old.faults)

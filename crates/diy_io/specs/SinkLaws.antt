@@ -53,25 +53,25 @@ tallied_nothing : (a : Option Tally) → option_map (λ t. tally_after t []) (op
 tallied_nothing None = refl
 tallied_nothing (Some t) = ap Some (tally_nothing t)
 
--- a text and then another is both
+-- one text and then another are the same as both joined
 pub shown_after_both : (a : Shown) (x y : List ℕ) → shown_after (shown_after a x) y ≡ shown_after a (x ++ y)
 unfolding shown_after
 shown_after_both a x y = rw (written_both a.written x y, tallied_both a.tallied x y)
 
--- nothing more
+-- what is shown stays after an empty text
 pub shown_after_nothing : (a : Shown) → shown_after (shown_kept a) [] ≡ shown_kept a
 unfolding shown_after shown_kept
 shown_after_nothing a = rw (written_nothing a.written, tallied_nothing a.tallied)
 
--- growth by nothing
+-- a sink that stays as it is grew by nothing
 pub grew_nothing : (a : Shown) → Grew a a []
 grew_nothing a = sym (shown_after_nothing a)
 
--- growth by a text and then by another is growth by both
+-- growth by one text and then by another is growth by both joined
 pub grew_both : (a b c : Shown) (x y : List ℕ) → Grew a b x → Grew b c y → Grew a c (x ++ y)
 grew_both a b c x y p q = q ∙ ap (λ t. shown_after t y) p ∙ shown_after_both (shown_kept a) x y
 
--- a prefix of what comes after a text gives a prefix of both
+-- a text followed by a prefix of another is a prefix of both joined
 pub within_after : (s u : Shown) (x y : List ℕ) → EndsWithin (shown_after s x) u y → EndsWithin s u (x ++ y)
 within_after s u x y p = record {
   prefix = x ++ p.prefix;
@@ -89,31 +89,31 @@ within_more s u x y p = record {
   grew = p.grew;
 }
 
--- nothing is a prefix of any text
+-- a sink that stays as it is grew by a prefix of any text
 pub prefix_nothing : (a : Shown) (x : List ℕ) → GrewByPrefix a a x
 prefix_nothing a x = record { prefix = []; rest = x; parts = refl; grew = grew_nothing a }
 
--- growth by a text and then by a prefix of another is growth by a prefix of both
+-- growth by one text and then by a prefix of another is growth by a prefix of both joined
 pub prefix_after : (a b c : Shown) (x y : List ℕ) → Grew a b x → GrewByPrefix b c y → GrewByPrefix a c (x ++ y)
 prefix_after a b c x y p q = within_after (shown_kept a) (shown_kept c) x y (subst (λ s. EndsWithin s (shown_kept c) y) p q)
 
--- the text of the elements up to one more is that of the elements before it and its own
+-- the text of the first i + 1 elements is that of the first i, followed by that of the one at position i
 pub flat_map_more : {X : Type 0} (f : X → List ℕ) (xs : List X) (i : ℕ) (d : X) → i < length xs → flat_map f (take (i + 1) xs) ≡ flat_map f (take i xs) ++ f (get_or xs i d)
 flat_map_more f xs i d h =
     rw (take_more xs i d h, flat_map-append f (take i xs) (get_or xs i d ∷ []), append-nil (f (get_or xs i d)))
 
--- the text of all elements is that of those before a place, of the one there and of those after it
+-- the text of all elements is that of those before a position, of the one at it and of those after it
 pub flat_map_at : {X : Type 0} (f : X → List ℕ) (xs : List X) (i : ℕ) (d : X) → i < length xs → flat_map f xs ≡ (flat_map f (take i xs) ++ f (get_or xs i d)) ++ flat_map f (drop (i + 1) xs)
 flat_map_at f xs i d h =
     ap (flat_map f) (sym (take-append-drop (i + 1) xs)) ∙ flat_map-append f (take (i + 1) xs) (drop (i + 1) xs)
     ∙ ap (λ prefix. prefix ++ flat_map f (drop (i + 1) xs)) (flat_map_more f xs i d h)
 
--- a sink that shows its bytes grew by a text where that comes after them
+-- a sink that shows its bytes grew by a text if the text follows them
 pub written_grew : (taken text : List ℕ) → Grew (shown_bytes taken) (shown_bytes (taken ++ text)) text
 unfolding shown_after shown_kept
 written_grew taken text = refl
 
--- a sink that shows its bytes grew by a prefix of a text where that prefix comes after them
+-- a sink that shows its bytes grew by a prefix of a text if that prefix follows them
 pub written_stopped : (taken text : List ℕ) (n : ℕ) → GrewByPrefix (shown_bytes taken) (shown_bytes (taken ++ take n text)) text
 written_stopped taken text n = record {
   prefix = take n text;
@@ -122,7 +122,7 @@ written_stopped taken text n = record {
   grew = written_grew taken (take n text);
 }
 
--- a sink that shows a tally grew by a text where that is tallied
+-- a sink that shows a tally grew by a text if the text is tallied
 pub tally_grew : (tally : Tally) (text : List ℕ) → Grew (shown_tally tally) (shown_tally (tally_after tally text)) text
 unfolding shown_after shown_kept
 tally_grew tally text =
@@ -137,7 +137,7 @@ nothing_grew text = refl
 pub nothing_stopped : (text : List ℕ) → GrewByPrefix shown_nothing shown_nothing text
 nothing_stopped text = prefix_nothing shown_nothing text
 
--- what holds anyway holds where a call fails
+-- what holds in any case holds if a call fails
 pub on_err : {A E P : Type 0} (r : Result A E) → P → OnErr r P
 on_err (Ok x) p = tt
 on_err (Err e) p = p

@@ -2,11 +2,11 @@
 use Rattle.std.specs.Prelude.{ℕ, None}
 use Rattle.diy_io.specs.{Taken.SourceSeen, declared.std_source.StdSource.StdSource}
 
--- the reader below
+-- the reader beneath
 abbrev pub reader_of : {R : Type 0} → StdSource R → R
 reader_of source = source.reader
 
--- how often a read failed
+-- how many reads failed
 abbrev pub std_source_faults : {R : Type 0} → StdSource R → ℕ
 std_source_faults source = source.faults
 

@@ -2,17 +2,17 @@
 use Rattle.std.specs.Prelude.{ℕ, ◌+◌, List, length, drop, min, Some}
 use Rattle.diy_io.specs.{Count.count_of, Taken.SourceSeen}
 
--- the bytes still to come, how many of them a call gives at most, and how many were taken
+-- the bytes still to come, the most bytes that a call gives, and how many were taken
 pub record SureSourceState : Type 0 where
   pub left : List ℕ
   pub piece : ℕ
   pub taken : ℕ
 
--- how many bytes a call with a buffer of a length gives
+-- how many bytes a call gives to a buffer of this length
 abbrev pub given_count : SureSourceState → ℕ → ℕ
 given_count source len = min (min len source.piece) (length source.left)
 
--- the source after a call with a buffer of a length
+-- the source after a call with a buffer of this length
 abbrev pub sure_source_after : SureSourceState → ℕ → SureSourceState
 sure_source_after source len = record {
   left = drop (given_count source len) source.left;

@@ -2,14 +2,15 @@
 use Rattle.std.specs.{Prelude.{◌≡◌, ◌≤◌, ℕ, ◌+◌, List, length, Option, Result, IfOk, OnOk, OnErr}, Io.KnownBytes.{Consumes, ReadConsumes}}
 use Rattle.diy_io.specs.{declared.errors.Failed.Failed, Count.{count_of, Rose}}
 
--- the bytes that are still to come, where the source shows them, how many bytes were taken, and the count of faults
+-- the bytes that are still to come, if the source shows them, how many bytes were taken, and the error count
 pub record SourceSeen : Type 0 where
   pub left : Option (List ℕ)
   pub taken : ℕ
   pub faults : ℕ
 
--- a call gives how many bytes it wrote at the start of a buffer: they are the first that were left, and none only at the end
--- or to an empty buffer; they are counted. It fails only where the count of faults rises, and gives nothing then
+-- a call returns how many bytes it wrote at the start of a buffer: they are the first that were left, if the source shows these, and
+-- there are none only at the end or if the buffer is empty; they are counted. It fails only if the error count rises or is at its
+-- maximum, and takes nothing then
 pub record GivesBytes (old new : SourceSeen) (buffer : List ℕ) (result : Result ℕ Failed) : Type 0 where
   pub bound : IfOk result (λ n. n ≤ length buffer)
   pub bytes : ReadConsumes old.left new.left result buffer
@@ -19,7 +20,7 @@ pub record GivesBytes (old new : SourceSeen) (buffer : List ℕ) (result : Resul
   pub fault : OnErr result (Rose old.faults new.faults)
   pub never_falls : old.faults ≤ new.faults
 
--- these bytes were taken: they are the first that were left, where that is shown
+-- these bytes were taken and counted: they are the first that were left, if the source shows these
 pub record Took (old new : SourceSeen) (bytes : List ℕ) : Type 0 where
   pub consumed : Consumes old.left new.left bytes
   pub counted : new.taken ≡ count_of (old.taken + length bytes)

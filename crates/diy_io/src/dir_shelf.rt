@@ -22,9 +22,10 @@ pub(crate) enum AtFile<F> {
 
 /// A shelf over the files of the system, whose names are paths. It makes no folders.
 ///
-/// It shows nothing of the files, since no program knows what becomes of them outside. It keeps no
-/// bytes back. Each error of the system is a fault, that a file is missing among them, and so are a
-/// write that takes nothing and a name for which there is no memory.
+/// It shows nothing of the files, since no program knows what becomes of them outside, and buffers
+/// no bytes. Counted as errors are each error of the system in opening, creating, reading and writing
+/// a file, a missing file among them, a write that takes nothing, and a name for which there is no
+/// memory. `finish` never fails: an error of the system in closing a file is not seen.
 #[derive(Drop)]
 pub struct DirShelf<R: Files> {
     files: R,
@@ -49,8 +50,8 @@ impl<R: Files> Model for DirShelf<R> {
 }
 
 impl<R: Files> DirShelf<R> {
-    /// A shelf over `files` that is at nothing and has counted nothing. It takes no memory before
-    /// the first file.
+    /// A shelf over `files` that has no open file and has counted nothing. It allocates no memory
+    /// before the first file.
     pub fn new(alloc: Global, files: R) -> DirShelf<R>
         ensures { result ≡ record { mode = Idle; faults = 0; taken = 0; opened = 0 } }
     {
@@ -64,7 +65,7 @@ impl<R: Files> DirShelf<R> {
         }
     }
 
-    // The shelf failed.
+    // Counts a failure, and closes the file.
     fn count_fault(&mut self) -> Failed
         ensures failed { self.new ≡ record self.old { mode = Idle; faults = next_count self.old.faults } }
         ensures stopped { Stopped (dir_shelf_seen self.old) (dir_shelf_seen self.new) }
@@ -74,7 +75,7 @@ impl<R: Files> DirShelf<R> {
         Failed
     }
 
-    // Begins to read a file.
+    // Begins to read a file. It fails only if there is no memory for the name.
     fn read_from(&mut self, name: &str, file: R::File) -> Result<(), AllocError>
         requires { self.old.mode ≡ Idle }
         ensures ok { OnOk result (Opened (dir_shelf_seen self.old) (dir_shelf_seen self.new) name.now) }
@@ -88,7 +89,7 @@ impl<R: Files> DirShelf<R> {
         Ok(())
     }
 
-    // Begins to write a file.
+    // Begins to write a file. It fails only if there is no memory for the name.
     fn write_to(&mut self, name: &str, file: R::File) -> Result<(), AllocError>
         requires { self.old.mode ≡ Idle }
         ensures ok { OnOk result (Created (dir_shelf_seen self.old) (dir_shelf_seen self.new) name.now) }
@@ -164,7 +165,7 @@ impl<R: Files> Shelf for DirShelf<R> {
     }
 }
 
-// Writes all bytes. A write that takes none of them is an error.
+// Writes all bytes and flushes. A write that takes no byte is an error.
 fn write_whole<W: Write>(file: &mut W, bytes: &[u8]) -> Result<(), Failed> {
     let mut rest = bytes;
     while !rest.is_empty() {

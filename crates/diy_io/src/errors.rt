@@ -1,6 +1,6 @@
 use std::alloc::{AllocError, AllocFailed};
 
-/// There is no memory for what the call would keep.
+/// There is no memory for what a call needs.
 #[derive(Clone, Copy, Debug, PartialEq, Eq)]
 pub struct NoMemory;
 
@@ -16,6 +16,6 @@ impl<T: Drop> From<AllocFailed<T>> for NoMemory {
     }
 }
 
-/// A device failed: it did not do all that the call asks of it.
+/// A device failed: it did not do all that the call requests.
 #[derive(Clone, Copy, Debug, PartialEq, Eq)]
 pub struct Failed;

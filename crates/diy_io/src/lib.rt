@@ -1,4 +1,4 @@
-//! The outside of the tools: where their bytes come from and go to, and the words that they are given.
+//! The outside of the tools: where their bytes come from and go to, and the arguments that they are given.
 #![tactic(auto)]
 
 mod dir_shelf;

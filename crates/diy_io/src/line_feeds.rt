@@ -1,7 +1,7 @@
 ghost use Rattle.std.specs.Prelude.{◌≡◌, ◌≤◌, length};
 ghost use Rattle.diy_io.specs.Sink.{line_feed_count};
 
-/// How many bytes are counted at a time, a multiple of the sixteen that one instruction compares.
+/// How many bytes are counted at a time: a multiple of the sixteen that one instruction compares, which a byte can count.
 const CHUNK: usize = 240;
 
 /// How many line feeds a text has.
@@ -18,7 +18,7 @@ pub(crate) fn count_line_feeds(text: &[u8]) -> u64
     count + u64::from(count_in_chunk(left))
 }
 
-/// How many line feeds a chunk has. The count is a byte, so that the loop is compiled to instructions on sixteen bytes at once.
+/// How many line feeds a chunk has. The count is a byte, so that the loop compiles to instructions on sixteen bytes at once.
 #[tactic(auto, using(std::proofs::lemmas::List::Sums::count_by_more_yes, std::proofs::lemmas::List::Sums::count_by_more_no))]
 fn count_in_chunk(chunk: &[u8]) -> u8
     requires { length chunk.now ≤ CHUNK }

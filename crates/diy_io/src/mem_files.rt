@@ -5,7 +5,7 @@ use crate::errors::NoMemory;
 use std::alloc::Global;
 use std::marker::Model;
 
-/// The most bytes that the name of a file in memory has.
+/// The most bytes of the name of a file in memory.
 pub(crate) const MAX_FILE_NAME: usize = 1_300;
 
 /// A file.
@@ -15,13 +15,13 @@ pub(crate) struct Entry {
     bytes: Vec<u8>,
 }
 
-/// Files in memory, to be found by their names.
+/// Files in memory, found by their names.
 ///
-/// They take their memory when they are made, and none when new files are added and bytes appended.
+/// Their memory is allocated by `new` and `put`, and none when files are added and bytes appended.
 #[derive(Drop)]
 pub(crate) struct MemFiles {
     entries: Vec<Entry>,
-    /// Files to come, with memory for a name and for all bytes.
+    /// Files to come, with memory for a name and for all bytes that may still be appended.
     spare: Vec<Entry>,
     room: usize,
 }
@@ -40,7 +40,7 @@ impl Model for MemFiles {
 impl Entry {
     ghost use Rattle.diy_io.specs.MemEntries.{IsSpare, file_view};
 
-    /// A file with no name and no byte, and memory for both.
+    /// A file with no name and no bytes, and memory for both.
     fn spare(alloc: Global, room: usize) -> Result<Entry, NoMemory>
         ensures { IfOk result (IsSpare room) }
     {
@@ -50,7 +50,7 @@ impl Entry {
         })
     }
 
-    /// The place of the first file that has a name.
+    /// The index of the first file with a name.
     fn place_of(entries: &[Entry], name: &[u8]) -> Option<usize>
         ensures { result ≡ file_place name.now (map file_view entries.now) }
     {
@@ -64,7 +64,7 @@ impl Entry {
 }
 
 impl MemFiles {
-    /// No files, with memory for `files` new ones and for `room` bytes that are appended, in all.
+    /// No files, with memory for `files` new ones and for `room` appended bytes in all.
     pub(crate) fn new(alloc: Global, files: usize, room: usize) -> Result<MemFiles, NoMemory>
         ensures { IfOk result (λ held. held ≡ record { files = []; room = room; names = files }) }
     {
@@ -93,7 +93,7 @@ impl MemFiles {
         self.spare.len()
     }
 
-    /// The place of the first file that has a name.
+    /// The index of the first file with a name.
     pub(crate) fn place_of(&self, name: &[u8]) -> Option<usize>
         ensures place { result ≡ file_place name.now self.now.files }
         ensures inside { IfSome result (λ place. place < length self.now.files) }
@@ -101,7 +101,7 @@ impl MemFiles {
         Entry::place_of(self.entries.as_slice(), name)
     }
 
-    /// The bytes of the file at a place.
+    /// The bytes of the file at an index.
     pub(crate) fn bytes_at(&self, place: usize) -> &[u8]
         requires { place < length self.now.files }
         ensures { result.now ≡ bytes_at place self.now.files }
@@ -109,7 +109,7 @@ impl MemFiles {
         self.entries[place].bytes.as_slice()
     }
 
-    /// Adds a file that has no bytes, and gives its place.
+    /// Adds a file that has no bytes, and returns its index.
     pub(crate) fn add(&mut self, name: &[u8]) -> usize
         requires names { 0 < self.old.names }
         requires short { length name.now ≤ 1300 }
@@ -123,7 +123,7 @@ impl MemFiles {
         place
     }
 
-    /// Takes all bytes from the file at a place.
+    /// Removes all bytes of the file at an index.
     pub(crate) fn clear(&mut self, place: usize)
         requires { place < length self.old.files }
         ensures { self.new ≡ record self.old { files = slice_set self.old.files place (file_name_at place self.old.files, []) } }
@@ -131,7 +131,7 @@ impl MemFiles {
         self.entries[place].bytes.clear();
     }
 
-    /// Appends bytes to the file at a place.
+    /// Appends bytes to the file at an index.
     pub(crate) fn append(&mut self, place: usize, bytes: &[u8])
         requires there { place < length self.old.files }
         requires fits { length bytes.now ≤ self.old.room }
@@ -141,7 +141,7 @@ impl MemFiles {
         self.room -= bytes.len();
     }
 
-    /// Adds a file, or replaces the bytes of the one of its name, with memory for all bytes that may still be appended.
+    /// Adds a file, or replaces the bytes of the first one with its name, and reserves memory for all bytes that may still be appended.
     pub(crate) fn put(&mut self, alloc: Global, name: &[u8], bytes: &[u8]) -> Result<(), NoMemory>
         ensures ok { OnOk result (PutIn self.old self.new name.now bytes.now) }
         ensures err { OnErr result (self.new ≡ self.old) }

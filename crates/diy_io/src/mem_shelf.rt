@@ -9,7 +9,7 @@ use crate::shelf::{OpenError, Shelf};
 use std::alloc::Global;
 use std::marker::Model;
 
-/// What a shelf in memory is at, with the place of the file.
+/// What a shelf in memory is doing, with the index of the open file and how many of its bytes were read.
 #[derive(Clone, Copy)]
 pub(crate) enum Work {
     Idle,
@@ -20,7 +20,7 @@ pub(crate) enum Work {
 /// A shelf in memory, which fails at chosen calls.
 ///
 /// Its calls `open_file`, `read`, `create`, `append` and `finish` are numbered together from 0, and
-/// the number stays at the last value of its type once it reaches it. They take no memory.
+/// the number stays at the maximum of its type once it reaches it. They allocate no memory.
 #[derive(Drop)]
 pub struct MemShelf {
     alloc: Global,
@@ -58,7 +58,7 @@ impl MemShelf {
 
     /// A shelf with no files, and with memory for `files` new names of at most 1,300 bytes each and
     /// for `room` appended bytes in all. The calls whose numbers are in `fail` are among those that
-    /// fail. The error comes for want of memory alone.
+    /// fail. It fails only if there is no memory.
     pub fn new(
         alloc: Global,
         files: usize,
@@ -79,9 +79,9 @@ impl MemShelf {
         })
     }
 
-    /// Gives a file these bytes, whatever it had. It is no call that is numbered, and uses up
-    /// none of the names and the room. The error comes for want of memory alone, and leaves the
-    /// shelf as it was.
+    /// Gives a file these bytes, whatever it had, while no file is open. The call has no number, and
+    /// uses up none of the space for new names and appended bytes. It fails only if there is no
+    /// memory, and then leaves the shelf as it was. The name has at most 1,300 bytes.
     pub fn put(&mut self, name: &str, bytes: &[u8]) -> Result<(), NoMemory>
         requires idle { self.old.mode ≡ Idle }
         requires short { length name.now ≤ 1300 }
@@ -92,7 +92,7 @@ impl MemShelf {
         self.held.put(self.alloc, name.as_bytes(), bytes)
     }
 
-    /// The bytes of a file.
+    /// The bytes of a file, or `None` if no file has the name.
     pub fn get(&self, name: &str) -> Option<&[u8]>
         ensures { MatchOption result (files_named self.now.held.files name.now ≡ None) (λ bytes. files_named self.now.held.files name.now ≡ Some bytes.now) }
     {
@@ -100,7 +100,7 @@ impl MemShelf {
         Some(self.held.bytes_at(place))
     }
 
-    // The shelf failed.
+    // Counts a failure, and closes the file.
     fn count_fault(&mut self) -> Failed
         ensures failed { self.new ≡ record self.old { mode = Idle; faults = next_count self.old.faults } }
         ensures stopped { Stopped (mem_shelf_seen self.old) (mem_shelf_seen self.new) }
@@ -117,7 +117,7 @@ impl MemShelf {
         self.fail.contains(&self.calls)
     }
 
-    // Numbers a call, which may be one that is to fail.
+    // Counts a call, and fails if it is one that is to fail.
     fn begin_call(&mut self) -> Result<(), Failed>
         ensures answer { IsErr result ↔ Contains self.old.fail self.old.calls }
         ensures called { Called self.old self.new }
@@ -134,7 +134,7 @@ impl MemShelf {
     }
 
     #[tactic(auto, using(crate::proofs::ShelfLaws::place_at_inside))]
-    // The place of the file that is read, and how many of its bytes were read.
+    // The index of the file that is read, and how many of its bytes were read.
     fn file_read(&self) -> (usize, usize)
         requires { IsReading self.now.mode }
         ensures mode { self.now.mode ≡ mode_of self.now.held.files (works.Reading result.0 result.1) }
@@ -149,7 +149,7 @@ impl MemShelf {
     }
 
     #[tactic(auto, using(crate::proofs::ShelfLaws::place_at_inside))]
-    // The place of the file that is written.
+    // The index of the file that is written.
     fn file_written(&self) -> usize
         requires { IsWriting self.now.mode }
         ensures mode { self.now.mode ≡ mode_of self.now.held.files (works.Writing result) }
@@ -162,7 +162,7 @@ impl MemShelf {
         }
     }
 
-    // Begins a new file.
+    // Begins a new file, and fails if its name is too long or there is space for no more files.
     fn add_file(&mut self, name: &[u8]) -> Result<(), Failed>
         requires idle { self.old.mode ≡ Idle }
         requires absent { file_place name.now self.old.held.files ≡ None }
@@ -198,8 +198,8 @@ impl Shelf for MemShelf {
 
     ghost seen = { mem_shelf_seen };
 
-    /// Fails exactly where the call's number is one that is to fail. A file that is missing is no
-    /// fault.
+    /// Returns `Failed` exactly when the call's number is one that is to fail. A file that is missing
+    /// is not counted as an error.
     fn open_file(&mut self, name: &str) -> Result<(), OpenError>
         requires { self.old.mode ≡ Idle }
         ensures answer { (result ≡ Err open_errors.Failed) ↔ Contains self.old.fail self.old.calls }
@@ -225,7 +225,7 @@ impl Shelf for MemShelf {
         }
     }
 
-    /// Fails exactly where the call's number is one that is to fail.
+    /// Fails exactly when the call's number is one that is to fail.
     fn read(&mut self, buf: &mut [u8]) -> Result<usize, Failed>
         requires { IsReading self.old.mode }
         ensures answer { IsErr result ↔ Contains self.old.fail self.old.calls }
@@ -246,8 +246,8 @@ impl Shelf for MemShelf {
         Ok(count)
     }
 
-    /// Fails exactly where the call's number is one that is to fail, and where the name is new and
-    /// has more than 1,300 bytes or is one too many. Where it fails, it changes nothing.
+    /// Fails exactly when the call's number is one that is to fail, or the name is new and has more
+    /// than 1,300 bytes or there is space for no more files. If it fails, the files stay as they were.
     fn create(&mut self, name: &str) -> Result<(), Failed>
         requires { self.old.mode ≡ Idle }
         ensures answer { IsErr result ↔ (Contains self.old.fail self.old.calls ⊎ IsRefusedName self.old.held name.now) }
@@ -270,9 +270,9 @@ impl Shelf for MemShelf {
         }
     }
 
-    /// Fails exactly where the call's number is one that is to fail, and where the bytes would pass
-    /// the room. In the first case it takes what fits of the first half of the bytes, rounded down,
-    /// and in the second what fits of them.
+    /// Fails exactly when the call's number is one that is to fail, or the bytes exceed the space that
+    /// is left. In the first case it takes what fits of the first half of the bytes, rounded down, and
+    /// otherwise what fits of them.
     fn append(&mut self, bytes: &[u8]) -> Result<(), Failed>
         requires { IsWriting self.old.mode }
         ensures answer { IsErr result ↔ (Contains self.old.fail self.old.calls ⊎ (self.old.held.room < length bytes.now)) }
@@ -298,7 +298,7 @@ impl Shelf for MemShelf {
         Ok(())
     }
 
-    /// Fails exactly where the call's number is one that is to fail.
+    /// Fails exactly when the call's number is one that is to fail.
     fn finish(&mut self) -> Result<(), Failed>
         requires { IsBusy self.old.mode }
         ensures answer { IsErr result ↔ Contains self.old.fail self.old.calls }

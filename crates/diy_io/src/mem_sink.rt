@@ -6,9 +6,9 @@ use crate::sink::Sink;
 use std::alloc::Global;
 use std::marker::Model;
 
-/// A sink that keeps its bytes in memory, as many as it has room for.
+/// A sink that keeps its bytes in memory, up to a fixed capacity.
 ///
-/// It takes its memory when it is made, and none when it is written to.
+/// It allocates its memory when it is made, and none when it is written to.
 #[derive(Drop)]
 pub struct MemSink {
     room: usize,
@@ -25,7 +25,7 @@ impl Model for MemSink {
 }
 
 impl MemSink {
-    /// An empty sink with room for `room` bytes in all. The error comes for want of memory alone.
+    /// An empty sink with space for `room` bytes in all. It fails only if there is no memory.
     pub fn new(alloc: Global, room: usize) -> Result<MemSink, NoMemory>
         ensures { IfOk result (λ sink. sink ≡ record { room = room; bytes = []; faults = 0 }) }
     {
@@ -48,7 +48,7 @@ impl MemSink {
 impl Sink for MemSink {
     ghost seen = { mem_sink_seen };
 
-    /// Fails exactly where the bytes would pass the room, and then takes those that still fit.
+    /// Fails exactly when the bytes exceed the space that is left, and then takes those that still fit.
     fn write_all(&mut self, bytes: &[u8]) -> Result<(), Failed>
         ensures after { self.new ≡ mem_sink_after self.old bytes.now }
         ensures answer { IsOk result ↔ (length self.old.bytes + length bytes.now ≤ self.old.room) }

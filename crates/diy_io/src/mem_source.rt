@@ -8,7 +8,7 @@ use std::marker::Model;
 
 /// A source of bytes in memory, which fails at chosen calls.
 ///
-/// Calls are numbered from 0, and the number stays at the last value of its type once it reaches it.
+/// Calls are numbered from 0, and the number stays at the maximum of its type once it reaches it.
 #[derive(Drop)]
 pub struct MemSource {
     source: SureSource,
@@ -24,8 +24,8 @@ impl Model for MemSource {
 }
 
 impl MemSource {
-    /// A source of `bytes`, which gives at most `piece` of them in a call. The calls whose numbers are
-    /// in `fail` are the ones that fail.
+    /// A source of `bytes`, which gives at most `piece` of them in a call, where `piece` is at least 1.
+    /// The calls whose numbers are in `fail` are the ones that fail.
     pub fn new(bytes: Vec<u8>, piece: usize, fail: Vec<u64>) -> MemSource
         requires { 1 ≤ piece }
         ensures { result ≡ record { source = record { left = bytes.items; piece = piece; taken = 0 }; fail = fail.items; calls = 0; faults = 0 } }
@@ -42,7 +42,7 @@ impl MemSource {
 impl Source for MemSource {
     ghost seen = { mem_source_seen };
 
-    /// Fails exactly where the call's number is one that is to fail.
+    /// Fails exactly when the call's number is one that is to fail.
     fn read(&mut self, buf: &mut [u8]) -> Result<usize, Failed>
         ensures answer { IsErr result ↔ Contains self.old.fail self.old.calls }
         ensures count { IfOk result (λ n. n ≡ given_count self.old.source (length buf.old)) }

@@ -5,18 +5,18 @@ use crate::errors::Failed;
 use crate::sink::Sink;
 use std::marker::Model;
 
-/// As many bytes of a page are handed on at once: 65,536.
+/// From how many bytes on `spill` writes a page to the sink: 65,536.
 pub const SPILL: usize = 65_536;
 
-/// The most bytes of a line that is put on a page as a whole.
+/// The most bytes of a line that is put on a page as a whole: 8,192.
 pub const LINE_ROOM: usize = 8_192;
 
-/// How many bytes a page has room for: a line comes after what isn't handed on so far.
+/// How many bytes a page can hold: a line has space after fewer than `SPILL` bytes.
 pub const PAGE_ROOM: usize = SPILL + LINE_ROOM;
 
-/// A page of text in memory, which is printed line by line and handed to a sink in few calls.
+/// A buffer for text, which is printed line by line and written to a sink in few calls.
 ///
-/// Contracts see it as the list of its bytes. It takes no memory.
+/// Contracts see it as the list of its bytes. Its size is fixed, and it allocates no memory.
 #[derive(Drop)]
 pub struct Page {
     bytes: [u8; PAGE_ROOM],
@@ -59,14 +59,14 @@ impl Page {
         self.len = 0;
     }
 
-    /// How many bytes it has room for after those that it holds.
+    /// How many more bytes it has space for.
     fn free(&self) -> usize
         ensures { result + length self.now ≡ PAGE_ROOM }
     {
         PAGE_ROOM - self.len
     }
 
-    /// Adds a text after what it holds, as far as there is room.
+    /// Adds a text after what it holds, as far as there is space.
     pub fn put(&mut self, text: &[u8])
         ensures { self.new ≡ page_after self.old text.now }
     {
@@ -75,8 +75,8 @@ impl Page {
         self.len += count;
     }
 
-    /// Adds the first bytes of a text of fixed length after what it holds, as far as there is room. It copies the whole text where
-    /// that has room, since a copy of fixed length takes a few instructions, and counts only the first bytes.
+    /// Adds the first `count` bytes of a text of fixed length after what it holds, as far as there is space; `count` is at most `N`.
+    /// It copies the whole text if that fits, since a copy of fixed length takes a few instructions, and counts only the first bytes.
     #[inline]
     pub fn put_first<const N: usize>(&mut self, text: &[u8; N], count: usize)
         requires { count ≤ N }
@@ -99,7 +99,7 @@ impl Page {
         self.put_first(text, N);
     }
 
-    /// Hands what it holds to a sink, in one call, or in none where it holds nothing. Where that fails it still holds it.
+    /// Writes what it holds to a sink, in one call, or in none if it is empty. If the sink fails, the page still holds it.
     pub fn flush<O: Sink>(&mut self, out: &mut O) -> Result<(), Failed>
         ensures wrote { Wrote (O.seen out.old) (O.seen out.new) self.old result }
         ensures empty { OnOk result (self.new ≡ []) }
@@ -113,7 +113,7 @@ impl Page {
         Ok(())
     }
 
-    /// Hands what it holds to a sink where that is `SPILL` bytes or more, so that there is room for a
+    /// Writes what it holds to a sink if that is `SPILL` bytes or more, so that there is space for a
     /// line.
     pub fn spill<O: Sink>(&mut self, out: &mut O) -> Result<(), Failed>
         ensures sends { Sends (O.seen out.old) self.old (O.seen out.new) self.new [] result }
@@ -125,8 +125,8 @@ impl Page {
         self.flush(out)
     }
 
-    /// Sends a text of any length by way of this page. Each call of the sink but the last one of all
-    /// has a full page at least.
+    /// Sends a text of any length by way of this page. Each call that it makes to the sink has at least
+    /// a full page, `PAGE_ROOM` bytes; the rest stays on the page.
     pub fn send<O: Sink>(&mut self, text: &[u8], out: &mut O) -> Result<(), Failed>
         ensures { Sends (O.seen out.old) self.old (O.seen out.new) self.new text.now result }
     {
@@ -140,7 +140,7 @@ impl Page {
         self.send_rest(&text[free..], out)
     }
 
-    /// Sends a text by way of this page, which is empty.
+    /// Sends a text by way of this page, which is empty: directly if it exceeds a full page.
     fn send_rest<O: Sink>(&mut self, text: &[u8], out: &mut O) -> Result<(), Failed>
         requires { self.old ≡ [] }
         ensures { Sends (O.seen out.old) self.old (O.seen out.new) self.new text.now result }
@@ -152,7 +152,7 @@ impl Page {
         Ok(())
     }
 
-    /// Sends pieces of a text one after another.
+    /// Sends the pieces of a text one after another, as `send` does.
     pub fn send_pieces<O: Sink>(&mut self, pieces: &[&[u8]], out: &mut O) -> Result<(), Failed>
         ensures { Sends (O.seen out.old) self.old (O.seen out.new) self.new (joined_text pieces.now) result }
     {
@@ -163,7 +163,7 @@ impl Page {
     }
 }
 
-/// Copies a text into a part of a buffer.
+/// Copies a text into a buffer, from position `at` on.
 fn copy_to(buffer: &mut [u8], at: usize, text: &[u8])
     requires { at + length text.now ≤ length buffer.old }
     ensures { take (at + length text.now) buffer.new ≡ take at buffer.old ++ text.now }

@@ -18,45 +18,46 @@ pub enum OpenError {
 
 /// Where files are kept by their names: a folder, memory.
 ///
-/// One file at a time is read or written. A shelf may show its files. It counts its faults, the bytes
-/// that were taken of the file that it opened last, and the files that it opened, each up to the last
-/// value of 64 bits. After each failure it is at nothing.
+/// One file at a time is read or written. A shelf may show its files. It counts its failed calls, the
+/// bytes that were taken from the file that it opened last, and the files that it opened to be read,
+/// each up to the maximum of 64 bits. After each failure no file is open.
 pub trait Shelf {
-    // What the shelf shows of its files, what it is at, and its counts.
+    // What the shelf shows of its files, its mode, and its counts.
     ghost seen: { Self → ShelfSeen };
 
-    /// Opens a file, to be read from its first byte.
+    /// Opens a file, to be read from its first byte. No file may be open.
     ///
-    /// Where the shelf shows its files, it is `Missing` exactly where none has the name, which is no
-    /// fault; else that, too, counts as a fault.
+    /// If the shelf shows its files, it returns `Missing` only if none has the name, and doesn't count
+    /// that as an error; otherwise `Missing` counts as an error too.
     fn open_file(&mut self, name: &str) -> Result<(), OpenError>
         requires { (seen self.old).mode ≡ Idle }
         ensures ok { OnOk result (Opened (seen self.old) (seen self.new) name.now) }
         ensures missing { result ≡ Err open_errors.Missing → NotThere (seen self.old) (seen self.new) name.now }
         ensures failed { result ≡ Err open_errors.Failed → Stopped (seen self.old) (seen self.new) };
 
-    /// Reads bytes of the file that is open into the start of `buf`, and says how many. With a `buf`
-    /// that is not empty none means the end of the file.
+    /// Reads bytes of the file that was opened into the start of `buf`, and returns how many. If `buf`
+    /// is not empty, 0 means the end of the file.
     fn read(&mut self, buf: &mut [u8]) -> Result<usize, Failed>
         requires { IsReading (seen self.old).mode }
         ensures bound { IfOk result (λ n. n ≤ length buf.new) }
         ensures ok { IfOk result (λ n. Gave (seen self.old) (seen self.new) (take n buf.new) (length buf.new)) }
         ensures failed { OnErr result (Stopped (seen self.old) (seen self.new)) };
 
-    /// Begins a file, which has no bytes then, whatever it had.
+    /// Begins to write a file, which then has no bytes, whatever it had. No file may be open. If that
+    /// fails, the file may be empty.
     fn create(&mut self, name: &str) -> Result<(), Failed>
         requires { (seen self.old).mode ≡ Idle }
         ensures ok { OnOk result (Created (seen self.old) (seen self.new) name.now) }
         ensures failed { OnErr result (NotCreated (seen self.old) (seen self.new) name.now) };
 
-    /// Appends bytes to the file that is being written. Where the shelf fails, it has taken a prefix
-    /// of them.
+    /// Appends bytes to the file that is being written. If the shelf fails, the file has grown by a
+    /// prefix of them.
     fn append(&mut self, bytes: &[u8]) -> Result<(), Failed>
         requires { IsWriting (seen self.old).mode }
         ensures ok { OnOk result (Appended (seen self.old) (seen self.new) (name_written (seen self.old).mode) bytes.now) }
         ensures failed { OnErr result (AppendedPart (seen self.old) (seen self.new) (name_written (seen self.old).mode) bytes.now) };
 
-    /// Closes the file that is read or written.
+    /// Closes the file that is read or written. After a failure, too, it is closed.
     fn finish(&mut self) -> Result<(), Failed>
         requires { IsBusy (seen self.old).mode }
         ensures ok { OnOk result (Finished (seen self.old) (seen self.new)) }

@@ -7,9 +7,9 @@ use std::io::Write;
 
 /// A sink over a writer of the standard library.
 ///
-/// It shows nothing of the bytes, since no program knows what becomes of them outside. It keeps none
-/// back: a write is done once the writer has taken all of it and has flushed. Each error of the
-/// writer is a fault, and so is a write that takes nothing.
+/// It shows nothing of the bytes, since no program knows what becomes of them outside. It buffers
+/// none: a write is complete once the writer has taken all of it and has flushed. An error of the
+/// writer, also of its flush, is counted, and so is a write that takes nothing.
 #[derive(Drop)]
 pub struct StdSink<W> {
     writer: W,
@@ -19,7 +19,7 @@ pub struct StdSink<W> {
 impl<W: Write> StdSink<W> {
     ghost use Rattle.diy_io.specs.StdSink.{writer_of, std_sink_faults};
 
-    /// A sink over `inner`, with no fault so far.
+    /// A sink over `inner`, with no error so far.
     pub fn new(inner: W) -> StdSink<W>
         ensures writer { writer_of result ≡ inner }
         ensures faults { std_sink_faults result ≡ 0 }
@@ -30,7 +30,7 @@ impl<W: Write> StdSink<W> {
         }
     }
 
-    // The answer where the writer failed.
+    // Counts a failure of the writer.
     fn count_fault(&mut self) -> Failed
         ensures writer { writer_of self.new ≡ writer_of self.old }
         ensures counted { std_sink_faults self.new ≡ next_count (std_sink_faults self.old) }
@@ -50,7 +50,7 @@ impl<W: Write> Sink for StdSink<W> {
     fn write_all(&mut self, bytes: &[u8]) -> Result<(), Failed>
         ensures wrote { Wrote (std_sink_seen self.old) (std_sink_seen self.new) bytes.now result }
 
-        // What the writer below holds, where it shows that, as a writer in memory does.
+        // What the writer beneath holds, if it shows that, as a writer in memory does.
         ensures written { OnOk result (Appends (W.contents (writer_of self.old)) (W.contents (writer_of self.new)) bytes.now) }
         ensures cut_off { OnErr result (AppendsPrefix (W.contents (writer_of self.old)) (W.contents (writer_of self.new)) bytes.now) }
 

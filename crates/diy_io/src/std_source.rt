@@ -7,8 +7,8 @@ use std::io::Read;
 
 /// A source over a reader of the standard library.
 ///
-/// It shows nothing of the bytes to come, since no program knows them. Each error of the reader is a
-/// fault.
+/// It shows nothing of the bytes to come, since no program knows them. Each error of the reader is
+/// counted.
 #[derive(Drop)]
 pub struct StdSource<R> {
     reader: R,
@@ -19,7 +19,7 @@ pub struct StdSource<R> {
 impl<R: Read> StdSource<R> {
     ghost use Rattle.diy_io.specs.StdSource.{reader_of, std_source_faults, std_source_taken};
 
-    /// A source over `inner`, with nothing taken and no fault so far.
+    /// A source over `inner`, with nothing taken and no error so far.
     pub fn new(inner: R) -> StdSource<R>
         ensures reader { reader_of result ≡ inner }
         ensures taken { std_source_taken result ≡ 0 }
@@ -41,7 +41,7 @@ impl<R: Read> Source for StdSource<R> {
     fn read(&mut self, buf: &mut [u8]) -> Result<usize, Failed>
         ensures gives { GivesBytes (std_source_seen self.old) (std_source_seen self.new) buf.new result }
 
-        // What the reader below has left, where it shows that, as a reader in memory does.
+        // What the reader beneath has left, if it shows that, as a reader in memory does.
         ensures read { ReadConsumes (R.remaining (reader_of self.old)) (R.remaining (reader_of self.new)) result buf.new }
         ensures one_fault { OnErr result (std_source_faults self.new ≡ next_count (std_source_faults self.old)) }
     {

@@ -23,7 +23,7 @@ impl Model for SureSource {
 }
 
 impl SureSource {
-    /// A source of `bytes`, which gives at most `piece` of them in a call.
+    /// A source of `bytes`, which gives at most `piece` of them in a call, where `piece` is at least 1.
     pub fn new(bytes: Vec<u8>, piece: usize) -> SureSource
         requires { 1 ≤ piece }
         ensures { result ≡ record { left = bytes.items; piece = piece; taken = 0 } }

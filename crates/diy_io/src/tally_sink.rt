@@ -6,7 +6,7 @@ use crate::line_feeds::count_line_feeds;
 use crate::sink::Sink;
 use std::marker::Model;
 
-/// A sink that keeps the numbers of its bytes and of its line feeds alone. It never fails.
+/// A sink that keeps only the numbers of its bytes and of its line feeds. It never fails.
 #[derive(Default, Drop)]
 pub struct TallySink {
     bytes: u64,
@@ -20,20 +20,21 @@ impl Model for TallySink {
 }
 
 impl TallySink {
+    /// A sink that has taken nothing.
     pub fn new() -> TallySink
         ensures { result ≡ record { bytes = 0; line_feeds = 0 } }
     {
         TallySink { bytes: 0, lines: 0 }
     }
 
-    /// How many bytes it has taken, up to the last value of the type.
+    /// How many bytes it has taken, up to the maximum of the type.
     pub fn bytes(&self) -> u64
         ensures { result ≡ self.now.bytes }
     {
         self.bytes
     }
 
-    /// How many line feeds it has taken, up to the last value of the type.
+    /// How many line feeds it has taken, up to the maximum of the type.
     pub fn lines(&self) -> u64
         ensures { result ≡ self.now.line_feeds }
     {

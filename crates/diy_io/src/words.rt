@@ -4,7 +4,7 @@ use crate::errors::NoMemory;
 use std::alloc::Global;
 use std::marker::Model;
 
-/// The words that a program is given, without its own name.
+/// The arguments that a program is given, without its own name.
 #[derive(Drop)]
 pub struct Words {
     texts: Vec<String>,
@@ -17,7 +17,7 @@ impl Model for Words {
 }
 
 impl Words {
-    /// No words. It takes no memory before the first word.
+    /// No arguments. It allocates no memory before the first one.
     pub fn new(alloc: Global) -> Words
         ensures { result ≡ [] }
     {
@@ -26,7 +26,7 @@ impl Words {
         }
     }
 
-    /// Adds a copy of `word` at the end. The error comes for want of memory alone.
+    /// Adds a copy of `word` at the end. It fails only if there is no memory, and then adds nothing.
     pub fn push(&mut self, word: &str) -> Result<(), NoMemory>
         ensures ok { OnOk result (self.new ≡ self.old ++ word.now ∷ []) }
         ensures err { OnErr result (self.new ≡ self.old) }
@@ -36,21 +36,21 @@ impl Words {
         Ok(())
     }
 
-    /// How many words there are.
+    /// How many arguments there are.
     pub fn len(&self) -> usize
         ensures { result ≡ length self.now }
     {
         self.texts.len()
     }
 
-    /// Whether there is no word.
+    /// Whether there are no arguments.
     pub fn is_empty(&self) -> bool
         ensures { IsTrue result ↔ (self.now ≡ []) }
     {
         self.texts.is_empty()
     }
 
-    /// The word at place `i`, from 0.
+    /// The argument at position `i`, from 0.
     pub fn get(&self, i: usize) -> &str
         requires { i < length self.now }
         ensures { slice_get self.now i ≡ Some result.now }

@@ -5,7 +5,7 @@ use Rattle.diy_io.specs.{Shelf.ShelfSeen, Opened.TookFiles}
 use Rattle.diy_io.proofs.OpenedLaws.{took_one_more, took_no_more}
 use Rattle.tests_from_files.specs.FilesRead.{Begins, FileFailed}
 
--- what was taken where the shelf failed at a file after others
+-- what was taken if the shelf failed at a file after others, and these changed no file
 pub failed_after : (old mid new : ShelfSeen) (before : List (List ℕ)) (name : List ℕ) → mid.files ≡ old.files → TookFiles old mid before → FileFailed mid new name
     → TookFiles old new before ⊎ ((bytes : List ℕ) × Begins old.files name bytes × TookFiles old new (before ++ bytes ∷ []))
 failed_after old mid new before name files took h = elim h.took [

@@ -1,4 +1,4 @@
--- What a call that reads a file took of it, and what it did to its shelf.
+-- What a call that reads a file took from it, and what it did to its shelf.
 -- Source: own.
 use Rattle.std.specs.Prelude.{◌≡◌, ◌≤◌, ◌⊎◌, ◌+◌, ⊤, ℕ, List, [], ◌∷◌, ◌++◌, length, take, Option, OnOk, OnErr, Result, Ok, Err}
 use Rattle.diy_io.specs.{Count.Rose, Shelf.{Files, ShelfSeen}, Opened.{FileAbsent, IsFile, TookFiles}, declared.errors.Failed.Failed}
@@ -6,8 +6,8 @@ use Rattle.litmus_text.specs.declared.limits.TheConstants.{MAX_TEST_TEXT}
 use Rattle.tests_from_files.specs.declared.errors.FileFault.{FileFault}
 use Rattle.tests_from_files.specs.declared.errors.FileFault.TheVariants as faults
 
--- a file was opened, and this text was taken of it: all of it, or its first bytes, one more than a test may have; then it was
--- closed, or that failed
+-- a file was opened, and this text was taken from it: all of it, or its first bytes, one more than a test may have; then it was
+-- closed, or closing it failed
 pub record FileRead (old new : ShelfSeen) (name text : List ℕ) (closed : Result (Unit {0}) Failed) : Type 0 where
   pub whole : List ℕ
   pub named : IsFile old.files name whole
@@ -16,7 +16,7 @@ pub record FileRead (old new : ShelfSeen) (name text : List ℕ) (closed : Resul
   pub no_fault : OnOk closed (new.faults ≡ old.faults)
   pub fault : OnErr closed (Rose old.faults new.faults)
 
--- these are the first bytes of a file, and no more than a test may have
+-- these are the first bytes of a file, as far as it is shown, and no more than a test may have
 pub record Begins (files : Option Files) (name bytes : List ℕ) : Type 0 where
   pub text : List ℕ
   pub named : IsFile files name text
@@ -24,12 +24,12 @@ pub record Begins (files : Option Files) (name bytes : List ℕ) : Type 0 where
   pub parts : text ≡ bytes ++ rest
   pub short : length bytes ≤ MAX_TEST_TEXT
 
--- the shelf failed before a file was opened, or after some bytes of it
+-- the shelf failed: no file was opened, or the first bytes of this one were taken, at most as many as a test may have
 pub record FileFailed (old new : ShelfSeen) (name : List ℕ) : Type 0 where
   pub fault : Rose old.faults new.faults
   pub took : TookFiles old new [] ⊎ ((bytes : List ℕ) × Begins old.files name bytes × TookFiles old new (bytes ∷ []))
 
--- all of a file was taken, its text is judged to be this, and the shelf didn't fail
+-- all of a file was taken, its text is judged to be this, and there was no error of the shelf
 pub record FileIs {X E : Type 0} (judge : List ℕ → Result X E) (old new : ShelfSeen) (name : List ℕ) (x : X) : Type 0 where
   pub text : List ℕ
   pub named : IsFile old.files name text
@@ -44,7 +44,7 @@ pub record FileFaulty {X E : Type 0} (judge : List ℕ → Result X E) (old new 
   pub fault : judge text ≡ Err error
   pub took : TookFiles old new (take (MAX_TEST_TEXT + 1) text ∷ [])
 
--- an answer to the reading of a file, and the text that was read, or what is there in its place
+-- the result of reading a file, and the text that was read, if one was; if there is no memory, nothing is said
 abbrev pub FileTo : ShelfSeen → ShelfSeen → List ℕ → List ℕ → Result (Result (Unit {0}) Failed) FileFault → Type 0
 FileTo old new name text (Ok closed) = FileRead old new name text closed
 FileTo old new name text (Err faults.Missing) = FileAbsent old new name

@@ -1,5 +1,4 @@
--- Laws for callers: what is judged of a text is judged by its first bytes, one more than a test may have, and what a file is that
--- was read so.
+-- Laws for callers: a text is judged by its first bytes, one more than a test may have, and what a file is if so much of it was read.
 -- Source: own.
 use Rattle.std.proofs.Common.{◌≡◌, ◌≤◌, ◌<◌, ◌+◌, ⊎_elim, ℕ, Bool, true, false, List, [], ◌∷◌, length, take, refl, sym, ap, ◌∙◌, subst, arith, inr, nat_lt, append-nil}
 use Rattle.std.proofs.{lemmas.Bool.cases_lt, lemmas.Bool.Decides.nat_tests, lemmas.List.{take_all, length-take-le}}
@@ -11,8 +10,8 @@ use Rattle.litmus_text.specs.{declared.errors.TestKind.TheVariants.TooLarge, dec
 use Rattle.tests_from_files.specs.{declared.errors.TestFileError.TestFileError, declared.errors.TestFileKind.TheVariants.Test}
 use Rattle.tests_from_files.specs.{FilesRead.{FileRead, FileFailed, FileIs, FileFaulty}, TestSaid.{test_said, headed_said}}
 
--- a judgement of texts depends on their first bytes alone, one more than a test may have, and a text that is right has no more
--- than a test may have
+-- a judgement of texts depends only on their first bytes, one more than a test may have, and a text that it accepts has no more than
+-- a test may have
 pub record JudgesFirstBytes {X E : Type 0} (judge : List ℕ → Result X E) : Type 0 where
   pub same : (text : List ℕ) → judge (take (MAX_TEST_TEXT + 1) text) ≡ judge text
   pub short : (text : List ℕ) (x : X) → judge text ≡ Ok x → length text ≤ MAX_TEST_TEXT
@@ -48,11 +47,11 @@ right_short {X} {E} judge g fault h text x right = of_test (nat_lt MAX_TEST_TEXT
     of_test true e wrong = cc wrong
     of_test false e right = grind (arith, nat_tests, e)
 
--- a judgement that refuses long texts depends on the first bytes alone
+-- a judgement that refuses all long texts with one error depends only on the first bytes
 pub judges_first_bytes : {X E : Type 0} (judge g : List ℕ → Result X E) (fault : E) → RefusesLong judge fault g → JudgesFirstBytes judge
 judges_first_bytes judge g fault h = record { same = same_judged judge g fault h; short = right_short judge g fault h }
 
--- and so does one that goes further and takes no error back
+-- so does one that goes further and accepts no text with an error
 pub judges_further : {X Y E F : Type 0} (judge : List ℕ → Result X E) (further : Result X E → Result Y F)
     → ((e : E) (y : Y) → further (Err e) ≡ Ok y → ⊥) → JudgesFirstBytes judge → JudgesFirstBytes (λ text. further (judge text))
 judges_further {X} {Y} {E} {F} judge further kept h = record {
@@ -71,23 +70,23 @@ tests_refuse_long : (arch : ArchName) (w : Writing) → RefusesLong (test_said a
 unfolding test_said too_large
 tests_refuse_long arch w text = refl
 
--- what a text is as a test depends on its first bytes alone, and it isn't too long
+-- what a text is as a test depends only on its first bytes, and a test isn't too long
 pub tests_by_first_bytes : (arch : ArchName) (w : Writing) → JudgesFirstBytes (test_said arch w)
 tests_by_first_bytes arch w =
     judges_first_bytes (test_said arch w) (λ text. headed_said arch w text (arch_in_text text)) too_large (tests_refuse_long arch w)
 
--- what is taken of a text is as a test what the text is
+-- as a test, the first bytes of a text are what the text is
 pub said_by_first_bytes : (arch : ArchName) (w : Writing) (text : List ℕ) → test_said arch w (take (MAX_TEST_TEXT + 1) text) ≡ test_said arch w text
 said_by_first_bytes arch w text = (tests_by_first_bytes arch w).same text
 
--- what was taken of a file is all of it, where it is right
+-- what was taken from a file is all of it, if it is accepted
 whole_read : {X E : Type 0} (judge : List ℕ → Result X E) → JudgesFirstBytes judge → (whole text : List ℕ) (x : X) → text ≡ take (MAX_TEST_TEXT + 1) whole
     → judge text ≡ Ok x → text ≡ whole
 whole_read judge j whole text x e is =
     let right : judge whole ≡ Ok x = sym (j.same whole) ∙ sym (ap judge e) ∙ is in
     e ∙ take_all (MAX_TEST_TEXT + 1) whole (omega (arith, j.short whole x right))
 
--- a file whose text was judged to be right, and that was closed
+-- a file whose text was accepted, and that was closed
 pub file_is : {X E : Type 0} (judge : List ℕ → Result X E) → JudgesFirstBytes judge → (old new : ShelfSeen) (name text judged : List ℕ)
     (closed : Result (Unit {0}) Failed) (u : Unit {0}) (x : X) → FileRead old new name text closed → closed ≡ Ok u → judged ≡ text → judge judged ≡ Ok x
     → FileIs judge old new name x
@@ -101,7 +100,7 @@ file_is judge j old new name text judged closed u x r shut same right =
       no_fault = subst (λ c. OnOk c (new.faults ≡ old.faults)) shut r.no_fault;
     }
 
--- one that is right, but whose closing failed
+-- a file whose text was accepted, but whose closing failed
 pub file_unclosed : {X E : Type 0} (judge : List ℕ → Result X E) → JudgesFirstBytes judge → (old new : ShelfSeen) (name text judged : List ℕ)
     (closed : Result (Unit {0}) Failed) (f : Failed) (x : X) → FileRead old new name text closed → closed ≡ Err f → judged ≡ text → judge judged ≡ Ok x
     → FileFailed old new name
@@ -123,7 +122,7 @@ file_unclosed judge j old new name text judged closed f x r failed same right =
           );
     }
 
--- and one that has an error, whether or not its closing failed
+-- a file whose text has an error, whether or not its closing failed
 pub file_faulty : {X E : Type 0} (judge : List ℕ → Result X E) → JudgesFirstBytes judge → (old new : ShelfSeen) (name text judged : List ℕ)
     (closed : Result (Unit {0}) Failed) (error : E) → FileRead old new name text closed → judged ≡ text → judge judged ≡ Err error
     → FileFaulty judge old new name error

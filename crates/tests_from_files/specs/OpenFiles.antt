@@ -1,4 +1,4 @@
--- What only private functions cite: the text of a file that is open, as it is read.
+-- Used only by private functions: what is read of a file that is open.
 use Rattle.std.specs.{Prelude.{◌≡◌, ◌≤◌, ◌+◌, ⊤, ℕ, List, ◌++◌, length, take, IfSome, OnOk, OnErr, Result, Ok, Err}, Io.KnownBytes.Consumes}
 use Rattle.diy_io.specs.{Count.{count_of, Rose}, Shelf.{Idle, IsReading, ShelfSeen, left_to_read}, declared.errors.Failed.Failed}
 use Rattle.litmus_text.specs.declared.limits.TheConstants.{MAX_TEST_TEXT}
@@ -6,13 +6,13 @@ use Rattle.tests_from_files.specs.{declared.errors.FileFault.FileFault, declared
 use Rattle.tests_from_files.specs.declared.errors.FileFault.TheVariants as faults
 use Rattle.tests_from_files.specs.declared.errors.ReadFault.TheVariants as reads
 
--- so many bytes were taken of the file that is read, as far as they are counted, and it is the file that was opened before
+-- these bytes were taken from the file that is read, as far as they are counted; no file was opened, and none changed
 pub record TookBytes (old new : ShelfSeen) (bytes : List ℕ) : Type 0 where
   pub taken : count_of new.taken ≡ count_of (old.taken + length bytes)
   pub opened : new.opened ≡ old.opened
   pub files : new.files ≡ old.files
 
--- a file that is open was read to its end, or up to one byte more than a test may have, and this is what was taken
+-- a file that is open was read to its end, or up to one byte more than a test may have, and is still open; this is what was taken
 pub record FileReadWhole (old new : ShelfSeen) (bytes : List ℕ) : Type 0 where
   pub text : List ℕ
   pub shown : IfSome (left_to_read old.mode) (λ whole. whole ≡ text)
@@ -21,7 +21,7 @@ pub record FileReadWhole (old new : ShelfSeen) (bytes : List ℕ) : Type 0 where
   pub mode : IsReading new.mode
   pub no_fault : new.faults ≡ old.faults
 
--- the shelf failed, after bytes of the file that are no more than a test may have
+-- the shelf failed, after the first bytes of the file were taken, at most as many as a test may have
 pub record FileReadPart (old new : ShelfSeen) : Type 0 where
   pub bytes : List ℕ
   pub text : List ℕ
@@ -33,25 +33,25 @@ pub record FileReadPart (old new : ShelfSeen) : Type 0 where
   pub mode : new.mode ≡ Idle
   pub fault : Rose old.faults new.faults
 
--- there was no memory, and the file is open still
+-- there was no memory, the file is still open, and no file changed
 pub record ReadUnheld (old new : ShelfSeen) : Type 0 where
   pub mode : IsReading new.mode
   pub files : new.files ≡ old.files
 
--- an answer to the reading of a file that is open
+-- the result of reading a file that is open, and the text that was read
 abbrev pub FileReadTo : ShelfSeen → ShelfSeen → List ℕ → Result (Unit {0}) ReadFault → Type 0
 FileReadTo old new bytes (Ok x) = FileReadWhole old new bytes
 FileReadTo old new bytes (Err reads.Failed) = FileReadPart old new
 FileReadTo old new bytes (Err reads.NoMemory) = ReadUnheld old new
 
--- bytes of a file that is open were read
+-- these bytes of a file that is open were read without an error
 pub record FileReadSoFar (old new : ShelfSeen) (bytes : List ℕ) : Type 0 where
   pub consumed : Consumes (left_to_read old.mode) (left_to_read new.mode) bytes
   pub took : TookBytes old new bytes
   pub mode : IsReading new.mode
   pub no_fault : new.faults ≡ old.faults
 
--- a file that is open was read, to its end or up to one byte more than a test may have, and then closed, or that failed
+-- a file that is open was read, to its end or up to one byte more than a test may have, and then closed, or closing it failed
 pub record OpenRead (old new : ShelfSeen) (bytes : List ℕ) (closed : Result (Unit {0}) Failed) : Type 0 where
   pub text : List ℕ
   pub shown : IfSome (left_to_read old.mode) (λ whole. whole ≡ text)
@@ -60,7 +60,7 @@ pub record OpenRead (old new : ShelfSeen) (bytes : List ℕ) (closed : Result (U
   pub no_fault : OnOk closed (new.faults ≡ old.faults)
   pub fault : OnErr closed (Rose old.faults new.faults)
 
--- an answer to a file that is open, which is read and closed
+-- the result of reading and closing a file that is open, and the text that was read
 abbrev pub OpenTo : ShelfSeen → ShelfSeen → List ℕ → Result (Result (Unit {0}) Failed) FileFault → Type 0
 OpenTo old new bytes (Ok closed) = OpenRead old new bytes closed
 OpenTo old new bytes (Err faults.Missing) = ⊥

@@ -9,15 +9,15 @@ use litmus_text::TestKind;
 /// What is wrong with a file of a test.
 #[derive(Clone, Copy, PartialEq, Eq)]
 pub enum FileKind {
-    /// It has no header, or isn't a test of the architecture that the header names.
+    /// It has too many bytes or no header, or isn't a test of the architecture that the header names.
     Test(TestKind),
-    /// It is a test of another architecture than the one asked for.
+    /// Its header names another architecture than the one asked for.
     WrongArch,
-    /// It quotes no text, or one that spells no cycle of the architecture.
+    /// It is a test, but quotes no text, or one that spells no cycle of the architecture.
     NoCycle,
 }
 
-/// Where a file is wrong, and what is wrong there.
+/// The first error of a file, and its line.
 #[derive(Clone, Copy, PartialEq, Eq)]
 pub struct FileError {
     /// The number of the line, from 1. It is 1 for `WrongArch`, and 2 for `NoCycle`.
@@ -25,25 +25,25 @@ pub struct FileError {
     pub kind: FileKind,
 }
 
-/// How a call that classifies files ended. A `file` and a `word` are the place of the word that names
-/// the file.
+/// How a call that classifies files ended. `file` and `word` are the position, from 0, of the argument
+/// that names the file.
 #[derive(Clone, Copy, PartialEq, Eq)]
 pub enum FilesEnd {
-    /// The families are written.
+    /// The names are written by their families.
     Done,
-    /// A file is wrong, the first such.
+    /// A file has an error, its first one, and the files before it have none.
     Wrong {
         file: usize,
         line: u64,
         kind: FileKind,
     },
-    /// The word names no file.
+    /// The argument names no file, and the files before it have no error.
     NoFile {
         word: usize,
     },
-    /// The shelf failed.
+    /// The shelf failed at a file, and the files before it have no error.
     ShelfFault,
-    /// The output failed.
+    /// The sink failed, and has taken a prefix of what was to be written.
     OutFault,
     /// There is no memory.
     NoMemory,
@@ -60,7 +60,7 @@ pub(crate) enum TextFault {
 /// Why a file gives no cycle.
 #[derive(Clone, Copy)]
 pub(crate) enum CycleFault {
-    /// It isn't there.
+    /// It doesn't exist.
     Missing,
     /// The shelf failed.
     Device,
@@ -68,7 +68,7 @@ pub(crate) enum CycleFault {
 }
 
 impl FileKind {
-    /// What is wrong with the text of a test.
+    /// The kind of an error of a text, as that of a file.
     fn of_test(kind: TestFileKind) -> FileKind
         ensures { result ≡ classified_kind kind }
     {
@@ -80,7 +80,7 @@ impl FileKind {
 }
 
 impl FileError {
-    /// Where the text of a test is wrong.
+    /// The error of a text, as that of a file.
     pub(crate) fn of_test(error: TestFileError) -> FileError
         ensures { result ≡ test_error error }
     {
@@ -120,7 +120,7 @@ impl From<TextFault> for CycleFault {
 }
 
 impl CycleFault {
-    /// The end where the file that a word names gives no cycle.
+    /// How a call ends if the file that the argument at this position names gives no cycle.
     pub(crate) fn end_at(self, word: usize) -> FilesEnd
         ensures { result ≡ file_end word self }
     {

@@ -10,8 +10,8 @@ use diy_io::{Failed, Shelf, Words};
 use edge_algebra::Cycle;
 use std::alloc::Global;
 
-/// The cycle that is quoted by the test in the file that the word at a place names. The file is read into `text`, in
-/// pieces as long as `piece`.
+/// The cycle that is quoted by the test in the file that the argument at a position names. The file is read into
+/// `text`, in pieces of at most the length of `piece`.
 pub(crate) fn cycle_of_file<A: Arch, H: Shelf>(
     alloc: Global,
     shelf: &mut H,
@@ -31,8 +31,8 @@ pub(crate) fn cycle_of_file<A: Arch, H: Shelf>(
     closed_cycle::<A>(alloc, text.as_slice(), closed)
 }
 
-/// The cycle that is quoted by the test that a file's text is, where this is the answer to the closing of the file. A
-/// error of the text is the answer also where the closing failed.
+/// The cycle that is quoted by the test that a file's text is, given the result of closing the file. An error of the
+/// text is returned also if closing failed.
 fn closed_cycle<A: Arch>(
     alloc: Global,
     text: &[u8],

@@ -1,9 +1,9 @@
 use litmus_text::TestKind;
 
-/// Why a file isn't read.
+/// Why a file wasn't read.
 #[derive(Clone, Copy, PartialEq, Eq)]
 pub enum FileFault {
-    /// It isn't there.
+    /// It doesn't exist.
     Missing,
     /// The shelf failed, when the file was opened or read.
     Failed,
@@ -11,16 +11,16 @@ pub enum FileFault {
     NoMemory,
 }
 
-/// What is wrong with the text of a test.
+/// The kind of the first error of a text that is no test of an architecture.
 #[derive(Clone, Copy, PartialEq, Eq)]
 pub enum TestFileKind {
-    /// It has no header, or isn't a test of the architecture that the header names.
+    /// It has too many bytes or no header, or isn't a test of the architecture that the header names.
     Test(TestKind),
-    /// It is a test of another architecture than the one asked for.
+    /// Its header names another architecture than the one asked for.
     WrongArch,
 }
 
-/// Where the text of a test is wrong, and what is wrong there.
+/// The first error of a text that is no test of an architecture, and its line.
 #[derive(Clone, Copy, PartialEq, Eq)]
 pub struct TestFileError {
     /// The number of the line, from 1. It is 1 for `WrongArch`.
@@ -28,16 +28,16 @@ pub struct TestFileError {
     pub kind: TestFileKind,
 }
 
-/// Why a text gives no test.
+/// Why there is no test of a text.
 #[derive(Clone, Copy, PartialEq, Eq)]
 pub enum NoTest {
-    /// It is wrong.
+    /// The text has an error.
     Wrong(TestFileError),
     /// There is no memory for the test.
     NoMemory,
 }
 
-/// Why a file that is open isn't read.
+/// Why a file that is open couldn't be read.
 #[derive(Clone, Copy)]
 pub(crate) enum ReadFault {
     /// The shelf failed.

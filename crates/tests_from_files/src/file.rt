@@ -6,12 +6,13 @@ use crate::errors::{FileFault, ReadFault};
 use crate::text::read_text;
 use diy_io::{Failed, OpenError, Shelf, Words};
 
-/// Reads the file that the word at a place names into `text`, in place of what that held, to its end or up to one
-/// byte more than a test may have, and closes it. The inner answer is that of closing: the text was read also where
-/// that failed.
+/// Reads the file that the argument at a position names into `text`, replacing what that held, to its end or up to one
+/// byte more than a test may have, and closes it. The inner result is that of closing: the text was read also if that
+/// failed.
 ///
-/// A `FileFault` says that the file isn't there, that the shelf failed before the text was read, or that there
-/// is no memory for it. Pieces are as long as `piece`.
+/// A `FileFault` says that the file doesn't exist, that the shelf failed before all of this was read, or that there is
+/// no memory for the text. The shelf has no open file before and after. The file is read in pieces of at most the
+/// length of `piece`, which isn't empty.
 pub fn read_named_file<H: Shelf>(
     shelf: &mut H,
     words: &Words,
@@ -29,7 +30,7 @@ pub fn read_named_file<H: Shelf>(
     read_file(shelf, words.get(place), piece, text)
 }
 
-/// Reads the file of a name in this way.
+/// Reads the file with a name in this way.
 fn read_file<H: Shelf>(
     shelf: &mut H,
     name: &str,
@@ -49,7 +50,7 @@ fn read_file<H: Shelf>(
     }
 }
 
-/// Reads the file that is open, and closes it.
+/// Reads the file that is open in this way, and closes it.
 fn read_open<H: Shelf>(
     shelf: &mut H,
     piece: &mut [u8],

@@ -9,14 +9,15 @@ use cycles_from_lines::Families;
 use diy_io::{Failed, NoMemory, Shelf, Sink, Words};
 use std::alloc::Global;
 
-/// How many bytes are read at once.
+/// The most bytes that are read at once: 4,096.
 const PIECE: usize = 4_096;
 
-/// Reads the files that the words at these places name, in order, as tests of an architecture, and then writes the
-/// names of the cycles that they quote by their families, as `Families` does.
+/// Reads the files that the arguments at these positions name, in order, as tests of an architecture, and then writes
+/// the names of the cycles that they quote by their families, as `Families` does.
 ///
-/// A file is opened once, and read to its end, or up to one byte more than a test may have. Where one is wrong or
-/// isn't there, or the shelf fails, or there is no memory, nothing is read after that, and nothing is written.
+/// A file is opened once, and read to its end, or up to one byte more than a test may have. If one has an error or
+/// doesn't exist, or the shelf fails, or there is no memory, nothing is read after that, and nothing is written. The
+/// shelf has no open file before and after.
 pub fn classify_files<A: Arch, H: Shelf, O: Sink>(
     alloc: Global,
     words: &Words,

@@ -1,5 +1,5 @@
-//! Files of tests: a file is read from a shelf, to its end or up to one byte more than a test may have; what its text is as a test of
-//! an architecture; and the names of the cycles that such tests quote, written by their families.
+//! Files of tests: a file is read from a shelf, to its end or up to one byte more than a test may have; its text is read as a test of an
+//! architecture; and the names of the cycles that such tests quote are written by their families.
 #![tactic(auto)]
 
 mod classified_errors;

@@ -12,8 +12,8 @@ use std::alloc::Global;
 /// The line of a test that quotes its cycle.
 const QUOTED_LINE: u64 = 2;
 
-/// The cycle that a text quotes as a test, or the text's first error: those of a test, then that it quotes
-/// no cycle.
+/// The cycle that a text quotes as a test, or the text's first error: those of a test come first, and then that it
+/// quotes no cycle.
 #[tactic(auto, unfolding(crate::specs::QuotedCycle::text_said))]
 pub(crate) fn cycle_of_text<A: Arch>(alloc: Global, text: &[u8]) -> Result<Cycle, TextFault>
     ensures { SaysCycleInMemory result (text_said A.NAME A.writing text.now) }

@@ -11,8 +11,8 @@ use std::alloc::Global;
 /// The line of a test that names its architecture.
 const HEADER_LINE: u64 = 1;
 
-/// The test of an architecture that a text is, or the text's first error: too many bytes, its header, another
-/// architecture, the rest of the text. `NoMemory` may come for any text.
+/// The test of an architecture that a text is, or the text's first error: too many bytes come first, then the header,
+/// then another architecture, then the rest of the text. `NoMemory` may come for any text.
 #[tactic(auto, unfolding(crate::specs::TestSaid::test_said))]
 pub fn test_of_text<A: Arch>(alloc: Global, text: &[u8]) -> Result<ReadTest<A>, NoTest>
     ensures { SaysTestInMemory result (test_said A.NAME A.writing text.now) }
@@ -26,7 +26,7 @@ pub fn test_of_text<A: Arch>(alloc: Global, text: &[u8]) -> Result<ReadTest<A>, 
     }
 }
 
-/// The same of a text whose header names an architecture.
+/// The same for a text whose header names an architecture.
 fn test_of_headed<A: Arch>(
     alloc: Global,
     named: ArchName,

@@ -6,8 +6,8 @@ use crate::errors::ReadFault;
 use diy_io::{Failed, Shelf};
 use litmus_text::MAX_TEST_TEXT;
 
-/// Reads the file that is open into `text`, in place of what that held, up to one byte more than a test may have. It
-/// stays open, but where the shelf fails. Pieces are as long as `piece`.
+/// Reads the file that is open into `text`, replacing what that held, to its end or up to one byte more than a test
+/// may have. The file stays open unless the shelf fails. It is read in pieces of at most the length of `piece`.
 pub(crate) fn read_text<H: Shelf>(
     shelf: &mut H,
     piece: &mut [u8],
@@ -35,7 +35,7 @@ pub(crate) fn read_text<H: Shelf>(
     }
 }
 
-/// Reads bytes of the file that is open into the first so many of `piece`, and says how many.
+/// Reads at most `room` bytes of the file that is open into the start of `piece`, and returns how many.
 fn read_piece<H: Shelf>(shelf: &mut H, piece: &mut [u8], room: usize) -> Result<usize, Failed>
     requires reading { IsReading (H.seen shelf.old).mode }
     requires some { 0 < room }

@@ -5,28 +5,28 @@ use Rattle.std.specs.{Fmt.decimal, List.enumerate_from, List.flat_map}
 use Rattle.relax_edges.specs.declared.edge.Edge.{Edge}
 use Rattle.cycle_names.specs.CycleNames.{name_of}
 
--- the last number that tests are counted to
+-- the maximum of a count of tests
 abbrev pub last_number : ℕ
 last_number = 2 ^ 128 - 1
 
--- a number of tests as it is counted, which stops at the last one
+-- a number of tests as it is counted, which stops at the maximum
 abbrev pub file_number : ℕ → ℕ
 file_number n = min n last_number
 
--- what the files of a test are called but for their ending, by its number and its name: the name where that has at most 200
--- bytes, else `long` and the number
+-- the name of a test's files without the ending, by the number and the name of the test: the name if it has at most 200 bytes, otherwise
+-- `long` and the number
 unfoldable pub stem_named : ℕ → List ℕ → List ℕ
 stem_named number name = if nat_le (length name) 200 then name else codes "long" ++ decimal (file_number number)
 
--- the file of a test by its number and its name
+-- the name of the file of a test, by the number and the name of the test
 unfoldable pub file_named : ℕ → List ℕ → List ℕ
 file_named number name = stem_named number name ++ codes ".litmus"
 
--- the file of the test of a cycle by its number
+-- the name of the file of a cycle's test, by the number of the test
 abbrev pub file_of : ℕ → List Edge → List ℕ
 file_of number cycle = file_named number (name_of cycle)
 
--- a file by its name in a folder, where there is one
+-- the path of a file, in a folder if one is given
 abbrev pub path_of : Option (List ℕ) → List ℕ → List ℕ
 path_of None file = file
 path_of (Some folder) file = folder ++ codes "/" ++ file
@@ -35,11 +35,11 @@ path_of (Some folder) file = folder ++ codes "/" ++ file
 abbrev pub all_path : Option (List ℕ) → List ℕ
 all_path folder = path_of folder (codes "@all")
 
--- the lines that name the files of tests, numbered from the first one's number on
+-- the lines that name the files of the tests of cycles, numbered from `first` on
 unfoldable pub file_lines : ℕ → List (List Edge) → List ℕ
 file_lines first cycles = flat_map (λ test. file_of test.0 test.1 ++ codes "\n") (enumerate_from first cycles)
 
--- the files of the tests of cycles, by their paths and their texts
+-- the files of the tests of cycles, numbered from 0: the path and the text of each
 unfoldable pub test_files : Option (List ℕ) → (List Edge → List ℕ) → List (List Edge) → List (List ℕ × List ℕ)
 test_files folder text cycles = map (λ test. (path_of folder (file_of test.0 test.1), text test.1)) (enumerate_from 0 cycles)
 

@@ -1,4 +1,4 @@
--- What a listing asks for: which cycles have a test in it, and what their tests are.
+-- What a listing requests: which cycles have a test in it, and what their tests are.
 -- Source: own, after diy.
 use Rattle.std.specs.{Prelude.{◌≡◌, ℕ, Bool, true, ◌&&◌, ◌||◌, not, nat_le, is_none, List, [], ◌∷◌, length, Option, Some, None}, List.list_all, Borrow.Bor}
 use Rattle.std.specs.Option.{option_map}
@@ -12,22 +12,22 @@ use Rattle.test_maker.specs.{Refusals.refusal_of, CycleText.cycle_text}
 use Rattle.cycle_enum.specs.{declared.limits.Limits.Limits, Walking.Walking}
 use Rattle.tests_to_files.specs.{ListedFiles.{path_of, file_of, test_files}, declared.listing.Listing.Listing, declared.wanted.Wanted.Wanted}
 
--- a cycle has at most so many threads: so many of its edges lead to another one
+-- a cycle has at most this many threads, observers not counted: at most this many of its edges lead to another thread
 abbrev pub has_few_threads : ℕ → List Edge → Bool
 has_few_threads threads cycle = nat_le (external_count cycle) threads
 
--- each of a cycle's own threads has at most so many accesses, observers not counted: so many of its events are in a thread of
--- the cycle as it is resolved; without a limit all cycles are so
+-- each of a cycle's own threads has at most this many accesses, observers not counted: at most this many of its events are in each
+-- thread as the cycle is resolved; without a limit this holds for all cycles
 unfoldable pub has_few_accesses : Option ℕ → List Edge → Bool
 has_few_accesses None cycle = true
 has_few_accesses (Some most) cycle = list_all (λ thread. nat_le (length (events_in (turned cycle) thread)) most) (upto (external_count cycle))
 
--- a cycle has a test, has at most so many threads, and has at most so many accesses in each
+-- a cycle has a test, at most this many threads, and at most this many accesses in each of them
 unfoldable pub is_wanted : Puts → ObsMode → ℕ → Option ℕ → List Edge → Bool
 is_wanted puts mode threads accesses cycle =
     is_none (refusal_of puts cycle mode) && (has_few_threads threads cycle && has_few_accesses accesses cycle)
 
--- the last of some edges, if there is one, is such an edge
+-- the last of some edges, if there is one, passes a test
 abbrev pub ends_in : (Edge → Bool) → List Edge → Bool
 ends_in is_such [] = true
 ends_in is_such (edge ∷ []) = is_such edge
@@ -41,13 +41,13 @@ ends_of_arch arch = ends_in (λ edge. is_of_arch edge arch)
 abbrev pub ends_inside : List Edge → Bool
 ends_inside = ends_in (λ edge. not (is_external edge))
 
--- such a cycle may begin with these edges if it may with those before the last: the last is of the architecture, and stays in its
--- thread, or there are no more threads so far
+-- a required cycle may begin with these edges, if it may with those before the last: the last is of the architecture, and either it stays
+-- in its thread or the edges lead to no more threads than are allowed
 unfoldable pub may_lead : ArchName → ℕ → List Edge → Bool
 may_lead arch threads edges = ends_of_arch arch edges && (ends_inside edges || has_few_threads threads edges)
 
--- a cycle is wanted if it has a test: it has two threads or more, but no more than are asked for, all its edges are of the
--- architecture, and each of its threads has few accesses
+-- a cycle with a test is a required one: it has two threads or more, but no more than are allowed, all its edges are of the architecture,
+-- and each of its threads has few enough accesses
 unfoldable pub is_sought : ArchName → ℕ → Option ℕ → List Edge → Bool
 is_sought arch threads accesses cycle =
     nat_le 2 (external_count cycle)
@@ -57,7 +57,7 @@ is_sought arch threads accesses cycle =
 abbrev pub HaveTests : Puts → ObsMode → (List Edge → Type 0) → List Edge → Type 0
 HaveTests puts mode listed cycle = (listed cycle) × (refusal_of puts cycle mode ≡ None)
 
--- the architecture of a listing by its code and how that is written, what it wants of a cycle, and its relaxations and limits
+-- a listing: its architecture, by the code and how that is written; mode, threads, accesses, folder, relaxations and limits
 pub record Plan : Type 0 where
   pub puts : Puts
   pub writing : Writing
@@ -68,15 +68,15 @@ pub record Plan : Type 0 where
   pub relaxes : List (List Edge)
   pub limits : Limits
 
--- a folder, where one is given
+-- a folder, if one is given
 abbrev pub folder_in : Option (Bor (List ℕ)) → Option (List ℕ)
 folder_in folder = option_map (λ text. text.now) folder
 
--- the folder of its files
+-- the folder of a listing's files, if one is given
 abbrev pub folder_of : Wanted → Option (List ℕ)
 folder_of wanted = folder_in wanted.folder
 
--- the plan of a listing by what it wants
+-- the plan of a listing, from what it requires, its relaxations and its limits
 abbrev pub plan_of : Puts → Writing → Wanted → List (List Edge) → Limits → Plan
 plan_of puts writing wanted relaxes limits = record {
   puts = puts;
@@ -89,23 +89,24 @@ plan_of puts writing wanted relaxes limits = record {
   limits = limits;
 }
 
--- what a listing wants, by what is asked for
+-- what a listing requires of a cycle, from its request
 abbrev pub wanted_in : Listing → Wanted
 wanted_in listing = record { threads = listing.threads; accesses = listing.accesses; mode = listing.mode; folder = listing.folder }
 
--- the plan of a listing by what is asked for
+-- the plan of a listing, from its request
 abbrev pub plan_in : Puts → Writing → Listing → Plan
 plan_in puts writing listing = plan_of puts writing (wanted_in listing) listing.relaxes listing.limits
 
--- the plan of a listing by what it wants and by its walk
+-- the plan of a listing, from what it requires and its walk
 abbrev pub walk_plan : {K J P : Type 0} → Puts → Writing → Wanted → Walking K J P → Plan
 walk_plan puts writing wanted walk = plan_of puts writing wanted walk.relaxes walk.limits
 
--- a listing wants a cycle if that has a test
+-- a listing requires a cycle, if that has a test
 abbrev pub Seeks : Puts → Wanted → List Edge → Type 0
 Seeks puts wanted cycle = is_sought puts.name wanted.threads wanted.accesses cycle ≡ true
 
--- a cycle is listed
+-- a cycle is listed: it is in normal form, keeps the limits, is built from the relaxations, has a test, and has few enough threads and
+-- accesses
 abbrev pub IsPlanned : Plan → List Edge → Type 0
 IsPlanned plan = IsListed (λ cycle. is_wanted plan.puts plan.mode plan.threads plan.accesses cycle ≡ true) plan.relaxes plan.limits.size plan.limits.exact
 
@@ -117,11 +118,11 @@ named_text puts writing mode cycle = cycle_text puts writing mode (name_of cycle
 abbrev pub planned_text : Plan → List Edge → List ℕ
 planned_text plan = named_text plan.puts plan.writing plan.mode
 
--- the file of the test of a cycle, by its path and its text, under the number of the test
+-- the file of the test of a cycle, by the number of the test: its path and its text
 abbrev pub test_file_of : Puts → Writing → Wanted → ℕ → List Edge → List ℕ × List ℕ
 test_file_of puts writing wanted number cycle =
     (path_of (folder_of wanted) (file_of number cycle), named_text puts writing wanted.mode cycle)
 
--- the files of the tests of cycles, numbered from 0
+-- the files of the tests of cycles, numbered from 0: the path and the text of each
 abbrev pub test_files_of : Puts → Writing → Wanted → List (List Edge) → List (List ℕ × List ℕ)
 test_files_of puts writing wanted cycles = test_files (folder_of wanted) (named_text puts writing wanted.mode) cycles

@@ -4,23 +4,23 @@ use Rattle.std.specs.{Prelude.{◌≡◌, ◌⊎◌, ℕ, List, [], ◌∷◌, �
 use Rattle.tests_to_files.specs.declared.putting.File.{File}
 use Rattle.diy_io.specs.Shelf.{Files, ShelfSeen, Idle, Writing, with_file, CountsStay, Faulted}
 
--- a file that is to be written, by its path and its bytes
+-- a file that is to be written: its path and its bytes
 abbrev pub file_put : File → List ℕ × List ℕ
 file_put file = (file.path.bytes, file.bytes.now)
 
--- files to which these are added, one after another, each by its path and its bytes
+-- the files once these are written, one after another, each with its path and its bytes
 abbrev pub with_files : List (List ℕ × List ℕ) → Files → Files
 with_files [] files = files
 with_files (file ∷ rest) files = with_files rest (with_file file.0 file.1 files)
 
--- these files were written on a shelf, and nothing failed
+-- these files were written on a shelf without an error, and none is open
 pub record PutFiles (old new : ShelfSeen) (added : List (List ℕ × List ℕ)) : Type 0 where
   pub mode : new.mode ≡ Idle
   pub files : new.files ≡ option_map (with_files added) old.files
   pub no_fault : new.faults ≡ old.faults
   pub counts : CountsStay old new
 
--- these files were written on a shelf, and then it failed at one with this text: that one is as it was, or has a prefix of the text
+-- these files were written on a shelf, and then it failed at the one with this path: that one is as it was, or has a prefix of the text
 pub record PutPart (old new : ShelfSeen) (added : List (List ℕ × List ℕ)) (path text : List ℕ) : Type 0 where
   pub prefix : List ℕ
   pub rest : List ℕ
@@ -30,11 +30,11 @@ pub record PutPart (old new : ShelfSeen) (added : List (List ℕ × List ℕ)) (
   pub counts : CountsStay old new
   pub faulted : Faulted old new
 
--- a shelf failed at its first file, by its path and its text: that one is as it was, or has a prefix of the text
+-- a shelf failed at a file, given by its path and its text, before any was written: that one is as it was, or has a prefix of the text
 abbrev pub FailsAt : ShelfSeen → ShelfSeen → List ℕ × List ℕ → Type 0
 FailsAt old new file = PutPart old new [] file.0 file.1
 
--- a file is being written on a shelf, and has these bytes so far
+-- a file is being written on a shelf without an error, and has these bytes so far
 pub record Filling (old new : ShelfSeen) (path bytes : List ℕ) : Type 0 where
   pub mode : new.mode ≡ Writing path
   pub files : new.files ≡ option_map (with_file path bytes) old.files

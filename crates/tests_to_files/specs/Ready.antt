@@ -1,4 +1,4 @@
--- A test that is made and ready to be printed.
+-- A test that is made and ready to be printed. It is used only by private functions.
 -- Source: own.
 use Rattle.std.specs.{Prelude.{◌≡◌, ℕ, List, length}, List.All}
 use Rattle.relax_edges.specs.{declared.edge.Edge.Edge, declared.kinds.ArchName.ArchName, declared.kinds.ObsMode.ObsMode}
@@ -6,7 +6,7 @@ use Rattle.arch_trait.specs.{Threads.Puts, Writing.Writing}
 use Rattle.litmus_text.specs.{declared.test.Test.Test, KeptCells.{TableSeen, HoldsTable}, Tests.{IsPrintable, test_seen}, TestText.test_text}
 use Rattle.test_maker.specs.CycleText.{cycle_text}
 
--- a test is that of a cycle on an architecture with so many registers, it can be printed, and its table is kept
+-- a test is that of a cycle in a mode, on an architecture with this many registers; it can be printed, and its table is kept
 pub record IsReady (arch : ArchName) (registers : ℕ) (puts : Puts) (writing : Writing) (mode : ObsMode) (cycle : List Edge) (test : Test) (table : TableSeen) : Type 0 where
   pub text : (name : List ℕ) → test_text arch writing name (test_seen test) ≡ cycle_text puts writing mode name cycle
   pub printable : All (λ code. IsPrintable puts.has registers (length test.places) code) test.threads.items

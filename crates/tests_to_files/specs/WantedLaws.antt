@@ -1,4 +1,4 @@
--- A law of wanted cycles, for the crates above; it holds no definition.
+-- A law of required cycles, for the crates above; it holds no definition.
 use Rattle.std.proofs.{Common.{◌≡◌, ℕ, true, ◌&&◌, List, Option, Some, None, refl}, lemmas.Bool.and_parts}
 use Rattle.std.specs.Prelude.{is_none}
 use Rattle.relax_edges.specs.{declared.edge.Edge.Edge, declared.kinds.ObsMode.ObsMode}
@@ -10,7 +10,7 @@ none_is : {X : Type 0} (o : Option X) → is_none o ≡ true → o ≡ None
 none_is None h = refl
 none_is (Some x) h = cc
 
--- a cycle that is wanted has a test
+-- a required cycle has a test
 pub wanted_has_test : (puts : Puts) (mode : ObsMode) (threads : ℕ) (accesses : Option ℕ) (cycle : List Edge) → is_wanted puts mode threads accesses cycle ≡ true → refusal_of puts cycle mode ≡ None
 unfolding is_wanted
 wanted_has_test puts mode threads accesses cycle h =

@@ -1,10 +1,10 @@
 /// How a listing ended.
 #[derive(Clone, Copy, PartialEq, Eq)]
 pub enum ListingEnd {
-    /// All files and the line on their number are written.
+    /// All files and the line on their number were written.
     Done,
-    /// The shelf failed at a file.
+    /// The shelf failed at a file. Those before it were written, and nothing to the sink.
     ShelfFault,
-    /// All files are written, and the sink failed at the line on their number.
+    /// All files were written, and the sink failed at the line on their number.
     OutFault,
 }

@@ -5,16 +5,16 @@ use arrayvec::ArrayString;
 use diy_io::MAX_FOLDER;
 use itoa::Buffer;
 
-/// The most bytes of a name that a file has.
+/// The most bytes of a test's name that its file is called by: 200.
 const MAX_NAMED: usize = 200;
 
-/// The most bytes of the ending of a file's name.
+/// The most bytes of the ending of a file's name: 7.
 pub const MAX_ENDING: usize = 7;
 
-/// The most bytes of a file's name in its folder.
+/// The most bytes of a file's name, with its ending and without its folder.
 pub(crate) const MAX_FILE: usize = 207;
 
-/// The most bytes of a file's name with its folder.
+/// The most bytes of a file's name with its folder: 1,232.
 pub const MAX_PATH: usize = 1_232;
 
 pub(crate) type FileName = ArrayString<MAX_FILE>;
@@ -22,7 +22,7 @@ pub(crate) type FileName = ArrayString<MAX_FILE>;
 /// The name of a file with its folder.
 pub type Path = ArrayString<MAX_PATH>;
 
-/// The file of a test by its number and its name.
+/// The name of the file of a test, by the number and the name of the test.
 #[tactic(auto, unfolding(crate::specs::ListedFiles::file_named))]
 pub(crate) fn file_named(number: u128, name: &str) -> FileName
     ensures { result.bytes ≡ file_named number name.now }
@@ -30,7 +30,8 @@ pub(crate) fn file_named(number: u128, name: &str) -> FileName
     file_ending(number, name, ".litmus")
 }
 
-/// The path of a file of a test by the test's number and name, and by the file's ending.
+/// The path of a file of a test, by the number and the name of the test and the file's ending. The folder has at most
+/// `MAX_FOLDER` bytes, and the ending at most `MAX_ENDING`.
 pub fn test_path(folder: Option<&str>, number: u128, name: &str, ending: &str) -> Path
     requires folder { ForSome folder (λ folder. length folder.now ≤ MAX_FOLDER) }
     requires ending { length ending.now ≤ MAX_ENDING }
@@ -39,7 +40,7 @@ pub fn test_path(folder: Option<&str>, number: u128, name: &str, ending: &str) -
     path_of(folder, file_ending(number, name, ending).as_str())
 }
 
-/// What a file of a test is called that has this ending.
+/// The name of a file of a test with this ending.
 #[tactic(auto, unfolding(crate::specs::ListedFiles::stem_named))]
 fn file_ending(number: u128, name: &str, ending: &str) -> FileName
     requires { length ending.now ≤ MAX_ENDING }
@@ -57,7 +58,7 @@ fn file_ending(number: u128, name: &str, ending: &str) -> FileName
     file
 }
 
-/// A file by its name in a folder, where there is one.
+/// The path of a file, in a folder if one is given.
 pub(crate) fn path_of(folder: Option<&str>, file: &str) -> Path
     requires folder { ForSome folder (λ folder. length folder.now ≤ MAX_FOLDER) }
     requires file { length file.now ≤ MAX_FILE }
@@ -68,7 +69,7 @@ pub(crate) fn path_of(folder: Option<&str>, file: &str) -> Path
     path
 }
 
-/// Makes `path` a file by its name in a folder, where there is one.
+/// Sets `path` to that of a file, in a folder if one is given.
 pub(crate) fn set_path(folder: Option<&str>, file: &str, path: &mut Path)
     requires folder { ForSome folder (λ folder. length folder.now ≤ MAX_FOLDER) }
     requires file { length file.now ≤ MAX_FILE }

@@ -19,16 +19,17 @@ use litmus_text::{KeptTable, Test};
 use relax_edges::{MAX_EDGES, ObsMode};
 
 /// Writes a file for each of some cycles, in their order, then the file `@all` that names them, and
-/// then a line on their number to `out`. It takes no memory.
+/// then a line on their number to `out`. It allocates no memory.
 ///
-/// Each cycle has a test on the architecture in the mode. The files have the texts and the names
-/// that `list_tests` gives them, numbered from 0; cycles that are rotations of each other have one
-/// name, and the later one's file takes the place of the earlier one's.
+/// Each cycle must have a test on the architecture in the mode. The files have the texts and the names
+/// that `list_tests` gives them, numbered from 0. Cycles that are rotations of each other have one
+/// name; if it has at most 200 bytes, the later one's file replaces the earlier one's.
 ///
-/// `ShelfFault` comes only where the shelf's count of faults rose. Then the files up to one are
-/// whole, that one is as it was or has a prefix of its text, no other file changed, and nothing is
-/// written to `out`. `OutFault` comes only where the count of `out` rose. Then all files are whole,
-/// and `out` has a prefix of the line. In each case the shelf is at nothing again.
+/// `ShelfFault` comes only if the shelf's error count rose or is at its maximum. Then the files before
+/// one are complete, that one is as it was or has a prefix of its text, no other file changed, and
+/// nothing is written to `out`. `OutFault` comes only if the error count of `out` rose or is at its
+/// maximum. Then all files are complete, and `out` has a prefix of the line. The shelf has no open file
+/// before and after.
 pub fn put_cycles<A: Arch, H: Shelf, O: Sink>(
     cycles: &[Cycle],
     mode: ObsMode,
@@ -69,7 +70,7 @@ fn put_given<A: Arch, H: Shelf>(
     ensures ok { OnOk result (PutFiles (H.seen shelf.old) (H.seen shelf.new) (given_files_of A.puts A.writing wanted.now cycles.now)) }
     ensures failed { OnErr result (PutUpTo (H.seen shelf.old) (H.seen shelf.new) (given_files_of A.puts A.writing wanted.now cycles.now)) }
 {
-    // It is written out here, and not made by a call of `Test::new`, for the reason that `Desk` gives.
+    // It is written out here, and not made by a call of `Test::new`, for the reasons given at `Desk`.
     let mut test = Test {
         edges: ArrayVec::new(),
         places: Places::new(),
@@ -109,10 +110,10 @@ fn put_tests_of<A: Arch, H: Shelf>(
     Ok(())
 }
 
-/// The most bytes of lines that wait to be written: none is looked at again, so that there is little room to be cleared.
+/// The most bytes of lines that wait to be written. None is read again, so a small buffer, which is cleared fast, is enough.
 const MAX_WAITING: usize = 8_192;
 
-/// Writes the file on the shelf that names the files of cycles.
+/// Writes the file on the shelf that names the files of cycles, numbered from 0.
 fn put_names_of<H: Shelf>(path: &str, cycles: &[Cycle], shelf: &mut H) -> Result<(), Failed>
     requires idle { (H.seen shelf.old).mode ≡ Idle }
     ensures ok { OnOk result (PutFiles (H.seen shelf.old) (H.seen shelf.new) ((path.now, file_lines 0 cycles.now) ∷ [])) }

@@ -1,4 +1,4 @@
-//! The tests of the cycles of a listing: a file for each, in order, and a file that names them.
+//! The tests of listed or given cycles: a file for each, in order, and a file that names them; or a line for each listed cycle.
 #![tactic(auto)]
 
 mod ending;

@@ -17,10 +17,10 @@ use edge_algebra::Cycle;
 use relax_edges::Edge;
 
 /// Writes to `out` a line for each listed cycle, in order: its name, a colon and a blank, and its
-/// edges in the rotation that it is named from, joined by blanks. It takes no memory.
+/// edges in the rotation that it is named from, joined by blanks. It allocates no memory.
 ///
 /// The listed cycles are those for which `list_tests` writes a file. No test is made, and the folder
-/// doesn't count. Where the sink fails, it has taken a prefix of the lines.
+/// doesn't matter. If the sink fails, it has taken a prefix of the lines.
 #[tactic(auto, using(crate::proofs::Wanting::refused_leads_none, crate::proofs::Wanting::long_run_leads_none))]
 pub fn write_listed<A: Arch, O: Sink>(listing: Listing, out: &mut O) -> Result<(), Failed>
     requires size { listing.limits.size ≤ MAX_EDGES }
@@ -36,7 +36,7 @@ pub fn write_listed<A: Arch, O: Sink>(listing: Listing, out: &mut O) -> Result<(
     write_lines::<A, O, _, _, _>(&wanted, &mut walk, out)
 }
 
-/// Writes the lines of those of a walk's cycles that have a test, from where it is.
+/// Writes the lines of those of a walk's cycles that have a test, from where the walk is.
 #[inline(never)]
 fn write_lines<
     A: Arch,

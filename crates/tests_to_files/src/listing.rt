@@ -25,31 +25,30 @@ use itoa::Buffer;
 use litmus_text::{KeptTable, Test};
 use relax_edges::{Edge, ObsMode, Relaxes};
 
-/// Room for the line on how many tests there are, whose number has at most 39 digits.
+/// Space for the line on how many tests there are, whose number has at most 39 digits.
 const MAX_COUNT_LINE: usize = 80;
 
-/// A listing: which cycles have a test in it, and where the files of the tests lie.
+/// A listing: which cycles have a test in it, and where the files of the tests are.
 #[derive(Drop)]
 pub struct Listing<'a> {
-    /// Each cycle is made of these: one of its rotations is a concatenation of them.
+    /// Each cycle is built from these: one of its rotations is a concatenation of them.
     pub relaxes: Relaxes,
-    /// How many edges a cycle has.
+    /// How many edges a cycle has: at most, or exactly, a number that is at most `MAX_EDGES`.
     pub limits: Limits,
     /// The most threads of a cycle, observers not counted.
     pub threads: u8,
-    /// The most accesses of each of a cycle's own threads, from 1, observers not counted; `None` is no
-    /// limit.
+    /// The most accesses of each of a cycle's own threads, observers not counted; `None` is no limit.
     pub accesses: Option<u8>,
     /// How observers are treated.
     pub mode: ObsMode,
-    /// The cycle after whose normal form the listing begins, where it doesn't begin with the first.
+    /// The cycle after whose normal form the listing begins; with `None` it begins with the first.
     pub after: Option<Cycle>,
-    /// The folder of the files, of at most `MAX_FOLDER` bytes.
+    /// The folder of the files, of at most `MAX_FOLDER` bytes; with `None` a path is the file's name only.
     pub folder: Option<&'a str>,
 }
 
 impl<'a> Listing<'a> {
-    /// What is wanted of its cycles, and where the files of their tests lie.
+    /// What it requires of a cycle, and where the files of the tests are.
     pub(crate) fn wanted(&self) -> Wanted<'a>
         ensures { result ≡ wanted_in self.now }
     {
@@ -61,7 +60,7 @@ impl<'a> Listing<'a> {
         }
     }
 
-    /// A walk over its cycles by two pruners and a test, which begins where the listing does.
+    /// A walk over its cycles with two pruners and a test of cycles, which begins where the listing does.
     pub(crate) fn walk<K: Fn(&[Edge]) -> bool, J: Fn(&[Edge]) -> bool, P: Fn(&Cycle) -> bool>(
         self,
         keep: K,
@@ -80,21 +79,21 @@ impl<'a> Listing<'a> {
 }
 
 /// Writes a file for each listed cycle, in order, then the file `@all` that names them, and then a
-/// line on their number to `out`. It takes no memory.
+/// line on their number to `out`. It allocates no memory.
 ///
-/// A cycle is listed where it is in normal form, keeps the limits, is made of the relaxations, has
-/// a test on the architecture in the mode, and has no more threads than are asked for, and no more
-/// accesses in each of its own threads; after a cycle, where it also follows that cycle's normal form.
-/// Its file has the text of its test under
-/// its name. The file is called by that name where it has at most 200 bytes, else by `long` and the
-/// number of the test in this listing, from 0; then `.litmus`. In a folder the file's name comes
-/// after the folder's and a slash; `@all` has the names alone, each on a line. Numbers stop at the
-/// last value of 128 bits.
+/// A cycle is listed if it is in normal form, keeps the limits, is built from the relaxations, has a
+/// test on the architecture in the mode, and has no more threads than are allowed, and no more accesses
+/// in each of its own threads; after a given cycle, only if it also follows that cycle's normal form.
+/// Its file has the text of its test under its name. The file is called by that name if it has at most
+/// 200 bytes, otherwise by `long` and the number of the test in this listing, from 0; then comes
+/// `.litmus`. In a folder the file's name comes after the folder's and a slash; `@all` has only the
+/// names, each on a line. Numbers stop at the maximum of 128 bits.
 ///
-/// `ShelfFault` comes only where the shelf's count of faults rose. Then the files up to one are
-/// whole, that one is as it was or has a prefix of its text, no other file changed, and nothing is
-/// written to `out`. `OutFault` comes only where the count of `out` rose. Then all files are whole,
-/// and `out` has a prefix of the line. In each case the shelf is at nothing again.
+/// `ShelfFault` comes only if the shelf's error count rose or is at its maximum. Then the files before
+/// one are complete, that one is as it was or has a prefix of its text, no other file changed, and
+/// nothing is written to `out`. `OutFault` comes only if the error count of `out` rose or is at its
+/// maximum. Then all files are complete, and `out` has a prefix of the line. The shelf has no open file
+/// before and after.
 #[inline(never)]
 pub fn list_tests<A: Arch, H: Shelf, O: Sink>(
     listing: Listing,
@@ -106,7 +105,7 @@ pub fn list_tests<A: Arch, H: Shelf, O: Sink>(
     requires idle { (H.seen shelf.old).mode ≡ Idle }
     ensures { EndsListing O.seen (plan_in A.puts A.writing listing.entry) listing.entry.after result (H.seen shelf.old) (H.seen shelf.new) out.old out.new }
 {
-    // It is written out here, and not made by a call of `Test::new`, for the reasons that `Desk` gives.
+    // It is written out here, and not made by a call of `Test::new`, for the reasons given at `Desk`.
     let mut test = Test {
         edges: ArrayVec::new(),
         places: Places::new(),
@@ -140,7 +139,7 @@ fn list_with<A: Arch, H: Shelf, O: Sink>(
     list_walk::<A, H, O, _, _, _>(&wanted, &mut walk, test, shelf, out)
 }
 
-/// Lets a walk go on after a cycle, where there is one.
+/// Lets a walk go on after a cycle, if one is given.
 fn begin_after<K: Fn(&[Edge]) -> bool, J: Fn(&[Edge]) -> bool, P: Fn(&Cycle) -> bool>(
     walk: &mut Walk<K, J, P>,
     after: &Option<Cycle>,
@@ -155,8 +154,8 @@ fn begin_after<K: Fn(&[Edge]) -> bool, J: Fn(&[Edge]) -> bool, P: Fn(&Cycle) -> 
     }
 }
 
-/// Writes the files of those of a walk's cycles that have a test, from where it is, and the line on their number. Each test
-/// is made in `test`.
+/// Writes the files of those of a walk's cycles that have a test, from where the walk is, the file that names them, and the line on
+/// their number. Each test is made in `test`.
 #[inline(never)]
 fn list_walk<
     A: Arch,
@@ -193,8 +192,9 @@ fn list_walk<
     }
 }
 
-/// Writes on the shelf the files of those of a walk's cycles that have a test, from where it is, keeps
-/// the lines that name them, and gives their number. Each test is made in `test`.
+/// Writes on the shelf the files of those of a walk's cycles that have a test, from where the walk is,
+/// keeps the lines that name them, as far as there is space, and returns their number. Each test is
+/// made in `test`.
 fn put_tests<
     A: Arch,
     H: Shelf,
@@ -232,7 +232,7 @@ fn put_tests<
     Ok(count)
 }
 
-/// The next of a walk's cycles that has a test. It is made in `test`.
+/// The next of a walk's cycles that has a test. That test is made in `test`.
 fn next_made<A: Arch, K: Fn(&[Edge]) -> bool, J: Fn(&[Edge]) -> bool, P: Fn(&Cycle) -> bool>(
     walk: &mut Walk<K, J, P>,
     mode: ObsMode,
@@ -251,8 +251,8 @@ fn next_made<A: Arch, K: Fn(&[Edge]) -> bool, J: Fn(&[Edge]) -> bool, P: Fn(&Cyc
     None
 }
 
-/// Writes the file of a cycle's test on the shelf, and gives its name. The test is made in `test`, and what that was before
-/// doesn't count.
+/// Writes the file of a cycle's test on the shelf, and returns the file's name. The test is made in `test`; what that held doesn't
+/// matter.
 pub(crate) fn put_test<A: Arch, H: Shelf>(
     wanted: &Wanted,
     cycle: &Cycle,
@@ -274,7 +274,7 @@ pub(crate) fn put_test<A: Arch, H: Shelf>(
     put_made::<A, H>(wanted, cycle, number, test, desk, shelf)
 }
 
-/// Writes the file of a cycle's test, which is made, on the shelf, and gives its name.
+/// Writes the file of a cycle's test, which is made already, on the shelf, and returns the file's name.
 fn put_made<A: Arch, H: Shelf>(
     wanted: &Wanted,
     cycle: &Cycle,

@@ -12,10 +12,10 @@ use litmus_text::{KeptTable, Test};
 use relax_edges::ObsMode;
 use test_maker::make_into;
 
-/// What writing tests to their files, one after another, needs: the name of a test, the path of its file, what is kept of its
-/// table, and the page that it is printed to. What these held before doesn't count. It is written out where it is used, and not made by a
-/// call, so that the program clears its 80 KB once where they are, and copies nothing. Room as large is alone in its function: beside
-/// calls that take other large values the program would clear it once at the beginning and once more where it is made.
+/// What is needed to write tests to their files, one after another: the name of a test, the path of its file, what is kept of its
+/// table, and the page that it is printed to. What these held doesn't matter. It is written out where it is used, and not made by a
+/// call, so that the program clears its 80 KB once in place, and copies nothing. A function has only one value as large: if it also
+/// made calls that take other large values, the program would clear this one at the beginning and again where it is made.
 #[derive(Drop)]
 pub(crate) struct Desk {
     pub(crate) name: ArrayString<MAX_CYCLE_NAME>,
@@ -24,7 +24,7 @@ pub(crate) struct Desk {
     pub(crate) page: Page,
 }
 
-/// Makes `test` that of a cycle, ready to be printed, and says whether the cycle has one. Where it has none, nothing is known
+/// Sets `test` to that of a cycle, ready to be printed, and returns whether the cycle has one. If it has none, nothing is known
 /// of `test` and `table`.
 pub(crate) fn make_test<A: Arch>(
     cycle: &Cycle,

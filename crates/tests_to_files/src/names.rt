@@ -17,7 +17,7 @@ use edge_algebra::Cycle;
 use relax_edges::{Edge, ObsMode};
 use test_maker::accepted;
 
-/// The most bytes of a line that names a file.
+/// The most bytes of a line that names a file, with its line feed.
 pub(crate) const MAX_LISTED_LINE: usize = 208;
 
 /// The most bytes of lines that are kept.
@@ -25,14 +25,14 @@ pub(crate) const MAX_LINES: usize = 98_304;
 
 pub(crate) type Lines = ArrayVec<u8, MAX_LINES>;
 
-/// The cycle whose line was the last that was kept, and the number of the next one.
+/// The last cycle whose line was kept, and the number of the next one.
 #[derive(Drop)]
 pub(crate) struct Closed {
     cycle: Cycle,
     number: u128,
 }
 
-/// The lines that name the files of a listing, as many as there is room for.
+/// The lines that name the files of a listing, as many as there is space for.
 #[derive(Drop)]
 pub(crate) struct Names {
     lines: Lines,
@@ -50,7 +50,7 @@ impl Names {
         }
     }
 
-    /// Keeps the line of a cycle's file, while there is room.
+    /// Keeps the line of a cycle's file, while there is space.
     pub(crate) fn keep(&mut self, cycle: &Cycle, file: &FileName, next: u128)
         requires { ForNone self.old.closed (length self.old.lines.items + MAX_LISTED_LINE ≤ MAX_LINES) }
         ensures { KeepsFile self.old self.new file.now.bytes cycle.now next }
@@ -78,7 +78,7 @@ pub(crate) fn push_line<const N: usize>(file: &FileName, lines: &mut ArrayVec<u8
     lines.push(b'\n');
 }
 
-/// The file of a cycle by its number.
+/// The name of the file of a cycle's test, by the number of the test.
 pub(crate) fn file_of(cycle: &Cycle, number: u128) -> FileName
     ensures { result.bytes ≡ file_of number cycle.now }
 {
@@ -88,7 +88,7 @@ pub(crate) fn file_of(cycle: &Cycle, number: u128) -> FileName
 }
 
 /// Writes the file that names all others on the shelf. The lines that weren't kept are those of the
-/// walk's cycles that have a test, after the last one that was.
+/// walk's cycles that have a test, after the last one whose line was.
 pub(crate) fn put_names<
     A: Arch,
     H: Shelf,
@@ -123,8 +123,8 @@ pub(crate) fn put_names<
     }
 }
 
-/// Writes a file on the shelf that has the lines, and then those of the walk's cycles that have a test,
-/// after a cycle.
+/// Writes a file on the shelf that has the kept lines, and then those of the walk's cycles that have a
+/// test, after the last one whose line was kept.
 fn append_after<
     A: Arch,
     H: Shelf,
@@ -160,7 +160,7 @@ fn append_after<
     shelf.finish()
 }
 
-/// The next of a walk's cycles that has a test. None is made.
+/// The next of a walk's cycles that has a test. No test is made.
 pub(crate) fn next_accepted<
     A: Arch,
     K: Fn(&[Edge]) -> bool,

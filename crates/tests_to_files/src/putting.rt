@@ -13,11 +13,12 @@ use litmus_text::{KeptTable, Test, TextPart, put_header, put_part};
 pub struct File<'a> {
     /// Its name, with its folder.
     pub path: Path,
+    /// All bytes that it is to have.
     pub bytes: &'a [u8],
 }
 
-/// Writes files on the shelf, one after another. Where the shelf fails, those before one are whole, and that
-/// one is as it was or has a prefix of its bytes.
+/// Writes files on the shelf, one after another. If the shelf fails at one, those before it are complete, and that
+/// one is as it was or has a prefix of its bytes. The shelf has no open file before and after.
 pub fn put_files<H: Shelf>(files: &[File], shelf: &mut H) -> Result<(), Failed>
     requires { (H.seen shelf.old).mode ≡ Idle }
     ensures ok { OnOk result (PutFiles (H.seen shelf.old) (H.seen shelf.new) (map file_put files.now)) }
@@ -29,7 +30,7 @@ pub fn put_files<H: Shelf>(files: &[File], shelf: &mut H) -> Result<(), Failed>
     Ok(())
 }
 
-/// Writes a file on the shelf. Where the shelf fails, the file is as it was, or has a prefix of the
+/// Writes a file on the shelf. If the shelf fails, the file is as it was, or has a prefix of the
 /// bytes.
 pub(crate) fn put_file<H: Shelf>(path: &str, bytes: &[u8], shelf: &mut H) -> Result<(), Failed>
     requires { (H.seen shelf.old).mode ≡ Idle }
@@ -41,8 +42,8 @@ pub(crate) fn put_file<H: Shelf>(path: &str, bytes: &[u8], shelf: &mut H) -> Res
     shelf.finish()
 }
 
-/// Writes a file on the shelf that has the text of a test under a name, by way of a page, whose bytes from before don't count.
-/// Where the shelf fails, the file is as it was, or has a prefix of the text.
+/// Writes a file on the shelf that has the text of a test under a name, by way of a page. What the page held doesn't matter.
+/// If the shelf fails, the file is as it was, or has a prefix of the text.
 pub(crate) fn put_text<A: Arch, H: Shelf>(
     path: &str,
     name: &str,

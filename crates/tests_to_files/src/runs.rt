@@ -5,8 +5,8 @@ ghost use Rattle.tests_to_files.specs.{Plans.{has_few_accesses}, InternalRuns.{n
 
 use relax_edges::Edge;
 
-/// Whether each own thread of a cycle has at most so many accesses: nowhere round the cycle do so many
-/// internal edges come one after the other. `None` is no limit.
+/// Whether each own thread of a cycle has at most this many accesses: nowhere around the cycle do as
+/// many internal edges come one after another. `None` is no limit.
 #[tactic(auto, using(crate::proofs::RunLaws::few_accesses_round), unfolding(crate::specs::Plans::has_few_accesses))]
 pub(crate) fn has_few_accesses(cycle: &[Edge], accesses: Option<u8>) -> bool
     requires few { length cycle.now ≤ MAX_EDGES }
@@ -19,8 +19,8 @@ pub(crate) fn has_few_accesses(cycle: &[Edge], accesses: Option<u8>) -> bool
     }
 }
 
-/// Whether nowhere in a list have so many internal edges come one after the other, where `run` of them
-/// come before the list.
+/// Whether each run of internal edges in a list is shorter than `many`, if a run of length `run` ends
+/// before the list.
 pub(crate) fn stays_below(many: u8, run: u8, edges: &[Edge]) -> bool
     ensures { result ≡ stays_below many run edges.now }
 {
@@ -30,8 +30,8 @@ pub(crate) fn stays_below(many: u8, run: u8, edges: &[Edge]) -> bool
     }
 }
 
-/// How many internal edges come one after the other up to the end of a list, where `run` of them come
-/// before the list.
+/// The length of the run of internal edges at the end of a list, if a run of length `run` ends before
+/// the list.
 fn run_after(run: u8, edges: &[Edge]) -> u8
     requires { run + length edges.now ≤ MAX_EDGES }
     ensures { result ≡ run_after run edges.now }
@@ -42,7 +42,7 @@ fn run_after(run: u8, edges: &[Edge]) -> u8
     }
 }
 
-/// How many internal edges come one after the other up to an edge, where `run` of them come before it.
+/// The length of the run of internal edges that ends with an edge, if a run of length `run` ends before it.
 fn next_run(run: u8, edge: Edge) -> u8
     requires { run < 255 }
     ensures { result ≡ next_run run edge }

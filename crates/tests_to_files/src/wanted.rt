@@ -8,7 +8,7 @@ use arch_trait::Arch;
 use edge_algebra::Cycle;
 use relax_edges::{Edge, ObsMode};
 
-/// What is wanted of a cycle that has a file in a listing, and where the file lies.
+/// What is required of a cycle that has a file in a listing, and where the file is.
 #[derive(Clone, Copy)]
 pub(crate) struct Wanted<'a> {
     pub(crate) threads: u8,
@@ -18,9 +18,9 @@ pub(crate) struct Wanted<'a> {
 }
 
 impl Wanted<'_> {
-    /// Whether a cycle that is wanted may begin with the edges, if it may with those before the last: by the
-    /// architecture of the last, and, where that leads to another thread, by how many of them do. A walk asks this
-    /// of each list as it grows, so that the edges before an internal one needn't be looked at again.
+    /// Whether a required cycle may begin with the edges, if it may with those before the last: the last must be of
+    /// the architecture, and, if it leads to another thread, not too many edges may do so. A walk calls this for each
+    /// list as it grows, so the edges before an internal one needn't be looked at again.
     #[tactic(auto, unfolding(crate::specs::Plans::may_lead))]
     pub(crate) fn may_lead<A: Arch>(&self, edges: &[Edge]) -> bool
         ensures { result ≡ may_lead A.puts.name self.now.threads edges.now }
@@ -28,9 +28,9 @@ impl Wanted<'_> {
         ends_of_arch::<A>(edges) && (ends_inside(edges) || has_few_threads(edges, self.threads))
     }
 
-    /// Whether a cycle that is wanted may begin with the edges, by the accesses of its threads: the edges
-    /// don't have as many internal ones one after the other as a thread may have accesses, since these
-    /// join one more.
+    /// Whether a required cycle may begin with the edges, by the accesses of its threads: there aren't as
+    /// many internal edges one after another as a thread may have accesses, since these join one access
+    /// more.
     #[tactic(auto, using(crate::proofs::RunLaws::long_run_exactly))]
     pub(crate) fn may_fit(&self, edges: &[Edge]) -> bool
         ensures { IsFalse result ↔ HasLongRun self.now.accesses edges.now }
@@ -41,8 +41,8 @@ impl Wanted<'_> {
         }
     }
 
-    /// Whether a cycle is wanted if it has a test: its edges lead to two threads or more, but to no more
-    /// than are asked for, each has no more accesses, and the edges are of the architecture.
+    /// Whether a cycle is a required one, if it has a test: its edges lead to two threads or more, but to no
+    /// more than are allowed, no thread has too many accesses, and the edges are of the architecture.
     #[tactic(auto, using(crate::proofs::Wanting::two_are_some), unfolding(crate::specs::Plans::is_sought))]
     pub(crate) fn seeks<A: Arch>(&self, cycle: &Cycle) -> bool
         ensures { result ≡ is_sought A.puts.name self.now.threads self.now.accesses cycle.now }
@@ -81,7 +81,7 @@ fn are_of_arch<A: Arch>(edges: &[Edge]) -> bool
     edges.iter().all(|edge| A::supports(*edge))
 }
 
-/// Whether at most so many edges lead to another thread.
+/// Whether at most `threads` edges lead to another thread.
 fn has_few_threads(edges: &[Edge], threads: u8) -> bool
     ensures { result ≡ has_few_threads threads edges.now }
 {
