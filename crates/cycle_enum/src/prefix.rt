@@ -21,8 +21,8 @@ enum Repeat {
     Less,
 }
 
-/// How the end of a list repeats its beginning after one more edge, of rank `rank`, if it repeated the first `many` edges before and the
-/// next of these has rank `next`.
+/// How the end of a list repeats its beginning after one more edge, of rank `rank`, if it repeated the first
+/// `many` edges before and the edge after these has rank `next`.
 fn repeat_after(many: u8, next: u16, rank: u16) -> Repeat
     requires { many < MAX_EDGES }
     ensures same { rank ≡ next → result ≡ First (many + 1) }
@@ -154,8 +154,8 @@ impl Prefix {
         }
     }
 
-    /// Whether a normal form may begin with its edges: if the result is `false`, none does; if it is `true`, no suffix of them is less
-    /// than they are.
+    /// Whether a normal form may begin with its edges: if the result is `false`, none does; if it is `true`, no
+    /// suffix of them is less than they are.
     pub(crate) fn may_begin(&self) -> bool
         ensures may { IsTrue result → NoneLess self.now }
         ensures refused { IsFalse result → LeadsNowhere IsNormal self.now }

@@ -349,8 +349,8 @@ impl<K: Fn(&[Edge]) -> bool, J: Fn(&[Edge]) -> bool, P: Fn(&Cycle) -> bool> Spac
         }
     }
 
-    /// Whether a cycle, whose edges have these ranks, is listed, if it is in normal form, its number of edges keeps the limits and the
-    /// walk keeps all its prefixes.
+    /// Whether a cycle, whose edges have these ranks, is listed, if it is in normal form, its number of edges
+    /// keeps the limits and the walk keeps all its prefixes.
     fn is_listed(&self, cycle: &Cycle, ranks: &[u16]) -> bool
         requires ranks { ranks.now ≡ map rank_of cycle.now }
         requires knows { KnowsOf K.pre K.Fn.post J.pre J.Fn.post P.pre P.Fn.post self.now.keep self.now.fit self.now.take }

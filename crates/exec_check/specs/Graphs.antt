@@ -70,16 +70,19 @@ relates Fr e f = is_read e.access && (writes_to e.access.place f.access && nat_l
 abbrev pub pairs_by : {X : Type 0} → (X → X → Bool) → List X → List (X × X)
 pairs_by test xs = flat_map (λ e. map (λ f. (e, f)) (filter (test e) xs)) xs
 
--- the pairs of each relation
+-- the pairs of program order to the next access
 abbrev pub po_pairs : List Drawn → List (Drawn × Drawn)
 po_pairs drawn = pairs_by (relates Po) drawn
 
+-- the pairs of reads-from
 abbrev pub rf_pairs : List Drawn → List (Drawn × Drawn)
 rf_pairs drawn = pairs_by (relates Rf) drawn
 
+-- the pairs of coherence order to the next write
 abbrev pub co_pairs : List Drawn → List (Drawn × Drawn)
 co_pairs drawn = pairs_by (relates Co) drawn
 
+-- the pairs of from-read
 abbrev pub fr_pairs : List Drawn → List (Drawn × Drawn)
 fr_pairs drawn = pairs_by (relates Fr) drawn
 
