@@ -6,7 +6,7 @@ use Rattle.edge_algebra_laws.specs.CycleOrder.{Above, IsNormal}
 use Rattle.cycle_enum_laws.specs.Search.{LeadsNowhere}
 use Rattle.cycle_enum.specs.{declared.prefix.Repeat.Repeat, declared.prefix.Repeat.TheVariants.{First, Less}}
 
--- a list is a prefix of u, or above it
+-- the second list is above u, or u begins with it
 abbrev pub IsAtLeast : List Edge → List Edge → Type 0
 IsAtLeast u [] = ⊤
 IsAtLeast [] (_ ∷ _) = ⊥
@@ -16,8 +16,8 @@ IsAtLeast (x ∷ u) (y ∷ v) = (rank_of x < rank_of y) ⊎ ((x ≡ y) × IsAtLe
 abbrev pub NoneLess : List Edge → Type 0
 NoneLess u = (prefix suffix : List Edge) → u ≡ prefix ++ suffix → IsAtLeast u suffix
 
--- n edges at the end of u, and not all of u, are the first ones again; no suffix of u is less than u, and each longer suffix, but the
--- whole, is above u
+-- the last n edges of u, but not all of u, are the first n again; no suffix of u is less than u, and each longer suffix, except u
+-- itself, is above u
 pub record RepeatsFirst (u : List Edge) (n : ℕ) : Type 0 where
   pub before : List Edge
   pub end : List Edge
@@ -29,12 +29,12 @@ pub record RepeatsFirst (u : List Edge) (n : ℕ) : Type 0 where
   pub least : NoneLess u
   pub above : (prefix more : List Edge) → before ≡ prefix ++ more → 0 < length prefix → 0 < length more → Above u (more ++ end)
 
--- what is kept of how the end of a list repeats its beginning
+-- what is recorded of how the end of a list repeats its beginning
 abbrev pub IsRepeat : List Edge → Repeat → Type 0
 IsRepeat u (First n) = RepeatsFirst u n
 IsRepeat u Less = LeadsNowhere IsNormal u
 
--- that is kept for each prefix of a list, from one edge to the whole
+-- this is recorded for each prefix of a list, from one edge to the whole list
 pub record HasRepeats (u : List Edge) (repeats : List Repeat) : Type 0 where
   pub long : length repeats ≡ length u
   pub each : (k : ℕ) → k < length u → IsRepeat (take (k + 1) u) (get_or repeats k Less)

@@ -9,7 +9,7 @@ abbrev pub is_inside : End → Bool
 is_inside After = false
 is_inside Anywhere = true
 
--- the search of a walk is at the last cycle, or nowhere
+-- the search of a walk is at the last cycle, if there is one, or at the empty list
 abbrev pub IsAtLast : List Edge → Option (List Edge) → Type 0
 IsAtLast list None = ⊤
 IsAtLast list (Some last) = (list ≡ []) ⊎ (list ≡ last)

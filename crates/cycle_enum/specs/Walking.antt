@@ -1,4 +1,4 @@
--- What contracts see of a walk, and what its three closures are asked.
+-- What contracts see of a walk, and how its three closures are called.
 -- Source: own.
 use Rattle.std.specs.Prelude.{◌≡◌, Bool, true, List, Option}
 use denote.Ref.{Bor}
@@ -19,7 +19,7 @@ pub record Walking (K J P : Type 0) : Type 0 where
 abbrev pub MayCall : {F T : Type 0} → (F → Bor T → Type 0) → F → T → Type 0
 MayCall {F} {T} pre f u = (shown : Bor T) → shown.now ≡ u → pre f shown
 
--- a closure answers r to a borrowed value
+-- a closure returns r for a borrowed value
 pub record Says {F T : Type 0} (post : F → (Bor T × Unit {0}) → Bool → Type 0) (f : F) (u : T) (r : Bool) : Type 0 where
   pub shown : Bor T
   pub shows : shown.now ≡ u
@@ -29,11 +29,11 @@ pub record Says {F T : Type 0} (post : F → (Bor T × Unit {0}) → Bool → Ty
 abbrev pub KeepsList : {K J P : Type 0} → (K → (Bor (List Edge) × Unit {0}) → Bool → Type 0) → (J → (Bor (List Edge) × Unit {0}) → Bool → Type 0) → Walking K J P → List Edge → Type 0
 KeepsList keeps fits w = SayYes (Says keeps w.keep) (Says fits w.fit)
 
--- the cycles that a walk lists: those in normal form that keep its limits, are made of its relaxations and are taken by its test
+-- the cycles that a walk lists: those in normal form that keep its limits, are built from its relaxations and are taken by its test
 abbrev pub Lists : {K J P : Type 0} → (P → (Bor (List Edge) × Unit {0}) → Bool → Type 0) → Walking K J P → List Edge → Type 0
 Lists takes w = IsListed (λ u. Says takes w.take u true) w.relaxes w.limits.size w.limits.exact
 
--- what a walk knows of its three closures, by what may be asked of each and what each answers
+-- what a walk knows of its three closures, by what each may be called on and what it returns
 abbrev pub KnowsOf : {K J P : Type 0} → (K → Bor (List Edge) → Type 0) → (K → (Bor (List Edge) × Unit {0}) → Bool → Type 0)
     → (J → Bor (List Edge) → Type 0) → (J → (Bor (List Edge) × Unit {0}) → Bool → Type 0)
     → (P → Bor (List Edge) → Type 0) → (P → (Bor (List Edge) × Unit {0}) → Bool → Type 0) → K → J → P → Type 0

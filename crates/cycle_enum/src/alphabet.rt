@@ -12,7 +12,7 @@ use edge_algebra::Cycle;
 use relax_edges::{Dir, EDGES, Edge, MAX_EDGES, Mark, Relax, Relaxes};
 use std::marker::Model;
 
-/// Relaxations, and which edges occur in them: a walk passes over all other edges.
+/// Relaxations, and which edges occur in them: a walk skips all other edges.
 ///
 /// Contracts see the relaxations.
 #[derive(Drop)]
@@ -20,7 +20,7 @@ pub(crate) struct Alphabet {
     relaxes: Relaxes,
     marks: Marks,
     letters: Letters,
-    /// Whether each relaxation has one edge, so that lists of edges that occur are concatenations.
+    /// Whether each relaxation has one edge, so that all lists of edges that occur are concatenations.
     all_single: bool,
 }
 
@@ -52,8 +52,8 @@ impl Alphabet {
         }
     }
 
-    /// Passes over the list and all that begin with it: goes on to the first list in order after
-    /// these whose last edge may follow the others. The list is empty where there is none.
+    /// Skips the list and all that begin with it: goes on to the first list in order after these whose
+    /// last edge may follow the others. The list becomes empty if there is none.
     #[tactic(auto, using(edge_algebra_laws::proofs::RankLaws::rank_below))]
     pub(crate) fn raise(&self, list: &mut Prefix)
         ensures { IsRaised (IsListCandidate self.now) list.old list.new }
@@ -71,8 +71,8 @@ impl Alphabet {
         }
     }
 
-    /// Goes on to the list with the first edge that may follow it, none before the first edge of
-    /// the list. Where there is no such edge, it passes over all that begin with the list.
+    /// Appends the first edge that may follow the list, among those of no lower rank than the list's first
+    /// edge. If there is no such edge, it skips all lists that begin with the list.
     pub(crate) fn extend(&self, list: &mut Prefix)
         requires { length list.old < MAX_EDGES }
         ensures { IsExtended (IsListCandidate self.now) list.old list.new }
@@ -96,7 +96,7 @@ impl Alphabet {
         }
     }
 
-    /// The first letter of this rank or a greater one that leaves an access that does this and has this mark.
+    /// The first letter of this rank or a greater one that leaves an access of this direction and with this mark.
     fn next_leaving(&self, dir: Dir, mark: Mark, from: u16) -> Option<&Letter>
         requires { from ≤ EDGES }
         ensures { IsLetterFrom (OccursAndLeaves self.now dir mark) from (option_map (λ letter. letter.now) result) }
@@ -163,7 +163,7 @@ fn is_joined_to(list: &[Edge], edge: Edge) -> bool
     }
 }
 
-/// Whether the last edge of a list joins the first: no other list is a cycle.
+/// Whether a list has edges and its last edge joins the first: no other list is a cycle.
 pub(crate) fn closes(list: &[Edge]) -> bool
     ensures closed { IsTrue result → last_joins list.now list.now ≡ true }
     ensures other { IsFalse result → IsCycle list.now → ⊥ }

@@ -4,7 +4,7 @@ ghost use Rattle.cycle_enum.specs.Letters.{IsLetter};
 
 use relax_edges::{Dir, Edge, Mark};
 
-/// An edge, and beside it what a walk asks of it most often: its rank, and what the access that it leaves does and is marked with.
+/// An edge, with what a walk needs of it most often: its rank, and the direction and the mark of the access that it leaves.
 #[derive(Clone, Copy)]
 pub(crate) struct Letter {
     pub(crate) edge: Edge,
@@ -27,7 +27,7 @@ impl Letter {
         }
     }
 
-    /// Whether its edge leaves an access that does this and has this mark.
+    /// Whether its edge leaves an access of this direction and with this mark.
     pub(crate) fn leaves(&self, dir: Dir, mark: Mark) -> bool
         requires { IsLetter self.now }
         ensures { result ≡ (same_dir dir (source_of self.now.edge) && same_mark mark (source_mark self.now.edge)) }

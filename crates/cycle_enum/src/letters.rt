@@ -7,7 +7,7 @@ use relax_edges::{EDGES, Edge, Relax};
 
 const RANKS: usize = EDGES as usize;
 
-/// For each rank, and for the place after the last, the first letter of this rank or a greater one:
+/// For each rank, and at the position after the last, the first letter of this rank or a greater one:
 /// the letters are the edges that occur in a relaxation.
 pub(crate) type Letters = [Option<Letter>; RANKS + 1];
 
@@ -54,7 +54,7 @@ pub(crate) fn first_letters(marks: &Marks) -> Letters
     letters
 }
 
-/// The first letter of this rank or a greater one, where `next` is the first one of a greater rank.
+/// The first letter of this rank or a greater one, if `next` is the first one of a greater rank.
 fn letter_from(marks: &Marks, rank: u16, next: Option<Letter>) -> Option<Letter>
     requires rank { rank < EDGES }
     requires next { IsLetterFrom (IsMarked marks.now) (rank + 1) next }
@@ -67,7 +67,7 @@ fn letter_from(marks: &Marks, rank: u16, next: Option<Letter>) -> Option<Letter>
     }
 }
 
-/// Marks the edges of relaxations, in addition to those that are marked.
+/// Marks the edges that occur in relaxations, in addition to those that are marked.
 fn mark_relaxes(marks: &mut Marks, relaxes: &[Relax])
     ensures { MarksAlphabet marks.old relaxes.now marks.new }
 {

@@ -1,4 +1,4 @@
-//! The cycles of a listing, one after another in order, by a walk that keeps none of them.
+//! The cycles of a listing, one after another in order, by a walk that keeps only the last of them.
 #![tactic(auto)]
 
 mod alphabet;

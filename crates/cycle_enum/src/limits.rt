@@ -4,9 +4,9 @@ ghost use Rattle.cycle_enum_laws.specs.Listing.{KeepsLimits};
 /// How many edges the cycles of a listing have.
 #[derive(Clone, Copy)]
 pub struct Limits {
-    /// The most edges, at most `MAX_EDGES`.
+    /// The most edges; for a walk at most `MAX_EDGES`.
     pub size: u8,
-    /// Whether a cycle has exactly so many.
+    /// Whether a cycle has exactly that many.
     pub exact: bool,
 }
 

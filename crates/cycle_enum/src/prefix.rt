@@ -13,16 +13,16 @@ use std::marker::Model;
 /// How the end of a list of edges repeats its beginning.
 #[derive(Clone, Copy, Default)]
 enum Repeat {
-    /// So many edges at its end, and not all edges, are the first ones again; no suffix of it is less than
-    /// the list, and each longer one, but the whole list, is greater.
+    /// This many edges at its end, but not all its edges, are the first ones again; no suffix of it is less than
+    /// the list, and each longer one, except the whole list, is greater.
     First(u8),
     /// Some suffix is less than the list: no normal form begins with it.
     #[default]
     Less,
 }
 
-/// How the end of a list repeats its beginning, with one edge more of this rank, where it repeats the first `many` edges and the next one
-/// has the rank `next`.
+/// How the end of a list repeats its beginning after one more edge, of rank `rank`, if it repeated the first
+/// `many` edges before and the edge after these has rank `next`.
 fn repeat_after(many: u8, next: u16, rank: u16) -> Repeat
     requires { many < MAX_EDGES }
     ensures same { rank ≡ next → result ≡ First (many + 1) }
@@ -38,9 +38,9 @@ fn repeat_after(many: u8, next: u16, rank: u16) -> Repeat
     }
 }
 
-/// The first edges of the cycles that a walk looks for. Each edge joins the next one. Beside each edge is its rank,
-/// so that an edge is asked for its rank once, where it is appended, however often prefixes are compared; and how the
-/// list up to that edge repeats its beginning, so that one comparison tells this of a longer list.
+/// The first edges of the cycles that a walk looks for. Each edge joins the next one. With each edge its rank is kept,
+/// so that the rank is found once, when the edge is appended, however often prefixes are compared; and how the
+/// list up to that edge repeats its beginning, so that one comparison tells this for a list with one more edge.
 ///
 /// Contracts see the edges.
 #[derive(Drop)]
@@ -121,7 +121,7 @@ impl Prefix {
         self.repeats.push(repeat);
     }
 
-    /// How its end repeats its beginning with one edge more, of this rank.
+    /// How its end repeats its beginning after one more edge, of this rank.
     fn repeat_with(&self, rank: u16) -> Repeat
         requires { length self.now < MAX_EDGES }
         ensures { (e : EdgeValue) → rank ≡ rank_of e → IsRepeat (self.now ++ e ∷ []) result }
@@ -135,7 +135,7 @@ impl Prefix {
         }
     }
 
-    /// The rank of the edge at a place.
+    /// The rank of the edge at a position.
     fn rank_at(&self, place: u8) -> u16
         requires { place < length self.now }
         ensures { result ≡ get_or (map rank_of self.now) place 0 }
@@ -143,7 +143,7 @@ impl Prefix {
         self.ranks()[usize::from(place)]
     }
 
-    /// How its end repeats its beginning, where it has an edge.
+    /// How its end repeats its beginning, if it has an edge.
     fn last_repeat(&self) -> Option<Repeat>
         ensures some { IfSome result (λ repeat. IsRepeat self.now repeat) }
         ensures none { IfNone result (self.now ≡ []) }
@@ -154,8 +154,8 @@ impl Prefix {
         }
     }
 
-    /// Whether a normal form may begin with its edges: none does where the answer is no, and no suffix of them is less than they
-    /// are where it is yes.
+    /// Whether a normal form may begin with its edges: if the result is `false`, none does; if it is `true`, no
+    /// suffix of them is less than they are.
     pub(crate) fn may_begin(&self) -> bool
         ensures may { IsTrue result → NoneLess self.now }
         ensures refused { IsFalse result → LeadsNowhere IsNormal self.now }
@@ -184,7 +184,7 @@ impl Prefix {
         }
     }
 
-    /// Takes its last edge away, and gives it with its rank.
+    /// Removes its last edge, and returns it with its rank.
     pub(crate) fn pop(&mut self) -> Option<Last>
         ensures some { IfSome result (λ last. (self.old ≡ self.new ++ last.edge ∷ []) × (last.rank ≡ rank_of last.edge)) }
         ensures shorter { IfSome result (λ last. length self.new + 1 ≡ length self.old) }

@@ -42,8 +42,8 @@ fn is_concatenation(relaxes: &[Relax], list: &[Edge]) -> bool
     read.as_slice()[list.len()]
 }
 
-/// Whether a list may be part of a concatenation of relaxations: it begins inside a relaxation, or
-/// with one, and relaxations lead on from there.
+/// Whether a list may be part of a concatenation of relaxations: it begins inside a relaxation or with one,
+/// and the rest is read as relaxations, of which the last may be incomplete.
 pub(crate) fn may_occur(relaxes: &[Relax], list: &[Edge]) -> bool
     requires { length list.now ≤ MAX_EDGES }
     ensures { IsFalse result → LeadsNowhere (IsMadeOf relaxes.now) list.now }
@@ -58,7 +58,7 @@ pub(crate) fn may_occur(relaxes: &[Relax], list: &[Edge]) -> bool
     }
 }
 
-/// Whether a list begins with a suffix of a relaxation, and is read on from there.
+/// Whether a list begins with a suffix of some relaxation, or ends inside it, and the rest is read.
 fn any_begins(relaxes: &[Relax], list: &[Edge], read: &[bool]) -> bool
     requires some { 0 < length list.now }
     requires as_many { length read.now ≡ length list.now }
@@ -85,8 +85,8 @@ fn suffix_leads(relax: &[Edge], list: &[Edge], read: &[bool]) -> bool
     }
 }
 
-/// Finds for each suffix of a list, from the empty one to the whole, whether it is read as
-/// relaxations one after the other.
+/// Finds for each suffix of a list, from the empty one to the whole list, whether it is read as
+/// relaxations, one after the other.
 fn read_suffixes(end: End, relaxes: &[Relax], list: &[Edge], read: &mut ArrayVec<bool, SUFFIXES>)
     requires few { length list.now ≤ MAX_EDGES }
     requires none { read.old.items ≡ [] }
@@ -103,7 +103,7 @@ fn read_suffixes(end: End, relaxes: &[Relax], list: &[Edge], read: &mut ArrayVec
     }
 }
 
-/// Whether a list begins with a relaxation, and is read on from there.
+/// Whether a list begins with some relaxation, or ends inside it if it may, and the rest is read.
 fn any_leads(end: End, relaxes: &[Relax], list: &[Edge], read: &[bool]) -> bool
     requires some { 0 < length list.now }
     requires as_many { length read.now ≡ length list.now }
@@ -117,8 +117,8 @@ fn any_leads(end: End, relaxes: &[Relax], list: &[Edge], read: &[bool]) -> bool
     }
 }
 
-/// Whether a list begins with a relaxation, and is read on from there: `read` says so of each
-/// shorter suffix of the list.
+/// Whether a list begins with a relaxation, or ends inside it if it may, and the rest is read: `read` says for
+/// each shorter suffix of the list, by its length, whether it is read.
 fn leads(end: End, relax: &[Edge], list: &[Edge], read: &[bool]) -> bool
     requires some { 0 < length list.now }
     requires relax_some { 0 < length relax.now }
@@ -128,7 +128,7 @@ fn leads(end: End, relax: &[Edge], list: &[Edge], read: &[bool]) -> bool
     fits(end, relax, list) && read[list.len().saturating_sub(relax.len())]
 }
 
-/// Whether a list begins with a relaxation, or, where it may end inside one, is a prefix of it.
+/// Whether a list begins with a relaxation or, if it may end inside one, is a prefix of it.
 fn fits(end: End, relax: &[Edge], list: &[Edge]) -> bool
     ensures { result ≡ begins_with_path (is_inside end) relax.now list.now }
 {

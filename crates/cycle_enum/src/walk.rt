@@ -13,7 +13,7 @@ use edge_algebra::Cycle;
 use relax_edges::{Edge, MAX_EDGES, Relaxes};
 use std::marker::Model;
 
-/// What a walk goes through: its relaxations, its limits, its pruners and its test.
+/// What a walk searches by: its relaxations, its limits, its pruners and its test.
 ///
 /// Contracts see it as a walk that has no last cycle.
 #[derive(Drop)]
@@ -47,7 +47,7 @@ pub struct Walk<K, J, P> {
     last: Option<Cycle>,
     /// The edges of the last cycle, from which the search goes on, or none.
     list: Prefix,
-    /// Room for the cycle that the test is asked of; what it was before doesn't count.
+    /// Space for the cycle that the test is called on; its old value doesn't matter.
     room: Option<Cycle>,
 }
 
@@ -64,15 +64,15 @@ impl<K, J, P> Model for Walk<K, J, P> {
 impl<K: Fn(&[Edge]) -> bool, J: Fn(&[Edge]) -> bool, P: Fn(&Cycle) -> bool> Walk<K, J, P> {
     /// A walk that begins with the first listed cycle.
     ///
-    /// `keep` and `fit` are pruners: where one of them says no on a list of edges, no cycle that begins
-    /// with the list is to be listed. `take` is the test of which cycles are listed. It is asked only
-    /// of cycles in normal form, and only where both pruners said yes on all their prefixes.
+    /// `keep` and `fit` are pruners: if one of them says no on a list of edges, no cycle that begins
+    /// with the list is to be listed. `take` is the test that says which cycles are listed. It is called only
+    /// on cycles in normal form, and only if both pruners said yes on all their prefixes.
     ///
     /// The conditions: the size is at most `MAX_EDGES`; `keep` and `fit` may be called on every list of
     /// 1 to `MAX_EDGES` edges; `take` may be called on every cycle on all of whose prefixes, from one
     /// edge to the whole, both pruners say yes, and the walk knows of no other cycle on which it may be
-    /// called; each closure gives one answer for one list or cycle; where a pruner says no on a list,
-    /// `take` says no on every cycle that begins with it.
+    /// called; each closure has one answer for one list or cycle; if a pruner says no on a list,
+    /// `take` doesn't say yes on any cycle that begins with it.
     pub fn new(relaxes: Relaxes, limits: Limits, keep: K, fit: J, take: P) -> Walk<K, J, P>
         requires few { limits.size ≤ MAX_EDGES }
         requires knows { KnowsOf K.pre K.Fn.post J.pre J.Fn.post P.pre P.Fn.post keep fit take }
@@ -102,12 +102,12 @@ impl<K: Fn(&[Edge]) -> bool, J: Fn(&[Edge]) -> bool, P: Fn(&Cycle) -> bool> Walk
         self.list = Prefix::new();
     }
 
-    /// The next listed cycle: the least that comes after the last one, and none exactly where there
-    /// is none, which changes nothing.
+    /// The next listed cycle: the least that comes after the last one. It is none exactly when there is no
+    /// such cycle, and then the walk is unchanged.
     ///
-    /// A cycle is listed where it is in normal form, keeps the limits, has a rotation that is a
+    /// A cycle is listed if it is in normal form, keeps the limits, has a rotation that is a
     /// concatenation of relaxations, and `take` says yes on it. Cycles are in order by their number
-    /// of edges, and then edge by edge by the byte order of their printed words. With each answer
+    /// of edges, and then edge by edge by the byte order of their printed names. With each answer
     /// the number `later` falls, so that a loop over the answers ends. It takes no memory.
     ///
     /// The condition on the closures is again that of `new`.
@@ -127,7 +127,7 @@ impl<K: Fn(&[Edge]) -> bool, J: Fn(&[Edge]) -> bool, P: Fn(&Cycle) -> bool> Walk
     }
 }
 
-/// Makes a cycle that of edges that are known to make one, where it is.
+/// Makes `cycle` the cycle of these edges, which are known to compose, in its old space if it has one.
 fn fill(cycle: &mut Option<Cycle>, edges: &[Edge])
     requires { IsCycle edges.now }
     ensures { cycle.new ≡ Some edges.now }
@@ -139,7 +139,7 @@ fn fill(cycle: &mut Option<Cycle>, edges: &[Edge])
 }
 
 impl<K: Fn(&[Edge]) -> bool, J: Fn(&[Edge]) -> bool, P: Fn(&Cycle) -> bool> Space<K, J, P> {
-    /// Whether a listed cycle comes after the last one: the list becomes the least then.
+    /// Whether a listed cycle comes after the last one; if so, the list becomes the least such cycle.
     fn find(&self, last: &Option<Cycle>, list: &mut Prefix, room: &mut Option<Cycle>) -> bool
         requires knows { KnowsOf K.pre K.Fn.post J.pre J.Fn.post P.pre P.Fn.post self.now.keep self.now.fit self.now.take }
         requires at { IsAtLast list.old last.now }
@@ -159,7 +159,7 @@ impl<K: Fn(&[Edge]) -> bool, J: Fn(&[Edge]) -> bool, P: Fn(&Cycle) -> bool> Spac
         }
     }
 
-    /// Whether a listed cycle has more than `len` edges: the list becomes the first then.
+    /// Whether a listed cycle has more than `len` edges; if so, the list becomes the first such cycle.
     fn longer(&self, len: u8, list: &mut Prefix, room: &mut Option<Cycle>) -> bool
         requires knows { KnowsOf K.pre K.Fn.post J.pre J.Fn.post P.pre P.Fn.post self.now.keep self.now.fit self.now.take }
         requires few { len ≤ MAX_EDGES }
@@ -175,7 +175,7 @@ impl<K: Fn(&[Edge]) -> bool, J: Fn(&[Edge]) -> bool, P: Fn(&Cycle) -> bool> Spac
         self.longer(len + 1, list, room)
     }
 
-    /// Whether a listed cycle has `len` edges: the list becomes the first then.
+    /// Whether a listed cycle has `len` edges; if so, the list becomes the first such cycle.
     fn of_len(&self, len: u8, list: &mut Prefix, room: &mut Option<Cycle>) -> bool
         requires knows { KnowsOf K.pre K.Fn.post J.pre J.Fn.post P.pre P.Fn.post self.now.keep self.now.fit self.now.take }
         requires some { 0 < len }
@@ -191,7 +191,8 @@ impl<K: Fn(&[Edge]) -> bool, J: Fn(&[Edge]) -> bool, P: Fn(&Cycle) -> bool> Spac
         self.search(list, len, room)
     }
 
-    /// Whether a listed cycle of as many edges as the last one follows it: the list becomes the first then.
+    /// Whether a listed cycle with as many edges as the last one comes after it; if so, the list becomes the first such
+    /// cycle.
     fn as_long(&self, last: &Cycle, list: &mut Prefix, room: &mut Option<Cycle>) -> bool
         requires knows { KnowsOf K.pre K.Fn.post J.pre J.Fn.post P.pre P.Fn.post self.now.keep self.now.fit self.now.take }
         requires at { (list.old ≡ []) ⊎ (list.old ≡ last.now) }
@@ -206,8 +207,8 @@ impl<K: Fn(&[Edge]) -> bool, J: Fn(&[Edge]) -> bool, P: Fn(&Cycle) -> bool> Spac
         self.search(list, last.len(), room)
     }
 
-    /// Puts the shortest prefix of the last cycle on which a pruner says no, else the cycle. The list may be at that
-    /// cycle already, so that it stays where no pruner says no.
+    /// Sets the list to the shortest prefix of the last cycle on which a pruner says no, or to the cycle if there is
+    /// none. The list may be that cycle already, and then stays if no pruner says no.
     fn put_last(&self, last: &Cycle, list: &mut Prefix)
         requires knows { KnowsOf K.pre K.Fn.post J.pre J.Fn.post P.pre P.Fn.post self.now.keep self.now.fit self.now.take }
         requires at { (list.old ≡ []) ⊎ (list.old ≡ last.now) }
@@ -221,7 +222,7 @@ impl<K: Fn(&[Edge]) -> bool, J: Fn(&[Edge]) -> bool, P: Fn(&Cycle) -> bool> Spac
         self.put_first_refused(edges, list);
     }
 
-    /// Whether no pruner says no on a prefix of a list. Where one does, no listed cycle begins with the list.
+    /// Whether no pruner says no on a prefix of a list. If one does, no listed cycle begins with the list.
     fn keeps_all(&self, edges: &[Edge]) -> bool
         requires knows { KnowsOf K.pre K.Fn.post J.pre J.Fn.post P.pre P.Fn.post self.now.keep self.now.fit self.now.take }
         requires few { length edges.now ≤ MAX_EDGES }
@@ -236,8 +237,8 @@ impl<K: Fn(&[Edge]) -> bool, J: Fn(&[Edge]) -> bool, P: Fn(&Cycle) -> bool> Spac
         true
     }
 
-    /// Puts the shortest prefix of a list on which a pruner says no, so that no listed cycle begins
-    /// with it, else the list.
+    /// Sets the list to the shortest prefix of these edges on which a pruner says no, so that no listed cycle
+    /// begins with it, or to all of them if there is none.
     fn put_first_refused(&self, edges: &[Edge], list: &mut Prefix)
         requires joined { is_joined edges.now ≡ true }
         requires knows { KnowsOf K.pre K.Fn.post J.pre J.Fn.post P.pre P.Fn.post self.now.keep self.now.fit self.now.take }
@@ -253,7 +254,8 @@ impl<K: Fn(&[Edge]) -> bool, J: Fn(&[Edge]) -> bool, P: Fn(&Cycle) -> bool> Spac
         }
     }
 
-    /// Whether a listed cycle of `len` edges comes from the list on: the list becomes the first then.
+    /// Whether a listed cycle of `len` edges is still to come at the list; if so, the list becomes the first such
+    /// cycle.
     fn search(&self, list: &mut Prefix, len: u8, room: &mut Option<Cycle>) -> bool
         requires knows { KnowsOf K.pre K.Fn.post J.pre J.Fn.post P.pre P.Fn.post self.now.keep self.now.fit self.now.take }
         requires few { len ≤ MAX_EDGES }
@@ -330,7 +332,7 @@ impl<K: Fn(&[Edge]) -> bool, J: Fn(&[Edge]) -> bool, P: Fn(&Cycle) -> bool> Spac
         self.has_listed(list, room)
     }
 
-    /// Whether a cycle in normal form, by its edges, is listed, where the walk keeps them.
+    /// Whether a cycle in normal form, given by its edges, is listed, if the walk keeps all its prefixes.
     fn has_listed(&self, list: &Prefix, room: &mut Option<Cycle>) -> bool
         requires cycle { IsCycle list.now }
         requires knows { KnowsOf K.pre K.Fn.post J.pre J.Fn.post P.pre P.Fn.post self.now.keep self.now.fit self.now.take }
@@ -347,7 +349,8 @@ impl<K: Fn(&[Edge]) -> bool, J: Fn(&[Edge]) -> bool, P: Fn(&Cycle) -> bool> Spac
         }
     }
 
-    /// Whether a cycle, whose edges have these ranks, is listed, where it is in normal form and its number of edges keeps the limits.
+    /// Whether a cycle, whose edges have these ranks, is listed, if it is in normal form, its number of edges
+    /// keeps the limits and the walk keeps all its prefixes.
     fn is_listed(&self, cycle: &Cycle, ranks: &[u16]) -> bool
         requires ranks { ranks.now ≡ map rank_of cycle.now }
         requires knows { KnowsOf K.pre K.Fn.post J.pre J.Fn.post P.pre P.Fn.post self.now.keep self.now.fit self.now.take }

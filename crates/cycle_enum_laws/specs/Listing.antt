@@ -20,18 +20,18 @@ pub record IsConcatenation (relaxes : List (List Edge)) (u : List Edge) : Type 0
   pub each : AllByRecursion (IsOneOf relaxes) parts
   pub whole : u ≡ concatenated parts
 
--- a cycle is made of relaxations: one of its rotations is a concatenation of them
+-- a cycle is built from relaxations: one of its rotations is a concatenation of them
 pub record IsMadeOf (relaxes : List (List Edge)) (u : List Edge) : Type 0 where
   pub turned : List Edge
   pub rotation : IsRotation u turned
   pub made : IsConcatenation relaxes turned
 
--- a number of edges keeps the limits: it is at most the size, and is the size where exactly that is asked
+-- a number of edges keeps the limits: it is at most the size, and is the size if exactly that many are requested
 pub record KeepsLimits (size : ℕ) (exact : Bool) (n : ℕ) : Type 0 where
   pub few : n ≤ size
   pub same : exact ≡ true → n ≡ size
 
--- a list of edges is listed: it is a cycle in normal form that keeps the limits, is made of relaxations and is taken
+-- a list of edges is listed: it is a cycle in normal form that keeps the limits, is built from relaxations and is taken
 pub record IsListed (takes : List Edge → Type 0) (relaxes : List (List Edge)) (size : ℕ) (exact : Bool) (u : List Edge) : Type 0 where
   pub cycle : IsCycle u
   pub normal : IsNormal u
@@ -39,7 +39,7 @@ pub record IsListed (takes : List Edge → Type 0) (relaxes : List (List Edge)) 
   pub made : IsMadeOf relaxes u
   pub taken : takes u
 
--- a list comes after the last one, where there is a last one
+-- a list comes after the last one, if there is a last one
 abbrev pub ComesAfter : Option (List Edge) → List Edge → Type 0
 ComesAfter None v = ⊤
 ComesAfter (Some u) v = Follows u v
@@ -50,7 +50,7 @@ pub record IsNext (listed : List Edge → Type 0) (last : Option (List Edge)) (u
   pub after : ComesAfter last u
   pub least : (v : List Edge) → listed v → ComesAfter last v → Follows v u → ⊥
 
--- the answer is the next listed list, and none exactly where no listed list comes after the last one
+-- the answer is the next listed list; it is none exactly when no listed list comes after the last one
 abbrev pub IsAnswer : (List Edge → Type 0) → Option (List Edge) → Option (List Edge) → Type 0
 IsAnswer listed last None = (v : List Edge) → listed v → ComesAfter last v → ⊥
 IsAnswer listed last (Some u) = IsNext listed last u
@@ -76,7 +76,8 @@ pub record AreListedTo (listed : List Edge → Type 0) (given last : Option (Lis
   pub beyond : (u : List Edge) → ComesAfter last u → ComesAfter given u
   pub all : (u : List Edge) → listed u → ComesAfter given u → (IsOneOf answers u) ⊎ ComesAfter last u
 
--- answers, each the next after the one before, are all that is listed, where in the end there is no next one
+-- answers, each the next after the one before, are all listed lists that come after the one that was given, in order and each once,
+-- if in the end there is no next one
 pub record AnswersAreAll (listed : List Edge → Type 0) (given : Option (List Edge)) : Type 0 where
   pub first : AreListedTo listed given given []
   pub next : (last : Option (List Edge)) (answers : List (List Edge)) (u : List Edge) → AreListedTo listed given last answers → IsNext listed last u
@@ -85,7 +86,7 @@ pub record AnswersAreAll (listed : List Edge → Type 0) (given : Option (List E
       → AreAllListed listed given answers
   pub once : (answers others : List (List Edge)) → AreAllListed listed given answers → AreAllListed listed given others → answers ≡ others
 
--- in each listing by a test, relaxations and limits the answers, each the next after the one before, are all that is listed
+-- this holds for each listing by a test, relaxations and limits, and for each list that was given, or none
 abbrev pub NextAfterNext : Type 0
 NextAfterNext =
     (takes : List Edge → Bool) (relaxes : List (List Edge)) (size : ℕ) (exact : Bool) (given : Option (List Edge))

@@ -5,13 +5,13 @@ use Rattle.relax_edges.specs.{declared.order.TheConstants.EDGES, declared.edge.E
 use Rattle.edge_algebra_laws.specs.CycleOrder.{Above, IsNormal}
 use Rattle.cycle_enum_laws.specs.Asked.{KeptBelow}
 
--- u reaches m: m begins with u, or has the greater edge at the first place where they differ, which both have
+-- u reaches m: m begins with u, or has the greater edge at the first position where they differ, which both have
 abbrev pub ReachesList : List Edge → List Edge → Type 0
 ReachesList [] m = ⊤
 ReachesList (_ ∷ _) [] = ⊥
 ReachesList (x ∷ u) (y ∷ m) = (rank_of x < rank_of y) ⊎ ((x ≡ y) × ReachesList u m)
 
--- m is to come where the search is at u; at the empty list the search is over
+-- m is still to come when the search is at u; at the empty list the search is over
 abbrev pub ToCome : List Edge → List Edge → Type 0
 ToCome [] m = ⊥
 ToCome (x ∷ u) m = ReachesList (x ∷ u) m
@@ -36,7 +36,7 @@ pub record IsFirstFrom (sought : List Edge → Type 0) (u m : List Edge) : Type 
   pub from : ToCome u m
   pub first : (v : List Edge) → sought v → ToCome u v → Above v m → ⊥
 
--- the answer is the first sought list that is to come at u, and none exactly where none is
+-- the answer is the first sought list that is to come at u; it is none exactly when none is to come
 abbrev pub IsFirst : (List Edge → Type 0) → List Edge → Option (List Edge) → Type 0
 IsFirst sought u None = (v : List Edge) → sought v → ToCome u v → ⊥
 IsFirst sought u (Some m) = IsFirstFrom sought u m
@@ -65,24 +65,24 @@ pub record IsListCandidate (relaxes : List (List Edge)) (u : List Edge) : Type 0
 abbrev pub NoneBetween : (List Edge → Type 0) → List Edge → ℕ → ℕ → Type 0
 NoneBetween sought prefix from to = (e : Edge) → from ≤ rank_of e → rank_of e < to → LeadsNowhere sought (prefix ++ e ∷ [])
 
--- the answer is the first edge of rank `from` or more with which a sought list might go on from the list: with the edges
--- of lower rank none does; where there is no answer, none goes on with any edge of rank `from` or more
+-- the answer is an edge of rank `from` or more such that no sought list goes on from the list with an edge of rank `from` or more
+-- below it; if there is no answer, none goes on with any edge of rank `from` or more
 abbrev pub IsNextEdge : (List Edge → Type 0) → List Edge → ℕ → Option Edge → Type 0
 IsNextEdge sought prefix from None = NoneBetween sought prefix from EDGES
 IsNextEdge sought prefix from (Some e) = (from ≤ rank_of e) × NoneBetween sought prefix from (rank_of e)
 
--- a step from a list past all that begin with it: to none, or to a prefix of it with a greater edge in the place of
+-- a step from a list past all that begin with it: to the empty list, or to a prefix of it with a greater edge in the position of
 -- the next one
 pub data StepsOver (u v : List Edge) : Type 0 where
   over : v ≡ [] → StepsOver u v
   replaced : (prefix : List Edge) (x y : Edge) (back : List Edge) → u ≡ prefix ++ x ∷ back → v ≡ prefix ++ y ∷ [] → rank_of x < rank_of y → StepsOver u v
 
--- a list goes on to v where all that begin with it are passed over: no sought list after these is left out
+-- the search goes on from u to v and skips all lists that begin with u: no sought list above u is left out
 pub record IsRaised (sought : List Edge → Type 0) (u v : List Edge) : Type 0 where
   pub step : StepsOver u v
   pub all : (m : List Edge) → sought m → Above u m → ToCome v m
 
--- v is a prefix of u: the whole, or one with which no sought list begins, and its shorter prefixes are kept
+-- v is a prefix of u: all of u, or one with which no sought list begins; the shorter prefixes of v are kept
 pub record IsCut (sought : List Edge → Type 0) (keeps : List Edge → Type 0) (u v : List Edge) : Type 0 where
   pub rest : List Edge
   pub prefix : u ≡ v ++ rest
@@ -94,7 +94,8 @@ pub record IsLonger (u v : List Edge) : Type 0 where
   pub edge : Edge
   pub is : v ≡ u ++ edge ∷ []
 
--- a list goes on to v where the longer ones that begin with it are looked at, or passed over: no sought list is left out
+-- the search goes on from u to v, which is longer by one edge, or skips all lists that begin with u: no sought list that is longer
+-- than u and that u reaches is left out
 pub record IsExtended (sought : List Edge → Type 0) (u v : List Edge) : Type 0 where
   pub step : (IsLonger u v) ⊎ StepsOver u v
   pub all : (m : List Edge) → sought m → length u < length m → ReachesList u m → ToCome v m

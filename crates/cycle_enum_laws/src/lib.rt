@@ -3,8 +3,8 @@
 
 ghost use Rattle.cycle_enum_laws.specs.Listing.{NextAfterNext};
 
-/// Answers, each the next listed list after the one before, are all that is listed, in order and
-/// each once, where in the end there is no next one.
+/// Answers, each the next listed list after the one before, are all listed lists that come after the given
+/// one, if one is given, in order and each once, if in the end there is no next one.
 pub fn next_after_next()
     ensures { NextAfterNext }
 {}

@@ -1,4 +1,4 @@
--- Laws for callers: right files are checked where no device fails, and how much is taken of the file that was opened last.
+-- Laws for callers: right files are checked if no device fails, and how much is taken of the file that was opened last.
 -- Source: own.
 use Rattle.std.proofs.Common.{◌≡◌, ◌≤◌, ◌<◌, ◌+◌, ℕ, List, [], ◌∷◌, length, take, Option, Some, None, refl, sym, ap, ◌∙◌, subst, arith, inl, inr}
 use Rattle.std.specs.Prelude.{◌⊎◌, MatchOption, unwrap_or, Result, Ok, Err}
@@ -25,7 +25,8 @@ executions_refuse_long : (test : TestRead) → RefusesLong (exec_said test) too_
 unfolding execution_read
 executions_refuse_long test text = refl
 
--- what a text says as an execution of a test depends on its first bytes alone, one more than a test may have, and it isn't too long
+-- what a text gives as an execution of a test depends only on its first bytes, one more than a test may have; a text that gives one has
+-- no more bytes than a test may have
 pub executions_by_first_bytes : (test : TestRead) → JudgesFirstBytes (exec_said test)
 executions_by_first_bytes test =
     judges_first_bytes (exec_said test) (λ text. reads_and_writes_read (length test.threads) test.places (lines_of text)) too_large (executions_refuse_long test)
@@ -50,7 +51,7 @@ test_wrong_few : (arch : ArchName) (w : Writing) (old new : ShelfSeen) (words : 
 test_wrong_few arch w old new words test file error h more =
     few_taken old new (take (MAX_TEST_TEXT + 1) h.faulty.text ∷ []) h.faulty.took (prefix_few h.faulty.text) more
 
--- of the file that was opened last at most one byte more than a test may have is taken
+-- if a file was opened, at most one byte more than a test may have is taken of the last one, unless the call ended with `NoMemory`
 pub checked_few : (shown : Shown) (arch : ArchName) (w : Writing) (old new : ShelfSeen) (words : List (List ℕ)) (test exec : ℕ) (before after : SinkSeen) (end : CheckEnd)
     → FilesChecked shown arch w old new words test exec before after end → (end ≡ ends.NoMemory → ⊥) → count_of old.opened < count_of new.opened
     → new.taken ≤ MAX_TEST_TEXT + 1
@@ -98,19 +99,19 @@ one_text seen files name a b shown there named =
     let same : files name ≡ Some b = subst (λ (o : Option Files). IsFile o name b) shown named in
     ap (λ (o : Option (List ℕ)). unwrap_or o a) (sym there ∙ same)
 
--- and isn't absent
+-- a file that is shown with a text isn't absent
 not_absent : (seen : Option Files) (files : Files) (name a : List ℕ) (m n : ℕ) → seen ≡ Some files → files name ≡ Some a
     → MatchOption seen (Rose m n) (λ there. there name ≡ None) → ⊥
 not_absent seen files name a m n shown there absent =
     let none : files name ≡ None = subst (λ (o : Option Files). MatchOption o (Rose m n) (λ f. f name ≡ None)) shown absent in
     let both : ◌≡◌ {A = Option (List ℕ)} (Some a) None = sym there ∙ none in cc both
 
--- what is right has no error
+-- a text that is right has no error
 not_both : {X E : Type 0} (judge : List ℕ → Result X E) (a b : List ℕ) (x : X) (e : E) → a ≡ b → judge a ≡ Ok x → judge b ≡ Err e → ⊥
 not_both {X} {E} judge a b x e same right wrong =
     let both : ◌≡◌ {A = Result X E} (Ok x) (Err e) = sym right ∙ ap judge same ∙ wrong in cc both
 
--- and is one thing
+-- a text that is right gives one thing
 one_right : {X E : Type 0} (judge : List ℕ → Result X E) (a b : List ℕ) (x y : X) → a ≡ b → judge a ≡ Ok x → judge b ≡ Ok y → x ≡ y
 one_right {X} {E} judge a b x y same p q =
     let both : ◌≡◌ {A = Result X E} (Ok x) (Ok y) = sym p ∙ ap judge same ∙ q in cc both
@@ -131,7 +132,7 @@ exec_right arch w old new words test exec file error files h shown right =
     not_both (exec_said h.read) right.shown h.shown right.x error
     (one_text old.files files (name_at words exec) right.shown h.shown shown right.shown_there h.named) is h.fault
 
--- where both files are shown and right, and no device fails, what is to be shown is written, or there is no memory
+-- if the files are shown, both are right and no device fails, what is to be shown is written, or there is no memory
 pub right_files_done : (what : Shown) (arch : ArchName) (w : Writing) (old new : ShelfSeen) (words : List (List ℕ)) (test exec : ℕ) (before after : SinkSeen)
     (end : CheckEnd) (files : Files) → FilesChecked what arch w old new words test exec before after end → old.files ≡ Some files
     → AreTestAndExecution files arch w words test exec → (Rose old.faults new.faults → ⊥) → (Rose before.faults after.faults → ⊥)

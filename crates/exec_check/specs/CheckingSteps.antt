@@ -1,4 +1,4 @@
--- What only private functions cite: what each of the two files gives.
+-- What each of the two files gives. Only private functions and proofs cite this.
 -- Source: own.
 use Rattle.std.specs.Prelude.{◌≡◌, ⊤, ℕ, Bool, List, [], map, Option, Some, None, Result, Ok, Err, IsErr}
 use Rattle.diy_io.specs.{declared.errors.Failed.Failed, Shelf.ShelfSeen, Opened.FileAbsent}
@@ -18,42 +18,42 @@ use Rattle.exec_check.specs.declared.checked_errors.CheckedKind.TheVariants as k
 use Rattle.exec_check.specs.declared.checked_errors.CheckFault.TheVariants as faults
 use Rattle.exec_check.specs.declared.checked_errors.CheckEnd.TheVariants as ends
 
--- why a file isn't what is wanted of it: it isn't read
+-- why a file can't be used, if it wasn't read
 abbrev pub check_file_fault : FileFault → CheckFault
 check_file_fault reads.Missing = faults.Missing
 check_file_fault reads.Failed = faults.Device
 check_file_fault reads.NoMemory = faults.NoMemory
 
--- it gives no test
+-- what is wrong with the text of a test, among what is wrong with a file
 abbrev pub checked_test_kind : TestFileKind → CheckedKind
 checked_test_kind (tests.Test kind) = kinds.Test kind
 checked_test_kind tests.WrongArch = kinds.WrongArch
 
--- why a text gives no test, as why a file isn't what is wanted
+-- why a file can't be used, if its text gives no test
 abbrev pub test_fault : NoTest → CheckFault
 test_fault (no_tests.Wrong error) = faults.Wrong error.line (checked_test_kind error.kind)
 test_fault no_tests.NoMemory = faults.NoMemory
 
--- there is no verdict on it
+-- why a file can't be used, if there is no verdict on its text
 abbrev pub exec_fault : CheckError → CheckFault
 exec_fault (checks.Exec line kind) = faults.Wrong line (kinds.Exec kind)
 exec_fault checks.NoMemory = faults.NoMemory
 
--- the end where that is the file that a word names
+-- how a call ends if the file that this argument names can't be used
 abbrev pub check_end : ℕ → CheckFault → CheckEnd
 check_end word faults.Missing = ends.NoFile word
 check_end word faults.Device = ends.ShelfFault
 check_end word (faults.Wrong line kind) = ends.Wrong word line kind
 check_end word faults.NoMemory = ends.NoMemory
 
--- the text of a file is a test, and the closing of the file failed
+-- the text of a file is a test, and closing the file failed
 pub record IsTestUnclosed (arch : ArchName) (w : Writing) (text : List ℕ) (closed : Result (Unit {0}) Failed) : Type 0 where
   pub test : TestRead
   pub is : test_said arch w text ≡ Ok test
   pub failed : IsErr closed
 
--- an answer to the file of a test with this text, where this is the answer to its closing: that the device failed only where the text
--- has no error
+-- a result for the file of a test with this text, if closing it returned this: a failure of the device is returned only if the text
+-- has no error; for `NoMemory` nothing is said
 abbrev pub TestClosedTo : ArchName → Writing → List ℕ → Result (Unit {0}) Failed → Result TestRead CheckFault → Type 0
 TestClosedTo arch w text closed (Ok test) = (test_said arch w text ≡ Ok test) × (closed ≡ Ok tt)
 TestClosedTo arch w text closed (Err faults.Missing) = ⊥
@@ -63,7 +63,7 @@ TestClosedTo arch w text closed (Err (faults.Wrong line kinds.WrongArch)) = test
 TestClosedTo arch w text closed (Err (faults.Wrong line (kinds.Exec kind))) = ⊥
 TestClosedTo arch w text closed (Err faults.NoMemory) = ⊤
 
--- an answer to the file of a test
+-- a result for the file of a test; for `NoMemory` nothing is said
 abbrev pub TestFileTo : ArchName → Writing → ShelfSeen → ShelfSeen → List ℕ → Result TestRead CheckFault → Type 0
 TestFileTo arch w old new name (Ok test) = FileIs (test_said arch w) old new name test
 TestFileTo arch w old new name (Err faults.Missing) = FileAbsent old new name
@@ -83,7 +83,7 @@ abbrev pub Judges : ArchName → (List ℕ → Option ℕ) → TestRead → List
 Judges arch register_number test text (Ok j) = IsJudged arch register_number test text j
 Judges arch register_number test text (Err error) = Checks arch register_number test text (Err error)
 
--- these are the edges of a cycle, each with an answer; where there is no cycle, there are none
+-- these are the edges of a cycle, each with yes or no; if there is no cycle, there are none
 abbrev pub AreEdgesOf : Option (List Edge) → List (Edge × Bool) → Type 0
 AreEdgesOf None judged = judged ≡ []
 AreEdgesOf (Some es) judged = map (λ j. j.0) judged ≡ es
@@ -93,13 +93,13 @@ pub record FileJudged (arch : ArchName) (w : Writing) (test : TestRead) (old new
   pub file : FileIs (exec_said test) old new name j.exec
   pub is : IsVerdict arch (number_in w.registers) test j.exec j.verdict
 
--- there is a verdict on the text of a file, and the closing of the file failed
+-- there is a verdict on the text of a file, and closing the file failed
 pub record IsExecUnclosed (arch : ArchName) (w : Writing) (test : TestRead) (text : List ℕ) (closed : Result (Unit {0}) Failed) : Type 0 where
   pub judged : Judged
   pub is : IsJudged arch (number_in w.registers) test text judged
   pub failed : IsErr closed
 
--- an answer to the file of an execution with this text, in the same way
+-- a result for the file of an execution with this text, in the same way
 abbrev pub ExecClosedTo : ArchName → Writing → TestRead → List ℕ → Result (Unit {0}) Failed → Result Judged CheckFault → Type 0
 ExecClosedTo arch w test text closed (Ok j) = IsJudged arch (number_in w.registers) test text j × (closed ≡ Ok tt)
 ExecClosedTo arch w test text closed (Err faults.Missing) = ⊥
@@ -108,7 +108,7 @@ ExecClosedTo arch w test text closed (Err (faults.Wrong line (kinds.Exec kind)))
 ExecClosedTo arch w test text closed (Err (faults.Wrong line kind)) = ⊥
 ExecClosedTo arch w test text closed (Err faults.NoMemory) = ⊤
 
--- an answer to the file of an execution of a test
+-- a result for the file of an execution of a test; for `NoMemory` nothing is said
 abbrev pub ExecFileTo : ArchName → Writing → TestRead → ShelfSeen → ShelfSeen → List ℕ → Result Judged CheckFault → Type 0
 ExecFileTo arch w test old new name (Ok j) = FileJudged arch w test old new name j
 ExecFileTo arch w test old new name (Err faults.Missing) = FileAbsent old new name

@@ -1,4 +1,4 @@
--- How a call ended that checks an execution of a test, both in files, and what it did to its devices.
+-- How a call that checks an execution of a test, both in files, ended, and what it did to its devices.
 -- Source: own.
 use Rattle.std.specs.Prelude.{◌≡◌, ◌⊎◌, ◌+◌, ℕ, List, [], ◌∷◌, length, take, Option, Some, None, IfSome, MatchOption, Result, Ok, Err}
 use Rattle.diy_io.specs.{Count.Rose, Shelf.{Files, ShelfSeen}, Wrote.{SinkSeen, WroteAll, WrotePart}, Opened.{IsFile, TookFiles, name_at}}
@@ -14,21 +14,21 @@ use Rattle.tests_from_files.specs.declared.errors.TestFileKind.TheVariants as te
 use Rattle.exec_check.specs.declared.checked_errors.CheckedKind.TheVariants as kinds
 use Rattle.exec_check.specs.declared.checked_errors.CheckEnd.TheVariants as ends
 
--- what a text says as an execution of a test, or its first error
+-- the execution of a test that a text gives, or its first error
 abbrev pub exec_said : TestRead → List ℕ → Result Execution ExecFault
 exec_said test text = execution_read (length test.threads) test.places text
 
--- a file has this text, and is this test of an architecture
+-- a file has this text, which is this test of an architecture
 pub record IsTest (arch : ArchName) (w : Writing) (files : Option Files) (name text : List ℕ) (test : TestRead) : Type 0 where
   pub named : IsFile files name text
   pub is : test_said arch w text ≡ Ok test
 
--- a file has this text, and holds this execution of a test
+-- a file has this text, which gives this execution of a test
 pub record SaysExecution (test : TestRead) (files : Option Files) (name text : List ℕ) (x : Execution) : Type 0 where
   pub named : IsFile files name text
   pub says : exec_said test text ≡ Ok x
 
--- the files that the words at two places name are a test of an architecture and an execution of it
+-- the files that the arguments at two positions name are a test of an architecture and an execution of it
 pub record AreTestAndExecution (files : Files) (arch : ArchName) (w : Writing) (words : List (List ℕ)) (test exec : ℕ) : Type 0 where
   pub text : List ℕ
   pub there : files (name_at words test) ≡ Some text
@@ -39,8 +39,8 @@ pub record AreTestAndExecution (files : Files) (arch : ArchName) (w : Writing) (
   pub x : Execution
   pub is_execution : execution_read (length read.threads) read.places shown ≡ Ok x
 
--- the files of the two words are this test and this execution of it, each was opened once, in this order, and read to its end, and
--- the shelf didn't fail
+-- the files that the two arguments name are this test and this execution of it, each was opened once, in this order, and read to its
+-- end, and the shelf didn't fail
 pub record BothRead (arch : ArchName) (w : Writing) (old new : ShelfSeen) (words : List (List ℕ)) (test exec : ℕ) (read : TestRead) (x : Execution) : Type 0 where
   pub text : List ℕ
   pub test_is : IsTest arch w old.files (name_at words test) text read
@@ -58,13 +58,14 @@ pub record ExecutionShown (shown : Shown) (arch : ArchName) (w : Writing) (old n
   pub is : IsVerdict arch (number_in w.registers) judged x v
   pub wrote : done (shown_text shown judged x v)
 
--- the file of the test has this first error, and all of it was taken, or its first bytes, one more than a test may have; no other was
--- opened
+-- the file of the test has this first error, and all of it was taken, or its first bytes, one more than a test may have; no other
+-- file was opened
 pub record TestWrong (arch : ArchName) (w : Writing) (old new : ShelfSeen) (words : List (List ℕ)) (test file : ℕ) (error : TestFileError) : Type 0 where
   pub place_is : file ≡ test
   pub faulty : FileFaulty (test_said arch w) old new (name_at words test) error
 
--- the file of the test is a test and was read to its end; then that of the execution has this first error, and so much was taken of it
+-- the file of the test is a test and was read to its end; that of the execution has this first error, and all of it was taken, or its
+-- first bytes, one more than a test may have
 pub record ExecWrong (arch : ArchName) (w : Writing) (old new : ShelfSeen) (words : List (List ℕ)) (test exec file : ℕ) (error : ExecFault) : Type 0 where
   pub place_is : file ≡ exec
   pub text : List ℕ
@@ -75,20 +76,22 @@ pub record ExecWrong (arch : ArchName) (w : Writing) (old new : ShelfSeen) (word
   pub fault : exec_said read shown ≡ Err error
   pub took : TookFiles old new (text ∷ take (MAX_TEST_TEXT + 1) shown ∷ [])
 
--- the one or the other, by the kind of the error
+-- the file of the test or that of the execution is wrong, by the kind of the error
 abbrev pub IsWrongFile : ArchName → Writing → ShelfSeen → ShelfSeen → List (List ℕ) → ℕ → ℕ → ℕ → ℕ → CheckedKind → Type 0
 IsWrongFile arch w old new words test exec file line (kinds.Test kind) = TestWrong arch w old new words test file (record { line = line; kind = tests.Test kind })
 IsWrongFile arch w old new words test exec file line kinds.WrongArch = TestWrong arch w old new words test file (record { line = line; kind = tests.WrongArch })
 IsWrongFile arch w old new words test exec file line (kinds.Exec kind) = ExecWrong arch w old new words test exec file (record { line = line; kind = kind })
 
--- the word of the test names no file, where the files are shown, and then no error came; none was opened
+-- the argument of the test names no file, and the shelf didn't fail, if the files are shown; if they aren't, its error count rose; no
+-- file was opened
 pub record TestAbsent (old new : ShelfSeen) (words : List (List ℕ)) (test word : ℕ) : Type 0 where
   pub place_is : word ≡ test
   pub absent : MatchOption old.files (Rose old.faults new.faults) (λ there. there (name_at words test) ≡ None)
   pub no_fault : IfSome old.files (λ there. new.faults ≡ old.faults)
   pub took : TookFiles old new []
 
--- that of the execution names none, in the same way; the file of the test is a test and was read to its end, and no other was opened
+-- the argument of the execution names none, in the same way; the file of the test is a test and was read to its end, and no other was
+-- opened
 pub record ExecAbsent (arch : ArchName) (w : Writing) (old new : ShelfSeen) (words : List (List ℕ)) (test exec word : ℕ) : Type 0 where
   pub place_is : word ≡ exec
   pub text : List ℕ
@@ -98,28 +101,28 @@ pub record ExecAbsent (arch : ArchName) (w : Writing) (old new : ShelfSeen) (wor
   pub no_fault : IfSome old.files (λ there. new.faults ≡ old.faults)
   pub took : TookFiles old new (text ∷ [])
 
--- the word of the test or that of the execution names no file
+-- the argument of the test or that of the execution names no file
 abbrev pub IsAbsent : ArchName → Writing → ShelfSeen → ShelfSeen → List (List ℕ) → ℕ → ℕ → ℕ → Type 0
 IsAbsent arch w old new words test exec word = TestAbsent old new words test word ⊎ ExecAbsent arch w old new words test exec word
 
--- the file of the test wasn't opened, or so many bytes were taken of it as a test may have, at most
+-- no file was opened, or only that of the test, and at most as many of its first bytes were taken as a test may have
 abbrev pub TestUnread : ShelfSeen → ShelfSeen → List ℕ → Type 0
 TestUnread old new name = TookFiles old new [] ⊎ ((bytes : List ℕ) × Begins old.files name bytes × TookFiles old new (bytes ∷ []))
 
--- the same of the file of the execution, after that of the test was read to its end and is a test
+-- the same for the file of the execution, after that of the test was read to its end and is a test
 pub record ExecUnread (arch : ArchName) (w : Writing) (old new : ShelfSeen) (words : List (List ℕ)) (test exec : ℕ) : Type 0 where
   pub text : List ℕ
   pub read : TestRead
   pub test_is : IsTest arch w old.files (name_at words test) text read
   pub took : TookFiles old new (text ∷ []) ⊎ ((bytes : List ℕ) × Begins old.files (name_at words exec) bytes × TookFiles old new (text ∷ bytes ∷ []))
 
--- the shelf failed at the one or the other
+-- the shelf failed at the file of the test or at that of the execution
 pub record CheckShelfFailed (arch : ArchName) (w : Writing) (old new : ShelfSeen) (words : List (List ℕ)) (test exec : ℕ) : Type 0 where
   pub fault : Rose old.faults new.faults
   pub unread : TestUnread old new (name_at words test) ⊎ ExecUnread arch w old new words test exec
 
--- how the checking of the execution that the word at the place exec names ended, as one of the test that the word at test names, where
--- this is what is shown of it
+-- how a call ended that checks the execution that the argument at position exec names, as one of the test that the argument at
+-- position test names, and shows this of it; if there was no memory, nothing was written
 abbrev pub FilesChecked : Shown → ArchName → Writing → ShelfSeen → ShelfSeen → List (List ℕ) → ℕ → ℕ → SinkSeen → SinkSeen → CheckEnd → Type 0
 FilesChecked shown arch w old new words test exec before after ends.Done = ExecutionShown shown arch w old new words test exec (WroteAll before after)
 FilesChecked shown arch w old new words test exec before after ends.OutFault = ExecutionShown shown arch w old new words test exec (WrotePart before after)

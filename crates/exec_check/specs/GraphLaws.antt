@@ -1,7 +1,7 @@
 -- Laws of what a graph shows: its nodes are the accesses of the execution and the initial writes that are read, a pair of nodes is in the
--- list of a relation exactly where the relation holds between them, and a bold arrow is drawn exactly where an edge of the quoted cycle stands.
--- The laws hold of every execution. In one that is no candidate a write may be missing in the order, and has the place 0 there, and a read may have
--- no source, and counts as one of the initial value.
+-- list of a relation exactly when the relation holds between them, and in a candidate the bold arrows are those of exactly the edges of the
+-- quoted cycle that stand. The laws of nodes and relations hold for every execution. In one that is no candidate, a write may be missing in
+-- the coherence order, and then has position 0 there; and a read may have no source, and then counts as a read of the initial value.
 -- Source: own.
 use Rattle.std.specs.{Prelude.{ℕ, ◌≡◌, ◌↔◌, ◌+◌, ◌<◌, true, List, length, Option, Some, None, slice_get}, List.Contains}
 use Rattle.relax_edges.specs.{declared.kinds.ArchName.ArchName, declared.edge.Edge.Edge}
@@ -14,7 +14,7 @@ use Rattle.exec_check.specs.{declared.drawn.Drawn.Drawn, declared.drawn.Relation
 use Rattle.exec_check.specs.Graphs.{Arrow, access_drawn, co_pairs, drawn_in, fr_pairs, initial_write, pairs_by, po_pairs, relates, rf_pairs, standing_arrows}
 use Rattle.exec_check.specs.Verdicts.{IsVerdict, judged_cycle}
 
--- a node of a graph: the initial write of a place, or an access
+-- a node of a graph: the initial write of a location, or an access
 pub data Node : Type 0 where
   InitialWrite : ℕ → Node
   TheAccess : NamedAccess → Node
@@ -23,40 +23,40 @@ pub data Node : Type 0 where
 abbrev pub IsAccessIn : TestRead → Execution → NamedAccess → Type 0
 IsAccessIn test x e = at_name (visits_in (program_read test) x) e.name ≡ Some e.visit
 
--- an access reads the initial value of a place
+-- an access reads the initial value of a location
 pub record ReadsInitial (threads : List (List Access)) (x : Execution) (place : ℕ) (e : NamedAccess) : Type 0 where
   pub reads : e.visit.access.dir ≡ dirs.R
   pub there : e.visit.access.place ≡ place
   pub source : source_at threads x e.name ≡ None
 
--- an access reads the initial value of a place of the test
+-- some access reads the initial value of this location, which is one of the test
 pub record IsInitiallyRead (test : TestRead) (x : Execution) (place : ℕ) : Type 0 where
   pub within : place < length test.places
   pub reader : NamedAccess
   pub is_access : IsAccessIn test x reader
   pub reads : ReadsInitial (accesses_in (program_read test) x) x place reader
 
--- a node of the graph of an execution of a test: the initial write of a place whose initial value is read, or an access
+-- a node of the graph of an execution of a test: the initial write of a location whose initial value is read, or an access
 abbrev pub IsNodeIn : TestRead → Execution → Node → Type 0
 IsNodeIn test x (InitialWrite place) = IsInitiallyRead test x place
 IsNodeIn test x (TheAccess e) = IsAccessIn test x e
 
--- as it is drawn
+-- how a node is drawn
 abbrev pub drawn_as : List (List Access) → Execution → Node → Drawn
 drawn_as threads x (InitialWrite place) = initial_write place
 drawn_as threads x (TheAccess e) = access_drawn (seen_access threads x e.name.thread e.name.access e.visit.access e.visit.mark)
 
--- a node of the graph of an execution, drawn so
+-- what is drawn is a node of the graph of an execution
 pub record IsDrawn (test : TestRead) (x : Execution) (drawn : Drawn) : Type 0 where
   pub node : Node
   pub is_node : IsNodeIn test x node
   pub is : drawn ≡ drawn_as (accesses_in (program_read test) x) x node
 
--- what is drawn are the nodes
+-- exactly the nodes are drawn
 abbrev pub NodesLaw : Type 0
 NodesLaw = (test : TestRead) (x : Execution) (drawn : Drawn) → (Contains (drawn_in test x) drawn ↔ IsDrawn test x drawn)
 
--- each pair of a relation is one of nodes
+-- each pair in the list of a relation is a pair of nodes
 abbrev pub EndsLaw : Type 0
 EndsLaw = (relation : Relation) (test : TestRead) (x : Execution) (a b : Drawn) → Contains (pairs_by (relates relation) (drawn_in test x)) (a, b)
     → IsDrawn test x a × IsDrawn test x b
@@ -72,7 +72,7 @@ FollowsInThread threads x (TheAccess e) (TheAccess f) = IsNextAccess e f
 FollowsInThread threads x (TheAccess e) (InitialWrite place) = ⊥
 FollowsInThread threads x (InitialWrite place) n = ⊥
 
--- the second reads, and reads the first
+-- the second is a read, and reads the first
 pub record IsReadBy (threads : List (List Access)) (x : Execution) (e f : NamedAccess) : Type 0 where
   pub reads : f.visit.access.dir ≡ dirs.R
   pub source : source_at threads x f.name ≡ Some e.name
@@ -84,14 +84,14 @@ IsReadFrom threads x (InitialWrite place) (TheAccess f) = ReadsInitial threads x
 IsReadFrom threads x (TheAccess e) (InitialWrite place) = ⊥
 IsReadFrom threads x (InitialWrite place) (InitialWrite other) = ⊥
 
--- both write to one place, and the second is next in its coherence order
+-- both write to one location, and the second is next in its coherence order
 pub record IsNextWrite (threads : List (List Access)) (x : Execution) (e f : NamedAccess) : Type 0 where
   pub first : e.visit.access.dir ≡ dirs.W
   pub second : f.visit.access.dir ≡ dirs.W
   pub there : e.visit.access.place ≡ f.visit.access.place
   pub next : coherence_place threads x f.name f.visit.access ≡ coherence_place threads x e.name e.visit.access + 1
 
--- an access writes to a place, and is the first in its coherence order
+-- an access writes to a location, and is the first in its coherence order
 pub record IsFirstWrite (x : Execution) (place : ℕ) (e : NamedAccess) : Type 0 where
   pub writes : e.visit.access.dir ≡ dirs.W
   pub there : e.visit.access.place ≡ place
@@ -104,7 +104,7 @@ FollowsInOrder threads x (InitialWrite place) (TheAccess f) = IsFirstWrite x pla
 FollowsInOrder threads x (TheAccess e) (InitialWrite place) = ⊥
 FollowsInOrder threads x (InitialWrite place) (InitialWrite other) = ⊥
 
--- the first reads, and the second writes to its place, later in the coherence order than what is read
+-- the first is a read, and the second a write to its location, later in the coherence order than what is read
 pub record IsReadBefore (threads : List (List Access)) (x : Execution) (e f : NamedAccess) : Type 0 where
   pub reads : e.visit.access.dir ≡ dirs.R
   pub writes : f.visit.access.dir ≡ dirs.W
@@ -117,25 +117,29 @@ IsOverwritten threads x (TheAccess e) (TheAccess f) = IsReadBefore threads x e f
 IsOverwritten threads x (TheAccess e) (InitialWrite place) = ⊥
 IsOverwritten threads x (InitialWrite place) n = ⊥
 
--- a pair of nodes is in a list exactly where this relation holds between them
+-- a pair of nodes is in a list exactly when this relation holds between them
 abbrev pub ListsPairs : (List Drawn → List (Drawn × Drawn)) → (List (List Access) → Execution → Node → Node → Type 0) → Type 0
 ListsPairs pairs Related =
     (test : TestRead) (x : Execution) (m n : Node) → IsNodeIn test x m → IsNodeIn test x n → let threads = accesses_in (program_read test) x in
     (Contains (pairs (drawn_in test x)) (drawn_as threads x m, drawn_as threads x n) ↔ Related threads x m n)
 
+-- `po_pairs` lists exactly the pairs of program order to the next access
 abbrev pub PoPairsLaw : Type 0
 PoPairsLaw = ListsPairs po_pairs FollowsInThread
 
+-- `rf_pairs` lists exactly the pairs of reads-from
 abbrev pub RfPairsLaw : Type 0
 RfPairsLaw = ListsPairs rf_pairs IsReadFrom
 
+-- `co_pairs` lists exactly the pairs of coherence order to the next write
 abbrev pub CoPairsLaw : Type 0
 CoPairsLaw = ListsPairs co_pairs FollowsInOrder
 
+-- `fr_pairs` lists exactly the pairs of from-read
 abbrev pub FrPairsLaw : Type 0
 FrPairsLaw = ListsPairs fr_pairs IsOverwritten
 
--- an arrow is that of an edge of a cycle which stands in an execution: it leads from the access of its event to that of the next event
+-- an arrow is that of an edge of a cycle that stands in an execution: it leads from the access of its event to that of the next event
 pub record IsOfStandingEdge (cycle : Option (List Edge)) (p : Program) (x : Execution) (arrow : Arrow) : Type 0 where
   pub es : List Edge
   pub number : ℕ
@@ -145,8 +149,8 @@ pub record IsOfStandingEdge (cycle : Option (List Edge)) (p : Program) (x : Exec
   pub source_is : arrow.source ≡ stands.source.name
   pub target_is : arrow.target ≡ stands.target.name
 
--- with the verdict on a candidate exactly the edges of the quoted cycle that stand in it are drawn, each from the access of its event to that
--- of the next event
+-- with the verdict on a candidate, exactly the edges of the quoted cycle that stand in it are drawn, each from the access of its event to
+-- that of the next event
 abbrev pub StandingArrowsLaw : Type 0
 StandingArrowsLaw =
     (arch : ArchName) (register_number : List ℕ → Option ℕ) (test : TestRead) (x : Execution) (v : Verdict) (arrow : Arrow)

@@ -1,6 +1,6 @@
 -- The graph of a candidate execution, and its text, for Graphviz: the accesses of each thread in program order, the initial writes that
 -- are read, the relations between them, the edges of the quoted cycle that stand, and the condition.
--- Source: own; the relations are the usual ones of axiomatic memory models, and the words of the accesses those of the literature.
+-- Source: own; the relations are the usual ones of axiomatic memory models, and accesses are written as in the literature.
 use Rattle.std.specs.Prelude.{ℕ, ◌+◌, ◌-◌, ◌*◌, ◌/◌, ◌%◌, ◌==◌, ◌&&◌, ◌||◌, zero, suc, Bool, true, false, cond, count_by, nat_lt, List, [], ◌∷◌, ◌++◌, codes, length, map, Option, Some, None, slice_index_or}
 use Rattle.std.specs.{Fmt.decimal, List.{enumerate_from, filter, flat_map, list_any}}
 use Rattle.list_laws.specs.Numbers.{upto}
@@ -20,46 +20,46 @@ use Rattle.exec_check.specs.{declared.shown.Shown.Shown, declared.drawn.Point.Th
 use Rattle.exec_check.specs.Verdicts.{answer_word, verdict_text}
 use Rattle.exec_check.specs.declared.shown.Shown.TheVariants as shows
 
--- what is read is the initial value
+-- the initial value is read
 abbrev pub is_initial : Option WriteAt → Bool
 is_initial None = true
 is_initial (Some _) = false
 
--- an access reads the initial value of a place
+-- an access reads the initial value of a location
 abbrev pub reads_initial : ℕ → SeenAccess → Bool
 reads_initial place seen = is_read seen.access && ((seen.access.place == place) && is_initial seen.source)
 
--- the places, of so many, whose initial write is drawn: a read reads it
+-- the locations, of this many, whose initial write is drawn: those whose initial value some read reads
 abbrev pub initial_places : ℕ → List SeenAccess → List ℕ
 initial_places places seen = filter (λ place. list_any (reads_initial place) seen) (upto places)
 
--- the initial write of a place, of the value 0, which is first in the coherence order
+-- the initial write of a location: it writes 0, and its coherence position is 0
 abbrev pub initial_write : ℕ → Drawn
 initial_write place = record { point = Initial place; access = write place 0; source = None; order = 0 }
 
--- an access of a thread
+-- an access of a thread, as it is drawn
 abbrev pub access_drawn : SeenAccess → Drawn
 access_drawn seen = record { point = At seen.thread seen.number; access = seen.access; source = seen.source; order = seen.order }
 
--- what is drawn: the initial writes of places, and the accesses of the threads
+-- what is drawn: the initial writes of these locations, and then these accesses of the threads
 abbrev pub points_drawn : List ℕ → List SeenAccess → List Drawn
 points_drawn places seen = map initial_write places ++ map access_drawn seen
 
--- the second is the next access of the thread
+-- the second point is the next access of the first one's thread
 abbrev pub is_followed : Point → Point → Bool
 is_followed (Initial _) _ = false
 is_followed (At _ _) (Initial _) = false
 is_followed (At thread number) (At other next) = (thread == other) && (next == number + 1)
 
--- a read of a place that reads this write, or the initial one, reads what is at a point
+-- a read of a location that reads this write, or the initial value if there is none, reads what is at a point
 abbrev pub is_reached : Option WriteAt → ℕ → Point → Bool
 is_reached None place (Initial other) = other == place
 is_reached None place (At _ _) = false
 is_reached (Some w) place (Initial _) = false
 is_reached (Some w) place (At thread number) = (w.thread == thread) && (w.access == number)
 
--- a relation leads from the one to the other: program order to the next access, reads-from from the write that is read, coherence order
--- to the next write at the place, from-read to each write at the place that comes after what is read
+-- a relation leads from the first to the second: program order to the next access, reads-from from the write that is read, coherence
+-- order to the next write to the location, from-read to each write to the location that comes after what is read
 abbrev pub relates : Relation → Drawn → Drawn → Bool
 relates Po e f = is_followed e.point f.point
 relates Rf e f = is_read f.access && is_reached f.source f.access.place e.point
@@ -70,16 +70,19 @@ relates Fr e f = is_read e.access && (writes_to e.access.place f.access && nat_l
 abbrev pub pairs_by : {X : Type 0} → (X → X → Bool) → List X → List (X × X)
 pairs_by test xs = flat_map (λ e. map (λ f. (e, f)) (filter (test e) xs)) xs
 
--- the pairs of each relation
+-- the pairs of program order to the next access
 abbrev pub po_pairs : List Drawn → List (Drawn × Drawn)
 po_pairs drawn = pairs_by (relates Po) drawn
 
+-- the pairs of reads-from
 abbrev pub rf_pairs : List Drawn → List (Drawn × Drawn)
 rf_pairs drawn = pairs_by (relates Rf) drawn
 
+-- the pairs of coherence order to the next write
 abbrev pub co_pairs : List Drawn → List (Drawn × Drawn)
 co_pairs drawn = pairs_by (relates Co) drawn
 
+-- the pairs of from-read
 abbrev pub fr_pairs : List Drawn → List (Drawn × Drawn)
 fr_pairs drawn = pairs_by (relates Fr) drawn
 
@@ -102,7 +105,7 @@ abbrev pub standing_arrows : List (Edge × Bool) → List Arrow
 standing_arrows judged =
     map (λ (j : ℕ × (Edge × Bool)). arrow_of (map (λ (e : Edge × Bool). e.0) judged) j.0 j.1.0) (standing_edges judged)
 
--- what follows the letter of an access, where all letters were used so many times before
+-- what follows the letter of an access, if all letters were used this many times before
 abbrev pub lap_word : ℕ → List ℕ
 lap_word zero = []
 lap_word (suc lap) = decimal (suc lap)
@@ -116,13 +119,13 @@ abbrev pub dir_word : Dir → List ℕ
 dir_word dirs.R = codes "R"
 dir_word dirs.W = codes "W"
 
--- `acq` or `rel`, or nothing where there is no mark
+-- `acq` or `rel`, or nothing if there is no mark
 abbrev pub mark_word : Mark → List ℕ
 mark_word marks.Plain = []
 mark_word marks.Acquire = codes "acq"
 mark_word marks.Release = codes "rel"
 
--- the name of a place by its number
+-- the name of a location by its number
 abbrev pub place_word : List (List ℕ) → ℕ → List ℕ
 place_word places place = slice_index_or places place []
 
@@ -130,7 +133,7 @@ place_word places place = slice_index_or places place []
 unfoldable pub name_word : ℕ → ℕ → List ℕ
 name_word thread number = codes "\"" ++ decimal thread ++ codes "." ++ decimal number ++ codes "\""
 
--- the name of a point: of an initial write the name of its place
+-- the name of a point; for an initial write it is the name of its location
 abbrev pub point_word : List (List ℕ) → Point → List ℕ
 point_word places (Initial place) = codes "\"" ++ place_word places place ++ codes "\""
 point_word places (At thread number) = name_word thread number
@@ -139,19 +142,20 @@ point_word places (At thread number) = name_word thread number
 abbrev pub column : ℕ → ℕ
 column thread = 260 * thread
 
--- the line of the initial write of a place, above the threads, right of column number k
+-- the line of the initial write of a location, given with its number among those drawn; it is above the threads, right of the column
+-- with this number
 unfoldable pub initial_line : List (List ℕ) → ℕ × ℕ → List ℕ
 initial_line places initial =
     codes "  \"" ++ place_word places initial.1 ++ codes "\" [label=\"W[" ++ place_word places initial.1 ++ codes "]=0\", pos=\""
     ++ decimal (column initial.0 + 230) ++ codes ",90\"]\n"
 
--- what an access does, after its letter
+-- what an access does, with its letter before it
 unfoldable pub access_word : List (List ℕ) → ℕ → SeenAccess → List ℕ
 access_word places n seen =
     letter_word n ++ codes ": " ++ dir_word seen.access.dir ++ mark_word seen.mark ++ codes "[" ++ place_word places seen.access.place
     ++ codes "]=" ++ decimal seen.access.value
 
--- where an access is: in the column of its thread, 100 below the one before it
+-- the position of an access: in the column of its thread, 100 below the one before it
 unfoldable pub position_word : SeenAccess → List ℕ
 position_word seen = decimal (column seen.thread + 100) ++ codes ",-" ++ decimal seen.number ++ codes "00"
 
@@ -161,7 +165,7 @@ access_line places numbered =
     codes "  " ++ name_word numbered.1.thread numbered.1.number ++ codes " [label=\"" ++ access_word places numbered.0 numbered.1
     ++ codes "\", pos=\"" ++ position_word numbered.1 ++ codes "\"]\n"
 
--- an access is one of a thread
+-- an access is in a thread
 abbrev pub is_in_thread : ℕ → SeenAccess → Bool
 is_in_thread thread seen = seen.thread == thread
 
@@ -169,7 +173,7 @@ is_in_thread thread seen = seen.thread == thread
 unfoldable pub member_word : SeenAccess → List ℕ
 member_word seen = codes " " ++ name_word seen.thread seen.number ++ codes ";"
 
--- the opening of the cluster of a thread, under its name, as high as so many accesses need
+-- the opening of the cluster of a thread, labelled with the thread's name and as high as this many accesses need
 unfoldable pub cluster_opening : ℕ → ℕ → List ℕ
 cluster_opening thread count =
     codes "  subgraph cluster_" ++ decimal thread ++ codes " { label=\"P" ++ decimal thread
@@ -182,7 +186,7 @@ cluster_line seen thread =
     cluster_opening thread (count_by (is_in_thread thread) seen)
     ++ (flat_map member_word (filter (is_in_thread thread) seen) ++ codes " }\n")
 
--- how the edges of a relation look
+-- how the arrows of a relation look
 abbrev pub relation_look : Relation → List ℕ
 relation_look Po = codes " [taillabel=\"po\", labeldistance=3.5, labelangle=16]\n"
 relation_look Rf = codes " [headlabel=\"rf\", color=\"#b3261e\", fontcolor=\"#b3261e\"]\n"
@@ -198,14 +202,14 @@ pair_line places relation pair =
 abbrev pub pair_lines : List (List ℕ) → Relation → List (Drawn × Drawn) → List ℕ
 pair_lines places relation pairs = flat_map (pair_line places relation) pairs
 
--- how an edge that stands looks, by its kind
+-- how the bold arrow of an edge looks, by the edge's kind
 abbrev pub kind_look : Kind → List ℕ
 kind_look (edges.Com coms.Rf _) = codes "labeldistance=4, color=\"#b3261e\", fontcolor=\"#b3261e\"]\n"
 kind_look (edges.Com coms.Ws _) = codes "labeldistance=4, color=\"#1a56a8\", fontcolor=\"#1a56a8\"]\n"
 kind_look (edges.Com coms.Fr _) = codes "labeldistance=4, color=\"#8a5a00\", fontcolor=\"#8a5a00\"]\n"
 kind_look _ = codes "labeldistance=5, labelangle=-40]\n"
 
--- the name of an access, as a point has it
+-- the name of an access, the same as that of its point
 abbrev pub access_name : WriteAt → List ℕ
 access_name name = name_word name.thread name.access
 
@@ -228,7 +232,7 @@ unfoldable pub condition_line : CondSeen → Bool → List ℕ
 condition_line condition answer =
     codes "  label=\"" ++ flat_map quoted_byte (cond_text condition) ++ codes "\\ncondition " ++ answer_word answer ++ codes "\"\n"
 
--- how the whole looks: places are given, and edges are drawn past what is in their way
+-- how the whole graph looks: positions are given, and arrows are drawn around what is in their way
 abbrev pub opening : List ℕ
 opening =
     codes "digraph execution {\n  graph [layout=nop, splines=true, nodesep=0.35, fontname=\"sans-serif\", fontsize=11]\n"
@@ -267,7 +271,7 @@ graph_text test x v = drawing_text test (seen_in (program_read test) x) v
 abbrev pub drawn_in : TestRead → Execution → List Drawn
 drawn_in test x = points_drawn (initial_places (length test.places) (seen_in (program_read test) x)) (seen_in (program_read test) x)
 
--- the graph of a candidate, the verdict on any other execution
+-- the text of the graph of a candidate, or of the verdict on any other execution
 abbrev pub graph_if : Bool → TestRead → Execution → Verdict → List ℕ
 graph_if true test x v = graph_text test x v
 graph_if false test x v = verdict_text v

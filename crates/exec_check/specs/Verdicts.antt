@@ -14,7 +14,7 @@ use Rattle.exec_meaning.specs.StandingEdges.{EdgeStands}
 use Rattle.exec_text.specs.ExecutionText.{execution_read}
 use Rattle.exec_check.specs.{declared.errors.CheckError.CheckError, declared.errors.CheckError.TheVariants.{Exec, NoMemory}, declared.verdict.Verdict.Verdict}
 
--- the resolution of a cycle, if there is the cycle and it has one
+-- the resolution of a cycle, if there is a cycle and it has one
 abbrev pub resolved_cycle : Option (List Edge) → Option (List Edge)
 resolved_cycle None = None
 resolved_cycle (Some cycle) = result_ok (resolution_of cycle)
@@ -23,12 +23,12 @@ resolved_cycle (Some cycle) = result_ok (resolution_of cycle)
 abbrev pub judged_cycle : ArchName → TestRead → Option (List Edge)
 judged_cycle arch test = resolved_cycle (quoted_cycle arch test.quoted)
 
--- the edges of a cycle, in order, number i with yes exactly where edge i stands in an execution of a program
+-- the edges of a cycle, in order, number i with yes exactly when edge i stands in an execution of a program
 pub record AreJudged (es : List Edge) (p : Program) (x : Execution) (judged : List (Edge × Bool)) : Type 0 where
   pub edges : map (λ j. j.0) judged ≡ es
   pub each : (i : ℕ) (j : Edge × Bool) → slice_get judged i ≡ Some j → (IsTrue j.1 ↔ EdgeStands es p x i)
 
--- the edges of the cycle are judged so; where there is no cycle, there are no edges
+-- the edges of the cycle are judged in this way; if there is no cycle, there are no edges
 abbrev pub JudgesEdges : Option (List Edge) → Program → Execution → List (Edge × Bool) → Type 0
 JudgesEdges None p x judged = judged ≡ []
 JudgesEdges (Some es) p x judged = AreJudged es p x judged
@@ -44,18 +44,18 @@ pub record JudgesCandidate (arch : ArchName) (register_number : List ℕ → Opt
   pub condition : IsTrue v.condition ↔ EndsInCondition register_number test x
   pub edges : JudgesEdges (judged_cycle arch test) (program_read test) x v.edges.items
 
--- a verdict says nothing more where the execution is no candidate
+-- a verdict says nothing more, as it must if the execution is no candidate
 pub record SaysNoMore (v : Verdict) : Type 0 where
   pub coherent : v.coherent ≡ false
   pub condition : v.condition ≡ false
   pub edges : v.edges.items ≡ []
 
--- what a verdict says further, where the execution is a candidate, and where it isn't
+-- what else a verdict says, if the execution is a candidate and if it isn't
 abbrev pub JudgesFurther : Bool → ArchName → (List ℕ → Option ℕ) → TestRead → Execution → Verdict → Type 0
 JudgesFurther true arch register_number test x v = JudgesCandidate arch register_number test x v
 JudgesFurther false arch register_number test x v = SaysNoMore v
 
--- the verdict on an execution of a test of an architecture, where registers are found by these numbers of their names
+-- the verdict on an execution of a test of an architecture; registers are found by these numbers of their names
 pub record IsVerdict (arch : ArchName) (register_number : List ℕ → Option ℕ) (test : TestRead) (x : Execution) (v : Verdict) : Type 0 where
   pub candidate : IsTrue v.candidate ↔ IsCandidate (program_read test) x
   pub further : JudgesFurther v.candidate arch register_number test x v
@@ -66,7 +66,7 @@ pub record JudgesText (arch : ArchName) (register_number : List ℕ → Option �
   pub read : execution_read (length test.threads) test.places text ≡ Ok execution
   pub verdict : IsVerdict arch register_number test execution v
 
--- the verdict on the execution that a text gives, or the text's first error, or that there was no memory, of which nothing is said
+-- the result is the verdict on the execution that a text gives, or the text's first error; if there was no memory, nothing is said
 abbrev pub Checks : ArchName → (List ℕ → Option ℕ) → TestRead → List ℕ → Result Verdict CheckError → Type 0
 Checks arch register_number test text (Ok v) = JudgesText arch register_number test text v
 Checks arch register_number test text (Err (Exec line kind)) =
@@ -82,7 +82,7 @@ answer_word false = codes "no"
 unfoldable pub answer_line : List ℕ → Bool → List ℕ
 answer_line word answer = word ++ codes " " ++ answer_word answer ++ codes "\n"
 
--- the line of edge number i: its number and its word, and whether it stands
+-- the line of edge number i: its number, its name, and whether it stands
 unfoldable pub edge_line : ℕ → Edge → Bool → List ℕ
 edge_line i edge stands = codes "edge " ++ decimal i ++ codes " " ++ word_of edge ++ codes " " ++ answer_word stands ++ codes "\n"
 

@@ -13,44 +13,44 @@ use tests_from_files::{FileFault, NoTest, TestFileKind};
 pub enum CheckedKind {
     /// The file of the test has no header, or isn't a test of the architecture that the header names.
     Test(TestKind),
-    /// It is a test of another architecture than the one asked for. The line is 1.
+    /// The file of the test is one of another architecture than the one asked for. The line is 1.
     WrongArch,
-    /// The file of the execution holds none of the test.
+    /// The text of the file of the execution gives no execution of the test.
     Exec(ExecKind),
 }
 
-/// How a call that checks an execution of a test ended. A `file` and a `word` are the place of the word that
+/// How a call that checks an execution of a test ended. A `file` and a `word` are the position of the argument that
 /// names the file.
 #[derive(Clone, Copy, PartialEq, Eq)]
 pub enum CheckEnd {
-    /// The verdict is written.
+    /// The verdict or the graph is written.
     Done,
-    /// A file is wrong, the first such: the line, from 1, and the error.
+    /// The first file that is wrong: the line of its first error, from 1, and the error.
     Wrong {
         file: usize,
         line: u64,
         kind: CheckedKind,
     },
-    /// The word names no file.
+    /// The argument names no file.
     NoFile {
         word: usize,
     },
     /// The shelf failed.
     ShelfFault,
-    /// The output failed.
+    /// The output failed; it has taken a prefix of the text.
     OutFault,
-    /// There is no memory.
+    /// There is no memory. Nothing was written.
     NoMemory,
 }
 
-/// Why a file isn't what is wanted of it.
+/// Why a file can't be used.
 #[derive(Clone, Copy)]
 pub(crate) enum CheckFault {
-    /// It isn't there.
+    /// It doesn't exist.
     Missing,
     /// The shelf failed.
     Device,
-    /// It is wrong: the line, and the error.
+    /// It is wrong: the line of its first error, and the error.
     Wrong { line: u64, kind: CheckedKind },
     /// There is no memory.
     NoMemory,
@@ -116,7 +116,7 @@ impl From<CheckError> for CheckFault {
 }
 
 impl CheckFault {
-    /// The end where the file that a word names isn't what is wanted of it.
+    /// How a call ends if the file that the argument at position `word` names can't be used.
     pub(crate) fn end_at(self, word: usize) -> CheckEnd
         ensures { result ≡ check_end word self }
     {

@@ -17,9 +17,9 @@ use std::alloc::Global;
 
 /// The verdict on the execution of a test that a text gives: whether it is a candidate execution of the
 /// test, whether it is coherent per location, whether the terms of the condition hold in its final state,
-/// and which edges stand in it of the cycle that the test quotes. The text has the form that
-/// `exec_text::read_execution` reads. One that is no execution is answered with its first faulty line,
-/// and the leftmost error in it.
+/// and which edges of the cycle that the test quotes stand in it. The text has the form that
+/// `exec_text::read_execution` reads. If it gives no execution, the error is its first line with an error and
+/// the leftmost error in it. It may return `NoMemory` instead.
 pub fn check<A: Arch>(alloc: Global, test: &ReadTest<A>, text: &[u8]) -> Result<Verdict, CheckError>
     ensures { Checks A.NAME (number_in A.writing.registers) test.now text.now result }
 {

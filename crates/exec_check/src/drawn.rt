@@ -6,10 +6,10 @@ use exec_meaning::{Access, SeenAccess, WriteAt};
 use relax_edges::Dir;
 use std::alloc::{AllocError, Global};
 
-/// What an edge of a graph joins.
+/// What an arrow of a graph joins.
 #[derive(Clone, Copy)]
 pub(crate) enum Point {
-    /// The initial write of a place.
+    /// The initial write of a location.
     Initial { place: u8 },
     /// An access, by its thread and its number there.
     At { thread: u8, number: usize },
@@ -20,9 +20,9 @@ pub(crate) enum Point {
 pub(crate) struct Drawn {
     pub(crate) point: Point,
     pub(crate) access: Access,
-    /// The write that a read reads, or none for the initial write.
+    /// The write that a read reads, or none for the initial write. For a write it means nothing.
     pub(crate) source: Option<WriteAt>,
-    /// The coherence place: 0 for the initial write and for what reads it.
+    /// The coherence position: 0 for the initial write and for what reads it.
     pub(crate) order: usize,
 }
 
@@ -58,7 +58,7 @@ fn is_next(before: usize, after: usize) -> bool
     after > 0 && after - 1 == before
 }
 
-/// Whether a point is the next access of the thread.
+/// Whether the second point is the next access of the first one's thread.
 fn is_followed(from: Point, to: Point) -> bool
     ensures { result ≡ is_followed from to }
 {
@@ -74,7 +74,8 @@ fn is_followed(from: Point, to: Point) -> bool
     }
 }
 
-/// Whether a read of a place that reads this write reads a point.
+/// Whether a read of a location that reads this write, or the initial value if there is none, reads what is at
+/// a point.
 fn is_reached(source: Option<WriteAt>, place: u8, point: Point) -> bool
     ensures { result ≡ is_reached source place point }
 {
@@ -87,7 +88,7 @@ fn is_reached(source: Option<WriteAt>, place: u8, point: Point) -> bool
     }
 }
 
-/// Whether a relation leads from one to the other.
+/// Whether a relation leads from the first to the second.
 pub(crate) fn relates(relation: Relation, from: &Drawn, to: &Drawn) -> bool
     ensures { result ≡ relates relation from.now to.now }
 {
@@ -113,21 +114,21 @@ fn is_initial(source: Option<WriteAt>) -> bool
     source.is_none()
 }
 
-/// Whether an access reads the initial value of a place.
+/// Whether an access reads the initial value of a location.
 fn reads_initial(place: u8, seen: &SeenAccess) -> bool
     ensures { result ≡ reads_initial place seen.now }
 {
     is_read(&seen.access) && seen.access.place == place && is_initial(seen.source)
 }
 
-/// Whether an access reads the initial value of a place.
+/// Whether some access reads the initial value of a location.
 fn is_read_initially(place: u8, seen: &[SeenAccess]) -> bool
     ensures { result ≡ list_any (reads_initial place) seen.now }
 {
     seen.iter().any(|access| reads_initial(place, access))
 }
 
-/// Adds a place, if an access reads its initial value.
+/// Adds a location, if some access reads its initial value.
 fn push_if_initial(place: u8, seen: &[SeenAccess], list: &mut Vec<u8>) -> Result<(), AllocError>
     ensures { OnOk result (list.new.items ≡ list.old.items ++ cond (list_any (reads_initial place) seen.now) (place ∷ []) []) }
 {
@@ -137,7 +138,7 @@ fn push_if_initial(place: u8, seen: &[SeenAccess], list: &mut Vec<u8>) -> Result
     Ok(())
 }
 
-/// The places of which a read reads the initial value.
+/// The locations whose initial value some read reads.
 pub(crate) fn initial_places(
     alloc: Global,
     places: u8,
@@ -153,7 +154,7 @@ pub(crate) fn initial_places(
     Ok(list)
 }
 
-/// The initial write of a place.
+/// The initial write of a location.
 fn initial_write(place: u8) -> Drawn
     ensures { result ≡ initial_write place }
 {
@@ -169,7 +170,7 @@ fn initial_write(place: u8) -> Drawn
     }
 }
 
-/// An access of a thread.
+/// An access of a thread, as it is drawn.
 fn access_drawn(seen: &SeenAccess) -> Drawn
     ensures { result ≡ access_drawn seen.now }
 {
@@ -184,7 +185,7 @@ fn access_drawn(seen: &SeenAccess) -> Drawn
     }
 }
 
-/// The initial writes of places, and then the accesses of the threads.
+/// The initial writes of these locations, and then the accesses of the threads.
 pub(crate) fn points_drawn(
     alloc: Global,
     places: &[u8],

@@ -13,8 +13,8 @@ use exec_meaning::{Execution, edge_stands};
 use litmus_text::ReadTest;
 use std::alloc::Global;
 
-/// Which edges of the cycle that a test quotes stand in a candidate execution of it. There are none where
-/// it quotes no cycle of the architecture that has a resolution.
+/// Which edges of the cycle that a test quotes stand in a candidate execution of it. There are none if it
+/// quotes no cycle of the architecture that has a resolution.
 pub(crate) fn edges_on<A: Arch>(
     alloc: Global,
     test: &ReadTest<A>,
@@ -29,7 +29,7 @@ pub(crate) fn edges_on<A: Arch>(
     }
 }
 
-/// The resolution of a cycle, if there is the cycle and it has one.
+/// The resolution of a cycle, if there is a cycle and it has one.
 pub(crate) fn resolved_cycle(cycle: Option<Cycle>) -> Option<Resolved>
     ensures { result ≡ resolved_cycle cycle }
 {

@@ -3,12 +3,13 @@ use exec_text::ExecKind;
 /// Why there is no verdict on a text.
 #[derive(Clone, Copy, PartialEq, Eq)]
 pub enum CheckError {
-    /// The text is no execution: its first faulty line, and the leftmost error in that line.
+    /// The text is no execution: the first line with an error, and the leftmost error in it.
     Exec {
-        /// The number of the line, from 1: of a line that is missing, the one that it would have.
+        /// The number of the line, from 1: for a missing line, the number that it would have; for a text that is
+        /// too large, 1.
         line: u64,
         kind: ExecKind,
     },
-    /// There is no memory for the execution or for the runs of the threads.
+    /// There is no memory.
     NoMemory,
 }

@@ -14,7 +14,7 @@ use tests_from_files::{read_named_file, test_of_text};
 /// How many bytes are read at once.
 const PIECE: usize = 4_096;
 
-/// Where a file is read: a piece at a time, and then its text.
+/// Space for reading a file: one piece of it at a time, and its text.
 #[derive(Drop)]
 pub(crate) struct Room {
     piece: [u8; PIECE],
@@ -30,7 +30,7 @@ impl Room {
     }
 }
 
-/// The test in the file that the word at a place names.
+/// The test in the file that the argument at a position names.
 pub(crate) fn test_in_file<A: Arch, H: Shelf>(
     alloc: Global,
     shelf: &mut H,
@@ -48,8 +48,8 @@ pub(crate) fn test_in_file<A: Arch, H: Shelf>(
     closed_test::<A>(alloc, room.text.as_slice(), closed)
 }
 
-/// The test that a file's text is, where this is the answer to the closing of the file. An error of the text is the
-/// answer also where the closing failed.
+/// The test that a file's text is, if closing the file returned `closed`. An error in the text is returned even if
+/// closing failed.
 fn closed_test<A: Arch>(
     alloc: Global,
     text: &[u8],
@@ -62,7 +62,7 @@ fn closed_test<A: Arch>(
     Ok(test)
 }
 
-/// The execution of a test that such a file holds, with the verdict on it, in the same way.
+/// The execution of a test in the file that the argument at a position names, with the verdict on it.
 pub(crate) fn execution_in_file<A: Arch, H: Shelf>(
     alloc: Global,
     test: &ReadTest<A>,
@@ -81,7 +81,7 @@ pub(crate) fn execution_in_file<A: Arch, H: Shelf>(
     closed_execution::<A>(alloc, test, room.text.as_slice(), closed)
 }
 
-/// The execution that a file's text says, with the verdict on it, in the same way.
+/// The execution that a file's text gives, with the verdict on it, in the same way as `closed_test`.
 fn closed_execution<A: Arch>(
     alloc: Global,
     test: &ReadTest<A>,

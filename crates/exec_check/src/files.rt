@@ -9,20 +9,20 @@ use arch_trait::Arch;
 use diy_io::{Failed, NoMemory, Shelf, Sink, Words};
 use std::alloc::Global;
 
-/// The places of the words that name the two files.
+/// The positions of the arguments that name the two files, from 0.
 #[derive(Clone, Copy)]
 pub struct FileWords {
     pub test: usize,
     pub exec: usize,
 }
 
-/// Reads the file that the word at the place `files.test` names, as a test of an architecture, then the file that
-/// the word at `files.exec` names, as an execution of that test, and then writes what is to be shown: the verdict on
-/// the execution, as `crate::write_verdict` does, or, where it is a candidate, its graph.
+/// Reads the file that the argument at position `files.test` names, as a test of an architecture, then the file that
+/// the argument at `files.exec` names, as an execution of that test, and then writes what is to be shown: the verdict
+/// on the execution, as `crate::write_verdict` does, or, if `shown` is `Shown::Graph` and it is a candidate, its graph.
 ///
 /// Each file is opened once, and read to its end, or up to one byte more than a test may have, before it is judged.
-/// Where one is wrong or isn't there, or the shelf fails, or there is no memory, nothing is read after that, and
-/// nothing is written. An error of a text is the answer also where closing its file fails.
+/// If one is wrong or doesn't exist, or the shelf fails, or there is no memory, nothing is read after that, and
+/// nothing is written. An error in a text is returned even if closing its file fails.
 pub fn check_files<A: Arch, H: Shelf, O: Sink>(
     alloc: Global,
     words: &Words,

@@ -48,7 +48,7 @@ fn push_name(thread: u8, number: usize, text: &mut Vec<u8>) -> Result<(), NoMemo
     push_pieces(&[b"\"", thread, b".", number, b"\""], text)
 }
 
-/// The name of a place, which is empty where there is no such place.
+/// The name of a location, which is empty if there is no such location.
 #[tactic(auto, using(std::proofs::lemmas::List::get_or_past))]
 fn place_word(places: &Places, place: u8) -> &[u8]
     ensures { result.now ≡ place_word places.now place }
@@ -72,7 +72,7 @@ fn push_point(places: &Places, point: Point, text: &mut Vec<u8>) -> Result<(), N
     }
 }
 
-/// Appends the letter of an access by its number among all.
+/// Appends the letter of an access, by its number among all accesses.
 #[tactic(auto, unfolding(crate::specs::Graphs::letter_word))]
 fn push_letter(number: usize, text: &mut Vec<u8>) -> Result<(), NoMemory>
     ensures { OnOk result (text.new.items ≡ text.old.items ++ letter_word number) }
@@ -81,7 +81,7 @@ fn push_letter(number: usize, text: &mut Vec<u8>) -> Result<(), NoMemory>
     push_lap(number / 26, text)
 }
 
-/// Appends what follows a letter, where all letters were used so many times before.
+/// Appends what follows a letter, if all letters were used this many times before.
 #[tactic(auto, using(crate::proofs::GraphLines::some_lap))]
 fn push_lap(lap: usize, text: &mut Vec<u8>) -> Result<(), NoMemory>
     ensures { OnOk result (text.new.items ≡ text.old.items ++ lap_word lap) }
@@ -112,7 +112,7 @@ fn mark_word(mark: Mark) -> &'static [u8]
     }
 }
 
-/// Appends what an access does, after its letter.
+/// Appends what an access does, with its letter before it.
 #[tactic(auto, unfolding(crate::specs::Graphs::access_word))]
 fn push_access_word(
     places: &Places,
@@ -138,7 +138,7 @@ fn column(thread: u8) -> u32
     260 * u32::from(thread)
 }
 
-/// Appends the line of the initial write of a place, right of a column of the threads.
+/// Appends the line of the initial write of a location, right of the column with this number.
 #[tactic(auto, unfolding(crate::specs::Graphs::initial_line))]
 fn push_initial(places: &Places, number: u8, place: u8, text: &mut Vec<u8>) -> Result<(), NoMemory>
     ensures { OnOk result (text.new.items ≡ text.old.items ++ initial_line places.now (number, place)) }
@@ -160,7 +160,7 @@ fn push_initial(places: &Places, number: u8, place: u8, text: &mut Vec<u8>) -> R
     )
 }
 
-/// Appends where an access is: in the column of its thread, 100 below the one before it.
+/// Appends the position of an access: in the column of its thread, 100 below the one before it.
 #[tactic(auto, unfolding(crate::specs::Graphs::position_word))]
 fn push_position(seen: &SeenAccess, text: &mut Vec<u8>) -> Result<(), NoMemory>
     ensures { OnOk result (text.new.items ≡ text.old.items ++ position_word seen.now) }
@@ -172,7 +172,7 @@ fn push_position(seen: &SeenAccess, text: &mut Vec<u8>) -> Result<(), NoMemory>
     push_pieces(&[across, b",-", down, b"00"], text)
 }
 
-/// Appends the line of an access by its number among all.
+/// Appends the line of an access, by its number among all accesses.
 #[tactic(auto, unfolding(crate::specs::Graphs::access_line))]
 fn push_access(
     places: &Places,
@@ -203,7 +203,7 @@ fn push_member(seen: &SeenAccess, text: &mut Vec<u8>) -> Result<(), NoMemory>
     Ok(())
 }
 
-/// Appends the opening of the cluster of a thread with so many accesses.
+/// Appends the opening of the cluster of a thread with this many accesses.
 #[tactic(auto, unfolding(crate::specs::Graphs::cluster_opening))]
 fn push_cluster_opening(thread: u8, count: usize, text: &mut Vec<u8>) -> Result<(), NoMemory>
     ensures { OnOk result (text.new.items ≡ text.old.items ++ cluster_opening thread count) }
@@ -234,7 +234,7 @@ fn push_cluster_opening(thread: u8, count: usize, text: &mut Vec<u8>) -> Result<
     )
 }
 
-/// Appends the line of a thread.
+/// Appends the line of a thread: a cluster with its accesses.
 fn push_cluster(thread: u8, seen: &[SeenAccess], text: &mut Vec<u8>) -> Result<(), NoMemory>
     ensures { OnOk result (text.new.items ≡ text.old.items ++ cluster_line seen.now thread) }
 {
@@ -245,7 +245,7 @@ fn push_cluster(thread: u8, seen: &[SeenAccess], text: &mut Vec<u8>) -> Result<(
     Ok(())
 }
 
-/// Appends an access to the cluster of a thread, if it is one of the thread.
+/// Appends an access to the cluster of a thread, if it is in the thread.
 fn push_if_member(thread: u8, seen: &SeenAccess, text: &mut Vec<u8>) -> Result<(), NoMemory>
     ensures { OnOk result (text.new.items ≡ text.old.items ++ cond (is_in_thread thread seen.now) (member_word seen.now) []) }
 {
@@ -265,7 +265,7 @@ fn push_members(thread: u8, seen: &[SeenAccess], text: &mut Vec<u8>) -> Result<(
     Ok(())
 }
 
-/// How the edges of a relation look.
+/// How the arrows of a relation look.
 fn relation_look(relation: Relation) -> &'static [u8]
     ensures { result.now ≡ relation_look relation }
 {
@@ -296,7 +296,7 @@ fn push_pair(
     Ok(())
 }
 
-/// Appends the line of a pair, if the relation leads from the one to the other.
+/// Appends the line of a pair, if the relation leads from the first to the second.
 fn push_if_pair(
     places: &Places,
     relation: Relation,
@@ -312,7 +312,7 @@ fn push_if_pair(
     Ok(())
 }
 
-/// Appends the lines of the pairs of a relation that lead from one.
+/// Appends the lines of the pairs of a relation that lead from this access or initial write.
 fn push_pairs_from(
     places: &Places,
     relation: Relation,
@@ -353,7 +353,7 @@ fn push_relations(places: &Places, drawn: &[Drawn], text: &mut Vec<u8>) -> Resul
     push_pairs(places, Relation::Fr, drawn, text)
 }
 
-/// How an edge of a cycle that stands looks, by its kind.
+/// How the bold arrow of an edge looks, by the edge's kind.
 fn kind_look(kind: Kind) -> &'static [u8]
     ensures { result.now ≡ kind_look kind }
 {
@@ -454,7 +454,7 @@ fn push_quoted_byte(byte: u8, text: &mut Vec<u8>) -> Result<(), NoMemory>
     Ok(())
 }
 
-/// Appends a text as it stands between double quotes.
+/// Appends a text as it is written between double quotes.
 fn push_quoted(quoted: &[u8], text: &mut Vec<u8>) -> Result<(), NoMemory>
     ensures { OnOk result (text.new.items ≡ text.old.items ++ flat_map quoted_byte quoted.now) }
 {
@@ -464,7 +464,7 @@ fn push_quoted(quoted: &[u8], text: &mut Vec<u8>) -> Result<(), NoMemory>
     Ok(())
 }
 
-/// Appends the text of a condition as it stands between double quotes.
+/// Appends the text of a condition as it is written between double quotes.
 fn push_condition_text(cond: &Cond, text: &mut Vec<u8>) -> Result<(), NoMemory>
     ensures { OnOk result (text.new.items ≡ text.old.items ++ flat_map quoted_byte (cond_text (cond_view cond.now))) }
 {
@@ -515,7 +515,7 @@ fn push_clusters(threads: u8, seen: &[SeenAccess], text: &mut Vec<u8>) -> Result
     Ok(())
 }
 
-/// Appends the edges that stand of the cycle that a test quotes.
+/// Appends the lines of the edges of the quoted cycle that stand.
 fn push_judged<A: Arch>(
     test: &ReadTest<A>,
     judged: &[(Edge, bool)],
@@ -531,7 +531,7 @@ fn push_judged<A: Arch>(
     }
 }
 
-/// Appends the opening of a graph: places are given, and edges are drawn past what is in their way.
+/// Appends the opening of a graph: positions are given, and arrows are drawn around what is in their way.
 fn push_opening(text: &mut Vec<u8>) -> Result<(), NoMemory>
     ensures { OnOk result (text.new.items ≡ text.old.items ++ opening) }
 {

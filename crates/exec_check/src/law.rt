@@ -6,8 +6,9 @@ pub fn one_verdict()
     ensures { OneVerdict }
 {}
 
-/// A graph shows each access, and the initial write of each location that some read reads, and shows a pair of these in program
-/// order, reads-from, coherence order or from-read exactly where that relation leads from the one to the other.
+/// A graph shows exactly the accesses and the initial writes that some read reads, and shows a pair of these in program order to
+/// the next access, reads-from, coherence order to the next write, or from-read exactly when that relation leads from the first
+/// to the second.
 #[tactic(auto, using(crate::proofs::DrawnLaws::po_pairs_law, crate::proofs::DrawnLaws::rf_pairs_law))]
 pub fn drawn_relations()
     ensures nodes { NodesLaw }
@@ -18,8 +19,8 @@ pub fn drawn_relations()
     ensures fr { FrPairsLaw }
 {}
 
-/// The bold arrows of a graph are those of the edges of the quoted cycle that stand in the execution, each from the access of
-/// its event to that of the next event.
+/// The bold arrows of the graph of a candidate execution are those of exactly the edges of the quoted cycle that stand in it,
+/// each from the access of its event to that of the next event.
 pub fn drawn_edges()
     ensures { StandingArrowsLaw }
 {}

@@ -1,5 +1,5 @@
 //! The verdict on an execution of a test: whether it is a candidate, is coherent and meets the condition, and which edges stand; its graph;
-//! and both of an execution that is read from files, which words name.
+//! and both for an execution of a test that are read from files, which arguments name.
 #![tactic(auto)]
 
 mod checked_errors;

@@ -11,12 +11,12 @@ use diy_io::{Failed, NoMemory, Page, Sink};
 use litmus_text::ReadTest;
 use std::alloc::Global;
 
-/// What is written of an execution.
+/// What is written for an execution.
 #[derive(Clone, Copy, PartialEq, Eq)]
 pub enum Shown {
     /// The lines of the verdict.
     Verdict,
-    /// The graph, for Graphviz, where the execution is a candidate, and else the verdict.
+    /// The graph, for Graphviz, if the execution is a candidate, and otherwise the lines of the verdict.
     Graph,
 }
 
@@ -53,7 +53,7 @@ fn graph_if<A: Arch>(
     Ok(Some(text))
 }
 
-/// Writes the graph, if there is one, or else the verdict. Where the sink fails, it has taken a prefix of the text.
+/// Writes the graph, if there is one, and otherwise the verdict. If the sink fails, it has taken a prefix of the text.
 pub(crate) fn write_shown<O: Sink>(
     graph: &Option<Vec<u8>>,
     verdict: &Verdict,
@@ -67,7 +67,7 @@ pub(crate) fn write_shown<O: Sink>(
     }
 }
 
-/// Writes a text by way of a page.
+/// Writes a text through an output buffer.
 fn write_text<O: Sink>(text: &[u8], out: &mut O) -> Result<(), Failed>
     ensures { Wrote (O.seen out.old) (O.seen out.new) text.now result }
 {

@@ -8,15 +8,15 @@ pub type JudgedEdges = ArrayVec<(Edge, bool), MAX_EDGES>;
 /// What is said of an execution of a test.
 #[derive(Drop)]
 pub struct Verdict {
-    /// Whether it is a candidate execution of the test. Where it isn't, nothing more is said: the answers
-    /// that follow are `false`, and there are no edges.
+    /// Whether it is a candidate execution of the test. If it isn't, nothing more is said: the two fields that
+    /// follow are `false`, and there are no edges.
     pub candidate: bool,
     /// Whether it is coherent per location.
     pub coherent: bool,
     /// Whether the terms of the test's condition hold in its final state.
     pub condition: bool,
     /// The edges of the cycle that the test quotes, in the rotation in which threads are counted, each with
-    /// whether it stands. There are none where the test quotes no cycle of its architecture that has a
+    /// whether it stands. There are none if the test quotes no cycle of its architecture that has a
     /// resolution.
     pub edges: JudgedEdges,
 }

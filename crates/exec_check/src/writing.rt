@@ -9,9 +9,9 @@ use diy_io::{Failed, Page, Sink};
 use itoa::Buffer;
 use relax_edges::Edge;
 
-/// Writes a verdict: the line `candidate no` alone, or the lines `candidate yes`, `coherent ANSWER`,
-/// `condition ANSWER` and for each edge `edge NUMBER WORD ANSWER`, with numbers from 0, or `no cycle` where
-/// there are no edges. An answer is `yes` or `no`. Where the sink fails, it has taken a prefix of the text.
+/// Writes a verdict: only the line `candidate no`, or the lines `candidate yes`, `coherent ANSWER`,
+/// `condition ANSWER` and for each edge `edge NUMBER NAME ANSWER`, with numbers from 0, or `no cycle` if
+/// there are no edges. An answer is `yes` or `no`. If the sink fails, it has taken a prefix of the text.
 pub fn write_verdict<O: Sink>(verdict: &Verdict, out: &mut O) -> Result<(), Failed>
     ensures { Wrote (O.seen out.old) (O.seen out.new) (verdict_text verdict.now) result }
 {

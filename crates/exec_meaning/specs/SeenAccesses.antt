@@ -7,7 +7,7 @@ use Rattle.program_meaning.specs.Programs.{Program, visits_in}
 use Rattle.exec_meaning.specs.declared.seen.SeenAccess.{SeenAccess}
 
 -- an access by its thread and its number there: what it does, its mark, the write that it reads, if it is a read, and its coherence
--- place
+-- position
 abbrev pub seen_access : List (List Access) → Execution → ℕ → ℕ → Access → Mark → SeenAccess
 seen_access threads x thread number access mark = record {
   thread = thread;
@@ -18,7 +18,7 @@ seen_access threads x thread number access mark = record {
   order = coherence_place threads x (name thread number) access;
 }
 
--- the accesses of a thread, which comes with its number, in program order
+-- the accesses of a thread, given with its number, in program order
 abbrev pub seen_in_thread : List (List Access) → Execution → ℕ × List Visit → List SeenAccess
 seen_in_thread threads x thread =
     map (λ visit. seen_access threads x thread.0 visit.0 visit.1.access visit.1.mark) (enumerate_from 0 thread.1)
@@ -27,6 +27,6 @@ seen_in_thread threads x thread =
 abbrev pub seen_accesses : List (List Visit) → Execution → List SeenAccess
 seen_accesses visits x = flat_map (seen_in_thread (map accesses_of visits) x) (enumerate_from 0 visits)
 
--- those of a program in an execution
+-- the accesses of a program in an execution
 abbrev pub seen_in : Program → Execution → List SeenAccess
 seen_in p x = seen_accesses (visits_in p x) x

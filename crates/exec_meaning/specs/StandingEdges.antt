@@ -19,8 +19,8 @@ use Rattle.program_meaning.specs.{declared.WriteAt.WriteAt, Accesses.{Access, Ba
 use Rattle.program_meaning.specs.{Coherence.{coherence_place, source_at}, Programs.{Program, accesses_in, visits_in}}
 use Rattle.program_meaning.specs.Standing.{AccessAt, NamedAccess, access_at, IsEvent, Stands, mask_of, is_in_mask}
 
--- edge i of a cycle stands in an execution of a program: event i and the one after it are there, and the edge stands from
--- the first to the second
+-- edge i of a cycle stands in an execution of a program: event i and the one after it are accesses in it, and the edge stands
+-- from the first to the second
 pub record EdgeStands (es : List Edge) (p : Program) (x : Execution) (i : ℕ) : Type 0 where
   pub source : NamedAccess
   pub target : NamedAccess
@@ -28,15 +28,15 @@ pub record EdgeStands (es : List Edge) (p : Program) (x : Execution) (i : ℕ) :
   pub enters : IsEvent es (visits_in p x) (event_after es i) target
   pub stands : Stands (accesses_in p x) x (edge_at es i) source target
 
--- an access with this name
+-- this access with this name
 abbrev pub named : WriteAt → Visit → NamedAccess
 named name visit = record { name = name; visit = visit }
 
--- the access with a name, if it is there
+-- the access with a name, if there is one
 abbrev pub named_access : List (List Visit) → WriteAt → Option NamedAccess
 named_access visits name = option_map (named name) (at_name visits name)
 
--- two sides of a fence order the same accesses
+-- two sides of fences order the same accesses
 abbrev pub same_pick : Pick → Pick → Bool
 same_pick picks.R picks.R = true
 same_pick picks.W picks.W = true
@@ -74,12 +74,12 @@ abbrev pub is_none : List Barred → Bool
 is_none [] = true
 is_none (b ∷ more) = false
 
--- the place of an edge's target is that of its source, or another, as the edge says
+-- the location of an edge's target is that of its source, or another, as the edge says
 abbrev pub are_at : Sd → ℕ → ℕ → Bool
 are_at Same p q = p == q
 are_at Diff p q = not (p == q)
 
--- what is read is this write
+-- the write that is read is this one
 abbrev pub is_source : Option WriteAt → WriteAt → Bool
 is_source None e = false
 is_source (Some w) e = same_write w e
@@ -88,7 +88,7 @@ is_source (Some w) e = same_write w e
 abbrev pub comes_before : List (List Access) → Execution → AccessAt → AccessAt → Bool
 comes_before threads x e f = nat_lt (coherence_place threads x e.name e.access) (coherence_place threads x f.name f.access)
 
--- two accesses communicate so: the second reads the first, or comes after it in the coherence order
+-- two accesses communicate in this way: the second reads the first, or comes after it in the coherence order
 abbrev pub communicates : Com → List (List Access) → Execution → AccessAt → AccessAt → Bool
 communicates coms.Rf threads x e f = is_source (source_at threads x f.name) e.name
 communicates coms.Fr threads x e f = comes_before threads x e f
@@ -114,39 +114,40 @@ joins threads x edge e f =
     (are_at (sd_of edge) e.access.place f.access.place &&
     (communicates_by (kind_of edge) threads x e f && reaches (reach_of edge) e.name f.name)))
 
--- two answers are the same
+-- two truth values are the same
 abbrev pub same_answer : Bool → Bool → Bool
 same_answer true b = b
 same_answer false b = not b
 
--- the second of two accesses depends on the first by these address and data masks, and by control or not
+-- the second of two accesses has these address and data masks, and depends on the first by control or not
 abbrev pub depends : List (List Access) → NamedAccess → Visit → ℕ → ℕ → Bool → Bool
 depends threads e f address stored controlled =
     (f.address_mask == address) && ((f.data_mask == stored) && same_answer controlled (is_in_mask threads e f.control_mask))
 
--- the second depends on the first in this way alone
+-- the second depends on the first in this way only, and its address and its data depend on no other load
 abbrev pub depends_as : Tie → List (List Access) → NamedAccess → Visit → Bool
 depends_as ties.Nothing threads e f = depends threads e f 0 0 false
 depends_as ties.Address threads e f = depends threads e f (mask_of threads e) 0 false
 depends_as ties.Data threads e f = depends threads e f 0 (mask_of threads e) false
 depends_as ties.Control threads e f = depends threads e f 0 0 true
 
--- each barrier waits for the first access
+-- the control mask of each barrier names the first access
 abbrev pub barriers_wait : List (List Access) → NamedAccess → List Barred → Bool
 barriers_wait threads e bs = list_all (λ (b : Barred). is_in_mask threads e b.control) bs
 
--- there is this barrier alone before the second access, it waits for the first, and so does the second
+-- this is the only barrier before the second access, its control mask names the first access, and the second depends on the
+-- first by control only
 abbrev pub waits : Barrier → List (List Access) → NamedAccess → Visit → Bool
 waits kind threads e f = is_alone kind f.barriers && (depends_as ties.Control threads e f && barriers_wait threads e f.barriers)
 
--- the next access depends on a read as this dependency says
+-- the second access depends on the first as this dependency says, with the dependency's barrier between them or none
 abbrev pub depends_by : DepKind → List (List Access) → NamedAccess → Visit → Bool
 depends_by deps.Addr threads e f = is_none f.barriers && depends_as ties.Address threads e f
 depends_by deps.Ctrl threads e f = is_none f.barriers && depends_as ties.Control threads e f
 depends_by deps.CtrlIsync threads e f = waits (barriers.Fence fences.ISync) threads e f
 depends_by deps.CtrlIsb threads e f = waits barriers.Isb threads e f
 
--- the next access of the thread is tied to the first as an internal edge says
+-- the second access is tied to the first as an internal edge says; an external one ties nothing
 abbrev pub ties_by : Kind → List (List Access) → NamedAccess → Visit → Bool
 ties_by (edges.Com _ Internal) threads e f = is_none f.barriers && depends_as ties.Nothing threads e f
 ties_by (edges.Com _ External) threads e f = true
@@ -155,13 +156,13 @@ ties_by (edges.Fenced kind _ _ _) threads e f = is_alone (barriers.Fence kind) f
 ties_by (edges.Dep kind _ _) threads e f = depends_by kind threads e f
 ties_by (edges.Data _) threads e f = is_none f.barriers && depends_as ties.Data threads e f
 
--- an edge stands between two accesses
+-- an edge stands from the first access to the second
 abbrev pub stands : List (List Access) → Execution → Edge → NamedAccess → NamedAccess → Bool
 stands threads x edge e f =
     joins threads x edge (access_at e) (access_at f) &&
     (same_mark e.visit.mark (source_mark edge) && (same_mark f.visit.mark (target_mark edge) && ties_by (kind_of edge) threads e f.visit))
 
--- two accesses are there, and an edge stands between them
+-- there are two accesses, and an edge stands from the first to the second
 abbrev pub stands_if : List (List Access) → Execution → Edge → Option NamedAccess → Option NamedAccess → Bool
 stands_if threads x edge None f = false
 stands_if threads x edge (Some e) None = false

@@ -72,7 +72,7 @@ pub(crate) fn all_accesses(alloc: Global, traces: &[Trace]) -> Result<Vec<Access
     Ok(all)
 }
 
-/// The access with a name, if it is there.
+/// The access with a name, if there is one.
 pub(crate) fn access_at(all: &[Accesses], name: WriteAt) -> Option<Access>
     ensures { result ≡ at_name all.now name }
 {
@@ -87,21 +87,21 @@ pub(crate) fn is_same(write: WriteAt, other: WriteAt) -> bool
     write.thread == other.thread && write.access == other.access
 }
 
-/// Whether a name has these numbers, which may be past those of a name.
+/// Whether a name has these numbers, which may be larger than a name can hold.
 pub(crate) fn has_numbers(write: WriteAt, thread: usize, access: usize) -> bool
     ensures { result ≡ same_write (name thread access) write }
 {
     thread == usize::from(write.thread) && access == usize::from(write.access)
 }
 
-/// Whether an access reads.
+/// Whether an access is a read.
 pub(crate) fn is_read(access: &Access) -> bool
     ensures { result ≡ is_read access.now }
 {
     access.dir == Dir::R
 }
 
-/// Whether an access writes to a place.
+/// Whether an access is a write to a location.
 pub(crate) fn writes_to(place: u8, access: &Access) -> bool
     ensures { result ≡ writes_to place access.now }
 {

@@ -14,8 +14,8 @@ use litmus_text::ReadTest;
 use program_meaning::{Access, WriteAt};
 use std::alloc::Global;
 
-/// Whether a read access can read what a read names: the initial value, which is 0, or a write at its
-/// place of its value.
+/// Whether a read access can read what a read names: the initial value, which is 0, or a write of its value
+/// to its location.
 fn can_read(all: &[Accesses], access: &Access, from: Option<WriteAt>) -> bool
     ensures { result ≡ can_read all.now access.now from }
 {
@@ -28,7 +28,7 @@ fn can_read(all: &[Accesses], access: &Access, from: Option<WriteAt>) -> bool
     }
 }
 
-/// Whether reads are those of the reading accesses of a thread, in order.
+/// Whether these reads are those of a thread's read accesses, in order, and each can read what it names.
 #[tactic(auto, unfolding(program_meaning::specs::Deciding::are_reads))]
 fn are_reads(all: &[Accesses], accesses: &[Access], reads: &[Read]) -> bool
     ensures { result ≡ are_reads all.now accesses.now reads.now }
@@ -45,7 +45,7 @@ fn are_reads(all: &[Accesses], accesses: &[Access], reads: &[Read]) -> bool
     read.0 == access.value && can_read(all, access, read.1) && are_reads(all, further, others)
 }
 
-/// Whether each of the writes is there, and writes to the place.
+/// Whether each name in the order is that of a write to the location.
 fn are_there(all: &[Accesses], place: u8, order: &[WriteAt]) -> bool
     ensures { result ≡ list_all (λ w. writes_there place (at_name all.now w)) order.now }
 {
@@ -76,7 +76,7 @@ fn are_distinct(order: &[WriteAt]) -> bool
     true
 }
 
-/// Whether the access with these numbers is in an order. The numbers may be past those of a name.
+/// Whether the access with these numbers is in an order. The numbers may be larger than a name can hold.
 fn is_named(order: &[WriteAt], thread: usize, access: usize) -> bool
     ensures { result ≡ list_any (same_write (name thread access)) order.now }
 {
@@ -85,7 +85,7 @@ fn is_named(order: &[WriteAt], thread: usize, access: usize) -> bool
         .any(|write| has_numbers(*write, thread, access))
 }
 
-/// Whether each write of a thread to the place is in the place's order.
+/// Whether each write of a thread to the location is in the location's order.
 fn is_thread_covered(place: u8, order: &[WriteAt], thread: usize, accesses: &[Access]) -> bool
     ensures { result ≡ thread_covered place order.now thread accesses.now }
 {
@@ -97,7 +97,7 @@ fn is_thread_covered(place: u8, order: &[WriteAt], thread: usize, accesses: &[Ac
     true
 }
 
-/// Whether each write to the place is in the place's order.
+/// Whether each write to the location is in the location's order.
 fn are_covered(all: &[Accesses], place: u8, order: &[WriteAt]) -> bool
     ensures { result ≡ every (thread_covered place order.now) 0 all.now }
 {
@@ -109,7 +109,7 @@ fn are_covered(all: &[Accesses], place: u8, order: &[WriteAt]) -> bool
     true
 }
 
-/// Whether a list holds each write to the place, once, and nothing else.
+/// Whether an order holds each write to the location, once, and nothing else.
 fn is_order(all: &[Accesses], place: u8, order: &[WriteAt]) -> bool
     ensures { result ≡ is_order all.now place order.now }
 {
@@ -130,7 +130,7 @@ fn do_reads_fit(all: &[Accesses], exec: &Execution) -> bool
     true
 }
 
-/// Whether the order of each place is that of the place.
+/// Whether the order of each location holds its writes, each once, and nothing else.
 #[tactic(auto, using(crate::proofs::Loops::every_step, crate::proofs::Loops::every_stops))]
 fn do_orders_fit(all: &[Accesses], exec: &Execution) -> bool
     ensures { result ≡ orders_fit all.now exec.now }
@@ -160,8 +160,8 @@ fn is_execution(all: &[Accesses], exec: &Execution) -> bool
 }
 
 /// Whether an execution is a candidate execution of a test: the run of each thread on the values of its
-/// reads ends and uses them all, each read reads a write of its place and value or the initial value, and
-/// the list of each place holds its writes, each once.
+/// reads ends and uses them all, each read reads a write of its value to its location or the initial value,
+/// and the list of each location holds its writes, each once. It may return `NoMemory` instead.
 pub fn is_candidate<A: Arch>(
     alloc: Global,
     test: &ReadTest<A>,

@@ -14,14 +14,14 @@ use program_meaning::{Access, WriteAt};
 use relax_edges::Dir;
 use std::alloc::Global;
 
-/// An access of a thread with its number there, from 0, which may be past those of a name.
+/// An access of a thread with its number there, from 0, which may be larger than a name can hold.
 #[derive(Clone, Copy)]
 pub(crate) struct NumberedAccess {
     pub(crate) number: usize,
     pub(crate) access: Access,
 }
 
-/// How many of the first accesses of a thread read.
+/// How many of the first `first` accesses of a thread are reads.
 #[tactic(auto, using(std::proofs::lemmas::List::take_all))]
 fn reads_among(accesses: &[Access], first: usize) -> usize
     ensures { result ≡ count_by is_read (take first accesses.now) }
@@ -31,7 +31,7 @@ fn reads_among(accesses: &[Access], first: usize) -> usize
     among.iter().filter(|access| is_read(access)).count()
 }
 
-/// How many accesses of a thread before this one read.
+/// How many accesses of a thread before this one are reads.
 fn reads_before(all: &[Accesses], thread: usize, access: usize) -> usize
     ensures { result ≡ reads_before all.now (name thread access) }
 {
@@ -41,7 +41,7 @@ fn reads_before(all: &[Accesses], thread: usize, access: usize) -> usize
     }
 }
 
-/// The read that an access makes, if it is one.
+/// The read of an execution that a read access makes, if there is one.
 fn read_at(all: &[Accesses], exec: &Execution, thread: usize, access: usize) -> Option<Read>
     ensures { result ≡ read_at all.now exec.now (name thread access) }
 {
@@ -53,7 +53,7 @@ fn read_at(all: &[Accesses], exec: &Execution, thread: usize, access: usize) -> 
         .copied()
 }
 
-/// The write that an access reads.
+/// The write that a read access reads, or none for the initial value.
 pub(crate) fn source_at(
     all: &[Accesses],
     exec: &Execution,
@@ -73,7 +73,7 @@ fn position_of(order: &[WriteAt], thread: usize, access: usize) -> Option<usize>
         .position(|write| has_numbers(*write, thread, access))
 }
 
-/// The place of a write in an order, from 1; 0 where it isn't there.
+/// The position of a write in a coherence order, from 1; 0 if it isn't in it.
 fn order_place(order: &[WriteAt], thread: usize, access: usize) -> usize
     ensures { result ≡ order_place order.now (Some (name thread access)) }
 {
@@ -83,7 +83,7 @@ fn order_place(order: &[WriteAt], thread: usize, access: usize) -> usize
     }
 }
 
-/// The place of a write in the order of a place.
+/// The position of a write in the coherence order of a location, from 1; 0 if it isn't in it.
 fn place_of_write(exec: &Execution, place: u8, thread: usize, access: usize) -> usize
     ensures { result ≡ order_place (order_at exec.now place) (Some (name thread access)) }
 {
@@ -94,7 +94,7 @@ fn place_of_write(exec: &Execution, place: u8, thread: usize, access: usize) -> 
     }
 }
 
-/// The coherence place of an access: of a write its own, of a read that of what it reads.
+/// The coherence position of an access: for a write its own, for a read that of what it reads.
 pub(crate) fn coherence_place(
     all: &[Accesses],
     exec: &Execution,
@@ -116,7 +116,7 @@ pub(crate) fn coherence_place(
     }
 }
 
-/// The coherence place of an access with this name.
+/// The coherence position of an access with this name.
 pub(crate) fn place_of_name(
     all: &[Accesses],
     exec: &Execution,
@@ -133,7 +133,7 @@ pub(crate) fn place_of_name(
     coherence_place(all, exec, thread, numbered)
 }
 
-/// The write that an access with this name reads.
+/// The write that a read access with this name reads, or none for the initial value.
 pub(crate) fn source_of_name(all: &[Accesses], exec: &Execution, name: WriteAt) -> Option<WriteAt>
     ensures { result ≡ source_at all.now exec.now name }
 {
@@ -141,15 +141,15 @@ pub(crate) fn source_of_name(all: &[Accesses], exec: &Execution, name: WriteAt) 
     source_at(all, exec, thread, usize::from(name.access))
 }
 
-/// How many accesses of a thread before the one with this name read.
+/// How many accesses of a thread before the one with this name are reads.
 pub(crate) fn reads_before_name(all: &[Accesses], name: WriteAt) -> usize
     ensures { result ≡ reads_before all.now name }
 {
     reads_before(all, usize::from(name.thread), usize::from(name.access))
 }
 
-/// Whether an access may follow another at its place: a read not before it in the coherence order, a
-/// write after it.
+/// Whether an access may follow another at its location: a read if it isn't before it in the coherence
+/// order, a write if it is after it.
 fn may_follow(dir: Dir, before: usize, after: usize) -> bool
     ensures { result ≡ may_follow dir before after }
 {
@@ -159,8 +159,7 @@ fn may_follow(dir: Dir, before: usize, after: usize) -> bool
     }
 }
 
-/// Whether two accesses of a thread, the first before the second by their numbers, are at two places, or
-/// the second may follow the first.
+/// Whether two accesses of a thread are at different locations, or the second may follow the first.
 fn agrees(
     all: &[Accesses],
     exec: &Execution,
@@ -178,7 +177,7 @@ fn agrees(
     may_follow(later.access.dir, before, after)
 }
 
-/// Whether the second of two accesses of a thread isn't after the first, or they agree.
+/// Whether the second of two accesses of a thread doesn't come after the first, or agrees with it.
 fn agrees_if_later(
     all: &[Accesses],
     exec: &Execution,
@@ -248,8 +247,8 @@ fn coheres(all: &[Accesses], exec: &Execution) -> bool
     threads_cohere(all, exec)
 }
 
-/// Whether a candidate execution of a test is coherent per location: two accesses of a thread at one place
-/// agree with the coherence order.
+/// Whether a candidate execution of a test is coherent per location: if two accesses of a thread are at one
+/// location, the later may follow the earlier in the coherence order. It may return `NoMemory` instead.
 pub fn is_coherent<A: Arch>(
     alloc: Global,
     test: &ReadTest<A>,

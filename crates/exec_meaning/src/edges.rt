@@ -34,7 +34,7 @@ fn is_alone(kind: Barrier, barriers: &[Barred]) -> bool
     }
 }
 
-/// Whether the place of an edge's target is that of its source, or another, as the edge says.
+/// Whether the location of an edge's target is that of its source, or another, as the edge says.
 fn are_at(sd: Sd, from: u8, to: u8) -> bool
     ensures { result ≡ are_at sd from to }
 {
@@ -44,15 +44,15 @@ fn are_at(sd: Sd, from: u8, to: u8) -> bool
     }
 }
 
-/// Whether what is read is this write.
+/// Whether the write that is read is this one.
 fn is_source(source: Option<WriteAt>, write: WriteAt) -> bool
     ensures { result ≡ is_source source write }
 {
     source.is_some_and(|read| is_same(read, write))
 }
 
-/// Whether an edge leads from one name to the other: to the next access of its thread, or to another
-/// thread.
+/// Whether an edge of this reach can lead from one name to the other: to the next access of the same thread,
+/// or to another thread.
 fn reaches(reach: Reach, from: WriteAt, to: WriteAt) -> bool
     ensures { result ≡ reaches reach from to }
 {
@@ -64,7 +64,7 @@ fn reaches(reach: Reach, from: WriteAt, to: WriteAt) -> bool
     }
 }
 
-/// Whether the coherence place of an access is less than that of another.
+/// Whether the coherence position of an access is less than that of another.
 fn comes_before(
     all: &[Accesses],
     exec: &Execution,
@@ -115,7 +115,7 @@ fn joins(
         && reaches(edge.reach(), source.name(), target.name())
 }
 
-/// Whether a mask names load number `load` alone.
+/// Whether a mask names load number `load` and no other.
 #[tactic(auto, using(crate::proofs::EdgeLaws::no_mask))]
 fn is_mask_of(mask: u64, load: usize) -> bool
     ensures { result ≡ (mask == 2 ^ load) }
@@ -123,7 +123,7 @@ fn is_mask_of(mask: u64, load: usize) -> bool
     load < 64 && mask == 1 << load
 }
 
-/// Whether load number `load` is in a mask.
+/// Whether a mask names load number `load`.
 #[tactic(auto, using(crate::proofs::EdgeLaws::no_load))]
 fn has_load(mask: u64, load: usize) -> bool
     ensures { result ≡ (bit_at mask load == 1) }
@@ -131,7 +131,7 @@ fn has_load(mask: u64, load: usize) -> bool
     load < 64 && mask >> load & 1 == 1
 }
 
-/// Whether an access reads, and is in a mask.
+/// Whether an access is a read and a mask names it.
 fn is_in_mask(all: &[Accesses], source: &NamedAccess, mask: u64) -> bool
     ensures { result ≡ is_in_mask all.now source.now mask }
 {
@@ -147,7 +147,8 @@ enum Tie {
     Control,
 }
 
-/// Whether the second of two accesses depends on the first so, and in no other way.
+/// Whether the second of two accesses depends on the first in this way only, and its address and its data
+/// depend on no other load.
 fn depends(tie: Tie, all: &[Accesses], source: &NamedAccess, target: &Visit) -> bool
     ensures { result ≡ depends_as tie all.now source.now target.now }
 {
@@ -165,7 +166,7 @@ fn depends(tie: Tie, all: &[Accesses], source: &NamedAccess, target: &Visit) -> 
     }
 }
 
-/// Whether the access is in the control mask of each barrier.
+/// Whether the control mask of each barrier names the access.
 fn barriers_wait(all: &[Accesses], source: &NamedAccess, barriers: &[Barred]) -> bool
     ensures { result ≡ barriers_wait all.now source.now barriers.now }
 {
@@ -174,7 +175,8 @@ fn barriers_wait(all: &[Accesses], source: &NamedAccess, barriers: &[Barred]) ->
         .all(|barrier| is_in_mask(all, source, barrier.control))
 }
 
-/// Whether the only barrier before the access is this one, and it waits for the access before, as the access does.
+/// Whether this is the only barrier before the second access, its control mask names the first access, and
+/// the second depends on the first by control only.
 fn waits(kind: Barrier, all: &[Accesses], source: &NamedAccess, target: &Visit) -> bool
     ensures { result ≡ waits kind all.now source.now target.now }
 {
@@ -183,7 +185,8 @@ fn waits(kind: Barrier, all: &[Accesses], source: &NamedAccess, target: &Visit) 
         && barriers_wait(all, source, target.barriers())
 }
 
-/// Whether a dependency ties an access to the one before it.
+/// Whether the second access depends on the first as this dependency says, with the dependency's barrier
+/// between them or none.
 fn depends_by(kind: DepKind, all: &[Accesses], source: &NamedAccess, target: &Visit) -> bool
     ensures { result ≡ depends_by kind all.now source.now target.now }
 {
@@ -195,7 +198,7 @@ fn depends_by(kind: DepKind, all: &[Accesses], source: &NamedAccess, target: &Vi
     }
 }
 
-/// Whether what lies between two accesses is what an edge says, if it is internal.
+/// Whether the barriers and dependencies between two accesses are what an edge says, if it is internal.
 fn ties_by(kind: Kind, all: &[Accesses], source: &NamedAccess, target: &Visit) -> bool
     ensures { result ≡ ties_by kind all.now source.now target.now }
 {
@@ -216,7 +219,7 @@ fn ties_by(kind: Kind, all: &[Accesses], source: &NamedAccess, target: &Visit) -
     }
 }
 
-/// Whether an edge stands between two accesses.
+/// Whether an edge stands from the first access to the second.
 fn stands(
     all: &[Accesses],
     exec: &Execution,
@@ -232,7 +235,7 @@ fn stands(
         && ties_by(edge.kind(), all, source, target.visit())
 }
 
-/// Whether two accesses are there and an edge stands between them.
+/// Whether there are two accesses and an edge stands from the first to the second.
 fn stands_if(
     all: &[Accesses],
     exec: &Execution,
@@ -248,7 +251,7 @@ fn stands_if(
     }
 }
 
-/// The access with a name, if it is there.
+/// The access with a name, if there is one.
 fn named_access(
     alloc: Global,
     traces: &[Trace],
@@ -287,8 +290,8 @@ fn event_after(resolved: &Resolved, i: u8) -> u8
     if i < count - 1 { i + 1 } else { 0 }
 }
 
-/// Whether edge `i` of a cycle stands in a candidate execution of a test: event `i` and the one after it
-/// are there, and the edge stands from the first to the second.
+/// Whether edge `i` of a cycle stands in a candidate execution of a test: event `i` and the one after it are
+/// accesses in it, and the edge stands from the first to the second. It may return `NoMemory` instead.
 pub fn edge_stands<A: Arch>(
     alloc: Global,
     test: &ReadTest<A>,

@@ -9,7 +9,7 @@ use std::marker::Model;
 /// A read: its value, and the write that it reads, or none for the initial value.
 pub type Read = (u32, Option<WriteAt>);
 
-/// An execution: for each thread its reads in program order, for each place its writes in coherence order.
+/// An execution: for each thread its reads in program order, for each location its writes in coherence order.
 ///
 /// Contracts see the two lists of lists.
 #[derive(Drop)]
@@ -29,7 +29,7 @@ impl Model for Execution {
     ghost invariant = { λ x. (length x.reads.items ≤ 255) × (length x.writes.items ≤ 255) };
 }
 
-/// So many empty lists.
+/// This many empty lists.
 fn no_lists<T: Drop>(alloc: Global, count: u8) -> Result<Vec<Vec<T>>, AllocError>
     ensures lists { IfOk result (λ lists. map (λ list. list.items) lists.items ≡ empty_lists count) }
     ensures count { IfOk result (λ lists. length lists.items ≡ count) }
@@ -42,7 +42,7 @@ fn no_lists<T: Drop>(alloc: Global, count: u8) -> Result<Vec<Vec<T>>, AllocError
 }
 
 impl Execution {
-    /// An execution of so many threads over so many places, without reads and writes.
+    /// An execution with this many threads and locations, without reads and writes, or `NoMemory`.
     pub fn new(alloc: Global, threads: u8, places: u8) -> Result<Execution, NoMemory>
         ensures { IfOk result (λ x. x ≡ nothing_kept threads places) }
     {
@@ -52,7 +52,7 @@ impl Execution {
     }
 
     /// Adds a read after the others of a thread: its value, and the write that it reads, or none for the
-    /// initial value. Without memory for it the execution is unchanged.
+    /// initial value. On `NoMemory` the execution is unchanged.
     pub fn add_read(
         &mut self,
         thread: u8,
@@ -68,7 +68,7 @@ impl Execution {
         Ok(())
     }
 
-    /// Adds a write after the others of a place. Without memory for it the execution is unchanged.
+    /// Adds a write after the others of a location. On `NoMemory` the execution is unchanged.
     pub fn add_write(&mut self, place: u8, write: WriteAt) -> Result<(), NoMemory>
         requires { place < length self.old.orders }
         ensures ok { OnOk result (self.new ≡ with_write self.old place write) }
@@ -86,7 +86,7 @@ impl Execution {
         self.reads.len() as u8
     }
 
-    /// How many places it has.
+    /// How many locations it has.
     pub fn places(&self) -> u8
         ensures { result ≡ length self.now.orders }
     {
@@ -101,7 +101,7 @@ impl Execution {
         self.reads[usize::from(thread)].as_slice()
     }
 
-    /// The writes of a place, in coherence order.
+    /// The writes of a location, in coherence order.
     pub fn writes(&self, place: u8) -> &[WriteAt]
         requires { place < length self.now.orders }
         ensures { slice_get self.now.orders place ≡ Some result.now }

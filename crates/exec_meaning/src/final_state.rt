@@ -16,7 +16,7 @@ use micro_ops::Trace;
 use relax_edges::Value;
 use std::alloc::Global;
 
-/// Adds the registers of a thread that tests use, with what they hold at its end.
+/// Adds the registers of a thread that tests use, with what they hold at the end of its run.
 fn add_registers<A: Arch>(state: &mut Final, thread: u8, trace: &Trace) -> Result<(), NoMemory>
     ensures { OnOk result (state.new ≡ state.old ++ registers_at thread (value_in_run trace.now) 0 A.writing.registers) }
 {
@@ -39,7 +39,7 @@ fn add_threads<A: Arch>(state: &mut Final, traces: &[Trace]) -> Result<(), NoMem
     Ok(())
 }
 
-/// The value of a place at the end: that of the last write of its order, or 0.
+/// The value of a location at the end: that of the last write in its coherence order, or 0 if there is none.
 fn final_value(all: &[Accesses], exec: &Execution, place: u8) -> u32
     ensures { result ≡ final_value all.now exec.now place }
 {
@@ -52,7 +52,7 @@ fn final_value(all: &[Accesses], exec: &Execution, place: u8) -> u32
     access_at(all, *last).map_or(0, |written| written.value)
 }
 
-/// Adds the places with their values at the end.
+/// Adds the locations with their values at the end.
 fn add_places(
     state: &mut Final,
     places: &Places,
@@ -70,8 +70,9 @@ fn add_places(
     Ok(())
 }
 
-/// The final state of a candidate execution of a test: what each register that tests use of each thread
-/// holds at the end of the thread's run, and for each place the value of the last write of its order.
+/// The final state of a candidate execution of a test: for each thread what each register that tests use
+/// holds at the end of its run, and for each location the value of the last write in its coherence order, or
+/// 0 if there is none. It may return `NoMemory` instead.
 pub fn final_of<A: Arch>(
     alloc: Global,
     test: &ReadTest<A>,

@@ -1,4 +1,4 @@
-//! Whether an execution that is given is one of a test, whether it is coherent, how it ends, and which edges of a cycle stand in it.
+//! Whether a given execution is one of a test, whether it is coherent, how it ends, and which edges of a cycle stand in it.
 #![tactic(auto)]
 
 mod accesses;

@@ -9,7 +9,7 @@ use litmus_text::ReadTest;
 use micro_ops::{RunError, Trace, run_thread};
 use std::alloc::{AllocError, Global};
 
-/// The values of reads.
+/// The values of these reads.
 fn values_of(alloc: Global, reads: &[Read]) -> Result<Vec<u32>, AllocError>
     ensures { IfOk result (λ values. values.items ≡ map (λ r. r.0) reads.now) }
 {

@@ -23,14 +23,14 @@ pub struct SeenAccess {
     pub number: usize,
     pub access: Access,
     pub mark: Mark,
-    /// The write that it reads, or none for the initial value. It means nothing of a write.
+    /// The write that it reads, or none for the initial value. For a write it means nothing.
     pub source: Option<WriteAt>,
-    /// Its coherence place: of a write its own in the order of its place, from 1, of a read that of what it
-    /// reads, 0 for the initial value.
+    /// Its coherence position: for a write its position in the coherence order of its location, from 1; for a
+    /// read that of the write that it reads, or 0 for the initial value.
     pub order: usize,
 }
 
-/// An access by its thread and its number there.
+/// An access, by its thread and its number there, with what the execution says of it.
 fn seen_access(
     all: &[Accesses],
     exec: &Execution,
@@ -100,7 +100,8 @@ fn push_threads(
     Ok(())
 }
 
-/// The accesses of a candidate execution of a test, thread by thread, each thread's in program order.
+/// The accesses of a candidate execution of a test, thread by thread, each thread's in program order. It may
+/// return `NoMemory` instead.
 pub fn seen_accesses<A: Arch>(
     alloc: Global,
     test: &ReadTest<A>,

@@ -101,7 +101,7 @@ impl NamedAccess {
     }
 }
 
-/// Access number `slot` of a run, if it is there.
+/// Access number `slot` of a run, from 0, if there is one.
 pub(crate) fn visit_at(alloc: Global, items: &[Item], slot: u8) -> Result<Option<Visit>, AllocError>
     ensures { IfOk result (λ visit. visit ≡ slice_get (visits_of items.now) slot) }
 {

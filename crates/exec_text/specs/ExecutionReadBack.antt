@@ -1,4 +1,4 @@
--- Which executions are read back from the text that is written of them.
+-- Which executions are read back from the text that is written for them.
 -- Source: own.
 use Rattle.std.specs.{Prelude.{◌≡◌, ◌<◌, ◌≤◌, ◌^◌, ℕ, true, List, length, Option, Some, None, Ok}, List.{All, list_all}}
 use Rattle.text_parts_laws.specs.Names.{is_place_name}
@@ -6,7 +6,7 @@ use Rattle.litmus_text.specs.declared.limits.TheConstants.{MAX_TEST_TEXT, MAX_AC
 use Rattle.program_meaning.specs.{declared.WriteAt.WriteAt, Executions.Execution}
 use Rattle.exec_text.specs.{ExecutionText.execution_read, Written.text_of_execution}
 
--- an access that a text can name: one of so many threads, with a number below 64
+-- an access that a text can name: of one of this many threads, with a number below 64
 abbrev pub AccessFits : ℕ → WriteAt → Type 0
 AccessFits threads w = (w.thread < threads) × (w.access < MAX_ACCESSES)
 
@@ -15,12 +15,12 @@ abbrev pub SourceFits : ℕ → Option WriteAt → Type 0
 SourceFits threads None = Unit {0}
 SourceFits threads (Some w) = AccessFits threads w
 
--- a read that a text can name: a value of 32 bits, and what is read
+-- a read that a text can name: a value of at most 32 bits, and what is read
 abbrev pub ReadFits : ℕ → ℕ × Option WriteAt → Type 0
 ReadFits threads r = (r.0 < 2 ^ 32) × SourceFits threads r.1
 
--- An execution whose text reads back: it has so many threads and an order for each name of a place, the names have the form
--- of those in tests, a text can name its reads and writes, and the text is no longer than a text may be.
+-- An execution whose text reads back: it has this many threads and an order for each location, the locations have names of the form
+-- used in tests, a text can name its reads and writes, and its text is no longer than a text may be.
 pub record ExecutionFits (threads : ℕ) (places : List (List ℕ)) (x : Execution) : Type 0 where
   pub thread_lists : length x.reads ≡ threads
   pub place_lists : length x.orders ≡ length places
@@ -29,7 +29,7 @@ pub record ExecutionFits (threads : ℕ) (places : List (List ℕ)) (x : Executi
   pub orders : All (All (AccessFits threads)) x.orders
   pub short : length (text_of_execution places x) ≤ MAX_TEST_TEXT
 
--- the text that is written of such an execution is read as that execution
+-- the text that is written for such an execution is read as that execution
 abbrev pub ExecutionReadsBack : Type 0
 ExecutionReadsBack = (threads : ℕ) (places : List (List ℕ)) (x : Execution) → ExecutionFits threads places x
     → execution_read threads places (text_of_execution places x) ≡ Ok x

@@ -6,26 +6,27 @@ use std::alloc::{AllocError, AllocFailed};
 /// What is faulty or missing in the text of an execution.
 #[derive(Clone, Copy, Debug, PartialEq, Eq)]
 pub enum ExecKind {
-    /// The first word of a thread's line isn't the one that is due: `P`, the thread's number and a colon.
+    /// The first word of a thread's line isn't the expected one, which is `P`, the thread's number and a colon, or is missing.
     BadThread,
     /// A further word of a thread's line isn't `VALUE@init` or `VALUE@T.N`.
     BadRead,
-    /// The first word of a place's line isn't the one that is due: the place's name and a colon.
+    /// The first word of a location's line isn't the expected one, which is its name and a colon, or is missing.
     BadPlace,
-    /// A further word of a place's line isn't `T.N`.
+    /// A further word of a location's line isn't `T.N`.
     BadWrite,
     /// A line is missing.
     EndMissing,
-    /// There is a line too many.
+    /// There is an extra line.
     StrayLine,
-    /// The text has more bytes than that of a test may have, `litmus_text::MAX_TEST_TEXT`.
+    /// The text has more bytes than a test's text may have: more than `litmus_text::MAX_TEST_TEXT`.
     TooLarge,
 }
 
-/// Why a text is no execution: its first faulty line, and the leftmost error in that line.
+/// Why a text is no execution: the first line with an error, and the leftmost error in it.
 #[derive(Clone, Copy, PartialEq, Eq)]
 pub struct ExecFault {
-    /// The number of the line, from 1: of a line that is missing, the one that it would have.
+    /// The number of the line, from 1: for a missing line, the number that it would have; for a text that is too
+    /// large, 1.
     pub line: u64,
     pub kind: ExecKind,
 }

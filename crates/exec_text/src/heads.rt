@@ -5,7 +5,7 @@ use arrayvec::ArrayString;
 use final_cond::PlaceName;
 use itoa::Buffer;
 
-/// Room for the head of a line: the name of a place has at most 16 bytes.
+/// Space for the head of a line: the name of a location has at most 16 bytes.
 const HEAD_ROOM: usize = 20;
 
 /// Whether a word is the first of a thread's line: `P`, the thread's number and a colon.
@@ -20,7 +20,7 @@ pub(crate) fn is_thread_head(thread: u8, word: &[u8]) -> bool
     word == head.as_str().as_bytes()
 }
 
-/// Whether a word is the first of a place's line: the place's name and a colon.
+/// Whether a word is the first of a location's line: the location's name and a colon.
 pub(crate) fn is_place_head(place: &PlaceName, word: &[u8]) -> bool
     ensures { result ≡ bytes_eq word.now (place_head place.now.bytes) }
 {

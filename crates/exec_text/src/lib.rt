@@ -1,5 +1,5 @@
-//! The text of an execution, read and written: what each read of a test reads, and in which order the writes of each
-//! place come.
+//! The text of an execution, read and written: what each read of a test reads, and in which order the writes to each
+//! location come.
 #![tactic(auto)]
 
 mod errors;

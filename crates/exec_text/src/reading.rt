@@ -17,7 +17,7 @@ use litmus_text::MAX_TEST_TEXT;
 use std::alloc::Global;
 use text_parts::next_word;
 
-/// What is faulty in a line, or that there is no memory for what it names.
+/// What is wrong in a line, or that there is no memory for what it names.
 pub(crate) enum LineError {
     Kind(ExecKind),
     NoMemory,
@@ -59,7 +59,7 @@ fn add_reads(thread: u8, threads: u8, text: &[u8], exec: &mut Execution) -> Resu
     Ok(())
 }
 
-/// Adds the writes that the words of a text name to those of a place.
+/// Adds the writes that the words of a text name to those of a location.
 fn add_writes(place: u8, threads: u8, text: &[u8], exec: &mut Execution) -> Result<(), LineError>
     requires { place < length exec.old.orders }
     ensures { ReadsLine result exec.new (line_added with_write exec.old place (all_named BadWrite (access_named threads) (words text.now))) }
@@ -89,7 +89,7 @@ fn read_thread(thread: u8, threads: u8, line: &[u8], exec: &mut Execution) -> Re
     }
 }
 
-/// Reads the line of a place.
+/// Reads the line of a location.
 #[tactic(auto, unfolding(crate::specs::ExecutionText::line_read))]
 fn read_place(
     place: u8,
@@ -110,7 +110,7 @@ fn read_place(
     }
 }
 
-/// Reads the lines of the threads, and gives the text after them.
+/// Reads the lines of the threads, and returns the text after them.
 fn read_threads<'a>(
     threads: u8,
     text: &'a [u8],
@@ -133,7 +133,7 @@ fn read_threads<'a>(
     Ok(left)
 }
 
-/// Reads the lines of the places, from a line's number on, and gives the text after them.
+/// Reads the lines of the locations, which come after those of the threads, and returns the text after them.
 fn read_places<'a>(
     places: &Places,
     threads: u8,
@@ -157,7 +157,7 @@ fn read_places<'a>(
     Ok(left)
 }
 
-/// The error of a line that is missing.
+/// The error for a missing line.
 fn missing_line(line: u64) -> ExecError
     ensures { result ≡ Text (record { line = line; kind = EndMissing }) }
 {
@@ -167,12 +167,12 @@ fn missing_line(line: u64) -> ExecError
     })
 }
 
-/// The execution that a text gives, of a program of so many threads and of these places: a line for each
+/// The execution that a text gives, of a program with this many threads and with these locations: a line for each
 /// thread, `Pk:` and for each of its reads `VALUE@init` or `VALUE@T.N`, the value and the access that is
-/// read; then a line for each place, its name, a colon and its writes in coherence order, each as `T.N`.
-/// A text that gives none is answered with its first faulty line, and the leftmost error in it. One of more
-/// than `MAX_TEST_TEXT` bytes is TooLarge at line 1, whatever it holds. The execution has as many lists of reads
-/// as threads, and as many orders as places.
+/// read; then a line for each location, its name, a colon and its writes in coherence order, each as `T.N`.
+/// For a text that gives none, the error is the first line with an error and the leftmost error in it. A text of
+/// more than `MAX_TEST_TEXT` bytes is TooLarge at line 1, whatever it holds. The execution has as many lists of
+/// reads as threads, and as many orders as locations. It may return `NoMemory` instead.
 ///
 /// Whether the program has such accesses isn't judged here: see `exec_meaning::is_candidate`.
 #[tactic(auto, unfolding(crate::specs::ExecutionText::execution_read))]

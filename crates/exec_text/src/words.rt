@@ -6,7 +6,7 @@ use litmus_text::MAX_ACCESSES;
 use program_meaning::WriteAt;
 use text_parts::cut;
 
-/// The number below a bound that digits write, without leading zeros.
+/// The number below a bound that digits write without leading zeros.
 fn number_below(bound: u32, digits: &[u8]) -> Option<u8>
     requires { bound ≤ 256 }
     ensures { result ≡ number_below bound digits.now }
@@ -17,7 +17,7 @@ fn number_below(bound: u32, digits: &[u8]) -> Option<u8>
     }
 }
 
-/// The access that `T.N` names: number N, below `MAX_ACCESSES`, of thread T.
+/// The access that `T.N` names: number N, below `MAX_ACCESSES`, of thread T, below `threads`.
 #[tactic(auto, unfolding(crate::specs::ExecutionText::access_named))]
 pub(crate) fn access_named(threads: u8, word: &[u8]) -> Option<WriteAt>
     ensures { result ≡ access_named threads word.now }

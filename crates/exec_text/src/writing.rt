@@ -27,7 +27,7 @@ fn push_access(access: WriteAt, text: &mut Vec<u8>) -> Result<(), NoMemory>
     push_number(u32::from(access.access), text)
 }
 
-/// Appends the word for what a read reads.
+/// Appends the word for what a read reads, `init` or `T.N`.
 #[tactic(auto, unfolding(crate::specs::Written::source_word))]
 fn push_source(source: Option<WriteAt>, text: &mut Vec<u8>) -> Result<(), NoMemory>
     ensures { OnOk result (text.new.items ≡ text.old.items ++ source_word source) }
@@ -81,7 +81,7 @@ fn push_thread(thread: u8, reads: &[Read], text: &mut Vec<u8>) -> Result<(), NoM
     Ok(())
 }
 
-/// Appends the line of a place.
+/// Appends the line of a location.
 fn push_place(place: &PlaceName, writes: &[WriteAt], text: &mut Vec<u8>) -> Result<(), NoMemory>
     ensures { OnOk result (text.new.items ≡ text.old.items ++ with_line_feed (place_line (place.now.bytes, writes.now))) }
 {
@@ -104,7 +104,7 @@ fn push_threads(execution: &Execution, text: &mut Vec<u8>) -> Result<(), NoMemor
     Ok(())
 }
 
-/// Appends the lines of the places.
+/// Appends the lines of the locations.
 fn push_places(execution: &Execution, places: &Places, text: &mut Vec<u8>) -> Result<(), NoMemory>
     requires { length execution.now.orders ≡ length places.now }
     ensures { OnOk result (text.new.items ≡ text.old.items ++ flat_map with_line_feed (map place_line (zip places.now execution.now.orders))) }
@@ -115,12 +115,12 @@ fn push_places(execution: &Execution, places: &Places, text: &mut Vec<u8>) -> Re
     Ok(())
 }
 
-/// The text of an execution over places of these names, place number k under name number k: a line for each
-/// thread, `Pk:` and for each of its reads `VALUE@init` or `VALUE@T.N`, the value and the access that is read;
-/// then a line for each place, its name, a colon and its writes in coherence order, each as `T.N`. There is
-/// one blank between words, and a line feed after each line. It fails only for want of memory.
+/// The text of an execution over locations with these names, where location number k has name number k: a line for
+/// each thread, `Pk:` and for each of its reads `VALUE@init` or `VALUE@T.N`, the value and the access that is read;
+/// then a line for each location, its name, a colon and its writes in coherence order, each as `T.N`. There is
+/// one blank between words, and a line feed after each line. It fails only if there is no memory.
 ///
-/// What it writes is read by `read_execution` as this execution, as `written_reads_back` says.
+/// `written_reads_back` says for which executions this text is read back as the execution.
 #[tactic(auto, unfolding(crate::specs::Written::text_of_execution))]
 pub fn write_execution(
     alloc: Global,

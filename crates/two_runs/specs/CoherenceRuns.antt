@@ -10,12 +10,12 @@ use Rattle.co_tests_laws.specs.{CoherenceTests.incoherent_execution, CoRefusals.
 use Rattle.two_runs.specs.{IntendedRuns.IsRunOf, declared.intended.IntendedRun.IntendedRun, declared.errors.RunError.RunError}
 use Rattle.two_runs.specs.declared.errors.RunError.TheVariants as errors
 
--- the execution that the coherence test of a cycle asks for, by a reading of its text
+-- the execution that the coherence test of a cycle asks for; it is the same for each reading of the test's text
 abbrev pub incoherent_by : List Edge → TestRead → Execution
 incoherent_by cycle test = incoherent_execution (turned cycle)
 
 -- what a call gives for a cycle: what the text of its coherence test is read as, and the execution that this test asks for; or the first
--- reason why the cycle has no coherence test; or, where there is no such reason, that there is no memory
+-- reason why the cycle has no coherence test; or, if there is no such reason, that there is no memory
 abbrev pub GivesCoherenceRun : {A : Type 0} → Puts → Writing → List ℕ → List Edge → Result (IntendedRun A) RunError → Type 0
 GivesCoherenceRun a w name cycle (Ok given) =
     (coherence_refusal_of a cycle ≡ None) ×

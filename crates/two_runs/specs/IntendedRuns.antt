@@ -1,4 +1,4 @@
--- The execution that the test of a cycle asks for, with the numbers that the places have in what the text of the test is read as.
+-- The execution that the test of a cycle asks for, with locations numbered as in what the text of the test is read as.
 -- Source: own.
 use Rattle.std.specs.Prelude.{◌≡◌, ℕ, List, length, Some, None, Result, Ok, Err}
 use Rattle.relax_edges.specs.declared.{kinds.ArchName.ArchName, kinds.ObsMode.ObsMode, edge.Edge.Edge}
@@ -16,8 +16,8 @@ use Rattle.two_runs.specs.declared.errors.RunError.TheVariants as errors
 abbrev pub IsRead : ArchName → Writing → List ℕ → Type 0
 IsRead arch w text = (test : TestRead) × (test_read arch w text ≡ Ok test)
 
--- A text is read as a test, and an execution is the one that is meant by the test. The text of the execution, with the places of
--- the test, is read as that execution, which has an order of writes for each place of the test.
+-- A text is read as a test, and an execution is the one that is meant for this test. The text of the execution, with the locations of
+-- the test, is read as that execution, which has an order of writes for each location of the test.
 pub record IsRunOf (arch : ArchName) (w : Writing) (text : List ℕ) (meant : TestRead → Execution) (test : TestRead) (run : Execution) : Type 0 where
   pub reads : test_read arch w text ≡ Ok test
   pub run_is : run ≡ meant test
@@ -29,7 +29,7 @@ abbrev pub intended_by : List Edge → ObsMode → TestRead → Execution
 intended_by cycle mode test = intended (turned cycle) mode (place_in_test test)
 
 -- what a call gives for a cycle: what the text of its test is read as, and the intended execution; or the first reason why the cycle
--- has no test; or, where there is no such reason, that there is no memory
+-- has no test; or, if there is no such reason, that there is no memory
 abbrev pub GivesRun : {A : Type 0} → Puts → Writing → List ℕ → List Edge → ObsMode → Result (IntendedRun A) RunError → Type 0
 GivesRun a w name cycle mode (Ok given) =
     (refusal_of a cycle mode ≡ None) × IsRunOf a.name w (cycle_text a w mode name cycle) (intended_by cycle mode) given.test given.run

@@ -1,4 +1,4 @@
--- What is shown of a cycle that the mode avoid refuses because a write needs an observer: the text of its test without
+-- What is shown for a cycle that the mode avoid refuses because a write needs an observer: the text of its test without
 -- observers, and two executions of what that is read as.
 -- Source: own.
 use Rattle.std.specs.{Prelude.{◌≡◌, ℕ, List, length, Option, Some, None, Result, Ok, Err, Vec}, Option.option_or, declared.alloc.Global.Global}
@@ -17,24 +17,24 @@ use Rattle.bytes_force_cycles.specs.Readings.{program_read, place_in_test}
 use Rattle.two_runs.specs.{Undecided.NoneTells, declared.errors.RunError.RunError, declared.shown.TwoRuns.TwoRuns}
 use Rattle.two_runs.specs.declared.errors.RunError.TheVariants as errors
 
--- why nothing is shown of a cycle in which no write needs an observer, or one does
+-- why nothing is shown for a resolved cycle: no write needs an observer, or, if one does, a thread needs too many registers
 abbrev pub needless : Puts → List Edge → Option NeedsObserver → Option Refusal
 needless a es None = Some refusals.NothingToShow
 needless a es (Some need) = crowded_thread a es Avoid
 
--- why nothing is shown of a cycle that has this resolution, or none that is right
+-- why nothing is shown for a cycle that has this resolution, or none for this reason
 abbrev pub unshown : Puts → Result (List Edge) ResolveError → Option Refusal
 unshown a (Err error) = Some (resolve_refusal error)
 unshown a (Ok es) = needless a es (observer_need es)
 
--- the first reason why nothing is shown of a cycle
+-- the first reason why nothing is shown for a cycle
 abbrev pub why_refused : Puts → List Edge → Option Refusal
 why_refused a cycle = option_or (foreign_edge a.name cycle) (unshown a (resolution_of cycle))
 
 -- The text is that of the test without observers of the cycle, whose resolution is `es`, and is read as the test. The first
 -- execution is the intended one; in the second the write that needs an observer and the one before it are exchanged; and no
--- condition on the final state tells them apart, though the edge into that write stands in the first alone. The text of each,
--- with the places of the test, is read as that execution.
+-- condition on the final state tells them apart, though the edge into that write stands only in the first. The text of each,
+-- with the locations of the test, is read as that execution.
 pub record AreTwoRuns (a : Puts) (w : Writing) (name : List ℕ) (es : List Edge) (need : NeedsObserver) (text : List ℕ) (test : TestRead) (one two : Execution) : Type 0 where
   pub text_is : text ≡ test_text a.name w name (test_of a (name_in w.registers) es Avoid)
   pub reads : test_read a.name w text ≡ Ok test
@@ -44,15 +44,15 @@ pub record AreTwoRuns (a : Puts) (w : Writing) (name : List ℕ) (es : List Edge
   pub first_reads : execution_read (length test.threads) test.places (text_of_execution test.places one) ≡ Ok one
   pub second_reads : execution_read (length test.threads) test.places (text_of_execution test.places two) ≡ Ok two
 
--- given is the text of the test without observers, which has code on the architecture; or the first thread that needs too many
--- registers; or, where no thread does, that there is no memory
+-- the result is the text of the test without observers, which has code on the architecture; or the first thread that needs too many
+-- registers; or, if no thread does, that there is no memory
 abbrev pub GivesText : Puts → Writing → List ℕ → List Edge → Result (Vec ℕ Global) RunError → Type 0
 GivesText a w name es (Ok text) = (crowded_thread a es Avoid ≡ None) × HasCode a es Avoid × (text.items ≡ test_text a.name w name (test_of a (name_in w.registers) es Avoid))
 GivesText a w name es (Err errors.NoMemory) = crowded_thread a es Avoid ≡ None
 GivesText a w name es (Err (errors.Refused refusal)) = crowded_thread a es Avoid ≡ Some refusal
 
 -- what is given for a resolved cycle in which this write needs an observer: the text and the two executions; or the first reason
--- why nothing is shown; or, where there is no such reason, that there is no memory
+-- why nothing is shown; or, if there is no such reason, that there is no memory
 abbrev pub ShowsNeed : {A : Type 0} → Puts → Writing → List ℕ → List Edge → NeedsObserver → Result (TwoRuns A) RunError → Type 0
 ShowsNeed a w name es need (Ok runs) = (crowded_thread a es Avoid ≡ None) × AreTwoRuns a w name es need runs.text.items runs.test runs.one runs.two
 ShowsNeed a w name es need (Err errors.NoMemory) = crowded_thread a es Avoid ≡ None
@@ -76,14 +76,14 @@ pub record AreRunsIn (a : Puts) (w : Writing) (name : List ℕ) (resolution : Re
   pub resolved : resolution ≡ Ok es
   pub runs : AreRunsFor a w name es (observer_need es) text test one two
 
--- what is given for a cycle by its resolution, if it has one
+-- what is given for a cycle that has this resolution, or none for this reason
 abbrev pub ShowsResolution : {A : Type 0} → Puts → Writing → List ℕ → Result (List Edge) ResolveError → Result (TwoRuns A) RunError → Type 0
 ShowsResolution a w name resolution (Ok runs) = (unshown a resolution ≡ None) × AreRunsIn a w name resolution runs.text.items runs.test runs.one runs.two
 ShowsResolution a w name resolution (Err errors.NoMemory) = unshown a resolution ≡ None
 ShowsResolution a w name resolution (Err (errors.Refused refusal)) = unshown a resolution ≡ Some refusal
 
 -- what a call gives for a cycle: the text of its test without observers and the two executions; or the first reason why
--- nothing is shown; or, where there is no such reason, that there is no memory
+-- nothing is shown; or, if there is no such reason, that there is no memory
 abbrev pub Shows : {A : Type 0} → Puts → Writing → List ℕ → List Edge → Result (TwoRuns A) RunError → Type 0
 Shows a w name cycle (Ok runs) =
     (why_refused a cycle ≡ None) × AreRunsFor a w name (turned cycle) (observer_need (turned cycle)) runs.text.items runs.test runs.one runs.two

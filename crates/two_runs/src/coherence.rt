@@ -21,8 +21,8 @@ use std::alloc::Global;
 /// is read as: each read reads the write of its value, and the writes are in the order of their values. No
 /// coherent machine shows it.
 ///
-/// The answer is the first reason why the cycle has no coherence test exactly where there is one; there may
-/// be no memory at any time.
+/// If there is a reason why the cycle has no coherence test, the error is the first one; otherwise it may be
+/// `NoMemory`.
 pub fn coherence_run<A: Arch>(
     alloc: Global,
     cycle: &Cycle,
@@ -37,7 +37,7 @@ pub fn coherence_run<A: Arch>(
     Ok(run_of_test::<A>(alloc, &test, name)?)
 }
 
-/// The same of a coherence test that is made.
+/// The same for a coherence test that has been made.
 fn run_of_test<A: Arch>(alloc: Global, test: &Test, name: &str) -> Result<IntendedRun<A>, NoMemory>
     requires named { IsTestName name.now }
     requires has_test { HasCoherenceTest A.puts test.now.edges.items }

@@ -4,12 +4,12 @@ ghost use Rattle.two_runs.specs.declared.errors.RunError.TheVariants.{NoMemory a
 use diy_io::NoMemory;
 use test_maker::Refusal;
 
-/// Why no execution is given.
+/// Why there is no execution.
 #[derive(Clone, Copy, PartialEq, Eq)]
 pub enum RunError {
-    /// The cycle has no test, or there is nothing to show, for this reason, the first that holds.
+    /// The first reason why the cycle has no test, or no coherence test, or why there is nothing to show.
     Refused(Refusal),
-    /// There is no memory for the text of the test or for the execution.
+    /// There is no memory, and there is no reason for a refusal.
     NoMemory,
 }
 

@@ -13,8 +13,8 @@ use program_meaning::WriteAt;
 use relax_edges::{Dir, Edge, MAX_EDGES};
 use std::alloc::Global;
 
-/// The execution that the coherence test of a turned cycle asks for: each read reads the write of its value,
-/// and the writes are in the order of their values.
+/// The execution that the coherence test of a cycle asks for, whose last edge leads to another thread: each
+/// read reads the write of its value, and the writes are in the order of their values.
 pub(crate) fn incoherent_run(alloc: Global, edges: &[Edge]) -> Result<Execution, NoMemory>
     requires { HasShape edges.now }
     ensures { IfOk result (λ run. run ≡ incoherent_execution edges.now) }
@@ -64,7 +64,7 @@ fn add_thread(edges: &[Edge], cut: usize, thread: u8, exec: &mut Execution) -> R
     Ok(())
 }
 
-/// Whether an event is a read of a thread.
+/// Whether an event is a read in a thread.
 fn is_read_of(edges: &[Edge], thread: u8, i: usize) -> bool
     requires few { length edges.now ≤ MAX_EDGES }
     requires within { i < length edges.now }
@@ -91,7 +91,7 @@ fn add_order(edges: &[Edge], cut: usize, exec: &mut Execution) -> Result<(), NoM
     Ok(())
 }
 
-/// The write that has a value, none for the value 0, which is the initial one.
+/// The write of this value, or none for the value 0, which is the initial one.
 fn write_with(edges: &[Edge], cut: usize, value: u8) -> Option<WriteAt>
     requires shape { HasShape edges.now }
     requires cut { cut_of edges.now ≡ Some cut }
@@ -105,7 +105,7 @@ fn write_with(edges: &[Edge], cut: usize, value: u8) -> Option<WriteAt>
     None
 }
 
-/// Whether an event is a write of a value.
+/// Whether an event is a write of this value.
 fn is_write_with(edges: &[Edge], cut: usize, value: u8, i: usize) -> bool
     requires shape { HasShape edges.now }
     requires cut { cut_of edges.now ≡ Some cut }

@@ -26,16 +26,15 @@ use test_maker::make_into;
 pub struct IntendedRun<A> {
     /// What the text of the test is read as.
     pub test: ReadTest<A>,
-    /// The execution, which numbers the places as the test does. Its text is read as it.
+    /// The execution, which numbers the locations as the test does. Its text is read as it.
     pub run: Execution,
 }
 
 /// The execution that the test of a cycle asks for, and what the text of that test under a name is read
-/// as: each read reads the write of its value, each place has its writes in the order of their values, and
+/// as: each read reads the write of its value, each location has its writes in the order of their values, and
 /// an observer reads the writes of its location one after the other.
 ///
-/// The answer is the first reason why the cycle has no test exactly where there is one; there may be no
-/// memory at any time.
+/// If there is a reason why the cycle has no test, the error is the first one; otherwise it may be `NoMemory`.
 pub fn intended_run<A: Arch>(
     alloc: Global,
     cycle: &Cycle,
@@ -51,7 +50,7 @@ pub fn intended_run<A: Arch>(
     run_of_made::<A>(alloc, cycle, mode, &test, name)
 }
 
-/// The same of a cycle whose test is made.
+/// The same for a cycle whose test has been made.
 fn run_of_made<A: Arch>(
     alloc: Global,
     cycle: &Cycle,
@@ -73,7 +72,7 @@ fn run_of_made<A: Arch>(
     Ok(IntendedRun { test, run })
 }
 
-/// The intended execution of a cycle's test, whose places are numbered by these names.
+/// The intended execution of a cycle's test, whose locations have these names, in this order.
 fn run_of_cycle(
     alloc: Global,
     cycle: &Cycle,

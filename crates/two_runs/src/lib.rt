@@ -1,4 +1,5 @@
-//! Two executions of a cycle's test without observers that no condition on the final state tells apart, and the law that there are such.
+//! Two executions of a cycle's test without observers that no condition on the final state tells apart, the law that there are such, and
+//! the execution that the test or the coherence test of a cycle asks for.
 #![tactic(auto)]
 
 mod coherence;

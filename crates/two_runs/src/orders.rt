@@ -11,7 +11,7 @@ use coherence_values::Valued;
 use diy_io::NoMemory;
 use exec_meaning::Execution;
 
-/// Adds the writes of all places. Those of a location are in the order of their values, except that the write
+/// Adds the writes of all locations, each location's in the order of their values, except that the write
 /// `moved`, if there is one, is exchanged with the one before it.
 pub(crate) fn add_orders(
     valued: &Valued,
@@ -51,8 +51,8 @@ fn add_order(
     Ok(())
 }
 
-/// The value whose write takes the place of a value's write, where a write and the one before it are
-/// exchanged.
+/// The value whose write is in the position of this value's write, if the write `moved` and the one before it
+/// are exchanged; the same value, if no write is moved or `moved` is at another location.
 fn value_there(valued: &Valued, moved: Option<u8>, location: u8, value: u8) -> u8
     requires some { 1 ≤ value }
     requires most { value ≤ write_count valued.now.edges location }
@@ -70,7 +70,7 @@ fn value_there(valued: &Valued, moved: Option<u8>, location: u8, value: u8) -> u
     }
 }
 
-/// That value, where the writes of `value` and of the value before it are exchanged.
+/// The value `v`, if `value` and the value before it are exchanged.
 fn swap_value(value: u8, v: u8) -> u8
     requires some { 1 ≤ v }
     requires below { v < 255 }

@@ -9,7 +9,7 @@ use arch_trait::Places;
 use coherence_values::Valued;
 use final_cond::PlaceName;
 
-/// The location whose place has this number, where places have these names.
+/// The cycle's location that has this number in the test, whose locations have these names.
 pub(crate) fn location_at(valued: &Valued, places: &Places, place: u8) -> u8
     requires { place < move_count valued.now.edges }
     ensures location { result ≡ location_numbered valued.now.edges (numbers_by places.now) place }
@@ -25,7 +25,7 @@ pub(crate) fn location_at(valued: &Valued, places: &Places, place: u8) -> u8
     0
 }
 
-/// The number of a name among those of places, or 0 where it isn't there.
+/// The number of a name among those of locations, or 0 if it isn't among them.
 fn number_of(places: &Places, name: &PlaceName) -> u8
     ensures { result ≡ place_in places.now name.now.bytes }
 {

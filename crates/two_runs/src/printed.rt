@@ -23,7 +23,7 @@ pub(crate) fn read_printed<A: Arch>(
     read_text::<A>(alloc, text.as_slice())
 }
 
-/// What bytes are read as that are the text of a test.
+/// What the bytes of a test's text are read as.
 pub(crate) fn read_text<A: Arch>(alloc: Global, bytes: &[u8]) -> Result<ReadTest<A>, NoMemory>
     requires { IsRead A.NAME A.writing bytes.now }
     ensures { IfOk result (λ test. test_read A.NAME A.writing bytes.now ≡ Ok test) }

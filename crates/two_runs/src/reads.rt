@@ -36,7 +36,7 @@ fn add_thread(valued: &Valued, thread: u8, exec: &mut Execution) -> Result<(), N
     Ok(())
 }
 
-/// Whether an event is a read of a thread.
+/// Whether an event is a read in a thread.
 fn is_read_of(valued: &Valued, thread: u8, i: u8) -> bool
     requires { i < length valued.now.edges }
     ensures { result ≡ is_read_of valued.now.edges thread i }
@@ -48,7 +48,7 @@ fn is_read_of(valued: &Valued, thread: u8, i: u8) -> bool
     }
 }
 
-/// The write of a location that has a value, none for the value 0, which is the initial one.
+/// The write of this value to a location, or none for the value 0, which is the initial one.
 pub(crate) fn write_of(valued: &Valued, location: u8, value: u8) -> Option<WriteAt>
     requires { value ≤ write_count valued.now.edges location }
     ensures { result ≡ write_of valued.now.edges location value }

@@ -12,7 +12,7 @@ use std::alloc::Global;
 
 /// The execution of a cycle's test in which each read reads the write of its value, and the writes of a
 /// location are in the order of their values, except that the write `moved`, if there is one, is exchanged
-/// with the one before it. Places are numbered by these names.
+/// with the one before it. The locations of the test have these names, in this order.
 pub(crate) fn run_of(
     alloc: Global,
     valued: &Valued,

@@ -26,7 +26,7 @@ use test_maker::{Refusal, all_of_arch, resolved_edges};
 pub struct TwoRuns<A> {
     /// The text of the test.
     pub text: Vec<u8>,
-    /// What that text is read as. Both executions number the places as it does.
+    /// What that text is read as. Both executions number the locations as it does.
     pub test: ReadTest<A>,
     /// The intended execution, in which all edges of the cycle stand.
     pub one: Execution,
@@ -35,16 +35,16 @@ pub struct TwoRuns<A> {
     pub two: Execution,
 }
 
-/// Why the mode avoid refuses a cycle because a write needs an observer: the text of the cycle's test
+/// Shows why the mode avoid refuses a cycle in which a write needs an observer: the text of the cycle's test
 /// without observers under a name, and two executions of what that text is read as. Both are candidate
 /// executions, are coherent per location and have one final state, so that each condition on it that
 /// is met by the first is met by the second; all edges stand in the first, and the edge into the write
-/// doesn't in the second. The write is the one that the mode refuses: of the lowest location that needs
+/// doesn't in the second. The write is the one that the mode refuses: in the lowest location that needs
 /// an observer, the first one in coherence order that needs it.
 ///
-/// Refusals come in this order: `NotOfArch`, `TooFewThreads`, `CoherenceOnly`, `NothingToShow` and
-/// `TooManyRegisters` (of which observers aren't among the threads), each exactly where it holds and none
-/// before it does; there may be no memory at any time.
+/// The error is the first of these reasons that holds: `NotOfArch`, `TooFewThreads`, `CoherenceOnly`,
+/// `NothingToShow` and `TooManyRegisters` (there are no observers among the threads). If none holds, it may be
+/// `NoMemory`.
 pub fn two_runs<A: Arch>(alloc: Global, cycle: &Cycle, name: &str) -> Result<TwoRuns<A>, RunError>
     requires named { IsTestName name.now }
     ensures shown { Shows A.puts A.writing name.now cycle.now result }

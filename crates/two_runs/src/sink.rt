@@ -5,7 +5,7 @@ ghost use Rattle.two_runs.specs.Runs.{text_sink_seen};
 use diy_io::{Failed, Sink};
 use std::alloc::Global;
 
-/// A text in memory that grows as it is written to: a sink that fails for want of memory alone.
+/// A text in memory that grows as it is written to: a sink that fails only if there is no memory.
 #[derive(Drop)]
 pub(crate) struct TextSink {
     pub(crate) bytes: Vec<u8>,
@@ -27,7 +27,7 @@ impl TextSink {
 impl Sink for TextSink {
     ghost seen = { text_sink_seen };
 
-    /// Where there is no memory for all bytes, it takes none of them.
+    /// If there is no memory for all bytes, it takes none of them.
     fn write_all(&mut self, bytes: &[u8]) -> Result<(), Failed>
         ensures { Wrote (text_sink_seen self.old) (text_sink_seen self.new) bytes.now result }
     {
