@@ -1,5 +1,5 @@
--- What a program must do so that the laws of this crate hold of it: make the accesses of the cycle's test on any
--- values read, and mark and tie them as the edges say. `es` is the list of edges in which threads and locations are counted.
+-- What a program must do so that the laws of this crate apply to it: make the accesses of the cycle's test, with whatever
+-- values are read, and mark and tie them as the edges say. `es` is the list of edges in which threads and locations are counted.
 use Rattle.std.specs.Prelude.{◌≡◌, ℕ, ◌<◌, ◌≤◌, false, List, [], ◌∷◌, length, map, filter, Option, Some, slice_get}
 use Rattle.relax_edges.specs.{declared.kinds.Dir.Dir, declared.kinds.Mark.TheVariants.Plain, declared.kinds.ObsMode.ObsMode, declared.edge.Edge.Edge}
 use Rattle.relax_edges.specs.EdgeTable.{kind_of, source_mark}
@@ -22,7 +22,7 @@ values_left dirs.R [] = []
 values_left dirs.R (_ ∷ values) = values
 values_left dirs.W values = values
 
--- the accesses of a thread where its reads read these values, in order
+-- the accesses of a thread if its reads read these values, in order
 abbrev pub accesses_filled : List Access → List ℕ → List Access
 accesses_filled [] values = []
 accesses_filled (access ∷ accesses) values =
@@ -38,7 +38,7 @@ pub record MakesAccesses (es : List Edge) (mode : ObsMode) (number : ℕ → ℕ
   pub threads : length p.threads ≡ length (cycle_accesses es mode number)
   pub accesses : (k : ℕ) (planned : List Access) (reads : List (ℕ × Option WriteAt)) → slice_get (cycle_accesses es mode number) k ≡ Some planned → slice_get x.reads k ≡ Some reads → slice_get (accesses_in p x) k ≡ Some (accesses_filled planned (values_read reads))
 
--- the values read are those of the cycle's test: of each read of the cycle its event's, of each observer 1, 2, ..
+-- the values read are those of the cycle's test: for each read of the cycle that of its event, for each observer 1, 2, ..
 abbrev pub ReadsAsAsked : List Edge → ObsMode → (ℕ → ℕ) → Execution → Type 0
 ReadsAsAsked es mode number x =
     (k : ℕ) (planned : List Access) (reads : List (ℕ × Option WriteAt)) →
@@ -52,7 +52,7 @@ EndsAsAsked es mode number p x =
     (location : ℕ) → location < move_count es → is_observed es mode location ≡ false → 2 ≤ write_count es location →
     final_value (accesses_in p x) x (number location) ≡ write_count es location
 
--- an outcome that the condition asks for: a candidate execution that is coherent per location, with the values asked for
+-- an outcome that the condition requires: a candidate execution that is coherent per location, with the required values
 pub record IsOutcome (es : List Edge) (mode : ObsMode) (number : ℕ → ℕ) (p : Program) (x : Execution) : Type 0 where
   pub candidate : IsCandidate p x
   pub coherent : IsCoherentIn p x

@@ -3,15 +3,15 @@
 
 ghost use Rattle.accesses_force_cycles.specs.Laws.{EdgesJoin, OnlyTheIntended, TheIntendedMeets, NoConditionServes, AllEdgesStand, OneOutcome, AnOutcome};
 
-/// Each edge of a resolved cycle joins its events in every execution of the accesses of its test
-/// that is coherent per location and meets its condition: the communication of the edge holds, its
-/// events are at one location or at two as the edge says, and in one thread, one after the other,
-/// or in two.
+/// Unless the mode refuses the cycle, each edge of a resolved cycle joins its events in every execution
+/// of the accesses of its test that is coherent per location and meets its condition: the communication
+/// of the edge holds, its events have its directions and are at one location or at two as the edge
+/// says, and in one thread, one after the other, or in two.
 pub fn edges_join()
     ensures { EdgesJoin }
 {}
 
-/// The intended execution is the only such execution: every read reads the write of its
+/// Every such execution is the intended one: every read reads the write of its
 /// value, and the writes of each location are in the order of their values.
 pub fn only_the_intended()
     ensures { OnlyTheIntended }
@@ -22,24 +22,26 @@ pub fn the_intended_meets()
     ensures { TheIntendedMeets }
 {}
 
-/// Where observers are to be avoided and a cycle is refused for it, two coherent executions have
-/// the same reads and the same final values, and an edge of the cycle holds in one of them alone.
+/// If observers are to be avoided and a cycle is refused for this, two coherent executions have
+/// the same reads and the same final values, and an edge of the cycle holds in only one of them.
 pub fn no_condition_serves()
     ensures { NoConditionServes }
 {}
 
-/// All edges stand in every outcome of a program that makes the accesses of the cycle's test, with
-/// the marks of the edges, and with their barriers and dependencies between them.
+/// Unless the mode refuses the cycle, all edges stand in every outcome of a program that makes the
+/// accesses of the cycle's test, with the marks of the edges, with their barriers and dependencies
+/// between them, and with nothing else.
 pub fn all_edges_stand()
     ensures { AllEdgesStand }
 {}
 
-/// Every outcome of such a program is the intended execution.
+/// Unless the mode refuses the cycle, every outcome of a program that makes these accesses is the
+/// intended execution.
 pub fn one_outcome()
     ensures { OneOutcome }
 {}
 
-/// The intended execution is an outcome of such a program, if its runs come to their ends.
+/// The intended execution is an outcome of such a program, if the runs on its reads come to their ends.
 pub fn an_outcome()
     ensures { AnOutcome }
 {}

@@ -1,4 +1,4 @@
--- What is read of the printed text of a cycle's test: what each of its links does, and what it means that the outcome never comes.
+-- What is read from the printed text of a cycle's test: what each of its links does, and what it means that the outcome never comes.
 -- Source: own.
 use Rattle.std.specs.Prelude.{ℕ, ◌≡◌, ◌↔◌, List, [], Ok}
 use Rattle.relax_edges.specs.declared.{kinds.ArchName.ArchName, kinds.ObsMode.ObsMode, edge.Edge.Edge}
@@ -11,7 +11,7 @@ use Rattle.sc_and_interleavings.specs.{Sequential.HasNoCycle, LinkLaws.IsLink, L
 use Rattle.tests_force_cycles.specs.{FinalStates.final_state, TestHeadline.HasTest, TestOf.test_of}
 use Rattle.bytes_force_cycles.specs.Readings.{program_read, place_in_test}
 
--- bytes are the printed text of the test of a cycle, under a name of its form, and they are read as this test
+-- the printed text of the test of a cycle that has one, under a name of its form, is read as this test
 pub record IsPrintedTest (a : Puts) (arch : ArchName) (w : Writing) (name : List ℕ) (es : List Edge) (mode : ObsMode) (test : TestRead) : Type 0 where
   pub named : IsTestName name
   pub has_test : HasTest a es mode
@@ -21,16 +21,16 @@ pub record IsPrintedTest (a : Puts) (arch : ArchName) (w : Writing) (name : List
 abbrev pub LinkCloses : List Edge → ℕ → Program → Execution → Type 0
 LinkCloses es i p x = HasNoCycle (PrecedesBut (accesses_in p x) (event_name es i)) (accesses_in p x) x
 
--- each internal edge to another location may alone be the culprit: a machine that keeps all of program order but the pairs across
--- this one may show the outcome. In the intended execution, what is left of program order has no cycle with reads-from, coherence
+-- each internal edge to another location may alone be the culprit: a machine that keeps all of program order except the pairs across
+-- this edge may show the outcome. In the intended execution, what is left of program order has no cycle with reads-from, coherence
 -- order and from-read
 abbrev pub EachLinkMayBreak : Puts → ArchName → Writing → Type 0
 EachLinkMayBreak a arch w =
     (name : List ℕ) (es : List Edge) (mode : ObsMode) (test : TestRead) (i : ℕ) → IsPrintedTest a arch w name es mode test → IsLink es i →
     LinkCloses es i (program_read test) (intended es mode (place_in_test test))
 
--- without observers, a coherent candidate meets the condition exactly where all edges stand: so a run of a coherent machine that
--- doesn't meet it, didn't have the cycle
+-- without observers, a coherent candidate meets the condition exactly when all edges stand: so a run of a coherent machine that
+-- doesn't meet it didn't have the cycle
 abbrev pub ConditionDecides : Puts → ArchName → Writing → Type 0
 ConditionDecides a arch w =
     (name : List ℕ) (es : List Edge) (mode : ObsMode) (test : TestRead) (x : Execution) →

@@ -10,10 +10,10 @@ use Rattle.sc_and_interleavings.specs.Sequential.{IsSequential}
 use Rattle.tests_force_cycles.specs.{FinalStates.final_state, TestHeadline.HasTest, TestOf.test_of}
 use Rattle.bytes_force_cycles.specs.Readings.{program_read, place_in_test, ReadingAsks, InterleavingMeets}
 
--- Bytes force a cycle: they are read as a test, and its condition asks whether there is an execution of a kind. No interleaving
--- of the threads ends so, whatever the values are that the reads take; in each candidate execution that does, program order,
--- reads-from, coherence order and from-read have a cycle. All edges of the cycle stand, in order, in every such execution that is
--- coherent per location; there is none but the intended one; and that one is.
+-- Bytes force a cycle: they are read as a test, and its condition asks whether some execution meets its terms. No interleaving
+-- of the threads meets them, whatever values the reads take; in each candidate execution that does, program order, reads-from,
+-- coherence order and from-read have a cycle. All edges of the cycle stand, in order, in every such execution that is coherent
+-- per location; there is none except the intended one; and that is one.
 pub record BytesForce (arch : ArchName) (w : Writing) (bytes : List ℕ) (es : List Edge) (mode : ObsMode) : Type 0 where
   pub test : TestRead
   pub reads : test_read arch w bytes ≡ Ok test

@@ -1,5 +1,5 @@
--- The laws of this crate: the candidate executions of a cycle's test, made or read of its text, with SC per location in place of
--- coherence.
+-- Coherence per location is SC per location for the candidate executions of a cycle's test, whether the test was made or read
+-- from its text.
 -- Source: own.
 use Rattle.std.specs.Prelude.{ℕ, ◌≡◌, ◌↔◌, List, Ok}
 use Rattle.relax_edges.specs.{declared.kinds.ArchName.ArchName, declared.kinds.ObsMode.ObsMode, declared.edge.Edge.Edge}
@@ -10,18 +10,18 @@ use Rattle.sc_and_interleavings.specs.Relations.{IsScPerLocation}
 use Rattle.tests_force_cycles.specs.{TestHeadline.{HasTest, IsRenumbered}, TestPrograms.test_program, TestOf.test_of}
 use Rattle.bytes_force_cycles.specs.Readings.{program_read}
 
--- each candidate execution of a program is coherent per location exactly where it is SC per location
+-- each candidate execution of a program is coherent per location exactly when it is SC per location
 abbrev pub ScDecides : Program → Type 0
 ScDecides p = (x : Execution) → IsCandidate p x → IsCoherentIn p x ↔ IsScPerLocation (accesses_in p x) x
 
--- it is so in the program of each test that is a cycle's test except for the numbers of places
+-- this holds for the program of each test that differs from a cycle's test only in the numbers of its locations
 abbrev pub TestsAreScPerLocation : Type 0
 TestsAreScPerLocation =
     (a : Puts) (register_name : ℕ → List ℕ) (es : List Edge) (mode : ObsMode) (test : TestSeen) (number : ℕ → ℕ) →
     IsArch a → HasTest a es mode → IsRenumbered (test_of a register_name es mode) test number →
     ScDecides (test_program test)
 
--- it is so in the program that is read of the printed text of a cycle's test
+-- this holds for the program that is read from the printed text of a cycle's test, under a name of its form
 abbrev pub PrintedAreScPerLocation : Puts → ArchName → Writing → Type 0
 PrintedAreScPerLocation a arch w =
     (name : List ℕ) (es : List Edge) (mode : ObsMode) (test : TestRead) →

@@ -10,9 +10,10 @@ pub fn tests_readable<A: Arch>()
     ensures { TestsReadable A.puts A.NAME A.writing }
 {}
 
-/// On every architecture, the printed text of the test of each cycle that has one forces the cycle:
-/// its bytes are read as a test, all edges of the cycle stand in every candidate execution of that
-/// reading that is coherent per location and meets its condition, there is one such execution, the
+/// On every architecture, the printed text of the test of each cycle that has one, under a name of its
+/// form, forces the cycle: its bytes are read as a test, no interleaving and no sequentially consistent
+/// candidate execution of that reading meets its condition, all edges of the cycle stand in every
+/// candidate execution that is coherent per location and meets it, there is one such execution, the
 /// intended one, and no other.
 pub fn printed_tests_force<A: Arch>()
     ensures { PrintedForce A.puts A.NAME A.writing }

@@ -1,31 +1,32 @@
-//! What printed tests of cycles mean: coherence per location is SC per location, each link may alone be the culprit, and what it means that the outcome never comes.
+//! What printed tests of cycles mean: coherence per location is SC per location, each link may alone be the culprit,
+//! and what it means that the outcome never comes.
 
 ghost use Rattle.bytes_force_cycles.specs.{ScLaws.{PrintedAreScPerLocation, TestsAreScPerLocation}, Links.{ConditionDecides, EachLinkMayBreak}};
 
 use arch_trait::Arch;
 
 /// On every architecture that keeps the laws, each candidate execution of the test of a cycle is
-/// coherent per location exactly where it is SC per location. The same holds of each test that is the
-/// same except for the numbers of places.
+/// coherent per location exactly when it is SC per location. The same holds for each test that differs
+/// from it only in the numbers of its locations.
 pub fn tests_are_sc_per_location()
     ensures { TestsAreScPerLocation }
 {}
 
-/// On every architecture, each candidate execution of what is read of the printed text of the test of
-/// a cycle is coherent per location exactly where it is SC per location.
+/// On every architecture, each candidate execution of what is read from the printed text of the test of
+/// a cycle, under a name of its form, is coherent per location exactly when it is SC per location.
 pub fn printed_are_sc_per_location<A: Arch>()
     ensures { PrintedAreScPerLocation A.puts A.NAME A.writing }
 {}
 
 /// On every architecture, each internal edge of a cycle to another location may alone be the culprit
-/// where the outcome of its printed test is seen: in the intended execution, program order without the
+/// if the outcome of its printed test is seen: in the intended execution, program order without the
 /// pairs across this edge, with reads-from, coherence order and from-read, has no cycle.
 pub fn each_link_may_break<A: Arch>()
     ensures { EachLinkMayBreak A.puts A.NAME A.writing }
 {}
 
 /// On every architecture, a coherent candidate execution of a printed test without observers meets its
-/// condition exactly where all edges of the cycle stand.
+/// condition exactly when all edges of the cycle stand.
 pub fn condition_decides<A: Arch>()
     ensures { ConditionDecides A.puts A.NAME A.writing }
 {}

@@ -1,6 +1,6 @@
 -- The machine of one thread: what it holds, and the rule of each operation.
--- Source: the instruction manuals of x86, Power, Arm and RISC-V, cut to the instructions that litmus
--- tests use; what depends on a load, through registers, after those manuals' syntactic dependencies.
+-- Source: the instruction manuals of x86, Power, Arm and RISC-V, limited to the instructions that litmus
+-- tests use; dependencies on loads, through registers, are those manuals' syntactic dependencies.
 use Rattle.std.specs.Prelude.{ℕ, zero, ◌+◌, ◌^◌, Bool, true, cond, not, ◌==◌, nat_lt, bit_or, bit_xor, Option, Some, None}
 use Rattle.relax_edges.specs.declared.kinds.Dir.TheVariants as dirs
 use Rattle.relax_edges.specs.declared.kinds.{Mark.Mark, Mark.TheVariants.Plain, Mark.TheVariants.Acquire, Mark.TheVariants.Release, Value.Value}
@@ -19,7 +19,7 @@ pub record ThreadState : Type 0 where
   pub control : ℕ
   pub loads : ℕ
 
--- what an operation leads to: the state after it, the item that it makes and the label it jumps to
+-- what an operation leads to: the state after it, and the item that it makes and the label that it jumps to, if any
 pub record Effect : Type 0 where
   pub state : ThreadState
   pub item : Option Item
@@ -29,23 +29,23 @@ pub record Effect : Type 0 where
 abbrev pub num : ℕ → ℕ → Held
 num n mask = record { value = Num n; mask = mask }
 
--- the address of a place, which depends on the loads of a mask
+-- the address of a location, which depends on the loads of a mask
 abbrev pub address_held : ℕ → ℕ → Held
 address_held place mask = record { value = Place place; mask = mask }
 
--- the address of a place, which depends on no load
+-- the address of a location, which depends on no load
 abbrev pub held_at_place : ℕ → Held
 held_at_place place = address_held place 0
 
--- the mask of load number k alone
+-- the mask that names only load number k
 abbrev pub bit : ℕ → ℕ
 bit k = 2 ^ k
 
--- registers of which one was written
+-- registers after one of them was written
 abbrev pub written : (ℕ → Held) → ℕ → Held → ℕ → Held
 written regs dst held r = cond (r == dst) held (regs r)
 
--- a state in which one register was written
+-- a state after one register was written
 abbrev pub put : ThreadState → ℕ → Held → ThreadState
 put s dst held = record s { regs = written s.regs dst held }
 
@@ -53,16 +53,16 @@ put s dst held = record s { regs = written s.regs dst held }
 abbrev pub both_masks : ThreadState → ℕ → ℕ → ℕ
 both_masks s a b = bit_or (s.regs a).mask (s.regs b).mask
 
--- a sum, which is a number of 32 bits
+-- a sum, if it fits in 32 bits
 abbrev pub fitting : ℕ → Option Value
 fitting n = cond (nat_lt n (2 ^ 32)) (Some (Num n)) None
 
--- the exclusive or of two numbers
+-- the bitwise exclusive or of two numbers
 abbrev pub xored : Value → Value → Option Value
 xored (Num m) (Num n) = Some (Num (bit_xor m n))
 xored _ _ = None
 
--- a number and an immediate, added
+-- a number plus an immediate
 abbrev pub plus : Value → ℕ → Option Value
 plus (Num m) n = fitting (m + n)
 plus (Place _) _ = None
@@ -72,13 +72,13 @@ abbrev pub ored : Value → ℕ → Option Value
 ored (Num m) n = Some (Num (bit_or m n))
 ored (Place _) _ = None
 
--- the place that an address and the number 0 make, in either order
+-- the location of an address plus the number 0, in either order
 abbrev pub place_at : Value → Value → Option ℕ
 place_at (Place p) (Num zero) = Some p
 place_at (Num zero) (Place p) = Some p
 place_at _ _ = None
 
--- a place as a value
+-- the address of a location, if there is one, as a value
 abbrev pub as_place : Option ℕ → Option Value
 as_place (Some p) = Some (Place p)
 as_place None = None
@@ -93,7 +93,7 @@ abbrev pub same_number : Value → Value → Option Bool
 same_number (Num m) (Num n) = Some (m == n)
 same_number _ _ = None
 
--- the place of an access: that of its base, or of base and index
+-- the location of an access: that of its base, or of base plus index
 abbrev pub place_reached : ThreadState → ℕ → Option ℕ → Option ℕ
 place_reached s base None = place_at (s.regs base).value (Num 0)
 place_reached s base (Some index) = place_at (s.regs base).value (s.regs index).value
@@ -116,7 +116,7 @@ write_effect _ _ _ None = None
 abbrev pub making : ThreadState → Item → Option Effect
 making s item = Some (record { state = s; item = Some item; jump = None })
 
--- a load of a mark from a place: the register gets the number read, which depends on this load alone
+-- a load with a mark from a location: the register gets the number read, which depends only on this load
 abbrev pub loading : Mark → ThreadState → ℕ → Option ℕ → ℕ → Option ℕ → Option Effect
 loading mark s dst (Some place) mask (Some n) =
     making
@@ -124,7 +124,7 @@ loading mark s dst (Some place) mask (Some n) =
     (items.Access dirs.R mark place n mask 0 s.control)
 loading _ _ _ _ _ _ = None
 
--- a store of a mark, of a number to a place
+-- a store with a mark, of a number to a location
 abbrev pub storing : Mark → ThreadState → Option ℕ → ℕ → Value → ℕ → Option Effect
 storing mark s (Some place) mask (Num n) data_mask =
     making s (items.Access dirs.W mark place n mask data_mask s.control)
@@ -144,12 +144,12 @@ branching s mask taken label =
       jump = cond taken (Some label) None;
     })
 
--- a branch that is taken where a value is a number other than 0
+-- a branch on a number, which is taken unless it is 0
 abbrev pub branching_on : ThreadState → ℕ → Value → ℕ → Option Effect
 branching_on s mask (Num n) label = branching s mask (not (n == 0)) label
 branching_on _ _ (Place _) _ = None
 
--- the rule of each operation, with what a load reads; None where no rule fits the operands or a
+-- the rule of each operation, with what a load reads; None if no rule fits the operands or a
 -- load has nothing to read
 abbrev pub step : Micro → ThreadState → Option ℕ → Option Effect
 step (ops.Imm dst n) s _ = write_effect s dst 0 (Some (Num n))

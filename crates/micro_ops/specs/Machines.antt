@@ -1,4 +1,4 @@
--- What a machine holds, as a state, and what its step answers, as a rule does.
+-- What a machine holds, as a state, and what its step returns, in the form of a rule.
 -- Source: own.
 use Rattle.std.specs.Prelude.{ℕ, ◌<◌, Bool, get_or, List, Option, Some, None, Result, Ok, Err, IfSome}
 use Rattle.micro_ops.specs.declared.{held.Held.Held, machine.Stepped.Stepped, machine.Stuck.Stuck, operation.Micro.Micro}
@@ -29,7 +29,7 @@ state_of contents = record {
   loads = contents.loads;
 }
 
--- the answer of a step and the state after it, in the form in which a rule gives them
+-- what a step returns and the state after it, in the form in which a rule gives them
 abbrev pub effect : Result Stepped Stuck → ThreadState → Option Effect
 effect (Ok stepped) s = Some (record { state = s; item = stepped.item; jump = stepped.jump })
 effect (Err _) _ = None

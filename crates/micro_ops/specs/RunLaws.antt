@@ -17,7 +17,7 @@ pub stuck_stays : (code : List Micro) → exec code Stuck ≡ Stuck
 stuck_stays [] = refl
 stuck_stays (op ∷ code) = stuck_stays code
 
--- a run that wants a read still wants it after more operations
+-- a run that lacks a read still lacks it after more operations
 pub wants_stays : (code : List Micro) (r : Run) → exec code (Wants r) ≡ Wants r
 wants_stays [] r = refl
 wants_stays (op ∷ code) r = wants_stays code r
@@ -32,7 +32,7 @@ occurs_before l (op ∷ a) b h = either (is_label l op) h (λ g. occurs_before l
     either true g k = refl
     either false g k = k g
 
--- where each branch's label comes later in both parts, it does in the whole
+-- if each branch's label comes later in both parts, it also does in the whole
 pub lands_append : (a b : List Micro) → lands a ≡ true → lands b ≡ true → lands (a ++ b) ≡ true
 lands_append [] b h k = k
 lands_append (op ∷ a) b h k =
@@ -43,7 +43,7 @@ lands_append (op ∷ a) b h k =
     in_whole None g = refl
     in_whole (Some l) g = occurs_before l a b g
 
--- the labels of one list and then another
+-- the labels of two lists joined: those of the one and then those of the other
 pub labels_append : (a b : List Micro) → labels_of (a ++ b) ≡ labels_of a ++ labels_of b
 labels_append [] b = refl
 labels_append (ops.Label l ∷ a) b = ap (λ ls. l ∷ ls) (labels_append a b)

@@ -1,4 +1,4 @@
--- What the run of a thread answers.
+-- What the run of a thread returns.
 -- Source: own.
 use Rattle.std.specs.Prelude.{ℕ, ◌+◌, ◌<◌, ◌≡◌, Bool, true, false, List, take, length}
 use Rattle.relax_edges.specs.declared.kinds.Value.{Value}
@@ -22,13 +22,13 @@ goes_on (Past _ _) = true
 goes_on (Wants _) = false
 goes_on Stuck = false
 
--- a run stops at an operation: it goes on up to there, and no longer after it
+-- a run stops at an operation: it goes on up to this operation, but not after it
 pub record StopsAt (code : List Micro) (start : Point) (at_op : ℕ) : Type 0 where
   pub within : at_op < length code
   pub before : goes_on (exec (take at_op code) start) ≡ true
   pub later : goes_on (exec (take (at_op + 1) code) start) ≡ false
 
--- why a run has no trace
+-- why a run has no trace; for NoMemory nothing is claimed
 abbrev pub CausedBy : RunError → List Micro → List (ℕ × Value) → List ℕ → Type 0
 CausedBy (errors.Stuck at_op) code init reads = StopsAt code (At (beginning init reads)) at_op
 CausedBy errors.ReadsLeft code init reads = runs code init reads ≡ ReadsLeft

@@ -1,4 +1,4 @@
--- What the code's runner holds and why it halts, for private clauses alone.
+-- What the code's runner holds and why it halts, only for clauses of private functions.
 -- Source: own.
 use Rattle.std.specs.Prelude.{ℕ, List, Option}
 use Rattle.micro_ops.specs.declared.{operation.Item.Item, run.RunError.RunError, run.Halt.Halt}
@@ -14,7 +14,7 @@ pub record RunProgress : Type 0 where
   pub past : Option ℕ
   pub reads : List ℕ
 
--- where a run has come to
+-- the point that a run has come to
 abbrev pub point_of : RunProgress → Point
 point_of progress =
     landing progress.past

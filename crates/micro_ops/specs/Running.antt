@@ -13,7 +13,7 @@ pub record Run : Type 0 where
   pub reads : List ℕ
   pub made : List Item
 
--- where a run is between two operations: before the next; passing over operations up to a
+-- where a run is between two operations: before the next; skipping operations up to a
 -- label; at a load that only lacks a number to read; or at an operation that no rule fits
 pub data Point : Type 0 where
   At : Run → Point
@@ -50,18 +50,18 @@ led (Some effect) reads made =
     (record { state = effect.state; reads = reads; made = add_item made effect.item })
 led None _ _ = Stuck
 
--- where a load with nothing left to read leads: it wants a number, if it isn't stuck with any
+-- where a load with nothing left to read leads: it lacks a number, unless it would be stuck with one too
 abbrev pub wanting : Option Effect → Run → Point
 wanting (Some _) r = Wants r
 wanting None _ = Stuck
 
--- where an operation leads, which takes the next number if it reads
+-- where an operation leads; it takes the next number if it reads
 abbrev pub taken : Micro → Run → Bool → List ℕ → Point
 taken op r false reads = led (step op r.state None) reads r.made
 taken op r true (n ∷ reads) = led (step op r.state (Some n)) reads r.made
 taken op r true [] = wanting (step op r.state (Some 0)) r
 
--- one operation of a run: a jump passes over operations up to its label
+-- one operation of a run: a jump skips operations up to its label
 abbrev pub go : Micro → Point → Point
 go op (At r) = taken op r (is_load op) r.reads
 go op (Past label r) = cond (is_label label op) (At r) (Past label r)
@@ -100,7 +100,7 @@ labels_of [] = []
 labels_of (ops.Label label ∷ code) = label ∷ labels_of code
 labels_of (_ ∷ code) = labels_of code
 
--- the registers as a thread begins: those that the list names, the number 0 in the others
+-- what the registers hold as a thread begins: what the list names first for each, the number 0 in the others
 abbrev pub starting : List (ℕ × Value) → ℕ → Held
 starting [] _ = num 0 0
 starting (named ∷ init) r =
@@ -121,19 +121,19 @@ abbrev pub beginning : List (ℕ × Value) → List ℕ → Run
 beginning init reads = record { state = initial_state init; reads = reads; made = [] }
 
 -- how a run ends: with its items and the values of its registers, all reads used; at its end with
--- reads left; at a load that lacks a read; or where no rule fits, or a label is missing
+-- reads left; at a load that lacks a read; or at an operation that no rule fits, or on the way to a missing label
 pub data Outcome : Type 0 where
   Ended : List Item → (ℕ → Value) → Outcome
   ReadsLeft : Outcome
   ReadsShort : Outcome
   NoRule : Outcome
 
--- the end of a run whose code is over
+-- how a run ends that has come to the end of its code, by the reads that are left
 abbrev pub run_ended : Run → List ℕ → Outcome
 run_ended r [] = Ended r.made (λ q. (r.state.regs q).value)
 run_ended _ (_ ∷ _) = ReadsLeft
 
--- how a run ends that has come to a point, where its code is over
+-- how a run ends whose code is over at this point
 abbrev pub outcome : Point → Outcome
 outcome (At r) = run_ended r r.reads
 outcome (Past _ _) = NoRule
@@ -176,7 +176,7 @@ abbrev pub is_read_item : Item → Bool
 is_read_item (items.Access dirs.R _ _ _ _ _ _) = true
 is_read_item _ = false
 
--- a state whose masks name loads that were stepped, and no others
+-- a state whose masks name only loads that were stepped
 pub record MasksNameLoads (s : ThreadState) : Type 0 where
   pub in_regs : (r : ℕ) → (s.regs r).mask < 2 ^ s.loads
   pub in_flag : s.flag_mask < 2 ^ s.loads
@@ -193,24 +193,24 @@ abbrev pub AllNameLoads : ℕ → List Item → Type 0
 AllNameLoads loads [] = Unit {0}
 AllNameLoads loads (item ∷ made) = NamesLoads loads item × AllNameLoads loads made
 
--- a run whose masks name loads that were stepped, and whose state counts the loads among its items
+-- a run whose masks name only loads that were stepped, and whose state counts the reads among its items
 pub record RunNamesLoads (r : Run) : Type 0 where
   pub masks : MasksNameLoads r.state
   pub items : AllNameLoads r.state.loads r.made
   pub loads : r.state.loads ≡ count_by is_read_item r.made
 
--- a fact of the run that a point has, where it isn't stuck
+-- a fact holds of the run at a point, unless the point is stuck
 abbrev pub OnRun : (Run → Type 0) → Point → Type 0
 OnRun P (At r) = P r
 OnRun P (Past _ r) = P r
 OnRun P (Wants r) = P r
 OnRun P Stuck = Unit {0}
 
--- a jump to a label goes on after it, where the label doesn't stand before
+-- a jump to a label goes on after it, if the label doesn't occur before
 abbrev pub JumpLands : List Micro → ℕ → List Micro → Run → Type 0
 JumpLands before label after r = occurs label before ≡ false → exec (before ++ (ops.Label label ∷ after)) (Past label r) ≡ exec after (At r)
 
--- operations let a register keep what it holds
+-- a register that holds this at a point still holds it after these operations
 abbrev pub KeepsHeld : List Micro → ℕ → Held → Point → Type 0
 KeepsHeld code register held p = OnRun (λ r. r.state.regs register ≡ held) p → OnRun (λ r. r.state.regs register ≡ held) (exec code p)
 

@@ -35,7 +35,7 @@ impl Model for Machine {
     } };
 }
 
-/// What a step leads to: the item that it makes, and the label that it jumps to.
+/// What a step leads to: the item that it makes and the label that it jumps to, if any.
 #[derive(Clone, Copy, PartialEq, Eq)]
 pub struct Stepped {
     pub item: Option<Item>,
@@ -83,9 +83,9 @@ impl Stepped {
 }
 
 impl Machine {
-    /// The machine of a thread before its first operation: the registers that `init` names hold
-    /// the values that it gives them (where it names one twice, the first), the others the number
-    /// 0, and no mask names a load.
+    /// The machine of a thread before its first operation: the registers that `init` names, all
+    /// below 32, hold the values that it gives them (if it names one twice, the first), the others
+    /// hold the number 0, and no mask names a load.
     pub fn new(init: &[(u8, Value)]) -> Machine
         requires { All (λ named. named.0 < 32) init.now }
         ensures { state_of result ≡ initial_state init.now }
@@ -101,14 +101,14 @@ impl Machine {
         }
     }
 
-    /// How many loads were stepped so far.
+    /// How many loads have been stepped so far.
     pub fn loads(&self) -> u8
         ensures { result ≡ (state_of self.now).loads }
     {
         self.loads
     }
 
-    /// What a register holds.
+    /// What a register below 32 holds.
     pub fn content_of(&self, register: u8) -> Held
         requires { register < 32 }
         ensures { result ≡ (state_of self.now).regs register }
@@ -116,8 +116,9 @@ impl Machine {
         self.registers[usize::from(register)]
     }
 
-    /// Steps one operation by its rule; a load reads `read`. It is stuck exactly where no rule
+    /// Steps one operation by its rule; a load reads `read`. It is stuck exactly when no rule
     /// fits the operands, or a load has nothing to read, and then the machine is unchanged.
+    /// Registers are below 32, and at most 64 loads can be stepped.
     pub fn step(&mut self, op: Micro, read: Option<u32>) -> Result<Stepped, Stuck>
         requires in_range { InRange op }
         requires room { is_load op ≡ true → (state_of self.old).loads < 64 }
@@ -193,7 +194,7 @@ impl Machine {
         }
     }
 
-    /// The place of an access.
+    /// The location of an access, if its operands give one.
     fn place(&self, base: u8, index: Option<u8>) -> Option<u8>
         requires base { base < 32 }
         requires index { IfSome index (λ i. i < 32) }

@@ -13,7 +13,7 @@ pub(crate) fn exclusive_or(a: Value, b: Value) -> Option<Value>
     }
 }
 
-/// A number plus an immediate, if it has 32 bits.
+/// A number plus an immediate, if the sum fits in 32 bits.
 pub(crate) fn add_immediate(a: Value, n: u32) -> Option<Value>
     ensures { result ≡ plus a n }
 {
@@ -33,7 +33,7 @@ pub(crate) fn or_immediate(a: Value, n: u32) -> Option<Value>
     }
 }
 
-/// The place of an address and the number 0, in either order.
+/// The location of an address plus the number 0, in either order.
 pub(crate) fn place(base: Value, index: Value) -> Option<u8>
     ensures { result ≡ place_at base index }
 {
@@ -43,7 +43,7 @@ pub(crate) fn place(base: Value, index: Value) -> Option<u8>
     }
 }
 
-/// The sum of two numbers, if it has 32 bits, or of an address and the number 0.
+/// The sum of two numbers, if it fits in 32 bits, or of an address and the number 0.
 pub(crate) fn sum(a: Value, b: Value) -> Option<Value>
     ensures { result ≡ sum_of_values a b }
 {

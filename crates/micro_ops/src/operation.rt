@@ -6,14 +6,14 @@ use relax_edges::{Dir, FenceKind, Mark};
 #[derive(Clone, Copy, Debug, PartialEq, Eq)]
 pub enum Barrier {
     Fence(FenceKind),
-    /// The instruction synchronization barrier of AArch64.
+    /// The instruction synchronization barrier of AArch64 and Arm.
     Isb,
 }
 
-/// What one instruction of a thread does. Registers, places and labels are numbers; registers are
-/// below 32.
+/// What one instruction of a thread does. Registers, locations and labels are numbers; registers
+/// are below 32.
 ///
-/// The rules are those of the instruction manuals of x86, Power, Arm and RISC-V, cut to the few
+/// The rules are those of the instruction manuals of x86, Power, Arm and RISC-V, limited to the few
 /// instructions that litmus tests use.
 #[derive(Clone, Copy, Debug, PartialEq, Eq)]
 pub enum Micro {
@@ -52,7 +52,7 @@ pub enum Micro {
         base: u8,
         index: Option<u8>,
     },
-    /// `dst` becomes what is read at the place.
+    /// `dst` becomes what is read at the location.
     LoadAt {
         dst: u8,
         place: u8,
@@ -68,7 +68,7 @@ pub enum Micro {
         base: u8,
         index: Option<u8>,
     },
-    /// The number `n` is written at the place.
+    /// The number `n` is written at the location.
     StoreAt {
         place: u8,
         n: u32,
@@ -92,7 +92,7 @@ pub enum Micro {
         a: u8,
         label: u8,
     },
-    /// Does nothing; where a jump to the label goes on.
+    /// Does nothing; a jump to the label goes on after it.
     Label {
         label: u8,
     },
@@ -114,8 +114,8 @@ impl Default for Micro {
 /// depends on. Bit `k` of a mask names load number `k` of the thread, from 0.
 #[derive(Clone, Copy, PartialEq, Eq)]
 pub enum Item {
-    /// A read of the value at the place, or a write of it, with its mark. The masks name the loads that its
-    /// address, its value and the branches before it depend on.
+    /// A read of the value at the location, or a write of it, with its mark. The masks name the loads that its
+    /// address, the value written and the branches before it depend on.
     Access {
         dir: Dir,
         mark: Mark,

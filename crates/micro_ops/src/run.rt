@@ -12,7 +12,7 @@ use thiserror::Error;
 
 /// What a thread did in a run that ended: its items, in order, and what its registers hold.
 ///
-/// Contracts see these two.
+/// Contracts see both.
 #[derive(Drop)]
 pub struct Trace {
     items: Vec<Item>,
@@ -35,7 +35,7 @@ impl Trace {
         &self.items
     }
 
-    /// The value of a register at the end.
+    /// The value of a register below 32 at the end.
     pub fn register(&self, register: u8) -> Value
         requires { register < 32 }
         ensures { result ≡ value_in_run self.now register }
@@ -68,10 +68,10 @@ enum Halt {
 
 /// Runs the code of a thread from its initial registers on the numbers that its loads read.
 ///
-/// It is stuck at an operation exactly where no rule fits its operands, or it is a load and no
-/// read is left; reads are left exactly where the code ends before all are used. Registers are
-/// below 32; where `init` names one twice, the first entry counts. Each branch's label comes later
-/// in the code, which has at most 64 loads.
+/// It is stuck at an operation if no rule fits its operands, or it is a load and no read is left;
+/// reads are left if the code ends before all are used. Instead of any result it may return
+/// `NoMemory`. Registers are below 32; if `init` names one twice, the first entry counts. Each
+/// branch's label comes later in the code, which has at most 64 loads and fewer than 2^32 operations.
 pub fn run_thread(
     alloc: Global,
     code: &[Micro],
@@ -95,7 +95,7 @@ pub fn run_thread(
     runner.end()
 }
 
-/// A run, as far as it has come. On the way to a label it passes over operations.
+/// A run, as far as it has come. On the way to a label it skips operations.
 #[derive(Drop)]
 struct Runner<'a> {
     machine: Machine,
@@ -161,7 +161,7 @@ impl<'a> Runner<'a> {
         }
     }
 
-    /// The trace of a run whose code is over, on the way to no label.
+    /// The trace of a run whose code is over and that isn't on the way to a label.
     fn end(self) -> Result<Trace, RunError>
         requires { is_past (point_of self) ≡ false }
         ensures ended { IfOk result (λ trace. outcome (point_of self.entry) ≡ Ended trace.items (value_in_run trace)) }
@@ -193,7 +193,7 @@ impl<'a> Runner<'a> {
         Ok(())
     }
 
-    /// A load, which reads the next number.
+    /// Steps a load, which reads the next number; it is stuck if none is left.
     fn load(&mut self, op: Micro) -> Result<(), Halt>
         requires in_range { InRange op }
         requires room { (state_of self.old.machine).loads < 64 }

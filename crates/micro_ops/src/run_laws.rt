@@ -12,13 +12,13 @@ pub fn runs_append()
     ensures { (code after : List Micro) → (p : Point) → exec (code ++ after) p ≡ exec after (exec code p) }
 {}
 
-/// A jump goes on after its label.
+/// A jump goes on after the first occurrence of its label.
 #[tactic(auto, using(crate::proofs::Laws::jump_lands))]
 pub fn jumps_land()
     ensures { (before after : List Micro) → (label : ℕ) → (r : Run) → JumpLands before label after r }
 {}
 
-/// Where each branch's label comes later, no run ends on the way to a label.
+/// If each branch's label comes later, no run of the code ends on the way to a label.
 #[tactic(auto, using(crate::proofs::Laws::never_past))]
 pub fn no_jump_is_open()
     ensures { (code : List Micro) → (r : Run) → lands code ≡ true → is_past (exec code (At r)) ≡ false }
@@ -36,7 +36,7 @@ pub fn one_item_an_operation()
     ensures { (op : Micro) → (r : Run) → OnRun (MadeAtMostOne r) (go op (At r)) }
 {}
 
-/// Each mask of a run, in registers and items, names only loads that were stepped.
+/// Each mask of a thread's run names only loads that were stepped, and as many were stepped as its items have reads.
 #[tactic(auto, using(crate::proofs::Laws::runs_name_loads))]
 pub fn masks_name_stepped_loads()
     ensures { (code : List Micro) → (init : List (ℕ × Value)) → (reads : List ℕ) → OnRun RunNamesLoads (exec code (At (beginning init reads))) }

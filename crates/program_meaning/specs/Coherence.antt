@@ -1,4 +1,4 @@
--- Coherence per location: program order at one place agrees with the coherence order. These are the absent shapes CoWW,
+-- Coherence per location: program order at one location agrees with the coherence order. This forbids the shapes CoWW,
 -- CoWR, CoRW and CoRR of the literature.
 -- Source: the literature on coherence.
 use Rattle.std.specs.{Prelude.{ℕ, ◌≡◌, ◌+◌, ◌-◌, ◌<◌, ◌≤◌, List, [], length, Option, Some, None, slice_get, unwrap_or}, List.position, Option.option_and_then}
@@ -6,17 +6,17 @@ use Rattle.relax_edges.specs.declared.kinds.Dir.{Dir}
 use Rattle.relax_edges.specs.declared.kinds.Dir.TheVariants as dirs
 use Rattle.program_meaning.specs.{declared.WriteAt.WriteAt, Accesses.{Access, at_name, reads_before}, Executions.{Execution, same_write}}
 
--- a place in a list, counted from 1; 0 where there is none
+-- a position in a list, counted from 1; 0 if there is none
 abbrev pub from_one : Option ℕ → ℕ
 from_one None = 0
 from_one (Some k) = k + 1
 
--- the place of a write, from 1, in the coherence order of a place; 0 is that of the initial value
+-- the position of a write in the coherence order of a location, from 1; 0 is that of the initial value
 abbrev pub order_place : List WriteAt → Option WriteAt → ℕ
 order_place order None = 0
 order_place order (Some w) = from_one (position (same_write w) order)
 
--- the coherence order of a place
+-- the coherence order of a location
 abbrev pub order_at : Execution → ℕ → List WriteAt
 order_at x place = unwrap_or (slice_get x.orders place) []
 
@@ -24,21 +24,21 @@ order_at x place = unwrap_or (slice_get x.orders place) []
 abbrev pub read_at : List (List Access) → Execution → WriteAt → Option (ℕ × Option WriteAt)
 read_at threads x name = slice_get (unwrap_or (slice_get x.reads name.thread) []) (reads_before threads name)
 
--- the write that a read names; the initial value where there is no read
+-- the write that a read names; none for the initial value, or if there is no read
 abbrev pub named_by : Option (ℕ × Option WriteAt) → Option WriteAt
 named_by None = None
 named_by (Some r) = r.1
 
--- what a read access reads
+-- the write that a read access reads, none for the initial value
 abbrev pub source_at : List (List Access) → Execution → WriteAt → Option WriteAt
 source_at threads x name = named_by (read_at threads x name)
 
--- the write whose coherence place an access has: of a write it is the write itself, of a read the write that it reads
+-- the write whose coherence position an access has: for a write it is the write itself, for a read the write that it reads
 abbrev pub placed_by : Dir → List (List Access) → Execution → WriteAt → Option WriteAt
 placed_by dirs.R threads x name = source_at threads x name
 placed_by dirs.W threads x name = Some name
 
--- the coherence place of an access: of a write its own, of a read that of what it reads
+-- the coherence position of an access: for a write its own, for a read that of what it reads
 abbrev pub coherence_place : List (List Access) → Execution → WriteAt → Access → ℕ
 coherence_place threads x name access = order_place (order_at x access.place) (placed_by access.dir threads x name)
 
@@ -47,7 +47,7 @@ abbrev pub MayFollow : Dir → ℕ → ℕ → Type 0
 MayFollow dirs.R before after = before ≤ after
 MayFollow dirs.W before after = before < after
 
--- an execution is coherent per location: where two accesses of a thread are at one place, the later may follow the earlier
+-- an execution is coherent per location: if two accesses of a thread are at one location, the later may follow the earlier
 abbrev pub IsCoherent : List (List Access) → Execution → Type 0
 IsCoherent threads x =
     (thread e f : ℕ) (a b : Access) → e < f →
@@ -60,11 +60,11 @@ IsCoherent threads x =
 abbrev pub last_write : List WriteAt → Option WriteAt
 last_write order = slice_get order (length order - 1)
 
--- the value of an access, 0 where there is none
+-- the value of an access, 0 if there is none
 abbrev pub value_of_access : Option Access → ℕ
 value_of_access None = 0
 value_of_access (Some access) = access.value
 
--- the value of a place at the end: that of the last write of its coherence order, 0 where there is none
+-- the value of a location at the end: that of the last write of its coherence order, 0 if there is none
 abbrev pub final_value : List (List Access) → Execution → ℕ → ℕ
 final_value threads x place = value_of_access (option_and_then (at_name threads) (last_write (order_at x place)))

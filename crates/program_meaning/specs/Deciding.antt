@@ -1,5 +1,5 @@
 -- The tests that decide executions, computed: whether one is a candidate, and whether one is coherent. Laws in proofs/ say that
--- each test passes exactly where its definition holds.
+-- each of the two passes exactly when its definition holds.
 -- Source: own.
 use Rattle.std.specs.Prelude.{ℕ, ◌+◌, ◌==◌, ◌&&◌, ◌||◌, Bool, true, false, not, cond, nat_le, nat_lt, List, [], ◌∷◌, length, Option, Some, None, slice_get, unwrap_or}
 use Rattle.std.specs.List.{list_all, list_any}
@@ -19,7 +19,7 @@ every p n (x ∷ xs) = p n x && every p (n + 1) xs
 abbrev pub name : ℕ → ℕ → WriteAt
 name thread access = record { thread = thread; access = access }
 
--- there is an access, and it writes a value to a place
+-- there is an access, and it writes a value to a location
 abbrev pub writes_value : ℕ → ℕ → Option Access → Bool
 writes_value place value None = false
 writes_value place value (Some access) = writes_to place access && (access.value == value)
@@ -29,12 +29,12 @@ abbrev pub can_read : List (List Access) → Access → Option WriteAt → Bool
 can_read threads access None = access.value == 0
 can_read threads access (Some w) = writes_value access.place access.value (at_name threads w)
 
--- there is a first read, it is that of an access, and the others pass
+-- there is a first read, it can be the read of an access, and the others pass
 abbrev pub first_read_passes : List (List Access) → Access → (List (ℕ × Option WriteAt) → Bool) → List (ℕ × Option WriteAt) → Bool
 first_read_passes threads access others [] = false
 first_read_passes threads access others (r ∷ reads) = (r.0 == access.value) && (can_read threads access r.1 && others reads)
 
--- reads are those of the reading accesses of a thread, in order
+-- reads are those of the reading accesses of a thread, in order, and each can read what it names
 unfoldable pub are_reads : List (List Access) → List Access → List (ℕ × Option WriteAt) → Bool
 are_reads threads [] [] = true
 are_reads threads [] (r ∷ reads) = false
@@ -46,26 +46,26 @@ unfoldable pub are_distinct : List WriteAt → Bool
 are_distinct [] = true
 are_distinct (w ∷ order) = not (list_any (same_write w) order) && are_distinct order
 
--- an access isn't a write to a place, or it is in the place's order
+-- an access isn't a write to a location, or it is in the location's order
 abbrev pub is_covered : ℕ → List WriteAt → WriteAt → Access → Bool
 is_covered place order w access = not (writes_to place access) || list_any (same_write w) order
 
--- each write of a thread to a place is in the place's order
+-- each write of a thread to a location is in the location's order
 abbrev pub thread_covered : ℕ → List WriteAt → ℕ → List Access → Bool
 thread_covered place order thread accesses = every (λ i access. is_covered place order (name thread i) access) 0 accesses
 
--- an order holds each write to a place, once, and nothing else
+-- an order holds each write to a location, once, and nothing else
 abbrev pub is_order : List (List Access) → ℕ → List WriteAt → Bool
 is_order threads place order =
     list_all (λ w. writes_there place (at_name threads w)) order &&
     (are_distinct order && every (thread_covered place order) 0 threads)
 
--- an access may follow another at its place: a read not before it in the coherence order, a write after it
+-- an access may follow another at its location: a read not before it in the coherence order, a write after it
 abbrev pub may_follow : Dir → ℕ → ℕ → Bool
 may_follow dirs.R before after = nat_le before after
 may_follow dirs.W before after = nat_lt before after
 
--- two accesses of a thread, one before the other: they are at two places, or the second may follow the first
+-- two accesses of a thread, one before the other: they are at two locations, or the second may follow the first
 abbrev pub agrees : List (List Access) → Execution → ℕ → ℕ → Access → ℕ → Access → Bool
 agrees threads x thread e a f b =
     not (a.place == b.place) || may_follow b.dir (coherence_place threads x (name thread e) a) (coherence_place threads x (name thread f) b)
@@ -91,7 +91,7 @@ reads_of x thread = unwrap_or (slice_get x.reads thread) []
 abbrev pub reads_fit : List (List Access) → Execution → Bool
 reads_fit threads x = every (λ thread accesses. are_reads threads accesses (reads_of x thread)) 0 threads
 
--- the order of each place holds its writes, each once, and nothing else
+-- the order of each location holds its writes, each once, and nothing else
 abbrev pub orders_fit : List (List Access) → Execution → Bool
 orders_fit threads x = every (is_order threads) 0 x.orders
 
@@ -99,14 +99,14 @@ orders_fit threads x = every (is_order threads) 0 x.orders
 abbrev pub lists_fit : List (List Access) → Execution → Bool
 lists_fit threads x = reads_fit threads x && orders_fit threads x
 
--- a run came to its end
+-- a run came to its end and used all its reads
 abbrev pub has_ended : Outcome → Bool
 has_ended (Ended _ _) = true
 has_ended ReadsLeft = false
 has_ended ReadsShort = false
 has_ended NoRule = false
 
--- all runs came to their ends
+-- all runs came to their ends and used all their reads
 abbrev pub all_ended : List Outcome → Bool
 all_ended [] = true
 all_ended (run ∷ runs) = has_ended run && all_ended runs

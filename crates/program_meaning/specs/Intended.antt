@@ -1,5 +1,5 @@
 -- The accesses that the test of a cycle makes, and its intended execution. `es` is the list of edges in which threads,
--- locations and values are counted, and `number` gives the number of each location's place.
+-- locations and values are counted, and `number` gives the number that each location has in the program, there called its place.
 -- Source: own, after the way diy takes from a cycle to a test.
 use Rattle.std.specs.{Prelude.{ℕ, zero, suc, ◌≡◌, ◌<◌, ◌+◌, ◌==◌, List, ◌++◌, filter, map, unwrap_or, Option, None}, List.{find, filter_map}, Option.option_map}
 use Rattle.relax_edges.specs.{declared.kinds.ObsMode.ObsMode, declared.edge.Edge.Edge, EdgeTable.source_of}
@@ -23,7 +23,7 @@ event_at es number i = record { name = event_name es i; access = event_access es
 abbrev pub observer_accesses : List Edge → (ℕ → ℕ) → ℕ → List Access
 observer_accesses es number location = map (λ k. read (number location) (k + 1)) (upto (write_count es location))
 
--- the accesses of the cycle's threads, and then of the observers
+-- the accesses of the cycle's threads, and then those of the observers
 unfoldable pub cycle_accesses : List Edge → ObsMode → (ℕ → ℕ) → List (List Access)
 cycle_accesses es mode number =
     map (λ thread. map (event_access es number) (events_in es thread)) (upto (external_count es)) ++
@@ -38,7 +38,7 @@ abbrev pub write_of : List Edge → ℕ → ℕ → Option WriteAt
 write_of es location zero = None
 write_of es location (suc k) = ordered_write es location k
 
--- what event i reads in the intended execution: the write of its location that has its value
+-- what event i reads in the intended execution: the write of its location that has its value, none for the value 0
 abbrev pub event_read : List Edge → ℕ → ℕ × Option WriteAt
 event_read es i = (value_of es i, write_of es (location_of es i) (value_of es i))
 
@@ -54,17 +54,17 @@ reads_in es thread = filter (λ i. is_read (event_access es (λ location. locati
 unfoldable pub location_order : List Edge → ℕ → List WriteAt
 location_order es location = filter_map (ordered_write es location) (upto (write_count es location))
 
--- a numbering of the places: a number below the count of the locations for each location, and no number for two
+-- a numbering of the locations: each has a number below their count, and no two have the same
 pub record IsNumbering (es : List Edge) (number : ℕ → ℕ) : Type 0 where
   pub below : (location : ℕ) → location < move_count es → number location < move_count es
   pub injective : (l m : ℕ) → l < move_count es → m < move_count es → number l ≡ number m → l ≡ m
 
--- the location whose place has this number
+-- the location that has this number, 0 if there is none
 unfoldable pub location_numbered : List Edge → (ℕ → ℕ) → ℕ → ℕ
 location_numbered es number place = unwrap_or (find (λ location. number location == place) (upto (move_count es))) 0
 
--- the intended execution: each read reads the write of its location that has its value, and each place has its writes
--- in the order of their values
+-- the intended execution: each read reads the write of its location that has its value (the initial value if that is 0),
+-- and each location has its writes in the order of their values
 unfoldable pub intended : List Edge → ObsMode → (ℕ → ℕ) → Execution
 intended es mode number = record {
   reads =

@@ -8,16 +8,16 @@ use Rattle.micro_ops.specs.Running.{Outcome, runs}
 use Rattle.program_meaning.specs.{declared.WriteAt.WriteAt, Accesses.{Access, read, at_name, visits_of, accesses_of}, Coherence.{last_write, value_of_access}}
 use Rattle.program_meaning.specs.Programs.{Thread, Program, HasEnded, made_in, held_at_last}
 
--- an access of this direction and place writes to a place
+-- an access in this direction, at the first of two locations, writes to the second
 abbrev pub writes_by : Dir → ℕ → ℕ → Bool
 writes_by dirs.R written place = false
 writes_by dirs.W written place = written == place
 
--- an access writes to a place
+-- an access writes to a location
 abbrev pub writes_to : ℕ → Access → Bool
 writes_to place access = writes_by access.dir access.place place
 
--- there is an access, and it writes to a place
+-- there is an access, and it writes to a location
 abbrev pub writes_there : ℕ → Option Access → Bool
 writes_there place None = false
 writes_there place (Some access) = writes_to place access
@@ -30,19 +30,19 @@ pub record IsInterleaving (threads : List (List Access)) (line : List WriteAt) :
   pub once : (j k : ℕ) (e : WriteAt) → slice_get line j ≡ Some e → slice_get line k ≡ Some e → j ≡ k
   pub in_order : (j k : ℕ) (e f : WriteAt) → slice_get line j ≡ Some e → slice_get line k ≡ Some f → e.thread ≡ f.thread → e.access < f.access → j < k
 
--- the writes to a place among accesses, in their order
+-- the writes to a location among accesses, in their order
 abbrev pub writes_in : List (List Access) → ℕ → List WriteAt → List WriteAt
 writes_in threads place line = filter (λ e. writes_there place (at_name threads e)) line
 
--- the last write to a place among accesses, none where there is no write to it
+-- the last write to a location among accesses, none if there is no write to it
 abbrev pub latest : List (List Access) → ℕ → List WriteAt → Option WriteAt
 latest threads place line = last_write (writes_in threads place line)
 
--- the value of a place after accesses, one at a time: that of the last write to it, 0 where there is none
+-- the value of a location after accesses, one at a time: that of the last write to it, 0 if there is none
 abbrev pub value_after : List (List Access) → ℕ → List WriteAt → ℕ
 value_after threads place line = value_of_access (option_and_then (at_name threads) (latest threads place line))
 
--- each read has the value of its place after the accesses before it
+-- each read has the value of its location after the accesses before it
 abbrev pub GivesValues : List (List Access) → List WriteAt → Type 0
 GivesValues threads line =
     (k place value : ℕ) (e : WriteAt) → slice_get line k ≡ Some e → at_name threads e ≡ Some (read place value) →
@@ -54,7 +54,7 @@ runs_on [] _ = []
 runs_on (thread ∷ threads) [] = runs thread.code thread.init [] ∷ runs_on threads []
 runs_on (thread ∷ threads) (values ∷ more) = runs thread.code thread.init values ∷ runs_on threads more
 
--- the accesses that the threads of a program make where their reads take these values
+-- the accesses that the threads of a program make if their reads take these values
 abbrev pub accesses_on : Program → List (List ℕ) → List (List Access)
 accesses_on p values = map accesses_of (map visits_of (map made_in (runs_on p.threads values)))
 

@@ -1,4 +1,4 @@
--- Programs and their candidate executions: the part of the litmus test format that executions speak of. A test that was
+-- Programs and their candidate executions: the part of a litmus test that executions depend on. A test that was
 -- made and a text that was read are both programs.
 -- Source: the litmus format of the herdtools manual, and the usual candidate executions of axiomatic memory models.
 use Rattle.std.specs.Prelude.{ℕ, ◌≡◌, List, [], ◌∷◌, map, Option, Some, None, slice_get}
@@ -12,7 +12,7 @@ pub record Thread : Type 0 where
   pub init : List (ℕ × Value)
   pub code : List Micro
 
--- a program without its condition: how many places it names, and its threads
+-- a program, without a condition: how many locations it names, and its threads
 pub record Program : Type 0 where
   pub places : ℕ
   pub threads : List Thread
@@ -27,7 +27,7 @@ runs_of [] _ = []
 runs_of (thread ∷ threads) [] = run_of thread [] ∷ runs_of threads []
 runs_of (thread ∷ threads) (reads ∷ more) = run_of thread reads ∷ runs_of threads more
 
--- what a run made
+-- the items that a run made, none if it didn't come to its end and use all its reads
 abbrev pub made_in : Outcome → List Item
 made_in (Ended made _) = made
 made_in ReadsLeft = []
@@ -54,7 +54,7 @@ abbrev pub accesses_in : Program → Execution → List (List Access)
 accesses_in p x = map accesses_of (visits_in p x)
 
 -- a candidate execution: the run of each thread on the values of its reads ends and uses them all, each read reads a
--- write of its place and value or the initial value, and each place's list holds its writes, each once
+-- write of its value to its location or the initial value 0, and each location's list holds its writes, each once, and nothing else
 pub record IsCandidate (p : Program) (x : Execution) : Type 0 where
   pub ended : (k : ℕ) (run : Outcome) → slice_get (runs_of p.threads x.reads) k ≡ Some run → HasEnded run
   pub execution : IsExecutionOf (accesses_in p x) p.places x

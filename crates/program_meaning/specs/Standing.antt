@@ -16,26 +16,26 @@ use Rattle.cycle_events.specs.Resolution.{edge_at, external_count, thread_of, sl
 use Rattle.program_meaning.specs.{declared.WriteAt.WriteAt, Accesses.{Access, Barred, Visit, at_name, barriers_after, is_read, reads_before}}
 use Rattle.program_meaning.specs.{Executions.Execution, Coherence.{coherence_place, source_at}, Programs.{Program, accesses_in, items_in, visits_in}}
 
--- an access of an execution, by its name
+-- an access of an execution, with its name
 pub record AccessAt : Type 0 where
   pub name : WriteAt
   pub access : Access
 
--- an access of an execution, by its name, with what comes before it
+-- an access of an execution, with its name and with what comes before it
 pub record NamedAccess : Type 0 where
   pub name : WriteAt
   pub visit : Visit
 
--- the access alone
+-- the access and its name, without what comes before it
 abbrev pub access_at : NamedAccess → AccessAt
 access_at e = record { name = e.name; access = e.visit.access }
 
--- the place of an edge's target is that of its source, or another
+-- the location of an edge's target is that of its source, or another
 abbrev pub AreAt : Sd → ℕ → ℕ → Type 0
 AreAt Same p q = p ≡ q
 AreAt Diff p q = p ≢ q
 
--- the coherence place of the first is less than that of the second
+-- the coherence position of the first is less than that of the second
 abbrev pub ComesBefore : List (List Access) → Execution → AccessAt → AccessAt → Type 0
 ComesBefore threads x e f = coherence_place threads x e.name e.access < coherence_place threads x f.name f.access
 
@@ -45,7 +45,7 @@ Communicates coms.Rf threads x e f = source_at threads x f.name ≡ Some e.name
 Communicates coms.Fr threads x e f = ComesBefore threads x e f
 Communicates coms.Ws threads x e f = ComesBefore threads x e f
 
--- the communication that an edge asks for, if it is one
+-- the communication that an edge requires, if the edge is one
 abbrev pub CommunicatesBy : Kind → List (List Access) → Execution → AccessAt → AccessAt → Type 0
 CommunicatesBy (edges.Com kind _) threads x e f = Communicates kind threads x e f
 CommunicatesBy (edges.Po _ _ _) threads x e f = Unit {0}
@@ -58,7 +58,7 @@ abbrev pub Reaches : Reach → WriteAt → WriteAt → Type 0
 Reaches Internal e f = (f.thread ≡ e.thread) × (f.access ≡ e.access + 1)
 Reaches External e f = e.thread ≢ f.thread
 
--- an edge joins access e to access f: what it asks of the two and of the execution, whatever comes between them
+-- an edge joins access e to access f: what it requires of the two and of the execution, whatever comes between them
 pub record Joins (threads : List (List Access)) (x : Execution) (edge : Edge) (e f : AccessAt) : Type 0 where
   pub leaves : e.access.dir ≡ source_of edge
   pub enters : f.access.dir ≡ target_of edge
@@ -116,7 +116,7 @@ pub record Stands (threads : List (List Access)) (x : Execution) (edge : Edge) (
 abbrev pub event_name : List Edge → ℕ → WriteAt
 event_name es i = record { thread = thread_of es i; access = slot_of es i }
 
--- the access that is event i, in the direction of its edge
+-- e is the access that is event i, in the direction that edge i leaves
 pub record IsEvent (es : List Edge) (visits : List (List Visit)) (i : ℕ) (e : NamedAccess) : Type 0 where
   pub name_is : e.name ≡ event_name es i
   pub visit_is : at_name visits e.name ≡ Some e.visit
@@ -133,14 +133,14 @@ abbrev pub StartsFree : List Visit → Type 0
 StartsFree [] = Unit {0}
 StartsFree (visit ∷ visits) = (visit.barriers ≡ []) × IsFree visit
 
--- an observer: plain reads alone, without a barrier and with empty masks
+-- a thread only observes: it makes only plain reads, with no barrier before any and with empty masks
 abbrev pub Observes : List Visit → Type 0
 Observes [] = Unit {0}
 Observes (visit ∷ visits) =
     (visit.access.dir ≡ dirs.R) × (visit.mark ≡ Plain) × (visit.barriers ≡ []) × IsFree visit × Observes visits
 
--- a program has the events of a cycle in an execution: its first threads have them as their accesses, each at its slot
--- and in its direction; all other threads observe; there is no barrier at either end of a thread
+-- a program has the events of a cycle in an execution: its first threads have exactly these as their accesses, each at its
+-- slot and in its direction; all other threads only observe; no thread has a barrier at either end, or masks in its first access
 pub record HasEvents (es : List Edge) (p : Program) (x : Execution) : Type 0 where
   pub threads : external_count es ≤ length p.threads
   pub counts : (k : ℕ) (visits : List Visit) → k < external_count es → slice_get (visits_in p x) k ≡ Some visits → length visits ≡ length (events_in es k)
@@ -149,7 +149,7 @@ pub record HasEvents (es : List Edge) (p : Program) (x : Execution) : Type 0 whe
   pub starts : (k : ℕ) (visits : List Visit) → slice_get (visits_in p x) k ≡ Some visits → StartsFree visits
   pub ends : (k : ℕ) (made : List Item) → slice_get (items_in p x) k ≡ Some made → barriers_after [] made ≡ []
 
--- all edges of a cycle stand, in order, between its events: the last one leads back to event 0
+-- a program has the events of a cycle, and all edges stand between them, in order: the last one leads back to event 0
 pub record AllStand (es : List Edge) (p : Program) (x : Execution) : Type 0 where
   pub events : HasEvents es p x
   pub stand : (i : ℕ) (e f : NamedAccess) → i < length es → IsEvent es (visits_in p x) i e → IsEvent es (visits_in p x) (event_after es i) f → Stands (accesses_in p x) x (edge_at es i) e f

@@ -1,18 +1,18 @@
-//! What a program means: the runs of its threads, its executions and interleavings, which edges of a cycle stand in an execution, and the tests
-//! that decide whether one is a candidate and coherent.
+//! What a program means: the runs of its threads, its executions and interleavings, which edges of a cycle stand
+//! in an execution, and the tests that decide whether one is a candidate and coherent.
 #![tactic(auto)]
 
 use micro_ops::Barrier;
 use relax_edges::Dir;
 
-/// Names a write of a program: its thread, and its number among the thread's accesses, from 0.
+/// Names an access of a program, such as a write: its thread, and its number among the thread's accesses, both from 0.
 #[derive(Clone, Copy, PartialEq, Eq)]
 pub struct WriteAt {
     pub thread: u8,
     pub access: u8,
 }
 
-/// An access of a thread: what it does, at which place, and the value that it reads or writes.
+/// An access of a thread: what it does, at which location, and the value that it reads or writes.
 #[derive(Clone, Copy, PartialEq, Eq)]
 pub struct Access {
     pub dir: Dir,
@@ -21,7 +21,7 @@ pub struct Access {
 }
 
 /// A barrier of a thread, with the loads that the branches before it depend on: bit `k` of the mask names load
-/// number `k`.
+/// number `k` of the thread, from 0.
 #[derive(Clone, Copy, PartialEq, Eq)]
 pub struct Barred {
     pub kind: Barrier,

@@ -5,7 +5,7 @@ ghost use Rattle.rotations_are_alike.specs.Alike.{AcceptedAlike, RefusedAlike, T
 
 use arch_trait::Arch;
 
-/// On every architecture, a cycle is accepted in a mode exactly where each rotation of it is.
+/// On every architecture, a cycle is accepted in a mode exactly when each rotation of it is.
 pub fn accepted_alike<A: Arch>()
     ensures { AcceptedAlike A.puts }
 {}
@@ -16,16 +16,16 @@ pub fn refused_alike<A: Arch>()
     ensures { RefusedAlike A.puts }
 {}
 
-/// Threads are counted in the turned list, the first turn of a cycle whose last edge leads to another
-/// thread. It is the turned list of itself, of its turns that begin at an event of its last thread
+/// Threads are counted in the turned list, the first rotation of a cycle whose last edge leads to another
+/// thread. It is the turned list of itself, of its rotations that begin at an event of its last thread
 /// other than the first, and of no other list.
 #[tactic(auto, using(crate::proofs::Beginning::turned_alike))]
 pub fn turned_alike()
     ensures { TurnedAlike }
 {}
 
-/// On every architecture, the test of a cycle has the text of the test of the turn in which its
-/// threads are counted, and so has the test of every other turn that begins alike.
+/// On every architecture, the test of a cycle with an external edge has the same text as that of the rotation
+/// in which its threads are counted, and so has the test of every other rotation that begins alike.
 pub fn same_text<A: Arch>()
     ensures { SameText A.puts A.writing }
 {}

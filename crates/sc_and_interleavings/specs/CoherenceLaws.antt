@@ -1,4 +1,4 @@
--- The law of this crate, over the accesses of threads and over programs.
+-- Coherence per location is SC per location: the law for the accesses of threads, for programs and for the tests of cycles.
 use Rattle.std.specs.Prelude.{ℕ, ◌<◌, ◌↔◌, List}
 use Rattle.relax_edges.specs.{declared.kinds.ObsMode.ObsMode, declared.edge.Edge.Edge}
 use Rattle.cycle_events.specs.Resolution.{IsResolved}
@@ -7,24 +7,25 @@ use Rattle.program_meaning.specs.Programs.{Program, IsCandidate, IsCoherentIn, a
 use Rattle.accesses_force_cycles.specs.Joining.{MakesAccesses}
 use Rattle.sc_and_interleavings.specs.Relations.{IsWriteTo, IsScPerLocation}
 
--- each write is to one of so many places, so that it is in a coherence order
+-- each write is to one of this many locations, so that it is in a coherence order
 abbrev pub WritesWithin : List (List Access) → ℕ → Type 0
 WritesWithin threads places = (place : ℕ) (w : WriteAt) → IsWriteTo threads place w → place < places
 
--- an execution of threads is coherent per location exactly where its four relations have no cycle
+-- an execution of threads whose writes are to its locations is coherent per location exactly when it is SC per location
 abbrev pub CoherenceIsScPerLocation : Type 0
 CoherenceIsScPerLocation =
     (threads : List (List Access)) (places : ℕ) (x : Execution) → IsExecutionOf threads places x → WritesWithin threads places →
     IsCoherent threads x ↔ IsScPerLocation threads x
 
--- a candidate execution of a program is coherent per location exactly where it is SC per location
+-- a candidate execution of a program, whose writes are to the program's locations, is coherent per location exactly when it is
+-- SC per location
 abbrev pub CandidatesAreScPerLocation : Type 0
 CandidatesAreScPerLocation =
     (p : Program) (x : Execution) → IsCandidate p x → WritesWithin (accesses_in p x) p.places →
     IsCoherentIn p x ↔ IsScPerLocation (accesses_in p x) x
 
--- the same holds of each candidate execution of a program that makes the accesses of a cycle's test, whatever it reads: the
--- program writes to its places alone
+-- the same holds for each candidate execution of a program that makes the accesses of a cycle's test, whatever it reads: the
+-- program writes only to its locations
 abbrev pub CycleTestsAreScPerLocation : Type 0
 CycleTestsAreScPerLocation =
     (es : List Edge) (mode : ObsMode) (number : ℕ → ℕ) (p : Program) (x : Execution) → IsResolved es → IsNumbering es number → MakesAccesses es mode number p x → IsCandidate p x →

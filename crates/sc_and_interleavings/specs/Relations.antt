@@ -1,23 +1,23 @@
 -- The four relations between the accesses of an execution, each access by its name, and their cycles.
--- Source: SC per location ('uniproc') of Alglave, Maranget and Tautschnig, 'Herding Cats', 2014: program order at one place,
--- reads-from, coherence order and from-read together have no cycle. It is said there that this forbids the five shapes CoWW,
+-- Source: SC per location ('uniproc') of Alglave, Maranget and Tautschnig, 'Herding Cats', 2014: program order at one location,
+-- reads-from, coherence order and from-read together have no cycle. The authors say that this forbids the five shapes CoWW,
 -- CoRW1, CoRW2, CoWR and CoRR.
 use Rattle.std.specs.Prelude.{ℕ, ◌≡◌, ◌<◌, List, [], ◌∷◌, Option, Some, None, slice_get}
 use Rattle.program_meaning.specs.{declared.WriteAt.WriteAt, Accesses.{Access, read, write, at_name}, Executions.Execution, Coherence.{order_at, source_at}}
 
--- a write to a place, by its name
+-- a write to a location, by its name
 abbrev pub IsWriteTo : List (List Access) → ℕ → WriteAt → Type 0
 IsWriteTo threads place w = (value : ℕ) × (at_name threads w ≡ Some (write place value))
 
--- a read of a place, by its name
+-- a read of a location, by its name
 abbrev pub IsReadOf : List (List Access) → ℕ → WriteAt → Type 0
 IsReadOf threads place r = (value : ℕ) × (at_name threads r ≡ Some (read place value))
 
--- an access of a place, by its name
+-- an access of a location, by its name
 abbrev pub IsAccessOf : List (List Access) → ℕ → WriteAt → Type 0
 IsAccessOf threads place e = (access : Access) × (at_name threads e ≡ Some access) × (access.place ≡ place)
 
--- program order at one place (po-loc): e comes before f in one thread
+-- program order at one location (po-loc): e comes before f in one thread
 pub record ProgramOrder (threads : List (List Access)) (e f : WriteAt) : Type 0 where
   pub place : ℕ
   pub first : IsAccessOf threads place e
@@ -31,7 +31,7 @@ pub record ReadsFrom (threads : List (List Access)) (x : Execution) (w r : Write
   pub reads : IsReadOf threads place r
   pub source : source_at threads x r ≡ Some w
 
--- coherence order (co): w comes before v in the list of a place
+-- coherence order (co): w comes before v in the list of a location
 pub record CoherenceOrder (x : Execution) (place : ℕ) (w v : WriteAt) : Type 0 where
   pub earlier : ℕ
   pub later : ℕ
@@ -39,13 +39,13 @@ pub record CoherenceOrder (x : Execution) (place : ℕ) (w v : WriteAt) : Type 0
   pub second : slice_get (order_at x place) later ≡ Some v
   pub before : earlier < later
 
--- what can be read at a place comes before a write: the initial value before each write to the place, a write before those
--- that follow it in the coherence order
+-- what can be read at a location comes before a write: the initial value before each write to the location, a write before
+-- those that follow it in the coherence order
 abbrev pub IsBefore : List (List Access) → Execution → ℕ → Option WriteAt → WriteAt → Type 0
 IsBefore threads x place None w = IsWriteTo threads place w
 IsBefore threads x place (Some v) w = CoherenceOrder x place v w
 
--- from-read (fr): what r reads comes before w in the coherence order of the place
+-- from-read (fr): what r reads comes before w in the coherence order of the location
 pub record FromRead (threads : List (List Access)) (x : Execution) (r w : WriteAt) : Type 0 where
   pub place : ℕ
   pub reads : IsReadOf threads place r
@@ -58,7 +58,7 @@ pub data Step (threads : List (List Access)) (x : Execution) (e f : WriteAt) : T
   Co : (place : ℕ) → CoherenceOrder x place e f → Step threads x e f
   Fr : FromRead threads x e f → Step threads x e f
 
--- a path of steps from e to f through the accesses of a list, one step where the list is empty
+-- a path of steps from e to f through the accesses of a list, a single step if the list is empty
 abbrev pub IsPathOfSteps : List (List Access) → Execution → WriteAt → List WriteAt → WriteAt → Type 0
 IsPathOfSteps threads x e [] f = Step threads x e f
 IsPathOfSteps threads x e (g ∷ between) f = Step threads x e g × IsPathOfSteps threads x g between f

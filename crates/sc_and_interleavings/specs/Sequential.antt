@@ -13,14 +13,14 @@ pub record Precedes (threads : List (List Access)) (e f : WriteAt) : Type 0 wher
   pub thread : e.thread ≡ f.thread
   pub earlier : e.access < f.access
 
--- a step from an access to another, by reads-from, coherence order, from-read or a program order that is kept
+-- a step from an access to another, by reads-from, coherence order, from-read or the part of program order that is kept
 pub data StepBy (kept : WriteAt → WriteAt → Type 0) (threads : List (List Access)) (x : Execution) (e f : WriteAt) : Type 0 where
   ByPo : kept e f → StepBy kept threads x e f
   ByRf : ReadsFrom threads x e f → StepBy kept threads x e f
   ByCo : (place : ℕ) → CoherenceOrder x place e f → StepBy kept threads x e f
   ByFr : FromRead threads x e f → StepBy kept threads x e f
 
--- a path of such steps from e to f through the accesses of a list, one step where the list is empty
+-- a path of such steps from e to f through the accesses of a list, a single step if the list is empty
 abbrev pub IsPathBy : (WriteAt → WriteAt → Type 0) → List (List Access) → Execution → WriteAt → List WriteAt → WriteAt → Type 0
 IsPathBy kept threads x e [] f = StepBy kept threads x e f
 IsPathBy kept threads x e (g ∷ between) f = StepBy kept threads x e g × IsPathBy kept threads x g between f

@@ -1,4 +1,4 @@
--- The laws of this crate: a candidate is sequentially consistent exactly where it goes along an interleaving of its program.
+-- A candidate whose writes are to the program's locations is sequentially consistent exactly when it goes along an interleaving.
 use Rattle.std.specs.Prelude.{List}
 use Rattle.program_meaning.specs.{declared.WriteAt.WriteAt, Executions.Execution, Programs.{Program, IsCandidate, accesses_in}, Interleavings.IsInterleavingOf}
 use Rattle.sc_and_interleavings.specs.{CoherenceLaws.WritesWithin, Sequential.IsSequential, Along.{values_in, IsAlong}}
@@ -8,7 +8,7 @@ pub record GoesAlong (p : Program) (x : Execution) (line : List WriteAt) : Type 
   pub interleaving : IsInterleavingOf p (values_in x) line
   pub along : IsAlong (accesses_in p x) p.places x line
 
--- each sequentially consistent candidate whose writes are to the program's places goes along an interleaving
+-- each sequentially consistent candidate whose writes are to the program's locations goes along an interleaving
 abbrev pub SequentialGoesAlong : Type 0
 SequentialGoesAlong =
     (p : Program) (x : Execution) → IsCandidate p x → WritesWithin (accesses_in p x) p.places → IsSequential (accesses_in p x) x →

@@ -8,8 +8,8 @@ pub fn each_link_closes()
     ensures { EachLinkCloses }
 {}
 
-/// Where a cycle's test has no observers, each coherent candidate execution in which all edges stand
-/// reads and ends as its condition asks.
+/// If a cycle's test has no observers, each coherent candidate execution of a program that makes its
+/// accesses, in which all edges stand, reads and ends as its condition requires.
 pub fn standing_is_outcome()
     ensures { StandingIsOutcome }
 {}

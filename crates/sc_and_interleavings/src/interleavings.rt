@@ -1,4 +1,4 @@
-//! Interleavings and executions: an interleaving makes an execution without a cycle, and where all edges of a cycle stand there is none.
+//! Interleavings and executions: an interleaving makes an execution without a cycle, and if all edges of a cycle stand, none makes it.
 
 ghost use Rattle.sc_and_interleavings.specs.InterleavingLaws.{InterleavingsMakeExecutions, SequentialIsCoherent, StandingIsNotSequential};
 
@@ -8,12 +8,14 @@ pub fn interleavings_make_executions()
     ensures { InterleavingsMakeExecutions }
 {}
 
-/// Such an execution is coherent per location.
+/// A candidate execution without such a cycle is coherent per location, if its writes are to the
+/// program's locations.
 pub fn sequential_is_coherent()
     ensures { SequentialIsCoherent }
 {}
 
-/// Where all edges of a cycle stand in a candidate execution, it isn't such a one.
+/// If all edges of a resolved cycle stand in a candidate execution whose writes are to the program's
+/// locations, it isn't without such a cycle.
 pub fn standing_is_not_sequential()
     ensures { StandingIsNotSequential }
 {}

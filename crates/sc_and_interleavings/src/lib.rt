@@ -1,4 +1,4 @@
-//! Coherence per location is SC per location; no interleaving of a program makes a cycle; and each link of a cycle alone may break it.
+//! Coherence per location is SC per location; no interleaving of a program makes a cycle; and without any one link a cycle is broken.
 #![tactic(auto)]
 
 mod each_link;

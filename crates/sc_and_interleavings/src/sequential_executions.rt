@@ -1,14 +1,14 @@
-//! A candidate execution without a cycle in program order, reads-from, coherence order and from-read is that of an interleaving, and back.
+//! A candidate execution without a cycle in program order, reads-from, coherence order and from-read is an interleaving's, and back.
 
 ghost use Rattle.sc_and_interleavings.specs.SequentialLaws.{AlongIsSequential, SequentialGoesAlong};
 
-/// Each candidate execution whose writes are to the program's places, and in which program order,
+/// Each candidate execution whose writes are to the program's locations, and in which program order,
 /// reads-from, coherence order and from-read have no cycle, goes along an interleaving of the program.
 pub fn sequential_goes_along()
     ensures { SequentialGoesAlong }
 {}
 
-/// In each candidate execution that goes along an interleaving of the program, they have none.
+/// In each candidate execution that goes along an interleaving of the program, these have no cycle.
 pub fn along_is_sequential()
     ensures { AlongIsSequential }
 {}

@@ -1,4 +1,4 @@
--- How a test grows thread by thread.
+-- How a test grows thread by thread: for clauses of private functions.
 use Rattle.std.specs.{Prelude.{ℕ, ◌≡◌, true, false, List, [], ◌∷◌, ◌++◌, map, slice_index_or, Some, None, Result, Ok, Err}, List.zip}
 use Rattle.arrayvec.specs.ArrayVec.{ArrayVec}
 use Rattle.relax_edges.specs.{declared.kinds.ObsMode.ObsMode, declared.edge.Edge.Edge}
@@ -7,7 +7,7 @@ use Rattle.arch_trait.specs.{declared.code.Code.Code, declared.step.Step.Step, C
 use Rattle.tests_force_cycles.specs.{CycleSteps.{cycle_steps, numbers_read}, TestOf.{plain, load_term, load_terms, thread_terms}}
 use Rattle.test_maker.specs.{declared.refusal.Refusal.Refusal, declared.refusal.Refusal.TheVariants.TooManyRegisters, Refusals.{crowded_thread, is_crowded}}
 
--- a location ends with a value, where places have these names
+-- a location, by its name among these, ends with a value
 abbrev pub place_term : List (List ℕ) → ℕ → ℕ → TermSeen
 place_term places location value = record { left = AtPlace (slice_index_or places location []); value = value }
 
@@ -15,7 +15,8 @@ place_term places location value = record { left = AtPlace (slice_index_or place
 abbrev pub terms_of_loads : (ℕ → List ℕ) → ℕ → List ℕ → List Step → List TermSeen
 terms_of_loads register_name thread loads steps = map (load_term register_name thread) (zip loads (numbers_read steps))
 
--- a call makes the code of a thread after those before it and appends the terms of its loads, or refuses the thread for its registers
+-- a call makes the code of a thread after those before it and appends the terms of its loads, or refuses the thread, which needs
+-- too many registers
 abbrev pub PutsThread : Puts → (ℕ → List ℕ) → ℕ → List Step → ArrayVec Code → ArrayVec Code → Cond → Cond → Result (Unit {0}) Refusal → Type 0
 PutsThread a register_name thread steps threads threads' cond cond' (Ok _) =
     (is_crowded a steps ≡ false) ×
@@ -24,7 +25,7 @@ PutsThread a register_name thread steps threads threads' cond cond' (Ok _) =
 PutsThread a register_name thread steps threads threads' cond cond' (Err refusal) =
     (is_crowded a steps ≡ true) × (refusal ≡ TooManyRegisters thread)
 
--- a call makes the code of all threads and appends the terms of their loads, or refuses the first for its registers
+-- a call makes the code of all threads and appends the terms of their loads, or refuses the first that needs too many registers
 abbrev pub PutsThreads : Puts → (ℕ → List ℕ) → List Edge → ObsMode → ArrayVec Code → Cond → Cond → Result (Unit {0}) Refusal → Type 0
 PutsThreads a register_name es mode threads cond cond' (Ok _) =
     (crowded_thread a es mode ≡ None) × (map thread_code_of threads.items ≡ map (compiled a) (cycle_steps es mode plain)) ×

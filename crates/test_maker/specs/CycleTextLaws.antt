@@ -7,7 +7,7 @@ use Rattle.litmus_text.specs.{declared.test.Test.Test, Tests.test_seen, TestText
 use Rattle.tests_force_cycles.specs.TestOf.{test_of}
 use Rattle.test_maker.specs.CycleText.{cycle_text}
 
--- it is what is printed of the test that is made
+-- it is the text of the test that is made
 pub made_text : (a : Puts) (w : Writing) (mode : ObsMode) (name : List ℕ) (cycle : List Edge) (arch : ArchName) (test : Test)
     → a.name ≡ arch → test_seen test ≡ test_of a (name_in w.registers) (turned cycle) mode → test_text arch w name (test_seen test) ≡ cycle_text a w mode name cycle
 unfolding cycle_text

@@ -1,4 +1,4 @@
--- What the calls of the test maker give.
+-- What the calls of the test maker return.
 -- Source: own.
 use Rattle.std.specs.{Prelude.{Option, ℕ, ◌≡◌, ◌<◌, true, List, length, Some, None, Result, Ok, Err}, List.{All, list_all}}
 use Rattle.relax_edges.specs.{declared.TheConstants.MAX_EDGES, declared.kinds.ObsMode.ObsMode, declared.edge.Edge.Edge, EdgeTable.is_of_arch}
@@ -18,13 +18,13 @@ MakesValued a register_name es mode test (Ok _) =
     (crowded_thread a es mode ≡ None) × (test ≡ test_of a register_name es mode)
 MakesValued a register_name es mode test (Err refusal) = crowded_thread a es mode ≡ Some refusal
 
--- a call makes the test of a cycle, which has no reason against it, or gives the first reason why it has none
+-- a call makes the test of a cycle that has no reason against it, or returns the first reason why it has none
 abbrev pub MakesSeenTest : Puts → (ℕ → List ℕ) → List Edge → ObsMode → TestSeen → Result (Unit {0}) Refusal → Type 0
 MakesSeenTest a register_name cycle mode test (Ok _) =
     (refusal_of a cycle mode ≡ None) × (test ≡ test_of a register_name (turned cycle) mode)
 MakesSeenTest a register_name cycle mode test (Err refusal) = refusal_of a cycle mode ≡ Some refusal
 
--- the same for a call that answers the test
+-- the same for a call that returns the test
 abbrev pub MakesTest : Puts → (ℕ → List ℕ) → List Edge → ObsMode → Result Test Refusal → Type 0
 MakesTest a register_name cycle mode (Ok test) =
     (refusal_of a cycle mode ≡ None) × (test_seen test ≡ test_of a register_name (turned cycle) mode)
@@ -35,11 +35,11 @@ abbrev pub Judges : Option Refusal → Result (Unit {0}) Refusal → Type 0
 Judges refused (Ok _) = refused ≡ None
 Judges refused (Err refusal) = refused ≡ Some refusal
 
--- the code of each thread of a test can be printed on an architecture with so many registers
+-- the code of each thread of a test can be printed on an architecture with this many registers
 abbrev pub CanPrint : Puts → ℕ → Test → Type 0
 CanPrint a registers test = All (λ code. IsPrintable a.has registers (length test.places) code) test.threads.items
 
--- a refusal that names a location names one that a cycle can have
+-- a location that a refusal names is less than the greatest number of edges
 abbrev pub NamesLocation : Refusal → Type 0
 NamesLocation (NeedsObserver location _) = location < MAX_EDGES
 NamesLocation _ = Unit {0}

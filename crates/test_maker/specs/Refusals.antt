@@ -13,7 +13,7 @@ use Rattle.test_maker.specs.declared.refusal.Refusal.{Refusal}
 use Rattle.test_maker.specs.declared.refusal.Refusal.TheVariants as refusals
 use Rattle.tests_force_cycles.specs.{CycleSteps.cycle_steps, TestOf.plain}
 
--- what composing edges to a cycle refuses
+-- why edges don't compose to a cycle
 abbrev pub composing_refusal : CycleError → Refusal
 composing_refusal composing.Empty = refusals.Empty
 composing_refusal composing.TooLong = refusals.TooLong
@@ -28,7 +28,7 @@ resolve_refusal resolving.CoherenceOnly = refusals.CoherenceOnly
 abbrev pub need_refusal : NeedsObserver → Refusal
 need_refusal need = refusals.NeedsObserver need.location need.event
 
--- an edge isn't of the architecture: the first such, in the list as given
+-- the first edge, in the list as given, that isn't of the architecture
 abbrev pub foreign_edge : ArchName → List Edge → Option Refusal
 foreign_edge arch cycle = option_map (λ at. refusals.NotOfArch at) (position_from (λ edge. not (is_of_arch edge arch)) 0 cycle)
 
@@ -48,7 +48,7 @@ crowded_thread a es mode =
     option_map (λ thread. refusals.TooManyRegisters thread)
     (position_from (is_crowded a) 0 (cycle_steps es mode plain))
 
--- the reasons that concern a resolved cycle
+-- the first of the reasons that concern the resolution of a cycle
 abbrev pub resolved_refusal : Puts → Result (List Edge) ResolveError → ObsMode → Option Refusal
 resolved_refusal a (Err error) mode = Some (resolve_refusal error)
 resolved_refusal a (Ok es) mode = option_or (unobserved_need mode es) (crowded_thread a es mode)

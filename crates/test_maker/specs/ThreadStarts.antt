@@ -10,7 +10,7 @@ use Rattle.tests_force_cycles.specs.{CycleSteps.event_step, TestOf.plain}
 abbrev pub all_steps : List Edge → List Step
 all_steps es = map (event_step es plain) (upto (length es))
 
--- before an event there are those of the threads before this one, and from it on those of this thread and of later ones
+-- all events before `start` are of earlier threads, and all from it on are of this thread or later ones
 pub record IsThreadStart (es : List Edge) (thread start : ℕ) : Type 0 where
   pub within : start ≤ length es
   pub before : (event : ℕ) → event < start → thread_of es event < thread

@@ -9,8 +9,8 @@ use cycle_resolve::resolve;
 use edge_algebra::Cycle;
 use relax_edges::{ArchName, Edge, MAX_EDGES, ObsMode};
 
-/// Whether the cycle has a test, or the first reason why it has none: `Ok` exactly where `make` makes
-/// one. It makes no code.
+/// Says whether the cycle has a test, or the first reason why it has none: `Ok` exactly when `make`
+/// makes one. It makes no code.
 pub fn accepted<A: Arch>(cycle: &Cycle, mode: ObsMode) -> Result<(), Refusal>
     ensures { Judges (refusal_of A.puts cycle.now mode) result }
 {
@@ -20,7 +20,8 @@ pub fn accepted<A: Arch>(cycle: &Cycle, mode: ObsMode) -> Result<(), Refusal>
     enough_registers::<A>(valuation.as_ref()?)
 }
 
-/// Whether all edges are of the architecture, or the first that isn't.
+/// Says whether all edges, at most `MAX_EDGES`, are of the architecture, or returns `NotOfArch` with
+/// the first that isn't.
 pub fn all_of_arch<A: Arch>(edges: &[Edge]) -> Result<(), Refusal>
     requires { length edges.now ≤ MAX_EDGES }
     ensures judged { Judges (foreign_edge A.puts.name edges.now) result }
@@ -29,7 +30,8 @@ pub fn all_of_arch<A: Arch>(edges: &[Edge]) -> Result<(), Refusal>
     all_of_name(edges, A::NAME)
 }
 
-/// Whether all edges are of the architecture with this name, or the first that isn't.
+/// Says whether all edges, at most `MAX_EDGES`, are of the architecture with this name, or returns
+/// `NotOfArch` with the first that isn't.
 pub fn all_of_name(edges: &[Edge], arch: ArchName) -> Result<(), Refusal>
     requires { length edges.now ≤ MAX_EDGES }
     ensures judged { Judges (foreign_edge arch edges.now) result }
@@ -43,7 +45,7 @@ pub fn all_of_name(edges: &[Edge], arch: ArchName) -> Result<(), Refusal>
     Ok(())
 }
 
-/// Whether the architecture has registers enough for each thread, or the first that needs more.
+/// Whether the architecture has enough registers for each thread, or which is the first that needs more.
 fn enough_registers<A: Arch>(valued: &Valued) -> Result<(), Refusal>
     ensures { Judges (crowded_thread A.puts valued.now.edges valued.now.mode) result }
 {

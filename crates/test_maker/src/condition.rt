@@ -15,7 +15,7 @@ use relax_edges::Dir;
 /// The terms of a condition.
 pub type Terms = ArrayVec<Term, MAX_TERMS>;
 
-/// Makes the condition the last values of the locations that it names.
+/// Makes the condition say that there is a state with the last values of the locations that it names.
 pub fn put_last_terms(valued: &Valued, places: &Places, cond: &mut Cond)
     requires { places.now ≡ letters (move_count valued.now.edges) }
     ensures quantifier { cond.new.quantifier ≡ Exists }
@@ -58,7 +58,7 @@ fn push_last_term(places: &Places, location: u8, writes: u8, terms: &mut Terms)
     });
 }
 
-/// Appends what the loads of a thread read, which are in these registers.
+/// Appends what the loads of a thread are to read into these registers.
 pub fn put_load_terms<A: Arch>(thread: u8, steps: &[Step], loads: &[u8], terms: &mut Terms)
     requires loads { length loads.now ≡ length (numbers_read steps.now) }
     requires registers { AllBelow A.puts.registers loads.now }

@@ -18,8 +18,8 @@ use edge_algebra::Cycle;
 use litmus_text::Test;
 use relax_edges::{Edge, MAX_EDGES, ObsMode};
 
-/// The test of the cycle, or the first reason why it has none. A cycle whose test is made has what
-/// the law of reading back asks of it, so that the printed text of the test is read as the test.
+/// The test of the cycle, or the first reason why it has none. A cycle whose test is made meets the
+/// premise `HasTest` of the laws on printed tests, and its test forces it.
 pub fn make<A: Arch>(cycle: &Cycle, mode: ObsMode) -> Result<Test, Refusal>
     ensures made { MakesTest A.puts (name_in A.writing.registers) cycle.now mode result }
     ensures printable { IfOk result (CanPrint A.puts A.REGISTERS) }
@@ -32,7 +32,7 @@ pub fn make<A: Arch>(cycle: &Cycle, mode: ObsMode) -> Result<Test, Refusal>
     Ok(test)
 }
 
-/// Makes `test` the test of the cycle, as `make` does. After a refusal nothing is known of it.
+/// Makes `test` the test of the cycle, as `make` does. After a refusal nothing is known about it.
 pub fn make_into<A: Arch>(cycle: &Cycle, mode: ObsMode, test: &mut Test) -> Result<(), Refusal>
     ensures made { MakesSeenTest A.puts (name_in A.writing.registers) cycle.now mode (test_seen test.new) result }
     ensures printable { OnOk result (CanPrint A.puts A.REGISTERS test.new) }
@@ -46,9 +46,9 @@ pub fn make_into<A: Arch>(cycle: &Cycle, mode: ObsMode, test: &mut Test) -> Resu
     make_valued::<A>(valuation.as_ref()?, test)
 }
 
-/// Makes `test` the test of a cycle without observers: the one of the mode avoid, though that may refuse
-/// the cycle for a write that needs an observer. The cycle's edges are of the architecture. The answer is
-/// `TooManyRegisters` where a thread needs more registers than there are; then nothing is known of `test`.
+/// Makes `test` the test of a cycle without observers: that of the mode avoid, even if this mode refuses
+/// the cycle for a write that needs an observer. The cycle's edges are of the architecture. It returns
+/// `TooManyRegisters` if a thread needs more registers than there are; then nothing is known about `test`.
 pub fn make_unobserved<A: Arch>(resolved: &Resolved, test: &mut Test) -> Result<(), Refusal>
     requires { AreOfArch A.puts resolved.now }
     ensures made { MakesValued A.puts (name_in A.writing.registers) resolved.now Avoid (test_seen test.new) result }

@@ -6,7 +6,7 @@ use cycle_resolve::ResolveError;
 use edge_algebra::CycleError;
 use thiserror::Error;
 
-/// Why a list of edges or a cycle is refused.
+/// Why a list of edges or a cycle is refused. Edges, events, threads and locations are counted from 0.
 #[derive(Clone, Copy, Debug, PartialEq, Eq, Error)]
 pub enum Refusal {
     /// There is no edge.
@@ -27,20 +27,20 @@ pub enum Refusal {
     /// All edges to another location lie in one thread, or there is none.
     #[error("all edges to another location lie in one thread")]
     CoherenceOnly,
-    /// The mode is avoid, and this write needs an observer.
+    /// The mode is avoid, and this write, an event of the resolved cycle, needs an observer.
     #[error("event {event} at location {location} needs an observer")]
     NeedsObserver { location: u8, event: u8 },
     /// Thread `thread`, the first such, needs more registers than the architecture has.
     #[error("thread {thread} needs too many registers")]
     TooManyRegisters { thread: u8 },
-    /// No write needs an observer, so that there is nothing to show.
+    /// No write needs an observer, so there is nothing to show.
     #[error("no write needs an observer")]
     NothingToShow,
-    /// A coherence test is asked for, and an edge leads to another location, or every internal edge is
+    /// A coherence test is requested, and an edge leads to another location, or every internal edge is
     /// a communication.
     #[error("an edge leads to another location, or every internal edge is a communication")]
     NotCoherence,
-    /// A coherence test is asked for, and there are more than two writes.
+    /// A coherence test is requested, and there are more than two writes.
     #[error("there are more than two writes")]
     ManyWrites,
 }

@@ -13,7 +13,7 @@ use relax_edges::{Dir, MAX_EDGES, Mark};
 /// The accesses of one thread.
 pub type Steps = ArrayVec<Step, MAX_EDGES>;
 
-/// How many threads the test of a cycle has, its observers with them.
+/// How many threads the test of a cycle has, including its observers.
 pub fn thread_count(valued: &Valued) -> u8
     ensures { result ≡ length (cycle_steps valued.now.edges valued.now.mode plain) }
 {
@@ -32,7 +32,7 @@ fn observer_count(valued: &Valued) -> u8
     count
 }
 
-/// Makes `steps` the accesses of all events of the cycle: those of a thread are side by side.
+/// Makes `steps` the accesses of all events of the cycle, in order; those of one thread are adjacent.
 pub fn fill_events(valued: &Valued, steps: &mut Steps)
     ensures { steps.new.items ≡ all_steps valued.now.edges }
 {
@@ -42,7 +42,7 @@ pub fn fill_events(valued: &Valued, steps: &mut Steps)
     }
 }
 
-/// Makes `reads` the accesses of the observer that a thread of the test is, if it is one.
+/// If this thread of the test is an observer, makes `reads` its accesses.
 pub fn fill_observer(valued: &Valued, thread: u8, reads: &mut Steps)
     requires { thread < length (cycle_steps valued.now.edges valued.now.mode plain) }
     ensures { external_count valued.now.edges ≤ thread → slice_get (cycle_steps valued.now.edges valued.now.mode plain) thread ≡ Some reads.new.items }
@@ -53,7 +53,7 @@ pub fn fill_observer(valued: &Valued, thread: u8, reads: &mut Steps)
     }
 }
 
-/// The accesses of a thread of the test: they are among those of all events, or the reads of the observer that it is.
+/// The accesses of a thread of the test: a part of those of all events or, for an observer, its reads.
 pub fn steps_of<'a>(valued: &Valued, thread: u8, events: &'a Steps, reads: &'a Steps) -> &'a [Step]
     requires events { events.now.items ≡ all_steps valued.now.edges }
     requires reads { external_count valued.now.edges ≤ thread → slice_get (cycle_steps valued.now.edges valued.now.mode plain) thread ≡ Some reads.now.items }
@@ -82,8 +82,8 @@ fn steps_in<'a>(valued: &Valued, thread: u8, events: &'a [Step]) -> &'a [Step]
     &events[usize::from(start)..usize::from(end)]
 }
 
-/// The event that a thread begins with, or how many events there are where it has none: it is searched from an event on, before
-/// which there are events of the threads before it alone.
+/// The first event of this thread or a later one, or how many events there are if there is none; the search begins at
+/// an event before which all are of earlier threads.
 fn thread_start(valued: &Valued, thread: u8, from: u8) -> u8
     requires within { from ≤ length valued.now.edges }
     requires before { (event : ℕ) → event < from → thread_of valued.now.edges event < thread }

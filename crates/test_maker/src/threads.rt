@@ -13,8 +13,9 @@ use coherence_values::Valued;
 use final_cond::{Cond, MAX_TERMS};
 use relax_edges::MAX_EDGES;
 
-/// Makes `threads` the code of the threads of the test, its observers with them, and appends what
-/// their loads read to the condition. The threads that were there don't count.
+/// Makes `threads` the code of the threads of the test, including its observers, and appends what
+/// their loads read to the condition. What `threads` held before is dropped. If a thread needs too
+/// many registers, it returns `TooManyRegisters` with the first.
 pub fn put_threads<A: Arch>(
     valued: &Valued,
     threads: &mut ThreadCodes,
@@ -38,7 +39,7 @@ pub fn put_threads<A: Arch>(
     Ok(())
 }
 
-/// Makes the code of the next thread.
+/// Makes the code of the next thread, and appends what its loads read to the condition.
 fn put_thread<A: Arch>(
     thread: u8,
     steps: &[Step],

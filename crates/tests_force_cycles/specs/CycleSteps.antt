@@ -1,5 +1,5 @@
 -- The accesses of the test of a cycle, thread by thread, with their marks and the links between them. `es` is the list of
--- edges in which threads, locations and values are counted, and `number` gives the number of each location's place.
+-- edges in which threads, locations and values are counted, and `number` gives the number of each location in the test.
 -- Source: own, after the way diy takes from a cycle to a test.
 use Rattle.std.specs.{Prelude.{ℕ, ◌+◌, ◌==◌, if◌then◌else◌, List, ◌++◌, map}, List.filter}
 use Rattle.relax_edges.specs.declared.kinds.Dir.TheVariants as dirs
@@ -10,11 +10,11 @@ use Rattle.cycle_events.specs.{Resolution.{edge_at, event_before, events_in, ext
 use Rattle.arch_trait.specs.{declared.link.Link.Link, declared.link.Link.TheVariants.Plain, declared.step.Step.Step, Links.edge_link, Threads.is_load_dir}
 use Rattle.program_meaning.specs.Intended.{observed_locations}
 
--- how event i is tied to the event before it in its thread: by the edge between them, the first of a thread by none
+-- how event i is tied to the event before it in its thread: by the edge between them, or by nothing if it is the first
 abbrev pub event_link : List Edge → ℕ → Link
 event_link es i = if slot_of es i == 0 then Plain else edge_link (edge_at es (event_before es i))
 
--- the access of event i, with the mark of what its edge leaves
+-- the access of event i, with the mark that its edge has at its source
 abbrev pub event_step : List Edge → (ℕ → ℕ) → ℕ → Step
 event_step es number i = record {
   dir = source_of (edge_at es i);
@@ -28,7 +28,7 @@ event_step es number i = record {
 abbrev pub thread_steps : List Edge → (ℕ → ℕ) → ℕ → List Step
 thread_steps es number thread = map (event_step es number) (events_in es thread)
 
--- read number k of an observer of a place, from 0, plain: it is to read the value k + 1
+-- read number k of an observer of a location, from 0: it is plain, and is to read the value k + 1
 abbrev pub observing : ℕ → ℕ → Step
 observing place k = record { dir = dirs.R; mark = marks.Plain; place = place; value = k + 1; link = Plain }
 
@@ -36,7 +36,7 @@ observing place k = record { dir = dirs.R; mark = marks.Plain; place = place; va
 abbrev pub observer_steps : List Edge → (ℕ → ℕ) → ℕ → List Step
 observer_steps es number location = map (observing (number location)) (upto (write_count es location))
 
--- the accesses of the cycle's threads, and then of the observers in the order of locations
+-- the accesses of the cycle's threads, and then those of the observers in the order of their locations
 unfoldable pub cycle_steps : List Edge → ObsMode → (ℕ → ℕ) → List (List Step)
 cycle_steps es mode number =
     map (thread_steps es number) (upto (external_count es)) ++

@@ -7,8 +7,8 @@ use Rattle.arch_trait.specs.{PlaceNames.number_in, SeenTests.TestSeen}
 use Rattle.program_meaning.specs.{Executions.Execution, Coherence.final_value, Programs.{Program, IsCandidate, IsCoherentIn, accesses_in, register_in}}
 use Rattle.tests_force_cycles.specs.TestPrograms.{test_program}
 
--- the value of a left side at the end of an execution of a program: of a register of a thread, found by its name, what it
--- holds at the end of the thread's run; of a place, found among the names of places, its final value
+-- the value of a left side at the end of an execution of a program: for a register of a thread, found by its name, what it
+-- holds at the end of the thread's run; for a location, found among the names of locations, its final value
 abbrev pub final_state : Program → List (List ℕ) → (List ℕ → Option ℕ) → Execution → LeftSeen → Option Value
 final_state p names register_number x (InRegister thread name) =
     option_and_then (register_in p x thread) (register_number name)

@@ -8,8 +8,8 @@ use Rattle.accesses_force_cycles.specs.Joining.{IsOutcome}
 use Rattle.arch_trait.specs.{declared.step.Step.Step, Threads.{Puts, shape_of}, Laws.IsArch, PlaceRenumbering.renumbered, SeenTests.TestSeen}
 use Rattle.tests_force_cycles.specs.{CycleSteps.cycle_steps, TestOf.{plain, test_of}, TestPrograms.test_program, FinalStates.IsAskedFor}
 
--- the test of a cycle has code on an architecture: the cycle's edges are the architecture's, and no thread needs more
--- registers than there are
+-- the test of a resolved cycle has code on an architecture: the cycle's edges are the architecture's, and no thread needs
+-- more registers than there are
 pub record HasCode (a : Puts) (es : List Edge) (mode : ObsMode) : Type 0 where
   pub resolved : IsResolved es
   pub of_arch : list_all (λ e. is_of_arch e a.name) es ≡ true
@@ -25,8 +25,8 @@ abbrev pub FindsRegisters : Puts → (ℕ → List ℕ) → (List ℕ → Option
 FindsRegisters a register_name register_number =
     (register : ℕ) → register < a.registers → register_number (register_name register) ≡ Some register
 
--- two tests are the same but for the numbers of their places: place number p of the first is place `number p` of the
--- second, by name, in the code and in the initial registers
+-- two tests differ only in the numbers of their locations: location number p of the first is location `number p` of the
+-- second, by name, in the code and in the initial registers; their conditions are the same
 pub record IsRenumbered (test other : TestSeen) (number : ℕ → ℕ) : Type 0 where
   pub threads : other.threads ≡ map (renumbered number) test.threads
   pub count : length other.places ≡ length test.places
@@ -34,20 +34,20 @@ pub record IsRenumbered (test other : TestSeen) (number : ℕ → ℕ) : Type 0 
   pub cond : other.cond ≡ test.cond
 
 -- a test forces a cycle: all edges of the cycle stand in every execution that the test asks for, no execution is asked for
--- but the intended one, and that one is
+-- except the intended one, and that one is
 pub record Forces (test : TestSeen) (register_number : List ℕ → Option ℕ) (es : List Edge) (mode : ObsMode) (number : ℕ → ℕ) : Type 0 where
   pub stand : (x : Execution) → IsAskedFor test register_number x → AllStand es (test_program test) x
   pub only : (x : Execution) → IsAskedFor test register_number x → x ≡ intended es mode number
   pub exists : IsAskedFor test register_number (intended es mode number)
 
--- the test of each cycle forces it
+-- the test of each cycle that has one forces the cycle, on an architecture that keeps the laws and finds its registers by name
 abbrev pub TestsForce : Type 0
 TestsForce =
     (a : Puts) (register_name : ℕ → List ℕ) (register_number : List ℕ → Option ℕ) (es : List Edge) (mode : ObsMode) →
     IsArch a → FindsRegisters a register_name register_number → HasTest a es mode →
     Forces (test_of a register_name es mode) register_number es mode plain
 
--- and so does each test that is the same but for the numbers of places
+-- and so does each test that differs from it only in the numbers of its locations
 abbrev pub RenumberedForce : Type 0
 RenumberedForce =
     (a : Puts) (register_name : ℕ → List ℕ) (register_number : List ℕ → Option ℕ) (es : List Edge) (mode : ObsMode) (test : TestSeen) (number : ℕ → ℕ) →

@@ -1,4 +1,4 @@
--- The test of a cycle: its places, the code of its threads, and its condition.
+-- The test of a cycle: its locations, the code of its threads, and its condition.
 -- Source: own, after the way diy takes from a cycle to a test.
 use Rattle.std.specs.{Prelude.{ℕ, ◌+◌, Bool, ◌&&◌, nat_le, not, List, [], ◌∷◌, ◌++◌, map}, List.{filter, zip}}
 use Rattle.relax_edges.specs.{declared.kinds.ObsMode.ObsMode, declared.edge.Edge.Edge}
@@ -8,7 +8,7 @@ use Rattle.final_cond.specs.{declared.cond.Quantifier.TheVariants.Exists, Condit
 use Rattle.arch_trait.specs.{declared.step.Step.Step, PlaceNames.{letters, location_name}, SeenTests.TestSeen, Threads.{Puts, compiled}}
 use Rattle.tests_force_cycles.specs.CycleSteps.{cycle_steps, numbers_read}
 
--- the condition names the last value of a location: it has two writes or more and no observer
+-- the condition names the last value of a location: the location has two writes or more and isn't observed
 abbrev pub is_named_location : List Edge → ObsMode → ℕ → Bool
 is_named_location es mode location = nat_le 2 (write_count es location) && not (is_observed es mode location)
 
@@ -29,18 +29,18 @@ abbrev pub thread_terms : Puts → (ℕ → List ℕ) → ℕ → List Step → 
 thread_terms a register_name thread steps =
     map (load_term register_name thread) (zip (compiled a steps).loads (numbers_read steps))
 
--- the terms of the loads of threads, of which the first has a number
+-- the terms of the loads of threads, the first of which has this number
 abbrev pub load_terms : Puts → (ℕ → List ℕ) → ℕ → List (List Step) → List TermSeen
 load_terms a register_name thread [] = []
 load_terms a register_name thread (steps ∷ more) =
     thread_terms a register_name thread steps ++ load_terms a register_name (thread + 1) more
 
--- the locations by their own numbers
+-- each location keeps its number
 abbrev pub plain : ℕ → ℕ
 plain location = location
 
--- the test of a cycle, on an architecture whose registers are named so: the last values of locations in their order,
--- and then what the loads of each thread read
+-- the test of a cycle, on an architecture whose registers have these names; its condition has the last values of locations
+-- in their order, and then what the loads of each thread read
 abbrev pub test_of : Puts → (ℕ → List ℕ) → List Edge → ObsMode → TestSeen
 test_of a register_name es mode = record {
   edges = es;
