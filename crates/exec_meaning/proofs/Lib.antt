@@ -1,5 +1,4 @@
 pub mod Loops
-pub mod KeptLists
 pub mod VisitLaws
 pub mod EdgeLaws
 pub mod RunLaws

@@ -5,14 +5,14 @@ ghost use Rattle.program_meaning.specs.{Coherence.{final_value}, Programs.{IsCan
 ghost use Rattle.litmus_text.specs.ReadPrograms.{program_read};
 ghost use Rattle.exec_meaning.specs.Finals.{registers_at, all_registers, places_at, EndsIn};
 
-use crate::accesses::{Accesses, access_at, all_accesses};
-use crate::execution::Execution;
-use crate::runs::candidate_runs;
 use arch_trait::{Arch, Places};
+use crate::accesses::{Accesses, access_at, all_accesses};
+use crate::runs::candidate_runs;
 use diy_io::NoMemory;
 use final_cond::{Final, Left, PlaceName, RegName};
 use litmus_text::ReadTest;
 use micro_ops::Trace;
+use program_meaning::Execution;
 use relax_edges::Value;
 use std::alloc::Global;
 

@@ -3,10 +3,10 @@ ghost use Rattle.program_meaning.specs.Programs.{runs_of, IsCandidate};
 ghost use Rattle.litmus_text.specs.ReadPrograms.{program_read};
 ghost use Rattle.exec_meaning.specs.EndedRuns.{IsRunIn, AreEndedRuns, ended_run};
 
-use crate::execution::{Execution, Read};
 use diy_io::NoMemory;
 use litmus_text::ReadTest;
 use micro_ops::{RunError, Trace, run_thread};
+use program_meaning::{Execution, Read};
 use std::alloc::{AllocError, Global};
 
 /// The values of these reads.

@@ -3,7 +3,7 @@ use Rattle.std.proofs.{Common.{◌≡◌, ℕ, zero, suc, ◌+◌, ◌-◌, ◌<
 use Rattle.std.proofs.lemmas.List.{length-set}
 use Rattle.std.specs.{Prelude.{Result, Ok, Err, Option, slice_get, slice_index_or, unwrap_or}, List.range_with_len}
 use Rattle.program_meaning.specs.{declared.WriteAt.WriteAt, Executions.Execution}
-use Rattle.exec_meaning.specs.KeptExecutions.{added_to_list, with_read, with_write}
+use Rattle.program_meaning.specs.KeptExecutions.{added_to_list, with_read, with_write}
 use Rattle.exec_text.specs.{declared.errors.ExecKind.ExecKind, ExecutionSteps.{all_added, line_added}}
 
 added_length : {X : Type 0} (lists : List (List X)) (k : ℕ) (x : X) → length (added_to_list lists k x) ≡ length lists

@@ -4,7 +4,7 @@ use Rattle.std.proofs.{lemmas.List.{append-nil, length-replicate, length-map}, l
 use Rattle.std.proofs.{Math.ListN.replicate, Math.Seq.{get_or-append_seam, set-append_seam}, lemmas.Option.unwrap_or-slice_get}
 use Rattle.std.specs.{Prelude.{Result, Ok, Err, Option}, List.range_with_len}
 use Rattle.program_meaning.specs.{declared.WriteAt.WriteAt, Executions.Execution}
-use Rattle.exec_meaning.specs.KeptExecutions.{added_to_list, empty_lists, nothing_kept, with_read, with_write}
+use Rattle.program_meaning.specs.KeptExecutions.{added_to_list, empty_lists, nothing_kept, with_read, with_write}
 use Rattle.text_parts_laws.specs.{Words.words, Lines.lines_of}
 use Rattle.exec_text.specs.{declared.errors.ExecKind.ExecKind, declared.errors.ExecFault.ExecFault, declared.errors.ExecError.ExecError}
 use Rattle.exec_text.specs.declared.errors.ExecKind.TheVariants.{BadThread, BadRead, BadPlace, BadWrite, StrayLine}

@@ -4,16 +4,16 @@ ghost use Rattle.exec_text.specs.declared.errors.ExecKind.TheVariants.{BadThread
 ghost use Rattle.exec_text.specs.ExecutionText.{access_named, all_named, execution_read, read_named, thread_head, reads_told, writes_told, all_reads_told, all_writes_told, place_head_at};
 ghost use Rattle.exec_text.specs.ExecutionSteps.{AtLine, ReadsLine, ReadsLines, ReadsText, line_added, lines_added};
 ghost use Rattle.exec_text.specs.{declared.errors.ExecError.TheVariants.{Text}, declared.reading.LineError.TheVariants.{NoMemory as NoMemoryForLine}};
-ghost use Rattle.exec_meaning.specs.KeptExecutions.{with_read, with_write};
+ghost use Rattle.program_meaning.specs.KeptExecutions.{with_read, with_write};
 
+use arch_trait::Places;
 use crate::errors::{ExecError, ExecFault, ExecKind};
 use crate::heads::{is_place_head, is_thread_head};
 use crate::lines::first_line;
 use crate::words::{access_named, read_named};
-use arch_trait::Places;
 use diy_io::NoMemory;
-use exec_meaning::Execution;
 use litmus_text::MAX_TEST_TEXT;
+use program_meaning::Execution;
 use std::alloc::Global;
 use text_parts::next_word;
 

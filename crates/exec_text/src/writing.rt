@@ -5,10 +5,9 @@ ghost use Rattle.exec_text.specs.Written.{access_word, place_line, read_word, so
 
 use arch_trait::Places;
 use diy_io::NoMemory;
-use exec_meaning::{Execution, Read};
 use final_cond::PlaceName;
 use itoa::Buffer;
-use program_meaning::WriteAt;
+use program_meaning::{Execution, Read, WriteAt};
 use std::alloc::Global;
 
 fn push_number(number: u32, text: &mut Vec<u8>) -> Result<(), NoMemory>

@@ -3,3 +3,4 @@ pub mod Every
 pub mod Runs
 pub mod Candidates
 pub mod CoherenceLaws
+pub mod KeptLists

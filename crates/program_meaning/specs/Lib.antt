@@ -6,3 +6,4 @@ pub mod Interleavings
 pub mod Standing
 pub mod Intended
 pub mod Deciding
+pub mod KeptExecutions

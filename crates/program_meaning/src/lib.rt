@@ -2,6 +2,10 @@
 //! in an execution, and the tests that decide whether one is a candidate and coherent.
 #![tactic(auto)]
 
+mod execution;
+
+pub use execution::{Execution, Read};
+
 use micro_ops::Barrier;
 use relax_edges::Dir;
 

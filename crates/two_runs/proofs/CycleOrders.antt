@@ -7,7 +7,7 @@ use Rattle.relax_edges.specs.declared.edge.Edge.{Edge}
 use Rattle.cycle_events.specs.Values.{write_count}
 use Rattle.program_meaning.specs.{declared.WriteAt.WriteAt, Executions.Execution, Intended.write_of}
 use Rattle.accesses_force_cycles.specs.Exchange.{swapped}
-use Rattle.exec_meaning.specs.KeptExecutions.{with_write}
+use Rattle.program_meaning.specs.KeptExecutions.{with_write}
 use Rattle.two_runs.specs.Runs.{with_appended, order_of, value_there}
 use Rattle.two_runs.proofs.GrowingLists.{added_appended, appended_length, appended_none, filled_more, filled_to, found_more, found_no_more}
 

@@ -6,7 +6,7 @@ use Rattle.list_laws.proofs.{Cases.by_test, Ranks.{filter_yes, filter_no}}
 use Rattle.relax_edges.specs.declared.edge.Edge.{Edge}
 use Rattle.cycle_events.specs.{Resolution.{thread_of, events_in, location_of}, Values.value_of}
 use Rattle.program_meaning.specs.{declared.WriteAt.WriteAt, Accesses.is_read, Executions.Execution, Intended.{event_access, event_read, reads_in, write_of}}
-use Rattle.exec_meaning.specs.KeptExecutions.{with_read}
+use Rattle.program_meaning.specs.KeptExecutions.{with_read}
 use Rattle.two_runs.specs.Runs.{with_appended, is_read_of}
 use Rattle.two_runs.proofs.GrowingLists.{added_appended, appended_none, filled_more, filled_to}
 

@@ -4,7 +4,7 @@ use Rattle.std.specs.{Prelude.slice_get, Prelude.unwrap_or, List.filter_map, Lis
 use Rattle.std.proofs.lemmas.{List.length-append, List.length-set, List.Elements.filter_map-append}
 use Rattle.list_laws.specs.Numbers.{upto}
 use Rattle.list_laws.proofs.Numbers.{length-map-upto, map-upto_more}
-use Rattle.exec_meaning.specs.KeptExecutions.{added_to_list, empty_lists}
+use Rattle.program_meaning.specs.KeptExecutions.{added_to_list, empty_lists}
 use Rattle.two_runs.specs.Runs.{with_appended}
 
 -- lists with no element more are as they were

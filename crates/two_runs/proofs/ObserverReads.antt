@@ -7,7 +7,7 @@ use Rattle.list_laws.specs.Numbers.{upto}
 use Rattle.list_laws.proofs.Numbers.{length-map-upto, map-upto_more}
 use Rattle.cycle_events.specs.{Resolution.external_count, Values.write_count}
 use Rattle.program_meaning.specs.{declared.WriteAt.WriteAt, Executions.Execution, Intended.{observer_reads, ordered_write, write_of}}
-use Rattle.exec_meaning.specs.KeptExecutions.{empty_lists, with_read}
+use Rattle.program_meaning.specs.KeptExecutions.{empty_lists, with_read}
 use Rattle.two_runs.specs.Runs.{with_appended, cycle_reads, thread_reads}
 use Rattle.two_runs.proofs.GrowingLists.{added_appended, appended_none}
 

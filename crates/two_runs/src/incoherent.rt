@@ -1,6 +1,6 @@
 ghost use Rattle.std.specs.Prelude.{◌≡◌, ◌<◌, ◌≤◌, ◌==◌, ◌&&◌, length, IfOk, OnOk, None, Some};
 ghost use Rattle.cycle_events.specs.{Resolution.{external_count}, Values.{is_write_at, value_of}};
-ghost use Rattle.exec_meaning.specs.KeptExecutions.{empty_lists};
+ghost use Rattle.program_meaning.specs.KeptExecutions.{empty_lists};
 ghost use Rattle.program_meaning.specs.{Intended.{write_of}, Standing.{event_name}};
 ghost use Rattle.co_tests.specs.Shape.{HasShape};
 ghost use Rattle.co_tests_laws.specs.{CoherenceTests.{incoherent_execution}, CutResolution.{cut_of, cut_open}};

@@ -1,6 +1,6 @@
 ghost use Rattle.std.specs.Prelude.{◌≡◌, ◌<◌, ◌++◌, length, OnOk};
 ghost use Rattle.cycle_events.specs.Resolution.{move_count};
-ghost use Rattle.exec_meaning.specs.KeptExecutions.{empty_lists};
+ghost use Rattle.program_meaning.specs.KeptExecutions.{empty_lists};
 ghost use Rattle.program_meaning.specs.Intended.{observed_locations, observer_reads};
 ghost use Rattle.two_runs.specs.Runs.{with_appended, cycle_reads, run_reads};
 

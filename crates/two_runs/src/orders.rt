@@ -1,7 +1,7 @@
 ghost use Rattle.std.specs.{Prelude.{◌≡◌, ◌≤◌, ◌<◌, length, OnOk}, Option.{ForSome}};
 ghost use Rattle.cycle_events.specs.{Resolution.{move_count}, Values.{write_count}};
 ghost use Rattle.accesses_force_cycles.specs.Exchange.{swapped};
-ghost use Rattle.exec_meaning.specs.KeptExecutions.{empty_lists};
+ghost use Rattle.program_meaning.specs.KeptExecutions.{empty_lists};
 ghost use Rattle.two_runs.specs.Runs.{with_appended, numbers_by, order_of, run_by, value_there};
 
 use crate::places::location_at;

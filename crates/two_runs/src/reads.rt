@@ -1,6 +1,6 @@
 ghost use Rattle.std.specs.Prelude.{◌≡◌, ◌≤◌, ◌<◌, ◌+◌, ◌++◌, length, OnOk};
 ghost use Rattle.cycle_events.specs.{Resolution.{external_count}, Values.{write_count}};
-ghost use Rattle.exec_meaning.specs.KeptExecutions.{empty_lists};
+ghost use Rattle.program_meaning.specs.KeptExecutions.{empty_lists};
 ghost use Rattle.program_meaning.specs.Intended.{write_of};
 ghost use Rattle.two_runs.specs.Runs.{with_appended, cycle_reads, is_read_of, observer_count, thread_reads};
 

@@ -1,7 +1,7 @@
 -- What holds in the loop over the threads.
 use Rattle.std.proofs.Common.{◌≡◌, ◌+◌, ◌-◌, map, length}
 use Rattle.std.specs.List.{range_with_len}
-use Rattle.exec_meaning.specs.KeptExecutions.{with_read}
+use Rattle.program_meaning.specs.KeptExecutions.{with_read}
 use Rattle.exec_text.specs.{declared.errors.ExecKind.TheVariants.{BadThread, BadRead}, ExecutionText.{read_named, line_read, each_line_read, thread_head}}
 use Rattle.exec_text.specs.ExecutionSteps.{lines_added}
 use Rattle.text_parts_laws.specs.Lines.{lines_of}

@@ -3,7 +3,7 @@ use Rattle.std.proofs.Common.{◌≡◌, ◌<◌, ◌+◌, ◌-◌, ◌++◌, sy
 use Rattle.list_laws.specs.Numbers.{upto}
 use Rattle.cycle_events.specs.Resolution.{external_count}
 use Rattle.program_meaning.specs.Executions.{Execution}
-use Rattle.exec_meaning.specs.KeptExecutions.{empty_lists}
+use Rattle.program_meaning.specs.KeptExecutions.{empty_lists}
 use Rattle.two_runs.specs.Runs.{observer_count, thread_reads}
 use Rattle.two_runs.proofs.{GrowingLists.{filled_length, filled_none, filled_to}, CycleReads.threads_more}
 use Rattle.two_runs.proofs.reads.add_reads.Goals as goal

@@ -1,8 +1,8 @@
 ghost use Rattle.std.specs.Prelude.{◌≡◌, ◌<◌, length, slice_get, Some, OnOk, OnErr, IfOk, map};
-ghost use Rattle.exec_meaning.specs.KeptExecutions.{nothing_kept, empty_lists, with_read, with_write};
+ghost use Rattle.program_meaning.specs.KeptExecutions.{nothing_kept, empty_lists, with_read, with_write};
 
+use crate::WriteAt;
 use diy_io::NoMemory;
-use program_meaning::WriteAt;
 use std::alloc::{AllocError, Global};
 use std::marker::Model;
 

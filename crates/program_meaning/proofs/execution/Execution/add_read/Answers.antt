@@ -1,7 +1,7 @@
 -- The execution has one read more, or is unchanged where there is no memory.
 use Rattle.std.proofs.lemmas.Result.{err_from_is_err_and}
-use Rattle.exec_meaning.proofs.KeptLists.{read_added, read_kept}
-use Rattle.exec_meaning.proofs.execution.Execution.add_read.Goals as goal
+use Rattle.program_meaning.proofs.KeptLists.{read_added, read_kept}
+use Rattle.program_meaning.proofs.execution.Execution.add_read.Goals as goal
 
 pub returns-in_err-push-clause-err : goal.returns-in_err-push-clause-err
 returns-in_err-push-clause-err c =

@@ -3,7 +3,7 @@ use Rattle.std.proofs.{Common.{◌≡◌, ℕ, ◌<◌, List, [], ◌∷◌, ◌
 use Rattle.std.proofs.{Math.ListN.get_or-map, Math.Seq.map-set_same, lemmas.Option.slice_get-get_or}
 use Rattle.std.specs.Prelude.{unwrap_or, Option}
 use Rattle.program_meaning.specs.{declared.WriteAt.WriteAt, Executions.Execution}
-use Rattle.exec_meaning.specs.KeptExecutions.{added_to_list, with_read, with_write}
+use Rattle.program_meaning.specs.KeptExecutions.{added_to_list, with_read, with_write}
 
 -- the list is one element longer
 added_to : {A X : Type 0} (f : A → List X) (lists : List A) (k : ℕ) (d v w : A) (x : X) → k < length (map f lists) → v ≡ get_or lists k d → f w ≡ f v ++ x ∷ [] → map f (set lists k w) ≡ added_to_list (map f lists) k x
