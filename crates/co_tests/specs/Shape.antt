@@ -1,11 +1,11 @@
--- Of which cycles the code makes coherence tests: for clauses of private functions.
+-- The cycles that the code makes coherence tests of: the premise of `value_of`, and otherwise for clauses of private functions.
 use Rattle.std.specs.{Prelude.{◌≡◌, ◌≤◌, true, false, List}, List.list_any}
 use Rattle.relax_edges.specs.{declared.edge.Edge.Edge, EdgeTable.is_diff}
 use Rattle.edge_algebra_laws.specs.Composable.{IsCycle}
 use Rattle.cycle_events.specs.Resolution.{ends_outside, external_count}
 use Rattle.co_tests_laws.specs.{CutResolution.is_ordering, CoherenceTests.writes_in}
 
--- a turned cycle is over one location and has a cut and at most two writes
+-- a cycle has its last edge and at least one other external, is over one location, and has a cut and at most two writes
 pub record HasShape (es : List Edge) : Type 0 where
   pub composes : IsCycle es
   pub outside : ends_outside es ≡ true

@@ -4,7 +4,7 @@ use Rattle.final_cond.specs.Conditions.{TermSeen, AtPlace}
 use Rattle.arch_trait.specs.{declared.step.Step.Step, PlaceNames.location_name}
 use Rattle.tests_force_cycles.specs.{CycleSteps.numbers_read, TestOf.load_term}
 
--- the last value of the one place, where it has two writes
+-- the last value of the one location, if it has two writes
 abbrev pub last_of_writes : ℕ → List TermSeen
 last_of_writes writes = if writes == 2 then record { left = AtPlace (location_name 0); value = 2 } ∷ [] else []
 

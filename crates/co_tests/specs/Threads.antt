@@ -8,7 +8,8 @@ use Rattle.tests_force_cycles.specs.TestOf.{load_terms, thread_terms}
 use Rattle.test_maker.specs.{Refusals.is_crowded, declared.refusal.Refusal.Refusal, declared.refusal.Refusal.TheVariants.TooManyRegisters}
 use Rattle.co_tests_laws.specs.{CoherenceTests.coherence_steps, CoRefusals.crowded_thread}
 
--- a call makes the code of a thread after those before it and appends the terms of its loads, or refuses the thread for its registers
+-- a call makes the code of a thread after those before it and appends the terms of its loads, or refuses the thread, which needs
+-- too many registers
 abbrev pub PutsThread : Puts → (ℕ → List ℕ) → ℕ → List Step → ArrayVec Code → ArrayVec Code → Cond → Cond → Result (Unit {0}) Refusal → Type 0
 PutsThread a register_name thread steps threads threads' cond cond' (Ok _) =
     (is_crowded a steps ≡ false) ×
@@ -17,7 +18,7 @@ PutsThread a register_name thread steps threads threads' cond cond' (Ok _) =
 PutsThread a register_name thread steps threads threads' cond cond' (Err refusal) =
     (is_crowded a steps ≡ true) × (refusal ≡ TooManyRegisters thread)
 
--- a call makes the code of all threads and appends the terms of their loads, or refuses the first for its registers
+-- a call makes the code of all threads and appends the terms of their loads, or refuses the first that needs too many registers
 abbrev pub PutsThreads : Puts → (ℕ → List ℕ) → List Edge → ArrayVec Code → Cond → Cond → Result (Unit {0}) Refusal → Type 0
 PutsThreads a register_name es threads cond cond' (Ok _) =
     (crowded_thread a es ≡ None) × (map thread_code_of threads.items ≡ map (compiled a) (coherence_steps es)) ×

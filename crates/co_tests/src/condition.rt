@@ -13,7 +13,7 @@ use relax_edges::Dir;
 /// The terms of a condition.
 pub type Terms = ArrayVec<Term, MAX_TERMS>;
 
-/// Makes the condition the last value of the one place, where it has two writes.
+/// Makes the condition ask for a state, with the last value of the one location if it has two writes.
 pub fn put_last_term(writes: u8, places: &Places, cond: &mut Cond)
     requires { places.now ≡ letters 1 }
     ensures quantifier { cond.new.quantifier ≡ Exists }
@@ -31,7 +31,7 @@ pub fn put_last_term(writes: u8, places: &Places, cond: &mut Cond)
     }
 }
 
-/// Appends what the loads of a thread read, which are in these registers.
+/// Appends what the loads of a thread are to read into these registers.
 pub fn put_load_terms<A: Arch>(thread: u8, steps: &[Step], loads: &[u8], terms: &mut Terms)
     requires loads { length loads.now ≡ length (numbers_read steps.now) }
     requires registers { AllBelow A.puts.registers loads.now }

@@ -16,8 +16,8 @@ use litmus_text::Test;
 use relax_edges::{Edge, MAX_EDGES};
 use test_maker::{Refusal, all_of_arch};
 
-/// The coherence test of the cycle, or the first reason why it has none. Its printed text is read as
-/// a test that no coherent execution meets.
+/// The coherence test of the cycle, or the first reason why it has none. A cycle whose test is made
+/// meets, once rotated, the premise `HasCoherenceTest` of the law on printed coherence tests.
 pub fn co_test<A: Arch>(cycle: &Cycle) -> Result<Test, Refusal>
     ensures made { MakesCoherenceTest A.puts (name_in A.writing.registers) cycle.now result }
     ensures printable { IfOk result (CanPrint A.puts A.REGISTERS) }
@@ -28,7 +28,7 @@ pub fn co_test<A: Arch>(cycle: &Cycle) -> Result<Test, Refusal>
     Ok(test)
 }
 
-/// Makes `test` the coherence test of the cycle, as `co_test` does. After a refusal nothing is known of it.
+/// Makes `test` the coherence test of the cycle, as `co_test` does. After a refusal nothing is known about it.
 pub fn co_test_into<A: Arch>(cycle: &Cycle, test: &mut Test) -> Result<(), Refusal>
     ensures made { MakesSeen A.puts (name_in A.writing.registers) cycle.now (test_seen test.new) result }
     ensures printable { OnOk result (CanPrint A.puts A.REGISTERS test.new) }
@@ -59,8 +59,8 @@ fn make_of_arch<A: Arch>(cycle: &Cycle, test: &mut Test) -> Result<(), Refusal>
     make_turned::<A>(cycle.rotate(turn(edges)).edges(), test)
 }
 
-/// Makes `test` the coherence test of a cycle that is turned, or names the first thread that needs too
-/// many registers.
+/// Makes `test` the coherence test of a cycle whose last edge is external, or names the first thread that
+/// needs too many registers.
 fn make_turned<A: Arch>(edges: &[Edge], test: &mut Test) -> Result<(), Refusal>
     requires shape { HasShape edges.now }
     requires of_arch { AreOfArch A.puts edges.now }

@@ -6,7 +6,7 @@ ghost use Rattle.co_tests_laws.specs.{CutResolution.{cut_of, is_ordering}, Coher
 
 use relax_edges::{Dir, Edge, Kind, MAX_EDGES};
 
-/// How many edges lead to another thread.
+/// How many of at most `MAX_EDGES` edges lead to another thread.
 pub fn external_count(edges: &[Edge]) -> u8
     requires { length edges.now ≤ MAX_EDGES }
     ensures { result ≡ external_count edges.now }
@@ -14,7 +14,7 @@ pub fn external_count(edges: &[Edge]) -> u8
     edges.iter().filter(|edge| edge.is_external()).count() as u8
 }
 
-/// How many edges leave a write.
+/// How many of at most `MAX_EDGES` edges leave a write.
 pub fn write_count(edges: &[Edge]) -> u8
     requires { length edges.now ≤ MAX_EDGES }
     ensures count { result ≡ writes_in edges.now }
@@ -30,28 +30,28 @@ pub fn leads_elsewhere(edges: &[Edge]) -> bool
     edges.iter().any(|edge| edge.is_diff())
 }
 
-/// Whether an edge is inside a thread and no communication, so that the cycle has a cut.
+/// Whether some internal edge isn't a communication, so that the cycle has a cut.
 pub fn has_cut(edges: &[Edge]) -> bool
     ensures { result ≡ list_any is_ordering edges.now }
 {
     edges.iter().any(|edge| is_ordering(*edge))
 }
 
-/// The place of the cut: the first edge inside a thread that is no communication.
+/// The position of the cut, from 0: that of the first internal edge that isn't a communication, if there is one.
 pub fn cut_of(edges: &[Edge]) -> Option<usize>
     ensures { result ≡ cut_of edges.now }
 {
     edges.iter().position(|edge| is_ordering(*edge))
 }
 
-/// Whether an edge is inside a thread and no communication.
+/// Whether an edge is internal and not a communication.
 fn is_ordering(edge: Edge) -> bool
     ensures { result ≡ is_ordering edge }
 {
     !matches!(edge.kind(), Kind::Com { .. })
 }
 
-/// By how many places to turn a cycle to the left so that its last edge leads to another thread.
+/// By how many positions to rotate a cycle to the left so that its last edge leads to another thread; 0 if no edge does.
 pub fn turn(edges: &[Edge]) -> u8
     requires few { length edges.now ≤ MAX_EDGES }
     requires some { 0 < length edges.now }

@@ -36,7 +36,8 @@ fn link_into(edges: &[Edge], i: usize) -> Link
 }
 
 /// The value of an event: how many writes there are from the event that the cut enters, once round the
-/// cycle, up to this event and with it.
+/// cycle, up to and including this event. The cycle's last edge is external, it is over one location, it
+/// has at most two writes, and `cut` is its cut.
 pub fn value_of(edges: &[Edge], cut: usize, event: usize) -> u8
     requires shape { HasShape edges.now }
     requires cut { cut_of edges.now ≡ Some cut }

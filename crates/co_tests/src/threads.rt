@@ -15,7 +15,8 @@ use relax_edges::{Edge, MAX_EDGES};
 use test_maker::Refusal;
 
 /// Makes `threads` the code of the threads of a cycle at one location that is cut at an edge, and
-/// appends what their loads read to the condition. The threads that were there don't count.
+/// appends what their loads read to the condition. What `threads` held before is dropped. If a thread
+/// needs too many registers, it returns `TooManyRegisters` with the first.
 pub fn put_threads<A: Arch>(
     edges: &[Edge],
     cut: usize,
@@ -45,7 +46,7 @@ pub fn put_threads<A: Arch>(
     Ok(())
 }
 
-/// Makes the code of the next thread.
+/// Makes the code of the next thread, and appends what its loads read to the condition.
 fn put_thread<A: Arch>(
     thread: u8,
     steps: &[Step],

@@ -12,7 +12,7 @@ use Rattle.co_tests_laws.specs.{CutResolution.cut_of, CutResolution.cut_open, Co
 abbrev pub arc_behind : List Edge → ℕ → List ℕ
 arc_behind es cut = rotated (cut + 1) (upto (length es))
 
--- the value of an event is the number of writes on the arc up to it and with it
+-- if a cycle has a coherence test, the value of an event in it is the number of writes on the arc up to and including the event
 abbrev pub ValuesCountAlongArc : Type 0
 ValuesCountAlongArc =
     (a : Puts) (es : List Edge) (cut i k : ℕ) → HasCoherenceTest a es → cut_of es ≡ Some cut → slice_get (arc_behind es cut) k ≡ Some i →

@@ -10,11 +10,11 @@ use Rattle.test_maker.specs.{declared.refusal.Refusal.Refusal, declared.refusal.
 use Rattle.test_maker.specs.Refusals.{foreign_edge, is_crowded}
 use Rattle.co_tests_laws.specs.{CutResolution.is_ordering, CoherenceTests.{writes_in, coherence_steps, coherence_test_of}}
 
--- a reason that is there where a test passes
+-- a reason, if a test passes
 abbrev pub reason_if : Bool → Refusal → Option Refusal
 reason_if b reason = if b then Some reason else None
 
--- an edge leads to another location, or all edges in a thread are communications
+-- an edge leads to another location, or all internal edges are communications
 abbrev pub is_no_coherence : List Edge → Bool
 is_no_coherence cycle = list_any is_diff cycle || not (list_any is_ordering cycle)
 

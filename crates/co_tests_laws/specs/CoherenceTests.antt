@@ -1,5 +1,5 @@
 -- The test of a cycle over one location, and the execution that it asks for: the test of the cut resolution, without
--- observers. It has one place, `x`; where there are two writes its condition names the last value of `x` first, and then it
+-- observers. It has one location, `x`; if there are two writes its condition names the last value of `x` first, and then it
 -- says what each load reads.
 -- Source: own, after the way diy takes from a cycle to a test.
 use Rattle.std.specs.{Prelude.{ℕ, ◌≡◌, ◌≤◌, true, false, List, Some, count_by, slice_get}, List.{list_all, list_any}}
@@ -20,7 +20,7 @@ writes_in es = count_by (λ e. same_dir (source_of e) dirs.W) es
 abbrev pub coherence_steps : List Edge → List (List Step)
 coherence_steps es = cycle_steps (cut_open es) Avoid plain
 
--- the test of a cycle over one location, on an architecture whose registers are named so
+-- the test of a cycle over one location, on an architecture whose registers have these names
 abbrev pub coherence_test_of : Puts → (ℕ → List ℕ) → List Edge → TestSeen
 coherence_test_of a register_name es = record (test_of a register_name (cut_open es) Avoid) { edges = es }
 
@@ -29,9 +29,9 @@ coherence_test_of a register_name es = record (test_of a register_name (cut_open
 abbrev pub incoherent_execution : List Edge → Execution
 incoherent_execution es = intended (cut_open es) Avoid plain
 
--- a cycle over one location has a coherence test on an architecture: it composes and ends with an edge to another thread,
--- and at least two edges lead to another; its edges are the architecture's; none leads to another location; one in a
--- thread is no communication; there are at most two writes; and no thread needs more registers than there are
+-- a cycle over one location has a coherence test on an architecture: it composes, its last edge is external, and at least
+-- two edges are; its edges are the architecture's; none leads to another location; some internal edge isn't a communication;
+-- there are at most two writes; and no thread needs more registers than there are
 pub record HasCoherenceTest (a : Puts) (es : List Edge) : Type 0 where
   pub composes : IsCycle es
   pub outside : ends_outside es ≡ true

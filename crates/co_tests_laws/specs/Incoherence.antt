@@ -1,5 +1,5 @@
 -- What the bytes of a printed coherence test say: they ask for an execution that no coherent machine shows.
--- Source: own; that coherence forbids a cycle in program order at one place, reads-from, coherence order and from-read is
+-- Source: own; that coherence forbids a cycle in program order at one location, reads-from, coherence order and from-read is
 -- SC per location ('uniproc') of Alglave, Maranget and Tautschnig, 'Herding Cats', 2014.
 use Rattle.std.specs.Prelude.{◌≡◌, ℕ, List, None, Ok}
 use Rattle.relax_edges.specs.{declared.kinds.ArchName.ArchName, declared.edge.Edge.Edge}
@@ -20,16 +20,16 @@ pub record MeetsReading (w : Writing) (test : TestRead) (x : Execution) : Type 0
   pub candidate : IsCandidate (program_read test) x
   pub meets : Meets (final_state (program_read test) test.places (number_in w.registers) x) test.cond
 
--- an access has a path back to itself of program order at one place, reads-from, coherence order and from-read
+-- an access has a path back to itself of program order at one location, reads-from, coherence order and from-read
 pub record HasCycle (threads : List (List Access)) (x : Execution) : Type 0 where
   pub access : WriteAt
   pub between : List WriteAt
   pub path : IsPathOfSteps threads x access between access
 
--- Bytes show incoherence: they are read as a test, and its condition asks whether there is an execution of a kind. A
--- candidate execution meets the condition, and no other does; all edges of the cycle stand, in order, in each that meets
--- it; each has a cycle in program order at one place, reads-from, coherence order and from-read; and none is coherent per
--- location.
+-- Bytes show incoherence: they are read as a test, and its condition asks whether some execution meets its terms. The
+-- incoherent execution is a candidate that meets them, and no other does; in each that does, all edges of the cycle stand, in
+-- order, and there is a cycle in program order at one location, reads-from, coherence order and from-read; and none is
+-- coherent per location.
 pub record BytesShowIncoherence (arch : ArchName) (w : Writing) (bytes : List ℕ) (es : List Edge) : Type 0 where
   pub test : TestRead
   pub reads : test_read arch w bytes ≡ Ok test
@@ -46,7 +46,7 @@ PrintedShowIncoherence a arch w =
     (name : List ℕ) (es : List Edge) →
     IsTestName name → HasCoherenceTest a es → BytesShowIncoherence arch w (test_text arch w name (coherence_test_of a (name_in w.registers) es)) es
 
--- a cycle that isn't refused has a coherence test, once it is turned so that its last edge leads to another thread
+-- a cycle that isn't refused has a coherence test, once it is rotated so that its last edge leads to another thread
 abbrev pub AcceptedHaveTests : Puts → Type 0
 AcceptedHaveTests a =
     (cycle : List Edge) → IsCycle cycle → coherence_refusal_of a cycle ≡ None → HasCoherenceTest a (turned cycle)

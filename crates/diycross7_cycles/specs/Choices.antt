@@ -1,4 +1,4 @@
--- The cycles of all choices of one relaxation at each place.
+-- The cycles of all choices of one relaxation from each of some lists.
 -- Source: diycross, the diy part of the herdtools manual; which of equal cycles is kept is own.
 use Rattle.std.specs.{Prelude.{Bool, not, ◌&&◌, is_ok, is_none, List, [], ◌∷◌, length, map, filter}, List.{flat_map, list_any}}
 use Rattle.relax_edges.specs.{declared.kinds.ObsMode.ObsMode, declared.edge.Edge.Edge, Relaxations.is_same}
@@ -9,7 +9,7 @@ use Rattle.cycle_enum_laws.specs.Listing.{concatenated}
 use Rattle.arch_trait.specs.Threads.{Puts}
 use Rattle.test_maker.specs.Refusals.{refusal_of}
 
--- all choices of one from each of some lists, in order: the last list turns fastest
+-- all choices of one from each of some lists, in order: the last list varies fastest
 abbrev pub choices : {X : Type 0} → List (List X) → List (List X)
 choices [] = [] ∷ []
 choices (list ∷ lists) = flat_map (λ x. map (λ rest. x ∷ rest) (choices lists)) list
@@ -27,6 +27,6 @@ abbrev pub first_kept : List (List Edge) → List (List Edge)
 first_kept [] = []
 first_kept (u ∷ us) = u ∷ filter (λ v. not (is_turn u v)) (first_kept us)
 
--- the cycles of the choices: each choice is joined, and of those that are accepted and the same cycle the first is kept
+-- the cycles of the choices: each choice is joined, and among accepted choices that are the same cycle the first is kept
 unfoldable pub crossed : Puts → ObsMode → List (List (List Edge)) → List (List Edge)
 crossed puts mode lists = first_kept (filter (is_accepted puts mode) (map concatenated (choices lists)))

@@ -1,4 +1,4 @@
--- How the cycles of all choices are found, one after another.
+-- How the cycles of all choices are found, one after another: for clauses of private functions.
 -- Source: own.
 use Rattle.std.specs.{Prelude.{Bool, cond, List, [], ◌∷◌, ◌++◌, map, fold}, List.{flat_map, list_any}}
 use Rattle.relax_edges.specs.declared.edge.Edge.{Edge}
@@ -9,7 +9,7 @@ use Rattle.diycross7_cycles.specs.Choices.{choices, is_turn}
 abbrev pub keep_turned : List (List Edge) → List Edge → List (List Edge)
 keep_turned kept u = cond (list_any (λ v. is_turn v u) kept) kept (kept ++ u ∷ [])
 
--- the same, only where the list is accepted
+-- the same, but only if the list is accepted
 abbrev pub keep_accepted : (List Edge → Bool) → List (List Edge) → List Edge → List (List Edge)
 keep_accepted accepts kept u = cond (accepts u) (keep_turned kept u) kept
 
@@ -18,7 +18,7 @@ unfoldable pub chosen : (List Edge → Bool) → List Edge → List (List (List 
 chosen accepts joined lists kept =
     fold (keep_accepted accepts) kept (map (λ choice. joined ++ concatenated choice) (choices lists))
 
--- the same where the first list has these relaxations
+-- the same with these relaxations as a list before the others
 unfoldable pub chosen_first : (List Edge → Bool) → List Edge → List (List Edge) → List (List (List Edge)) → List (List Edge) → List (List Edge)
 chosen_first accepts joined relaxes lists kept =
     fold (keep_accepted accepts) kept

@@ -1,4 +1,4 @@
--- Which cycles are known, by their normal forms.
+-- Which cycles are known, by their normal forms: for clauses of private functions.
 -- Source: own.
 use Rattle.std.specs.Prelude.{⊤, List, [], ◌∷◌}
 use Rattle.relax_edges.specs.declared.edge.Edge.{Edge}

@@ -7,7 +7,7 @@ use Rattle.arch_trait.specs.Threads.{Puts}
 use Rattle.test_maker.specs.Refusals.{refusal_of}
 use Rattle.diycross7_cycles.specs.Choices.{crossed}
 
--- relaxations are a choice: one of each list, in the order of the lists
+-- relaxations are a choice: one from each list, in the order of the lists
 abbrev pub IsChoice : List (List (List Edge)) → List (List Edge) → Type 0
 IsChoice [] [] = ⊤
 IsChoice [] (_ ∷ _) = ⊥

@@ -1,4 +1,4 @@
--- The normal form of a cycle, by the ranks of its edges.
+-- The normal form of a cycle, by the ranks of its edges: for clauses of private functions.
 -- Source: own.
 use Rattle.std.specs.Prelude.{◌≡◌, ℕ, List, map}
 use Rattle.relax_edges.specs.{declared.edge.Edge.Edge, Order.rank_of}

@@ -11,14 +11,14 @@ use relax_edges::{Edge, MAX_EDGES, ObsMode, Relaxes};
 use std::alloc::Global;
 use test_maker::accepted;
 
-/// The cycles of all choices of one relaxation from each list, the last list turning fastest.
+/// The cycles of all choices of one relaxation from each list, the last list varying fastest.
 ///
-/// A choice is joined in the order of the lists. It counts where it makes a cycle that has a test on
-/// the architecture in the mode; of choices that are rotations of each other the first counts, as it
+/// A choice is joined in the order of the lists. It counts if it makes a cycle that has a test on
+/// the architecture in the mode; among choices that are rotations of each other the first counts, as it
 /// is joined. So a list without a relaxation, or no list, gives no cycle.
 ///
-/// Memory is taken for the cycles and for the set of those that are known, and `NoMemory` comes
-/// where there is none. The time grows with the number of choices of at most `MAX_EDGES` edges.
+/// Memory is taken for the cycles and for the set of those that are known; if there is none, the error
+/// is `NoMemory`. Choices that begin with more than `MAX_EDGES` edges are skipped together.
 pub fn crossed_cycles<A: Arch>(
     alloc: Global,
     lists: &[Relaxes],
@@ -43,7 +43,7 @@ fn has_empty(lists: &[Relaxes]) -> bool
 }
 
 /// Keeps the accepted cycles of all choices from the lists, each appended to the edges that are
-/// joined already. Where there is no room for the edges of a relaxation, no choice with it is a cycle.
+/// joined already. If there is no space for the edges of a relaxation, no choice with it is a cycle.
 fn choose<A: Arch>(
     lists: &[Relaxes],
     mode: ObsMode,
@@ -70,7 +70,7 @@ fn choose<A: Arch>(
     }
 }
 
-/// Keeps the edges where they are a cycle that has a test.
+/// Keeps the edges if they are a cycle that has a test and isn't a rotation of one that is kept.
 fn keep_accepted<A: Arch>(edges: &[Edge], mode: ObsMode, kept: &mut Kept) -> Result<(), NoMemory>
     requires { AreNormalForms kept.old.cycles.items kept.old.known.keys }
     ensures kept { OnOk result (kept.new.cycles.items ≡ keep_accepted (is_accepted A.puts mode) kept.old.cycles.items edges.now) }
@@ -82,7 +82,7 @@ fn keep_accepted<A: Arch>(edges: &[Edge], mode: ObsMode, kept: &mut Kept) -> Res
     }
 }
 
-/// The cycle of these edges, where it has a test.
+/// The cycle of these edges, if they make one and it has a test.
 fn accepted_cycle<A: Arch>(edges: &[Edge], mode: ObsMode) -> Option<Cycle>
     ensures { result ≡ cond (is_accepted A.puts mode edges.now) (Some edges.now) None }
 {

@@ -7,7 +7,7 @@ use edge_algebra::Cycle;
 use indexmap::IndexSet;
 use std::alloc::Global;
 
-/// The cycles that are kept, in order, and their normal forms, by which a rotation of one is known.
+/// The cycles that are kept, in order, and their normal forms, by which a rotation of one is recognised.
 #[derive(Drop)]
 pub(crate) struct Kept {
     known: IndexSet<NormalForm>,

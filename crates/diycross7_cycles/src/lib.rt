@@ -1,4 +1,4 @@
-//! The cycles of all choices of one relaxation at each place.
+//! The cycles of all choices of one relaxation from each of some lists.
 #![tactic(auto)]
 
 mod choose;

@@ -4,8 +4,8 @@ use arrayvec::ArrayVec;
 use edge_algebra::{Cycle, ranks_of};
 use relax_edges::MAX_EDGES;
 
-/// The normal form of a cycle, by the ranks of its edges: cycles that are rotations of each other
-/// have one, and other cycles another.
+/// The normal form of a cycle, by the ranks of its edges: two cycles have the same exactly when they
+/// are rotations of each other.
 #[derive(PartialEq, Eq, Hash, Drop)]
 pub(crate) struct NormalForm {
     ranks: ArrayVec<u16, MAX_EDGES>,

@@ -100,7 +100,7 @@ labels_of [] = []
 labels_of (ops.Label label ∷ code) = label ∷ labels_of code
 labels_of (_ ∷ code) = labels_of code
 
--- what the registers hold as a thread begins: what the list names first for each, the number 0 in the others
+-- what the registers hold as a thread begins: the value of the list's first entry for each, the number 0 if it has none
 abbrev pub starting : List (ℕ × Value) → ℕ → Held
 starting [] _ = num 0 0
 starting (named ∷ init) r =

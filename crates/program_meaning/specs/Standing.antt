@@ -66,7 +66,7 @@ pub record Joins (threads : List (List Access)) (x : Execution) (edge : Edge) (e
   pub communicates : CommunicatesBy (kind_of edge) threads x e f
   pub reaches : Reaches (reach_of edge) e.name f.name
 
--- the mask that names the read e alone
+-- the mask that names only the read e
 abbrev pub mask_of : List (List Access) → NamedAccess → ℕ
 mask_of threads e = 2 ^ reads_before threads e.name
 

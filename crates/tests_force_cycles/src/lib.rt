@@ -3,9 +3,10 @@
 
 ghost use Rattle.tests_force_cycles.specs.TestHeadline.{TestsForce, RenumberedForce, TestsAsk};
 
-/// On every architecture that keeps the laws, the test of a cycle that has one forces the cycle: all
-/// edges of the cycle stand in every candidate execution of the test that is coherent per location and
-/// meets the condition; there is one such execution, the intended one, and no other.
+/// On every architecture that keeps the laws and finds its registers by name, the test of a cycle that
+/// has one forces the cycle: all edges of the cycle stand in every candidate execution of the test that
+/// is coherent per location and meets the condition; there is one such execution, the intended one, and
+/// no other.
 pub fn tests_force()
     ensures { TestsForce }
 {}
