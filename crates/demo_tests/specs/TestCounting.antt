@@ -16,7 +16,7 @@ test_counted text tally = record { tests = tally.tests + 1; lines = tally.lines 
 abbrev pub text_tally : List ℕ → Tally
 text_tally text = tally_of (length text) (line_feed_count text)
 
--- the tally at an index of the list counts one more text, and the others stay as they are
+-- the tally at an index, if the list has it, counts one more text, and the others stay as they are
 abbrev pub CountsAt : List TestTally → List TestTally → ℕ → Tally → Type 0
 CountsAt old new place text = (other : TestTally) → new ≡ slice_set old place (test_counted text (slice_index_or old place other))
 

@@ -8,6 +8,7 @@ use arrayvec::ArrayVec;
 use edge_algebra::Cycle;
 use relax_edges::{Edge, MAX_EDGES};
 
+/// The edges of one cycle.
 pub(crate) type Edges = ArrayVec<Edge, MAX_EDGES>;
 
 /// The edge picked for an edge of a family's cycle.

@@ -83,6 +83,7 @@ fn list_on<H: Shelf, O: Sink>(
     on_machine!(arch, list_tests[H, O](listing, shelf, out))
 }
 
+/// The status for each way in which the writing of tests can end.
 pub(crate) fn listing_status(end: ListingEnd) -> Status
     ensures status { result ≡ listing_status end }
     ensures location { StatusNamesLocation result }

@@ -83,7 +83,7 @@ HasForm (requests.Cross request) = ForSome request.folder (λ folder. length fol
 HasForm (requests.Demo request) = (1 ≤ request.count) × (request.count ≤ MAX_TESTS)
 HasForm _ = Unit {0}
 
--- the files of mcheck7 are named by two of `count` arguments
+-- the indices of the files of mcheck7 are below `count`
 abbrev pub WithinWords : ℕ → Request → Type 0
 WithinWords count (requests.Check request) = (request.test < count) × (request.execution < count)
 WithinWords count _ = Unit {0}

@@ -21,7 +21,7 @@ pub fn read_request(words: &Words) -> Result<Request<'_>, Usage>
     // has at most `MAX_FOLDER` bytes; and demo makes 1 to `MAX_TESTS` tests.
     ensures form { IfOk result HasForm }
 
-    // The files of mcheck7 are named by arguments that there are.
+    // The indices of the files of mcheck7 are those of arguments.
     ensures within { IfOk result (WithinWords (length words.now)) }
 {
     if words.len() == 0 {

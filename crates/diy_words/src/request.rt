@@ -85,7 +85,7 @@ pub struct Source<'a> {
 pub struct DiyOne {
     /// The architecture of the test.
     pub arch: ArchName,
-    /// Its name, where one is given; else it has that of its cycle.
+    /// Its name, if one is given; by default it has that of its cycle.
     pub name: Option<TestName>,
     /// When locations have observers.
     pub mode: ObsMode,
@@ -99,7 +99,7 @@ pub struct DiyOne {
 pub struct Why<'a> {
     /// The architecture of the test.
     pub arch: ArchName,
-    /// The name of the test and of its files, where one is given; else they have that of the cycle.
+    /// The name of the test and of its files, if one is given; by default they have that of the cycle.
     pub name: Option<TestName>,
     /// The edges of the cycle, as given.
     pub edges: EdgeList,
@@ -113,7 +113,7 @@ pub struct Why<'a> {
 pub struct Coherence {
     /// The architecture of the test.
     pub arch: ArchName,
-    /// Its name, where one is given; else it has that of its cycle.
+    /// Its name, if one is given; by default it has that of its cycle.
     pub name: Option<TestName>,
     /// The edges of its cycle, as given.
     pub edges: EdgeList,

@@ -1,7 +1,7 @@
 ghost use Rattle.std.specs.Prelude.{◌≡◌};
 
-/// Why the arguments make no request, and the index of the one at fault, where 0 is the tool's name. If
-/// no single argument is at fault, `word` is the number of arguments.
+/// A usage error, and the index of the argument at fault, where 0 is the tool's name. If no single
+/// argument is at fault, `word` is the number of arguments.
 #[derive(Clone, Copy, PartialEq, Eq)]
 pub struct Usage {
     pub word: usize,
