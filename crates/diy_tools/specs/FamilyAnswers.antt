@@ -54,7 +54,8 @@ pub record AnswersFiles (words : List (List ℕ)) (arch : ArchName) (files : Lis
   pub ends : EndsFamilies words arch files end old new
   pub status_is : status ≡ files_status end
 
--- the same for the files that the arguments at these indices name, or for the input's lines if there are none
+-- the names of the cycles in the files that the arguments at these indices name, or in the input's lines if there are no files, are
+-- written by their families, or there is a reason why they can't be
 abbrev pub AnswersClassify : List (List ℕ) → ArchName → List ℕ → Status → Devices → Devices → Type 0
 AnswersClassify words arch [] status old new = InputAndOut (AnswersFamilies arch status) old new
 AnswersClassify words arch (file ∷ files) status old new = AnswersFiles words arch (file ∷ files) status old new
