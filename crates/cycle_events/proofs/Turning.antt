@@ -24,7 +24,7 @@ pub outside_after : (es : List Edge) (k : ℕ) → k < length es → ends_outsid
 outside_after es k h =
     cc ((take_more es k (edges.Com Rf Internal) h), (append_assoc (drop (k + 1) es) (take k es) (edge_at es k ∷ [])), (outside_at_end (drop (k + 1) es ++ take k es) (edge_at es k)))
 
--- the last edge is external: no turn
+-- the last edge is external: no rotation is needed
 pub turned_by_none : (es : List Edge) → 0 < length es → ends_outside es ≡ true → turned es ≡ rotated 0 es
 unfolding turned
 turned_by_none es h t =

@@ -42,7 +42,7 @@ placed_by dirs.W threads x name = Some name
 abbrev pub coherence_place : List (List Access) → Execution → WriteAt → Access → ℕ
 coherence_place threads x name access = order_place (order_at x access.place) (placed_by access.dir threads x name)
 
--- an access may follow another at one place: a read not before it in the coherence order, a write after it
+-- an access may follow another at one location: a read not before it in the coherence order, a write after it
 abbrev pub MayFollow : Dir → ℕ → ℕ → Type 0
 MayFollow dirs.R before after = before ≤ after
 MayFollow dirs.W before after = before < after
