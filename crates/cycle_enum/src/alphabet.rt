@@ -9,7 +9,8 @@ use crate::letters::{Letters, Marks, are_marked, first_letters, marks_of};
 use crate::prefix::Prefix;
 use crate::relaxed::{is_made, may_occur};
 use edge_algebra::Cycle;
-use relax_edges::{Dir, EDGES, Edge, MAX_EDGES, Mark, Relax, Relaxes};
+use edges_from_text::{Relax, Relaxes};
+use relax_edges::{Dir, EDGES, Edge, MAX_EDGES, Mark};
 use std::marker::Model;
 
 /// Relaxations, and which edges occur in them: a walk skips all other edges.

@@ -3,7 +3,8 @@ ghost use Rattle.cycle_enum_laws.specs.Search.{OccursIn};
 ghost use Rattle.cycle_enum.specs.{Letters.{HasLettersFrom, IsLetterFrom}, LetterMarks.{is_marked_at, IsMarked, MarksAlphabet, MarksAlso, MarksExactly}};
 
 use crate::letter::Letter;
-use relax_edges::{EDGES, Edge, Relax};
+use edges_from_text::Relax;
+use relax_edges::{EDGES, Edge};
 
 const RANKS: usize = EDGES as usize;
 

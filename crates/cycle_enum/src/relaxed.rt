@@ -5,7 +5,8 @@ ghost use Rattle.cycle_enum.specs.WalkEnds.{is_inside};
 
 use arrayvec::ArrayVec;
 use edge_algebra::Cycle;
-use relax_edges::{Edge, MAX_EDGES, Relax};
+use edges_from_text::Relax;
+use relax_edges::{Edge, MAX_EDGES};
 
 const SUFFIXES: usize = MAX_EDGES + 1;
 

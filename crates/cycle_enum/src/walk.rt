@@ -10,7 +10,8 @@ use crate::letter::Letter;
 use crate::limits::Limits;
 use crate::prefix::Prefix;
 use edge_algebra::Cycle;
-use relax_edges::{Edge, MAX_EDGES, Relaxes};
+use edges_from_text::Relaxes;
+use relax_edges::{Edge, MAX_EDGES};
 use std::marker::Model;
 
 /// What a walk searches by: its relaxations, its limits, its pruners and its test.

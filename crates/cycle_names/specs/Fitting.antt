@@ -5,7 +5,7 @@ use Rattle.relax_edges.specs.{declared.kinds.Dir.Dir, declared.kinds.Dir.TheVari
 use Rattle.relax_edges.specs.{declared.kinds.Reach.TheVariants.External, declared.kinds.Com.Com, declared.kinds.FenceKind.FenceKind}
 use Rattle.relax_edges.specs.{declared.kinds.DepKind.DepKind, declared.kinds.Kind.Kind, declared.kinds.Mark.Mark}
 use Rattle.relax_edges.specs.{declared.kinds.Mark.TheVariants.{Plain, Acquire, Release}, declared.edge.Edge.Edge}
-use Rattle.relax_edges.specs.{EdgeTable.{kind_of, source_mark, target_mark, is_diff}, NamedEdges.{pod, rfe, fre, wse}, Order.pick_rank, Relaxations.is_same}
+use Rattle.relax_edges.specs.{EdgeTable.{kind_of, source_mark, target_mark, is_diff}, NamedEdges.{pod, rfe, fre, wse}, Order.{pick_rank, is_same}}
 use Rattle.relax_edges.specs.declared.kinds.Com.TheVariants as coms
 use Rattle.relax_edges.specs.declared.kinds.FenceKind.TheVariants as fences
 use Rattle.relax_edges.specs.declared.kinds.DepKind.TheVariants as deps

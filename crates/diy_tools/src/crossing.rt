@@ -11,7 +11,8 @@ use arch_trait::Arch;
 use diy_io::{MAX_FOLDER, NoMemory, Shelf, Sink, Words};
 use diy_words::{Cross, read_places};
 use diycross7_cycles::crossed_cycles;
-use relax_edges::{ArchName, ObsMode, Relaxes};
+use edges_from_text::Relaxes;
+use relax_edges::{ArchName, ObsMode};
 use std::alloc::Global;
 use tests_to_files::put_cycles;
 

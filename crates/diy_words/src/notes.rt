@@ -1,5 +1,6 @@
 ghost use Rattle.std.specs.Prelude.{◌≡◌, ◌<◌, ◌≤◌, ◌+◌, ◌^◌, Err};
-ghost use Rattle.relax_edges.specs.{Architectures.{arch_of}, Relaxations.{relaxes_of}, declared.TheConstants.{MAX_EDGES}};
+ghost use Rattle.relax_edges.specs.{Architectures.arch_of, declared.TheConstants.MAX_EDGES};
+ghost use Rattle.edges_from_text.specs.Relaxations.relaxes_of;
 ghost use Rattle.edges_from_text.specs.{declared.read.Separators.TheVariants.{BlanksAndCommas}, Spelled.{edges_of, text_edges}};
 ghost use Rattle.edge_algebra.specs.Compose.{composed};
 ghost use Rattle.diy_words.specs.{CodeNotes.{cycle_kept}, NumberWords.{number_to}, declared.usage.UsageKind.TheVariants.{ExcludedOption}};
@@ -15,10 +16,8 @@ use crate::usage::{Usage, UsageKind, usage_at};
 use cycle_enum::Limits;
 use diy_io::MAX_FOLDER;
 use edge_algebra::{Cycle, cycle};
-use edges_from_text::{EdgeList, Separators, read_edges};
-use relax_edges::{
-    ArchName, Edge, MAX_EDGES, ObsMode, RelaxKind, Relaxes, read_arch, read_relaxes,
-};
+use edges_from_text::{EdgeList, RelaxKind, Relaxes, Separators, read_edges, read_relaxes};
+use relax_edges::{ArchName, Edge, MAX_EDGES, ObsMode, read_arch};
 
 /// What is noted of the arguments so far.
 #[derive(Drop)]

@@ -1,10 +1,10 @@
 ghost use Rattle.std.specs.Prelude.{◌≡◌, Ok, IfOk, IsOk};
-ghost use Rattle.relax_edges.specs.Relaxations.{relaxes_of};
+ghost use Rattle.edges_from_text.specs.Relaxations.relaxes_of;
 ghost use Rattle.diy_words.specs.Requests.{asked_of, IsCrossing, places_of};
 
 use crate::options::{Tool, option_named};
 use diy_io::{NoMemory, Words};
-use relax_edges::{Relaxes, read_relaxes};
+use edges_from_text::{Relaxes, read_relaxes};
 use std::alloc::Global;
 
 /// The lists of relaxations of the operands of diycross7, in order. The only error is running out of

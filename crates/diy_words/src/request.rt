@@ -2,8 +2,8 @@ use arrayvec::ArrayString;
 use cycle_enum::Limits;
 use diy_io::MAX_FOLDER;
 use edge_algebra::Cycle;
-use edges_from_text::EdgeList;
-use relax_edges::{ArchName, ObsMode, Relaxes};
+use edges_from_text::{EdgeList, Relaxes};
+use relax_edges::{ArchName, ObsMode};
 
 /// The most bytes that a given name of a test can have.
 pub const MAX_GIVEN_NAME: usize = 800;

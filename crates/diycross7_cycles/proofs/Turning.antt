@@ -1,7 +1,7 @@
 -- The test of rotations decides them, and so do the ranks of normal forms.
 use Rattle.std.proofs.{Common.{◌≡◌, ◌<◌, ◌↔◌, true, List, length, refl, sym, arith, IsTrue}, lemmas.Slice.Eq.slice_eq-Decides}
 use Rattle.std.specs.Prelude.{IsTrue}
-use Rattle.relax_edges.specs.{declared.edge.Edge.Edge, Relaxations.is_same}
+use Rattle.relax_edges.specs.{declared.edge.Edge.Edge, Order.is_same}
 use Rattle.edge_algebra_laws.proofs.{RankLaws.rank_decides, Rotating.{rotation_on, rotation_of_place, place_of_rotation}}
 use Rattle.list_laws.proofs.Finds.{any_upto, any_upto_passing}
 use Rattle.edge_algebra_laws.specs.Rotation.{IsRotation, rotated}

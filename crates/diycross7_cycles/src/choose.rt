@@ -7,7 +7,8 @@ use arch_trait::Arch;
 use arrayvec::ArrayVec;
 use diy_io::NoMemory;
 use edge_algebra::{Cycle, cycle};
-use relax_edges::{Edge, MAX_EDGES, ObsMode, Relaxes};
+use edges_from_text::Relaxes;
+use relax_edges::{Edge, MAX_EDGES, ObsMode};
 use std::alloc::Global;
 use test_maker::accepted;
 

@@ -1,3 +1,10 @@
 pub mod Spelled
 pub mod KeptEdges
 pub mod KeptLaws
+pub mod RelaxText
+pub mod Relaxations
+pub mod RelaxKept
+pub mod RelaxSearch
+pub mod RelaxRuns
+pub mod RelaxPrefix
+pub mod Stars

@@ -3,11 +3,11 @@ ghost use Rattle.program_meaning.specs.{Accesses.{at_name}, Executions.{same_wri
 ghost use Rattle.program_meaning.specs.Deciding.{every, name, writes_there, can_read, are_reads, are_distinct, is_covered, thread_covered, is_order, reads_fit, orders_fit, lists_fit};
 ghost use Rattle.litmus_text.specs.ReadPrograms.{program_read};
 
-use arch_trait::Arch;
 use crate::accesses::{
     Accesses, access_at, all_accesses, has_numbers, is_read, is_same, writes_to,
 };
 use crate::runs::run_all;
+use arch_trait::Arch;
 use diy_io::NoMemory;
 use litmus_text::ReadTest;
 use program_meaning::{Access, Execution, Read, WriteAt};

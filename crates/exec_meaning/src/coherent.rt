@@ -4,9 +4,9 @@ ghost use Rattle.program_meaning.specs.Coherence.{order_place, order_at, read_at
 ghost use Rattle.program_meaning.specs.{Programs.{IsCandidate, IsCoherentIn}, Deciding.{name, may_follow, agrees, agrees_later, thread_coheres, coheres}};
 ghost use Rattle.litmus_text.specs.ReadPrograms.{program_read};
 
-use arch_trait::Arch;
 use crate::accesses::{Accesses, all_accesses, has_numbers, is_read};
 use crate::runs::candidate_runs;
+use arch_trait::Arch;
 use diy_io::NoMemory;
 use litmus_text::ReadTest;
 use program_meaning::{Access, Execution, Read, WriteAt};

@@ -4,11 +4,11 @@ ghost use Rattle.program_meaning.specs.{Accesses.{visits_of}, Standing.{access_a
 ghost use Rattle.litmus_text.specs.ReadPrograms.{program_read};
 ghost use Rattle.exec_meaning.specs.StandingEdges.{EdgeStands, named_access, same_fence, barriers_agree, is_alone, are_at, is_source, reaches, comes_before, communicates_by, joins, depends_as, barriers_wait, waits, depends_by, ties_by, stands, stands_if};
 
-use arch_trait::Arch;
 use crate::accesses::{Accesses, all_accesses, is_read, is_same};
 use crate::coherent::{place_of_name, reads_before_name, source_of_name};
 use crate::runs::candidate_runs;
 use crate::visits::{NamedAccess, Visit, visit_at};
+use arch_trait::Arch;
 use cycle_resolve::Resolved;
 use diy_io::NoMemory;
 use litmus_text::ReadTest;

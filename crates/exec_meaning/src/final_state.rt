@@ -5,9 +5,9 @@ ghost use Rattle.program_meaning.specs.{Coherence.{final_value}, Programs.{IsCan
 ghost use Rattle.litmus_text.specs.ReadPrograms.{program_read};
 ghost use Rattle.exec_meaning.specs.Finals.{registers_at, all_registers, places_at, EndsIn};
 
-use arch_trait::{Arch, Places};
 use crate::accesses::{Accesses, access_at, all_accesses};
 use crate::runs::candidate_runs;
+use arch_trait::{Arch, Places};
 use diy_io::NoMemory;
 use final_cond::{Final, Left, PlaceName, RegName};
 use litmus_text::ReadTest;

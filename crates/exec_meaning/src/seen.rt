@@ -3,10 +3,10 @@ ghost use Rattle.program_meaning.specs.{Accesses.{visits_of}, Programs.{IsCandid
 ghost use Rattle.litmus_text.specs.ReadPrograms.{program_read};
 ghost use Rattle.exec_meaning.specs.SeenAccesses.{seen_access, seen_in, seen_in_thread};
 
-use arch_trait::Arch;
 use crate::accesses::{Accesses, all_accesses};
 use crate::coherent::{NumberedAccess, coherence_place, source_at};
 use crate::runs::candidate_runs;
+use arch_trait::Arch;
 use diy_io::NoMemory;
 use litmus_text::ReadTest;
 use micro_ops::{Item, Trace};

@@ -6,11 +6,11 @@ ghost use Rattle.exec_text.specs.ExecutionSteps.{AtLine, ReadsLine, ReadsLines, 
 ghost use Rattle.exec_text.specs.{declared.errors.ExecError.TheVariants.{Text}, declared.reading.LineError.TheVariants.{NoMemory as NoMemoryForLine}};
 ghost use Rattle.program_meaning.specs.KeptExecutions.{with_read, with_write};
 
-use arch_trait::Places;
 use crate::errors::{ExecError, ExecFault, ExecKind};
 use crate::heads::{is_place_head, is_thread_head};
 use crate::lines::first_line;
 use crate::words::{access_named, read_named};
+use arch_trait::Places;
 use diy_io::NoMemory;
 use litmus_text::MAX_TEST_TEXT;
 use program_meaning::Execution;

@@ -8,11 +8,4 @@ pub mod Spelling
 pub mod ReadEdges
 pub mod WordReading
 pub mod Architectures
-pub mod RelaxText
-pub mod Relaxations
-pub mod RelaxKept
-pub mod RelaxSearch
 pub mod NamedEdges
-pub mod RelaxRuns
-pub mod RelaxPrefix
-pub mod Stars

@@ -1,6 +1,6 @@
 -- The order of edges is the byte order of their printed names. The rank of an edge is its position in that order, from 0.
 -- Source: own.
-use Rattle.std.specs.Prelude.{ℕ, ◌+◌, ◌*◌}
+use Rattle.std.specs.{Prelude.{ℕ, ◌+◌, ◌*◌, ◌==◌, Bool, List}, Cmp.Lexicographic.pointwise}
 use Rattle.relax_edges.specs.{declared.kinds.Dir.Dir, declared.kinds.Sd.Sd, declared.kinds.Sd.TheVariants.{Same, Diff}, declared.kinds.Reach.Reach}
 use Rattle.relax_edges.specs.{declared.kinds.Reach.TheVariants.{Internal, External}, declared.kinds.Com.Com, declared.kinds.Pick.Pick}
 use Rattle.relax_edges.specs.{declared.kinds.FenceKind.FenceKind, declared.kinds.DepKind.DepKind, declared.kinds.Kind.Kind}
@@ -95,3 +95,7 @@ rank_of (edges.Fenced kind sd from to) = kind_rank (kinds.Fenced kind sd from to
 rank_of (edges.Dep kind sd to) = kind_rank (kinds.Dep kind sd to)
 rank_of (edges.Data sd) = kind_rank (kinds.Data sd)
 rank_of (edges.Marked marked) = kind_rank (markable_kind marked.kind) + ends_rank marked.ends
+
+-- whether two lists of edges are the same, by the ranks of their edges: no two edges have the same rank
+abbrev pub is_same : List Edge → List Edge → Bool
+is_same = pointwise (λ a b. rank_of a == rank_of b)

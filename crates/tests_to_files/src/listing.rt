@@ -20,10 +20,11 @@ use cycle_enum::{Limits, Walk};
 use cycle_names::name_of;
 use diy_io::{Failed, MAX_FOLDER, Page, Shelf, Sink};
 use edge_algebra::Cycle;
+use edges_from_text::Relaxes;
 use final_cond::Cond;
 use itoa::Buffer;
 use litmus_text::{KeptTable, Test};
-use relax_edges::{Edge, ObsMode, Relaxes};
+use relax_edges::{Edge, ObsMode};
 
 /// Space for the line on how many tests there are, whose number has at most 39 digits.
 const MAX_COUNT_LINE: usize = 80;
