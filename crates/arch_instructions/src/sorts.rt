@@ -7,7 +7,7 @@ use micro_ops::Micro;
 
 /// What an operation does, apart from its operands, and what a kind does, apart from their order. Only an operation
 /// of the same sort is of the kind.
-#[derive(Clone, Copy, PartialEq, Eq)]
+#[derive(Clone, Copy)]
 pub(crate) enum Sort {
     Imm,
     Xor,

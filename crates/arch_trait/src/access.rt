@@ -6,7 +6,7 @@ use crate::regs::Regs;
 use relax_edges::Mark;
 
 /// What is asked of the code of an access, besides the value of a store.
-#[derive(Clone, Copy, PartialEq, Eq)]
+#[derive(Clone, Copy)]
 pub struct AskedAccess {
     pub link: Link,
     pub mark: Mark,

@@ -27,7 +27,7 @@ pub struct Code {
 }
 
 /// A thread needs more registers than the architecture has.
-#[derive(Clone, Copy, Debug, PartialEq, Eq, thiserror::Error)]
+#[derive(Clone, Copy, Debug, thiserror::Error)]
 #[error("a thread needs more registers than the architecture has")]
 pub struct TooManyRegisters;
 

@@ -4,7 +4,7 @@ ghost use Rattle.arch_trait.specs.Links.{edge_link, depends_on_load, branches};
 use relax_edges::{DepKind, Edge, FenceKind, Kind};
 
 /// How an access is tied to the one before it in its thread.
-#[derive(Clone, Copy, Default, PartialEq, Eq)]
+#[derive(Clone, Copy, Default)]
 pub enum Link {
     /// Only by program order.
     #[default]

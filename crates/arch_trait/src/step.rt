@@ -5,7 +5,7 @@ use relax_edges::{Dir, MAX_EDGES, Mark};
 pub const MAX_STEPS: usize = MAX_EDGES;
 
 /// One access of a thread, and how it is tied to the one before it.
-#[derive(Clone, Copy, Default, PartialEq, Eq)]
+#[derive(Clone, Copy, Default)]
 pub struct Step {
     pub dir: Dir,
     /// It must fit what the access does: a load is plain or acquire, a store plain or release.
@@ -17,7 +17,7 @@ pub struct Step {
 }
 
 /// What the accesses of a thread need registers for, counted.
-#[derive(Clone, Copy, Default, PartialEq, Eq)]
+#[derive(Clone, Copy, Default)]
 pub struct Shape {
     /// How many accesses load.
     pub loads: u8,

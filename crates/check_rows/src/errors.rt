@@ -2,7 +2,7 @@ use diy_io::NoMemory;
 use std::alloc::{AllocError, AllocFailed};
 
 /// Why a table or a row of it can't be tried.
-#[derive(Clone, Copy, PartialEq, Eq)]
+#[derive(Clone, Copy)]
 pub enum TableError {
     /// The line with this number, from 1, isn't of any form; 0 if the table isn't UTF-8.
     BadLine(u64),

@@ -1,5 +1,5 @@
 /// Why a cycle has no resolution.
-#[derive(Clone, Copy, Debug, PartialEq, Eq, thiserror::Error)]
+#[derive(Clone, Copy, Debug, thiserror::Error)]
 pub enum ResolveError {
     /// Fewer than two edges are external.
     #[error("a cycle has at least two external edges")]

@@ -1,7 +1,7 @@
 use relax_edges::Dir;
 
 /// An access of a cycle: what it does, and where.
-#[derive(Clone, Copy, Default, PartialEq, Eq)]
+#[derive(Clone, Copy, Default)]
 pub struct Event {
     /// Whether it reads or writes.
     pub dir: Dir,

@@ -68,7 +68,7 @@ pub const FAMILIES: [Family; 14] = [
 
 /// The families of cycles that have names of their own, after the litmus tests of the herdtools
 /// manual, and `Other` for the cycles that belong to none.
-#[derive(Clone, Copy, PartialEq, Eq)]
+#[derive(Clone, Copy)]
 pub enum Family {
     /// Store buffering.
     SB,

@@ -15,7 +15,7 @@ use thiserror::Error;
 type Edges = ArrayVec<Edge, MAX_EDGES>;
 
 /// No cycle of the architecture has this name.
-#[derive(Clone, Copy, Debug, PartialEq, Eq, Error)]
+#[derive(Clone, Copy, Debug, Error)]
 #[error("no cycle of the architecture has this name")]
 pub struct NotAName;
 

@@ -5,7 +5,7 @@ use relax_edges::{Com, Dir, Edge, Kind, Reach, Sd};
 
 /// What an edge of a family's cycle joins: an external edge joins accesses of two threads; a link, named
 /// by what its accesses do, joins two accesses of one thread to different locations.
-#[derive(Clone, Copy, Default, PartialEq, Eq)]
+#[derive(Clone, Copy, Default)]
 pub(crate) enum Slot {
     #[default]
     Rfe,

@@ -2,7 +2,7 @@ use thiserror::Error;
 
 /// What is wrong with a line of cycles: the first of these that applies, in this order. All but the
 /// first are about what follows the label.
-#[derive(Clone, Copy, Debug, PartialEq, Eq, Error)]
+#[derive(Clone, Copy, Debug, Error)]
 pub enum LineKind {
     /// It has more than `MAX_CYCLE_LINE` bytes.
     #[error("the line has too many bytes")]
@@ -25,7 +25,7 @@ pub enum LineKind {
 }
 
 /// Why the lines of a source weren't read to its end.
-#[derive(Clone, Copy, Debug, PartialEq, Eq, Error)]
+#[derive(Clone, Copy, Debug, Error)]
 pub enum LinesError {
     /// The line of this number, counted from 1, has an error, and no line before it has one.
     #[error("line {line}: {kind}")]
@@ -40,7 +40,7 @@ pub enum LinesError {
 }
 
 /// Why the names of cycles weren't all written.
-#[derive(Clone, Copy, Debug, PartialEq, Eq, Error)]
+#[derive(Clone, Copy, Debug, Error)]
 pub enum NormError {
     /// The lines weren't read to the end.
     #[error("{0}")]
@@ -51,7 +51,7 @@ pub enum NormError {
 }
 
 /// Why the families of cycles weren't all written.
-#[derive(Clone, Copy, Debug, PartialEq, Eq, Error)]
+#[derive(Clone, Copy, Debug, Error)]
 pub enum ClassifyError {
     /// The lines weren't read to the end.
     #[error("{0}")]

@@ -1,7 +1,7 @@
 use std::alloc::{AllocError, AllocFailed};
 
 /// There is no memory for what a call needs.
-#[derive(Clone, Copy, Debug, PartialEq, Eq)]
+#[derive(Clone, Copy, Debug)]
 pub struct NoMemory;
 
 impl From<AllocError> for NoMemory {

@@ -9,7 +9,7 @@ use log_sum::LogKind;
 use test_maker::Refusal;
 
 /// How a call of `run` ended.
-#[derive(Clone, Copy, Debug, PartialEq, Eq)]
+#[derive(Clone, Copy, Debug)]
 pub enum Status {
     /// Everything that was asked for is written.
     Done,
@@ -46,7 +46,7 @@ pub enum Status {
 }
 
 /// A device that a tool reads or writes.
-#[derive(Clone, Copy, Debug, PartialEq, Eq)]
+#[derive(Clone, Copy, Debug)]
 pub enum Device {
     /// Standard input.
     Input,
@@ -57,7 +57,7 @@ pub enum Device {
 }
 
 /// What is wrong with a text or one of its lines.
-#[derive(Clone, Copy, Debug, PartialEq, Eq)]
+#[derive(Clone, Copy, Debug)]
 pub enum TextKind {
     /// An error in a line of cycles.
     Line(LineKind),

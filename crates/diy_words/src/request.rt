@@ -161,7 +161,7 @@ pub struct Demo {
 }
 
 /// What mcheck7 writes about an execution.
-#[derive(Clone, Copy, PartialEq, Eq)]
+#[derive(Clone, Copy)]
 pub enum CheckForm {
     /// The verdict on it.
     Verdict,

@@ -2,14 +2,14 @@ ghost use Rattle.std.specs.Prelude.{◌≡◌};
 
 /// A usage error, and the index of the argument at fault, where 0 is the tool's name. If no single
 /// argument is at fault, `word` is the number of arguments.
-#[derive(Clone, Copy, PartialEq, Eq)]
+#[derive(Clone, Copy)]
 pub struct Usage {
     pub word: usize,
     pub kind: UsageKind,
 }
 
 /// What is wrong with an argument, or with all of them together.
-#[derive(Clone, Copy, Debug, PartialEq, Eq)]
+#[derive(Clone, Copy, Debug)]
 pub enum UsageKind {
     /// There is no argument, or the first names no tool.
     UnknownTool,

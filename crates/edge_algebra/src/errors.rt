@@ -1,5 +1,5 @@
 /// Why a list of edges makes no cycle.
-#[derive(Clone, Copy, Debug, PartialEq, Eq, thiserror::Error)]
+#[derive(Clone, Copy, Debug, thiserror::Error)]
 pub enum CycleError {
     /// There is no edge.
     #[error("a cycle has at least one edge")]
@@ -13,7 +13,7 @@ pub enum CycleError {
 }
 
 /// Why two paths make no path.
-#[derive(Clone, Copy, Debug, PartialEq, Eq, thiserror::Error)]
+#[derive(Clone, Copy, Debug, thiserror::Error)]
 pub enum JoinError {
     /// The two have more than `MAX_EDGES` edges.
     #[error("a path has too many edges")]
@@ -24,6 +24,6 @@ pub enum JoinError {
 }
 
 /// The last edge of a path doesn't join its first.
-#[derive(Clone, Copy, Debug, PartialEq, Eq, thiserror::Error)]
+#[derive(Clone, Copy, Debug, thiserror::Error)]
 #[error("the last edge of a path doesn't join its first")]
 pub struct NotClosed;

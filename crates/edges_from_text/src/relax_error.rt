@@ -1,7 +1,7 @@
 use thiserror::Error;
 
 /// Why a text of relaxations is refused.
-#[derive(Clone, Copy, Debug, PartialEq, Eq, Error)]
+#[derive(Clone, Copy, Debug, Error)]
 pub enum RelaxKind {
     #[error("a word stands for no edge")]
     UnknownEdge,
@@ -16,7 +16,7 @@ pub enum RelaxKind {
 }
 
 /// A refusal of a text of relaxations: the byte, from 0, where the item with the error begins, and why.
-#[derive(Clone, Copy, Debug, PartialEq, Eq, Error)]
+#[derive(Clone, Copy, Debug, Error)]
 #[error("byte {at}: {kind}")]
 pub struct RelaxError {
     pub at: usize,

@@ -9,7 +9,7 @@ use litmus_text::TestKind;
 use tests_from_files::{FileFault, NoTest, TestFileKind};
 
 /// What is wrong with a file.
-#[derive(Clone, Copy, PartialEq, Eq)]
+#[derive(Clone, Copy)]
 pub enum CheckedKind {
     /// The file of the test has no header, or isn't a test of the architecture that the header names.
     Test(TestKind),
@@ -21,7 +21,7 @@ pub enum CheckedKind {
 
 /// How a call that checks an execution of a test ended. A `file` and a `word` are the position of the argument that
 /// names the file.
-#[derive(Clone, Copy, PartialEq, Eq)]
+#[derive(Clone, Copy)]
 pub enum CheckEnd {
     /// The verdict or the graph is written.
     Done,

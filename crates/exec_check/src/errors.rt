@@ -1,7 +1,7 @@
 use exec_text::ExecKind;
 
 /// Why there is no verdict on a text.
-#[derive(Clone, Copy, PartialEq, Eq)]
+#[derive(Clone, Copy)]
 pub enum CheckError {
     /// The text is no execution: the first line with an error, and the leftmost error in it.
     Exec {

@@ -12,7 +12,7 @@ use litmus_text::ReadTest;
 use std::alloc::Global;
 
 /// What is written for an execution.
-#[derive(Clone, Copy, PartialEq, Eq)]
+#[derive(Clone, Copy)]
 pub enum Shown {
     /// The lines of the verdict.
     Verdict,

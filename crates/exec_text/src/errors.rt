@@ -4,7 +4,7 @@ ghost use Rattle.exec_text.specs.declared.errors.ExecError.TheVariants.{Text, No
 use std::alloc::{AllocError, AllocFailed};
 
 /// What is faulty or missing in the text of an execution.
-#[derive(Clone, Copy, Debug, PartialEq, Eq)]
+#[derive(Clone, Copy, Debug)]
 pub enum ExecKind {
     /// The first word of a thread's line isn't the expected one, which is `P`, the thread's number and a colon, or is missing.
     BadThread,
@@ -23,7 +23,7 @@ pub enum ExecKind {
 }
 
 /// Why a text is no execution: the first line with an error, and the leftmost error in it.
-#[derive(Clone, Copy, PartialEq, Eq)]
+#[derive(Clone, Copy)]
 pub struct ExecFault {
     /// The number of the line, from 1: for a missing line, the number that it would have; for a text that is too
     /// large, 1.
@@ -32,7 +32,7 @@ pub struct ExecFault {
 }
 
 /// Why a text can't be read as an execution.
-#[derive(Clone, Copy, PartialEq, Eq)]
+#[derive(Clone, Copy)]
 pub enum ExecError {
     /// The text is no execution.
     Text(ExecFault),

@@ -10,7 +10,7 @@ pub type PlaceName = ArrayString<16>;
 pub const MAX_TERMS: usize = 128;
 
 /// Over which executions a condition ranges, by the litmus format of the herdtools manual.
-#[derive(Clone, Copy, Default, PartialEq, Eq)]
+#[derive(Clone, Copy, Default)]
 pub enum Quantifier {
     /// `exists`: the terms hold in some execution.
     #[default]

@@ -12,7 +12,7 @@ use arrayvec::ArrayVec;
 use text_parts::{Class, split_run, without_blanks};
 
 /// What follows a term of a condition.
-#[derive(Clone, Copy, PartialEq, Eq)]
+#[derive(Clone, Copy)]
 pub enum Follow {
     /// `/\`, so one more term is expected.
     Term,

@@ -5,7 +5,7 @@ use std::alloc::{AllocError, AllocFailed};
 use thiserror::Error;
 
 /// What is wrong or missing in the text of a test.
-#[derive(Clone, Copy, Debug, PartialEq, Eq, Error)]
+#[derive(Clone, Copy, Debug, Error)]
 pub enum TestKind {
     /// The first line that isn't skipped isn't an architecture and a name of at most `MAX_TEST_NAME`
     /// bytes, or the architecture isn't the expected one.
@@ -43,7 +43,7 @@ pub enum TestKind {
 
 /// Why a text isn't a test: its first error, in the order in which a text is judged. (The labels of
 /// branches are judged after all rows.)
-#[derive(Clone, Copy, Debug, PartialEq, Eq, Error)]
+#[derive(Clone, Copy, Debug, Error)]
 #[error("line {line}: {kind}")]
 pub struct TextError {
     /// The number of the line, from 1. All lines are counted.
@@ -52,7 +52,7 @@ pub struct TextError {
 }
 
 /// Why a text can't be read as a test.
-#[derive(Clone, Copy, Debug, PartialEq, Eq, Error)]
+#[derive(Clone, Copy, Debug, Error)]
 pub enum ReadError {
     /// The text isn't a test.
     #[error("{0}")]

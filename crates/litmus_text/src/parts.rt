@@ -16,7 +16,7 @@ use diy_io::{LINE_ROOM, Page};
 const CLOSING: &[u8; 2] = b"}\n";
 
 /// A part of the text of a test after its header, from which printing goes on.
-#[derive(Clone, Copy, PartialEq, Eq)]
+#[derive(Clone, Copy)]
 pub enum TextPart {
     /// The line of the edges, and the brace that opens the initial state.
     Edges,

@@ -6,7 +6,7 @@ use std::alloc::{AllocError, AllocFailed};
 use thiserror::Error;
 
 /// What is wrong with a line of a log.
-#[derive(Clone, Copy, Debug, PartialEq, Eq)]
+#[derive(Clone, Copy, Debug)]
 pub enum LogKind {
     /// The log ends inside a block, or a block begins inside one, after its judgement.
     Truncated,
@@ -31,14 +31,14 @@ pub enum LogKind {
 }
 
 /// An error in a log, with the number of its line, from 1; the number stops at 2^64-1.
-#[derive(Clone, Copy, Debug, PartialEq, Eq)]
+#[derive(Clone, Copy, Debug)]
 pub struct LogError {
     pub line: u64,
     pub kind: LogKind,
 }
 
 /// Why a summer is finished.
-#[derive(Clone, Copy, Debug, PartialEq, Eq, Error)]
+#[derive(Clone, Copy, Debug, Error)]
 pub enum SumError {
     /// A line of a log is wrong.
     #[error("a log is wrong")]

@@ -36,14 +36,14 @@ impl Model for Machine {
 }
 
 /// What a step leads to: the item that it makes and the label that it jumps to, if any.
-#[derive(Clone, Copy, PartialEq, Eq)]
+#[derive(Clone, Copy)]
 pub struct Stepped {
     pub item: Option<Item>,
     pub jump: Option<u8>,
 }
 
 /// No rule fits the operands, or a load has nothing to read.
-#[derive(Clone, Copy, Debug, PartialEq, Eq, Error)]
+#[derive(Clone, Copy, Debug, Error)]
 #[error("no rule fits the operands, or a load has nothing to read")]
 pub struct Stuck;
 

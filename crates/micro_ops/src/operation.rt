@@ -112,7 +112,7 @@ impl Default for Micro {
 
 /// What a thread does that other threads can notice: an access or a barrier, with the loads that it
 /// depends on. Bit `k` of a mask names load number `k` of the thread, from 0.
-#[derive(Clone, Copy, PartialEq, Eq)]
+#[derive(Clone, Copy)]
 pub enum Item {
     /// A read of the value at the location, or a write of it, with its mark. The masks name the loads that its
     /// address, the value written and the branches before it depend on.

@@ -45,7 +45,7 @@ impl Trace {
 }
 
 /// Why a run has no trace.
-#[derive(Clone, Copy, Debug, PartialEq, Eq, Error)]
+#[derive(Clone, Copy, Debug, Error)]
 pub enum RunError {
     /// The operation with this number, from 0, is stuck: no rule fits its operands, or it is a
     /// load and no read is left.
@@ -60,7 +60,7 @@ pub enum RunError {
 }
 
 /// Why a runner can't go on.
-#[derive(Clone, Copy, PartialEq, Eq)]
+#[derive(Clone, Copy)]
 enum Halt {
     Stuck,
     NoMemory,

@@ -2,7 +2,7 @@ use log_sum::LogKind;
 
 /// How a call that sums logs ended. A `file` is the index of the argument that names it, and `None` is
 /// the input; lines count from 1.
-#[derive(Clone, Copy, PartialEq, Eq)]
+#[derive(Clone, Copy)]
 pub enum SumEnd {
     /// The sum is written.
     Done,

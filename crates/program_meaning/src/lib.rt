@@ -17,7 +17,7 @@ pub struct WriteAt {
 }
 
 /// An access of a thread: what it does, at which location, and the value that it reads or writes.
-#[derive(Clone, Copy, PartialEq, Eq)]
+#[derive(Clone, Copy)]
 pub struct Access {
     pub dir: Dir,
     pub place: u8,
@@ -26,7 +26,7 @@ pub struct Access {
 
 /// A barrier of a thread, with the loads that the branches before it depend on: bit `k` of the mask names load
 /// number `k` of the thread, from 0.
-#[derive(Clone, Copy, PartialEq, Eq)]
+#[derive(Clone, Copy)]
 pub struct Barred {
     pub kind: Barrier,
     pub control: u64,

@@ -7,25 +7,22 @@ pub enum Dir {
 }
 
 /// Whether two accesses are at the same location or at different ones.
-#[derive(Clone, Copy, Default, PartialEq, Eq)]
+#[derive(Clone, Copy)]
 pub enum Sd {
-    #[default]
     Same,
     Diff,
 }
 
 /// Whether an edge stays in one thread or leads to another.
-#[derive(Clone, Copy, Default, PartialEq, Eq)]
+#[derive(Clone, Copy)]
 pub enum Reach {
-    #[default]
     Internal,
     External,
 }
 
 /// The architectures that tests are made for.
-#[derive(Clone, Copy, Debug, Default, PartialEq, Eq)]
+#[derive(Clone, Copy, Debug)]
 pub enum ArchName {
-    #[default]
     X86,
     PPC,
     AArch64,
@@ -36,27 +33,24 @@ pub enum ArchName {
 
 /// The communications between accesses to one location: reads-from, from-read, and write
 /// serialization (the coherence order).
-#[derive(Clone, Copy, Default, PartialEq, Eq)]
+#[derive(Clone, Copy)]
 pub enum Com {
-    #[default]
     Rf,
     Fr,
     Ws,
 }
 
 /// The accesses that one side of a RISC-V fence orders.
-#[derive(Clone, Copy, Debug, Default, PartialEq, Eq)]
+#[derive(Clone, Copy, Debug, PartialEq, Eq)]
 pub enum Pick {
-    #[default]
     R,
     W,
     RW,
 }
 
 /// The fences of the architectures. AArch64 and ARM have `DmbSt`; only one architecture has each other.
-#[derive(Clone, Copy, Debug, Default, PartialEq, Eq)]
+#[derive(Clone, Copy, Debug, PartialEq, Eq)]
 pub enum FenceKind {
-    #[default]
     MFence,
     Sync,
     LwSync,
@@ -70,9 +64,8 @@ pub enum FenceKind {
 }
 
 /// The syntactic dependencies on a load, except data dependencies, which lead only to stores.
-#[derive(Clone, Copy, Default, PartialEq, Eq)]
+#[derive(Clone, Copy)]
 pub enum DepKind {
-    #[default]
     Addr,
     Ctrl,
     CtrlIsync,
@@ -134,9 +127,8 @@ pub enum Value {
 /// Which locations get an observer: with `Accept`, those whose order of writes would otherwise stay
 /// open; with `Avoid`, none, and a cycle that needs one is refused; with `Force`, each that has two or
 /// more writes.
-#[derive(Clone, Copy, Default, PartialEq, Eq)]
+#[derive(Clone, Copy)]
 pub enum ObsMode {
-    #[default]
     Accept,
     Avoid,
     Force,

@@ -320,7 +320,7 @@ pub fn read_ending(prefix: &[u8], before: u8, last: u8) -> Option<Edge>
 }
 
 /// No edge has this spelling.
-#[derive(Clone, Copy, Debug, PartialEq, Eq, Error)]
+#[derive(Clone, Copy, Debug, Error)]
 #[error("no edge has this spelling")]
 pub struct UnknownEdge;
 

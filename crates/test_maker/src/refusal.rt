@@ -7,7 +7,7 @@ use edge_algebra::CycleError;
 use thiserror::Error;
 
 /// Why a list of edges or a cycle is refused. Edges, events, threads and locations are counted from 0.
-#[derive(Clone, Copy, Debug, PartialEq, Eq, Error)]
+#[derive(Clone, Copy, Debug, Error)]
 pub enum Refusal {
     /// There is no edge.
     #[error("there is no edge")]

@@ -7,7 +7,7 @@ use diy_io::Failed;
 use litmus_text::TestKind;
 
 /// What is wrong with a file of a test.
-#[derive(Clone, Copy, PartialEq, Eq)]
+#[derive(Clone, Copy)]
 pub enum FileKind {
     /// It has too many bytes or no header, or isn't a test of the architecture that the header names.
     Test(TestKind),
@@ -18,7 +18,7 @@ pub enum FileKind {
 }
 
 /// The first error of a file, and its line.
-#[derive(Clone, Copy, PartialEq, Eq)]
+#[derive(Clone, Copy)]
 pub struct FileError {
     /// The number of the line, from 1. It is 1 for `WrongArch`, and 2 for `NoCycle`.
     pub line: u64,
@@ -27,7 +27,7 @@ pub struct FileError {
 
 /// How a call that classifies files ended. `file` and `word` are the position, from 0, of the argument
 /// that names the file.
-#[derive(Clone, Copy, PartialEq, Eq)]
+#[derive(Clone, Copy)]
 pub enum FilesEnd {
     /// The names are written by their families.
     Done,

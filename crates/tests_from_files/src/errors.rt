@@ -1,7 +1,7 @@
 use litmus_text::TestKind;
 
 /// Why a file wasn't read.
-#[derive(Clone, Copy, PartialEq, Eq)]
+#[derive(Clone, Copy)]
 pub enum FileFault {
     /// It doesn't exist.
     Missing,
@@ -12,7 +12,7 @@ pub enum FileFault {
 }
 
 /// The kind of the first error of a text that is no test of an architecture.
-#[derive(Clone, Copy, PartialEq, Eq)]
+#[derive(Clone, Copy)]
 pub enum TestFileKind {
     /// It has too many bytes or no header, or isn't a test of the architecture that the header names.
     Test(TestKind),
@@ -21,7 +21,7 @@ pub enum TestFileKind {
 }
 
 /// The first error of a text that is no test of an architecture, and its line.
-#[derive(Clone, Copy, PartialEq, Eq)]
+#[derive(Clone, Copy)]
 pub struct TestFileError {
     /// The number of the line, from 1. It is 1 for `WrongArch`.
     pub line: u64,
@@ -29,7 +29,7 @@ pub struct TestFileError {
 }
 
 /// Why there is no test of a text.
-#[derive(Clone, Copy, PartialEq, Eq)]
+#[derive(Clone, Copy)]
 pub enum NoTest {
     /// The text has an error.
     Wrong(TestFileError),

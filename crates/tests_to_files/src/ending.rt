@@ -1,5 +1,5 @@
 /// How a listing ended.
-#[derive(Clone, Copy, PartialEq, Eq)]
+#[derive(Clone, Copy)]
 pub enum ListingEnd {
     /// All files and the line on their number were written.
     Done,

@@ -5,7 +5,7 @@ use diy_io::NoMemory;
 use test_maker::Refusal;
 
 /// Why there is no execution.
-#[derive(Clone, Copy, PartialEq, Eq)]
+#[derive(Clone, Copy)]
 pub enum RunError {
     /// The first reason why the cycle has no test, or no coherence test, or why there is nothing to show.
     Refused(Refusal),
