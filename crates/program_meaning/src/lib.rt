@@ -5,7 +5,6 @@
 mod execution;
 
 pub use execution::{Execution, Read};
-
 use micro_ops::Barrier;
 use relax_edges::Dir;
 
