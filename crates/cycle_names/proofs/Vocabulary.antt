@@ -59,7 +59,7 @@ pub use Rattle.relax_edges.specs.JoinedEdges.{is_joined}
 pub use Rattle.relax_edges.specs.NamedEdges.{fre, pod, rfe, wse}
 unfoldable pub use Rattle.relax_edges.specs.Order.{rank_of}
 pub use Rattle.relax_edges.specs.ReadEdges.{before_edges}
-pub use Rattle.relax_edges.specs.Order.is_same
+pub use Rattle.relax_edges.specs.Order.{is_same}
 unfoldable pub use Rattle.relax_edges.specs.Spelling.{edge_of}
 pub use Rattle.relax_edges.specs.WordParts.{word_of}
 pub use Rattle.relax_edges.specs.declared.TheConstants.{MAX_EDGES}

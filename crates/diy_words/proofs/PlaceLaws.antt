@@ -2,7 +2,7 @@
 use Rattle.std.proofs.Common.{◌≡◌, ◌<◌, ◌≤◌, ◌+◌, ℕ, Bool, true, false, List, [], ◌∷◌, ◌++◌, length, Option, Some, None, Result, Ok, Err, append_assoc, append-nil, refl, sym, ap, ◌∙◌, slice_get, nat_lt, nat_le}
 use Rattle.std.specs.Prelude.{◌&&◌, if◌then◌else◌, IsOk}
 use Rattle.relax_edges.specs.{declared.TheConstants.MAX_EDGES, declared.edge.Edge.Edge, declared.kinds.ArchName.ArchName, declared.kinds.ObsMode.ObsMode}
-use Rattle.relax_edges.specs.Architectures.arch_of
+use Rattle.relax_edges.specs.Architectures.{arch_of}
 use Rattle.edges_from_text.specs.{declared.relax_error.RelaxError.RelaxError, Relaxations.relaxes_of}
 use Rattle.edge_algebra.specs.{declared.errors.CycleError.CycleError, Compose.composed}
 use Rattle.edges_from_text.specs.{declared.read.Separators.TheVariants.BlanksAndCommas, Spelled.edges_of}

@@ -4,9 +4,9 @@ use Rattle.std.proofs.lemmas.Bool.Decides.{nat_tests}
 use Rattle.std.specs.{Prelude.{if◌then◌else◌, IfOk, IfSome, ◌&&◌, ◌||◌, ◌==◌, codes}, Str.bytes_eq, Str.Parse.digits_value, List.AllByRecursion, Borrow.Bor}
 use Rattle.std.specs.Option.{option_map, option_or, unwrap_or, ForSome}
 use Rattle.relax_edges.specs.{declared.edge.Edge.Edge, declared.TheConstants.MAX_EDGES}
-use Rattle.edges_from_text.specs.declared.relax_error.RelaxError.RelaxError
+use Rattle.edges_from_text.specs.declared.relax_error.RelaxError.{RelaxError}
 use Rattle.relax_edges.specs.{declared.kinds.ArchName.ArchName, declared.kinds.ObsMode.ObsMode, Architectures.arch_of}
-use Rattle.edges_from_text.specs.Relaxations.relaxes_of
+use Rattle.edges_from_text.specs.Relaxations.{relaxes_of}
 use Rattle.edge_algebra.specs.{declared.errors.CycleError.CycleError, Compose.composed}
 use Rattle.edges_from_text.specs.{declared.read.Separators.TheVariants.BlanksAndCommas, Spelled.{edges_of, text_edges}}
 use Rattle.diy_words.specs.{declared.request.TheConstants.{MAX_CHOICES, MAX_TESTS}, declared.request.Check.Check, declared.request.Demo.Demo}

@@ -2,10 +2,10 @@
 -- after the command lines of the diy tools.
 use Rattle.std.specs.Prelude.{ℕ, ◌+◌, ◌==◌, ◌&&◌, ◌||◌, Bool, false, nat_lt, nat_le, if◌then◌else◌, List, [], ◌∷◌, length, Option, Some, None, Result, Ok, Err, codes}
 use Rattle.std.specs.Str.{bytes_eq}
-use Rattle.relax_edges.specs.declared.TheConstants.MAX_EDGES
+use Rattle.relax_edges.specs.declared.TheConstants.{MAX_EDGES}
 use Rattle.edges_from_text.specs.{declared.relax_error.RelaxKind.RelaxKind, declared.relax_error.RelaxError.RelaxError}
 use Rattle.relax_edges.specs.{declared.kinds.ArchName.ArchName, declared.kinds.ObsMode.ObsMode, declared.edge.Edge.Edge}
-use Rattle.edges_from_text.specs.Relaxations.relaxes_of
+use Rattle.edges_from_text.specs.Relaxations.{relaxes_of}
 use Rattle.relax_edges.specs.Architectures.{arch_of}
 use Rattle.edges_from_text.specs.declared.relax_error.RelaxKind.TheVariants as relaxing
 use Rattle.edge_algebra.specs.{declared.errors.CycleError.CycleError, Compose.composed}

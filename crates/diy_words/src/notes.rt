@@ -1,6 +1,6 @@
 ghost use Rattle.std.specs.Prelude.{◌≡◌, ◌<◌, ◌≤◌, ◌+◌, ◌^◌, Err};
 ghost use Rattle.relax_edges.specs.{Architectures.arch_of, declared.TheConstants.MAX_EDGES};
-ghost use Rattle.edges_from_text.specs.Relaxations.relaxes_of;
+ghost use Rattle.edges_from_text.specs.Relaxations.{relaxes_of};
 ghost use Rattle.edges_from_text.specs.{declared.read.Separators.TheVariants.{BlanksAndCommas}, Spelled.{edges_of, text_edges}};
 ghost use Rattle.edge_algebra.specs.Compose.{composed};
 ghost use Rattle.diy_words.specs.{CodeNotes.{cycle_kept}, NumberWords.{number_to}, declared.usage.UsageKind.TheVariants.{ExcludedOption}};

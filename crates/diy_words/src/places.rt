@@ -1,5 +1,5 @@
 ghost use Rattle.std.specs.Prelude.{◌≡◌, Ok, IfOk, IsOk};
-ghost use Rattle.edges_from_text.specs.Relaxations.relaxes_of;
+ghost use Rattle.edges_from_text.specs.Relaxations.{relaxes_of};
 ghost use Rattle.diy_words.specs.Requests.{asked_of, IsCrossing, places_of};
 
 use crate::options::{Tool, option_named};

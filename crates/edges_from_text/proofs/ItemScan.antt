@@ -3,8 +3,8 @@ use Rattle.std.specs.{Prelude.{ℕ, ◌≡◌, ◌+◌, ◌==◌, ◌||◌, Bool
 use Rattle.std.proofs.{Common.{zero, suc, refl, arith, ap, sym, ◌∙◌, length-append}, lemmas.Bool.{eqb-true, false≢true}, lemmas.List.append-nil}
 use Rattle.std.proofs.lemmas.List.Elements.{filter-append}
 use Rattle.list_laws.proofs.Places.{before_first-no}
-use Rattle.relax_edges.specs.declared.edge.Edge.Edge
-use Rattle.edges_from_text.specs.declared.relax_error.RelaxKind.RelaxKind
+use Rattle.relax_edges.specs.declared.edge.Edge.{Edge}
+use Rattle.edges_from_text.specs.declared.relax_error.RelaxKind.{RelaxKind}
 use Rattle.edges_from_text.specs.RelaxText.{is_separator, is_bracket, ends_word, inside, has_closed_bracket, RelaxItem, words_from, last_byte, is_open, stands_apart, begins_item, items_after, items_of}
 use Rattle.edges_from_text.specs.{RelaxPrefix.{bytes_after, ends_here}, Relaxations.item_errors, RelaxKept.{kept_item, kept_items}}
 

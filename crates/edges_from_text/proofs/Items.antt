@@ -4,8 +4,8 @@ use Rattle.std.specs.List.{list_any}
 use Rattle.std.proofs.{Common.{suc, refl, arith}, Math.ListN.drop_of_length-le, lemmas.List.drop-drop, lemmas.Bool.{lt-ltb, le-ltb}}
 use Rattle.list_laws.specs.Errors.{unless}
 use Rattle.list_laws.proofs.Elements.{rest_from}
-use Rattle.relax_edges.specs.declared.edge.Edge.Edge
-use Rattle.edges_from_text.specs.declared.relax_error.RelaxKind.RelaxKind
+use Rattle.relax_edges.specs.declared.edge.Edge.{Edge}
+use Rattle.edges_from_text.specs.declared.relax_error.RelaxKind.{RelaxKind}
 use Rattle.edges_from_text.specs.declared.relax_error.RelaxKind.TheVariants.{UnknownEdge, RelaxTooLong, DoesNotJoin}
 use Rattle.edges_from_text.specs.{RelaxText.{is_separator, is_empty, words_from}, Relaxations.{word_edges, error_if, item_errors, too_many}}
 use Rattle.edges_from_text.specs.{RelaxKept.{keep_all, at_most_64, kept_item, kept_items}, RelaxSearch.{paths_after, KeepsPaths}}

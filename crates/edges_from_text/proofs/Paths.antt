@@ -4,7 +4,7 @@ use Rattle.std.proofs.{Common.{refl, arith, ap, append_assoc}, lemmas.Bool.{ltb-
 use Rattle.std.proofs.{lemmas.List.Elements.filter-append, Math.Bool.and-true}
 use Rattle.list_laws.proofs.Cases.{by_test}
 use Rattle.relax_edges.specs.{declared.edge.Edge.Edge, EdgeTable.joins_to, JoinedEdges.is_joined}
-use Rattle.edges_from_text.specs.declared.relax_error.RelaxKind.RelaxKind
+use Rattle.edges_from_text.specs.declared.relax_error.RelaxKind.{RelaxKind}
 use Rattle.edges_from_text.specs.{RelaxSearch.paths_after, Relaxations.path_choices, RelaxKept.{keep_path, keep_all, at_most_64}}
 
 -- to go on with an edge and then others is to go on after one edge more

@@ -4,10 +4,10 @@ use Rattle.std.specs.List.{before_first, position_or_len}
 use Rattle.std.proofs.{Common.{get_or, refl, arith, ap, sym}, lemmas.Bool.{eqb-true, false≢true}, lemmas.List.length-take, lemmas.List.Folds.length-prefix_len}
 use Rattle.std.proofs.Math.ListN.{get_or-eq_default}
 use Rattle.edges_from_text.specs.RelaxText.{is_separator, is_bracket, ends_word, words_of, inside, has_closed_bracket, bracket_words, words_from}
-use Rattle.relax_edges.specs.declared.edge.Edge.Edge
+use Rattle.relax_edges.specs.declared.edge.Edge.{Edge}
 use Rattle.edges_from_text.specs.{declared.relax_error.RelaxKind.TheVariants.BadBracket, Relaxations.item_errors, RelaxKept.kept_item}
 use Rattle.edges_from_text.specs.RelaxPrefix.{bytes_after, kept_prefix, first_words, first_word_len, ends_here, IsInside, IsFirstWord}
-use Rattle.edges_from_text.proofs.RelaxWords.words_of_run
+use Rattle.edges_from_text.proofs.RelaxWords.{words_of_run}
 use Rattle.list_laws.proofs.Places.{before_first-no}
 
 before_first-length : (test : ℕ → Bool) (text : List ℕ) → length (before_first test text) ≡ position_or_len test text

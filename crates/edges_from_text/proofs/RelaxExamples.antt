@@ -6,7 +6,7 @@ use Rattle.relax_edges.specs.declared.kinds.Sd.TheVariants.{Diff}
 use Rattle.relax_edges.specs.NamedEdges.{fre, rfe, wse}
 use Rattle.edges_from_text.specs.declared.relax_error.RelaxKind.TheVariants.{UnknownEdge, BadBracket, RelaxTooLong, DoesNotJoin}
 use Rattle.relax_edges.specs.{Order.rank_of, AllEdges.edges_in_order, Spelling.edge_of}
-use Rattle.edges_from_text.specs.RelaxText.items_of
+use Rattle.edges_from_text.specs.RelaxText.{items_of}
 use Rattle.edges_from_text.specs.Relaxations.{word_edges, distinct, item_errors, relaxes_of}
 use Rattle.relax_edges.specs.declared.kinds.DepKind.TheVariants as deps
 use Rattle.relax_edges.specs.declared.edge.Edge.TheVariants as edges

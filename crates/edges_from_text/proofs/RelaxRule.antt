@@ -4,10 +4,10 @@ use Rattle.std.proofs.{Common.{refl, arith, ap, sym, ◌∙◌, append_assoc}, l
 use Rattle.std.proofs.lemmas.Grind.{flat_map-append}
 use Rattle.list_laws.specs.Errors.{with_before, unless}
 use Rattle.list_laws.proofs.Errors.{before_append}
-use Rattle.relax_edges.specs.declared.edge.Edge.Edge
+use Rattle.relax_edges.specs.declared.edge.Edge.{Edge}
 use Rattle.edges_from_text.specs.{declared.relax_error.RelaxKind.RelaxKind, declared.relax_error.RelaxError.RelaxError}
 use Rattle.edges_from_text.specs.{RelaxText.{RelaxItem, items_of}, RelaxKept.{keep_path, keep_all, kept_item, kept_items}}
-use Rattle.relax_edges.specs.Order.is_same
+use Rattle.relax_edges.specs.Order.{is_same}
 use Rattle.edges_from_text.specs.Relaxations.{if_new, distinct, item_paths, relaxes_in, item_errors, too_many, errors_of, relaxes_of}
 use Rattle.edges_from_text.proofs.{Search.flat_map-end, Kept.same_decides, ItemScan.{kept_one, refused_one}}
 

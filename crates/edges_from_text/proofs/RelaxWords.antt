@@ -4,7 +4,7 @@ use Rattle.std.specs.{List.{before_first, position, position_or_len, slice_split
 use Rattle.std.proofs.{lemmas.Bool.ltb-false, lemmas.List.Sums.prefix_len-le-length, Common.{nat_lt, refl, arith, ap, sym}}
 use Rattle.list_laws.proofs.{Cases.by_test, Places.{before_first-no, position_or_len-no}}
 use Rattle.edges_from_text.specs.RelaxText.{is_separator, ends_word, is_empty, words_of}
-use Rattle.edges_from_text.proofs.ItemScan.before_first-yes
+use Rattle.edges_from_text.proofs.ItemScan.{before_first-yes}
 
 -- the parts of a text that are not empty, by the test that splits it
 abbrev words_by : (ℕ → Bool) → List ℕ → List (List ℕ)

@@ -3,7 +3,7 @@
 use Rattle.std.specs.Prelude.{ℕ, ◌≡◌, ◌<◌, ◌≤◌, ◌==◌, ◌&&◌, Bool, true, not, cond, nat_lt, Option, Some, None, Result, List, [], ◌∷◌, ◌++◌, length, filter, map, codes}
 use Rattle.std.specs.List.{flat_map, filter_map, list_any}
 use Rattle.list_laws.specs.Errors.{with_before, unless}
-use Rattle.relax_edges.specs.declared.edge.Edge.Edge
+use Rattle.relax_edges.specs.declared.edge.Edge.{Edge}
 use Rattle.edges_from_text.specs.{declared.relax_error.RelaxKind.RelaxKind, declared.relax_error.RelaxError.RelaxError}
 use Rattle.edges_from_text.specs.declared.relax_error.RelaxKind.TheVariants.{UnknownEdge, BadBracket, RelaxTooLong, DoesNotJoin, TooManyRelaxes}
 use Rattle.relax_edges.specs.{JoinedEdges.is_joined, Order.is_same, Spelling.edge_of}

@@ -16,7 +16,7 @@ pub struct Relax {
 impl Model for Relax {
     ghost use Rattle.std.specs.Prelude.{List};
     ghost use Rattle.relax_edges.specs.declared.edge.Edge.{Edge as EdgeValue};
-    ghost use Rattle.edges_from_text.specs.Relaxations.IsRelax;
+    ghost use Rattle.edges_from_text.specs.Relaxations.{IsRelax};
 
     ghost Value = { List EdgeValue };
 
@@ -65,7 +65,7 @@ pub struct Relaxes {
 impl Model for Relaxes {
     ghost use Rattle.std.specs.Prelude.{List};
     ghost use Rattle.relax_edges.specs.declared.edge.Edge.{Edge as EdgeValue};
-    ghost use Rattle.edges_from_text.specs.Relaxations.IsRelaxes;
+    ghost use Rattle.edges_from_text.specs.Relaxations.{IsRelaxes};
 
     ghost Value = { List (List EdgeValue) };
 

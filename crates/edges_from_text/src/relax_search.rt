@@ -1,6 +1,6 @@
 ghost use Rattle.std.specs.Prelude.{◌≡◌, ◌<◌, ◌≤◌, ◌+◌, ◌∷◌, [], ◌++◌, true, length, map, Ok, Err, OnOk, MatchResult};
 ghost use Rattle.arrayvec.specs.ArrayVec.{array_vec_len};
-ghost use Rattle.relax_edges.specs.JoinedEdges.is_joined;
+ghost use Rattle.relax_edges.specs.JoinedEdges.{is_joined};
 ghost use Rattle.edges_from_text.specs.{RelaxText.words_of, RelaxKept.{keep_all, at_most_64}, Relaxations.word_edges};
 ghost use Rattle.edges_from_text.specs.RelaxSearch.{paths_after, KeepsPaths};
 

@@ -1,6 +1,6 @@
 ghost use Rattle.std.specs.{Prelude.{◌≡◌, ◌<◌, ◌≤◌, ◌+◌, ◌∷◌, [], ◌++◌, length, MatchOption}, List.{list_any}, Option.{option_to_list}};
 ghost use Rattle.arrayvec.specs.ArrayVec.{array_vec_len};
-ghost use Rattle.relax_edges.specs.Spelling.edge_of;
+ghost use Rattle.relax_edges.specs.Spelling.{edge_of};
 ghost use Rattle.edges_from_text.specs.{RelaxText.{is_separator, words_of, is_empty}, Relaxations.word_edges};
 ghost use Rattle.edges_from_text.specs.Stars.{edges_by_last, edges_by_end};
 

@@ -1,5 +1,5 @@
 -- The text up to the first end of a word is the word that the text begins with.
-use Rattle.edges_from_text.proofs.Prefixes.first_word
+use Rattle.edges_from_text.proofs.Prefixes.{first_word}
 use Rattle.edges_from_text.proofs.relax_items.first_word.Goals as goal
 
 pub returns : goal.returns

@@ -1,6 +1,6 @@
 -- Only separators are passed, so the rest has the words of the text.
 use Rattle.std.proofs.Common.{◌≡◌, ◌≤◌, length}
-use Rattle.edges_from_text.specs.RelaxText.words_of
+use Rattle.edges_from_text.specs.RelaxText.{words_of}
 use Rattle.edges_from_text.proofs.relax_words.next_word.Given as goal
 
 abbrev pub invariant-loop-rest : goal.invariant-loop-rest
