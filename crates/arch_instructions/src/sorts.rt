@@ -7,7 +7,7 @@ use micro_ops::Micro;
 
 /// What an operation does, apart from its operands, and what a kind does, apart from their order. Only an operation
 /// of the same sort is of the kind.
-#[derive(Clone, Copy)]
+#[derive(Clone, Copy, PartialEq, Eq)]
 pub(crate) enum Sort {
     Imm,
     Xor,
