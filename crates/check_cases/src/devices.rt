@@ -5,8 +5,7 @@ use diy_io::{DirShelf, Failed, OpenError, Shelf, Sink, StdSink};
 use std::io::{ErrorKind, Write};
 use std::{fs, io};
 
-/// A writer that takes at most three bytes in a call, fails at call 2 and takes nothing at call 4, counted
-/// from 0.
+/// A writer that takes at most three bytes in a call, fails at call 2 and takes nothing at call 4, counted from 0.
 #[derive(Drop)]
 struct Unsteady {
     calls: u8,

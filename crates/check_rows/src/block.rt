@@ -32,8 +32,7 @@ pub enum Keyword {
     /// The row stands for a call for each length from the first number to the second: the output has
     /// space for this many bytes and takes this prefix, or this prefix of the input is read.
     Prefixes,
-    /// The expected exit status, and the status with its fields; for a text that is read, `Read` or its
-    /// error.
+    /// The expected exit status, and the status with its fields; for a text that is read, `Read` or its error.
     Status,
     /// The expected output.
     Out,

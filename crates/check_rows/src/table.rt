@@ -7,11 +7,10 @@ use std::alloc::Global;
 
 /// The blocks of a table, in order.
 ///
-/// Empty lines and lines that begin with `#` are skipped. A line of bytes begins with its mark: `|`
-/// bytes and a line feed, `>` bytes, `%` bytes as two hexadecimal digits each, `=NAME` the bytes of a
-/// text that was named before, `=NAME N` its first N bytes, and `*N ` before one of the first three its
-/// bytes N times. The text after `|` and `>` is taken as it is. Every other line begins with a keyword;
-/// a blank separates it from its argument.
+/// Empty lines and lines that begin with `#` are skipped. A line of bytes begins with its mark: `|` bytes and a line
+/// feed, `>` bytes, `%` bytes as two hexadecimal digits each, `=NAME` the bytes of a text that was named before,
+/// `=NAME N` its first N bytes, and `*N ` before one of the first three its bytes N times. The text after `|` and `>`
+/// is taken as it is. Every other line begins with a keyword; a blank separates it from its argument.
 pub fn read_table(alloc: Global, text: &str) -> Result<Vec<Block>, TableError> {
     let mut blocks = Vec::new(alloc);
     let mut number: u64 = 0;

@@ -12,16 +12,14 @@ pub fn values_count_along_arc()
     ensures { ValuesCountAlongArc }
 {}
 
-/// A cycle that isn't refused has a coherence test, once it is rotated so that its last edge leads to
-/// another thread.
+/// A cycle that isn't refused has a coherence test, once it is rotated so that its last edge leads to another thread.
 pub fn accepted_have_tests<A: Arch>()
     ensures { AcceptedHaveTests A.puts }
 {}
 
-/// On every architecture, the printed text of each coherence test, under a name of its form, is read as
-/// a test whose condition exactly one candidate execution meets: in it all edges of the cycle stand,
-/// program order at one location, reads-from, coherence order and from-read have a cycle, and it isn't
-/// coherent.
+/// On every architecture, the printed text of each coherence test, under a name of its form, is read as a test whose
+/// condition exactly one candidate execution meets: in it all edges of the cycle stand, program order at one
+/// location, reads-from, coherence order and from-read have a cycle, and it isn't coherent.
 pub fn printed_show_incoherence<A: Arch>()
     ensures { PrintedShowIncoherence A.puts A.NAME A.writing }
 {}

@@ -53,8 +53,7 @@ pub fn quoted_cycle(arch: ArchName, quoted: Option<&[u8]>) -> Option<Cycle>
     }
 }
 
-/// Sets `cycle` to the cycle of an architecture that the edges of a line compose to, or returns their
-/// first error.
+/// Sets `cycle` to the cycle of an architecture that the edges of a line compose to, or returns their first error.
 fn make_of(arch: ArchName, edges: &EdgeList, cycle: &mut Option<Cycle>) -> Result<(), LineKind>
     ensures { said_with result cycle.new ≡ made_kept arch edges.now }
 {
@@ -120,9 +119,8 @@ fn follow(dir: Dir, mark: Mark, edges: &[Edge], next: &Edge) -> bool
     }
 }
 
-/// The direction and mark of the access that an edge leaves, and of the one that it enters. Edges
-/// without marks, the most frequent ones, are read in place, which `Edge::source` and `Edge::target`
-/// don't do, and only once.
+/// The direction and mark of the access that an edge leaves, and of the one that it enters. Edges without marks, the
+/// most frequent ones, are read in place, which `Edge::source` and `Edge::target` don't do, and only once.
 #[inline(always)]
 fn accesses(edge: &Edge) -> (Dir, Mark, Dir, Mark)
     ensures source { result.0 ≡ source_of edge.now }

@@ -51,9 +51,8 @@ impl Families {
         put_cycle(&mut self.table, cycle, &mut self.name)
     }
 
-    /// Writes, for each family that has a cycle, in the order of `Family`, a line of its name and a
-    /// colon, and its names, each after two blanks, in byte order. If the sink fails, it has taken a
-    /// prefix of that.
+    /// Writes, for each family that has a cycle, in the order of `Family`, a line of its name and a colon, and its
+    /// names, each after two blanks, in byte order. If the sink fails, it has taken a prefix of that.
     pub fn write<O: Sink>(&self, out: &mut O) -> Result<(), Failed>
         ensures { (cycles : List (List Edge)) → HoldsCycles self.now cycles → Wrote (O.seen out.old) (O.seen out.new) (families_text cycles) result }
     {

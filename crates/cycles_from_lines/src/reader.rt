@@ -20,8 +20,7 @@ const INPUT_ROOM: usize = 36_864;
 /// Space for a piece, after a line of `MAX_CYCLE_LINE` bytes and its carriage return.
 const BUFFER: usize = INPUT_ROOM + MAX_CYCLE_LINE + 1;
 
-/// What comes after the lines that were given. The cycle that it says, if any, is stored where the
-/// caller asked.
+/// What comes after the lines that were given. The cycle that it says, if any, is stored where the caller asked.
 #[derive(Clone, Copy)]
 pub(crate) enum Found {
     /// The next line.
@@ -202,9 +201,8 @@ impl LineReader {
         self.refill(input)
     }
 
-    /// Reads a piece after the pending bytes, which is empty only at the end of the source, and returns
-    /// its length. It fails if the pending line is too long already, if there are too many bytes, or if
-    /// the source fails.
+    /// Reads a piece after the pending bytes, which is empty only at the end of the source, and returns its length.
+    /// It fails if the pending line is too long already, if there are too many bytes, or if the source fails.
     fn refill<I: Source>(&mut self, input: &mut I) -> Result<usize, LinesError>
         requires { Without 10 self.old.pending }
         ensures refills { Refills (I.seen input.old) (I.seen input.new) self.old self.new result }

@@ -77,8 +77,7 @@ fn put_name(
     table[place].put(alloc, name)
 }
 
-/// Writes the lines of the families that have a name. If the sink fails, it has taken a prefix of
-/// them.
+/// Writes the lines of the families that have a name. If the sink fails, it has taken a prefix of them.
 pub(crate) fn write_families<O: Sink>(table: &[FamilyNames], out: &mut O) -> Result<(), Failed>
     ensures { Wrote (O.seen out.old) (O.seen out.new) (flat_map (λ entry. entry_text (family_view entry)) table.now) result }
 {

@@ -77,9 +77,8 @@ pub enum TextKind {
 }
 
 impl Status {
-    /// The exit status of the program: 0 if everything is done, 1 for a refusal, an error in a text and a
-    /// file that doesn't exist, 2 for a usage error, 3 if a device failed, and 4 if the tool ran out of
-    /// memory.
+    /// The exit status of the program: 0 if everything is done, 1 for a refusal, an error in a text and a file that
+    /// doesn't exist, 2 for a usage error, 3 if a device failed, and 4 if the tool ran out of memory.
     pub fn exit(self) -> u8
         ensures { result ≡ exit_of self }
     {

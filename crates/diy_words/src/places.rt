@@ -7,8 +7,7 @@ use diy_io::{NoMemory, Words};
 use edges_from_text::{Relaxes, read_relaxes};
 use std::alloc::Global;
 
-/// The lists of relaxations of the operands of diycross7, in order. The only error is running out of
-/// memory.
+/// The lists of relaxations of the operands of diycross7, in order. The only error is running out of memory.
 pub fn read_places(alloc: Global, words: &Words) -> Result<Vec<Relaxes>, NoMemory>
     // The arguments ask for something of diycross7.
     requires { IsCrossing (asked_of words.now) }

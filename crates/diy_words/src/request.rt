@@ -30,12 +30,10 @@ pub enum Request<'a> {
     Name(Norm<'a>),
     /// The tests of a listing, of diy7.
     List(Diy<'a>),
-    /// The names of cycles of the architecture by their families, of classify7: those of the tests in
-    /// the files that its operands name, which `read_files` finds, or those of the input's lines if there
-    /// is no operand.
+    /// The names of cycles of the architecture by their families, of classify7: those of the tests in the files that
+    /// its operands name, which `read_files` finds, or those of the input's lines if there is no operand.
     Families(ArchName),
-    /// The sum of the logs that the arguments after the first name, or of the input if there are none, of
-    /// msum7.
+    /// The sum of the logs that the arguments after the first name, or of the input if there are none, of msum7.
     Sum,
     /// The tests of the choices of relaxations, of diycross7.
     Cross(Cross<'a>),

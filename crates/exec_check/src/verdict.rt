@@ -15,9 +15,8 @@ pub struct Verdict {
     pub coherent: bool,
     /// Whether the terms of the test's condition hold in its final state.
     pub condition: bool,
-    /// The edges of the cycle that the test quotes, in the rotation in which threads are counted, each with
-    /// whether it stands. There are none if the test quotes no cycle of its architecture that has a
-    /// resolution.
+    /// The edges of the cycle that the test quotes, in the rotation in which threads are counted, each with whether
+    /// it stands. There are none if the test quotes no cycle of its architecture that has a resolution.
     pub edges: JudgedEdges,
 }
 

@@ -2,8 +2,7 @@ ghost use Rattle.exec_text.specs.ExecutionSteps.{FirstLine};
 
 use text_parts::{cut, without_return};
 
-/// The first line of a text, if it has one, and the text after it. A carriage return before a line feed is
-/// dropped.
+/// The first line of a text, if it has one, and the text after it. A carriage return before a line feed is dropped.
 #[tactic(auto, using(crate::proofs::FirstLines::line_cut, crate::proofs::FirstLines::line_last))]
 pub(crate) fn first_line(text: &[u8]) -> Option<(&[u8], &[u8])>
     ensures { FirstLine result text.now }

@@ -25,11 +25,10 @@ use relax_edges::{MAX_EDGES, ObsMode};
 /// that `list_tests` gives them, numbered from 0. Cycles that are rotations of each other have one
 /// name; if it has at most 200 bytes, the later one's file replaces the earlier one's.
 ///
-/// `ShelfFault` comes only if the shelf's error count rose or is at its maximum. Then the files before
-/// one are complete, that one is as it was or has a prefix of its text, no other file changed, and
-/// nothing is written to `out`. `OutFault` comes only if the error count of `out` rose or is at its
-/// maximum. Then all files are complete, and `out` has a prefix of the line. The shelf has no open file
-/// before and after.
+/// `ShelfFault` comes only if the shelf's error count rose or is at its maximum. Then the files before one are
+/// complete, that one is as it was or has a prefix of its text, no other file changed, and nothing is written to
+/// `out`. `OutFault` comes only if the error count of `out` rose or is at its maximum. Then all files are complete,
+/// and `out` has a prefix of the line. The shelf has no open file before and after.
 pub fn put_cycles<A: Arch, H: Shelf, O: Sink>(
     cycles: &[Cycle],
     mode: ObsMode,

@@ -82,19 +82,17 @@ impl<'a> Listing<'a> {
 /// Writes a file for each listed cycle, in order, then the file `@all` that names them, and then a
 /// line on their number to `out`. It allocates no memory.
 ///
-/// A cycle is listed if it is in normal form, keeps the limits, is built from the relaxations, has a
-/// test on the architecture in the mode, and has no more threads than are allowed, and no more accesses
-/// in each of its own threads; after a given cycle, only if it also follows that cycle's normal form.
-/// Its file has the text of its test under its name. The file is called by that name if it has at most
-/// 200 bytes, otherwise by `long` and the number of the test in this listing, from 0; then comes
-/// `.litmus`. In a folder the file's name comes after the folder's and a slash; `@all` has only the
-/// names, each on a line. Numbers stop at the maximum of 128 bits.
+/// A cycle is listed if it is in normal form, keeps the limits, is built from the relaxations, has a test on the
+/// architecture in the mode, and has no more threads than are allowed, and no more accesses in each of its own
+/// threads; after a given cycle, only if it also follows that cycle's normal form. Its file has the text of its test
+/// under its name. The file is called by that name if it has at most 200 bytes, otherwise by `long` and the number of
+/// the test in this listing, from 0; then comes `.litmus`. In a folder the file's name comes after the folder's and a
+/// slash; `@all` has only the names, each on a line. Numbers stop at the maximum of 128 bits.
 ///
-/// `ShelfFault` comes only if the shelf's error count rose or is at its maximum. Then the files before
-/// one are complete, that one is as it was or has a prefix of its text, no other file changed, and
-/// nothing is written to `out`. `OutFault` comes only if the error count of `out` rose or is at its
-/// maximum. Then all files are complete, and `out` has a prefix of the line. The shelf has no open file
-/// before and after.
+/// `ShelfFault` comes only if the shelf's error count rose or is at its maximum. Then the files before one are
+/// complete, that one is as it was or has a prefix of its text, no other file changed, and nothing is written to
+/// `out`. `OutFault` comes only if the error count of `out` rose or is at its maximum. Then all files are complete,
+/// and `out` has a prefix of the line. The shelf has no open file before and after.
 #[inline(never)]
 pub fn list_tests<A: Arch, H: Shelf, O: Sink>(
     listing: Listing,
@@ -193,9 +191,8 @@ fn list_walk<
     }
 }
 
-/// Writes on the shelf the files of those of a walk's cycles that have a test, from where the walk is,
-/// keeps the lines that name them, as far as there is space, and returns their number. Each test is
-/// made in `test`.
+/// Writes on the shelf the files of those of a walk's cycles that have a test, from where the walk is, keeps the
+/// lines that name them, as far as there is space, and returns their number. Each test is made in `test`.
 fn put_tests<
     A: Arch,
     H: Shelf,

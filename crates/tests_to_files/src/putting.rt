@@ -30,8 +30,7 @@ pub fn put_files<H: Shelf>(files: &[File], shelf: &mut H) -> Result<(), Failed>
     Ok(())
 }
 
-/// Writes a file on the shelf. If the shelf fails, the file is as it was, or has a prefix of the
-/// bytes.
+/// Writes a file on the shelf. If the shelf fails, the file is as it was, or has a prefix of the bytes.
 pub(crate) fn put_file<H: Shelf>(path: &str, bytes: &[u8], shelf: &mut H) -> Result<(), Failed>
     requires { (H.seen shelf.old).mode ≡ Idle }
     ensures ok { OnOk result (PutFiles (H.seen shelf.old) (H.seen shelf.new) ((path.now, bytes.now) ∷ [])) }

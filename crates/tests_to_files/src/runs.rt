@@ -30,8 +30,7 @@ pub(crate) fn stays_below(many: u8, run: u8, edges: &[Edge]) -> bool
     }
 }
 
-/// The length of the run of internal edges at the end of a list, if a run of length `run` ends before
-/// the list.
+/// The length of the run of internal edges at the end of a list, if a run of length `run` ends before the list.
 fn run_after(run: u8, edges: &[Edge]) -> u8
     requires { run + length edges.now ≤ MAX_EDGES }
     ensures { result ≡ run_after run edges.now }

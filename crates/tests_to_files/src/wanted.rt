@@ -28,9 +28,8 @@ impl Wanted<'_> {
         ends_of_arch::<A>(edges) && (ends_inside(edges) || has_few_threads(edges, self.threads))
     }
 
-    /// Whether a required cycle may begin with the edges, by the accesses of its threads: there aren't as
-    /// many internal edges one after another as a thread may have accesses, since these join one access
-    /// more.
+    /// Whether a required cycle may begin with the edges, by the accesses of its threads: there aren't as many
+    /// internal edges one after another as a thread may have accesses, since these join one access more.
     #[tactic(auto, using(crate::proofs::RunLaws::long_run_exactly))]
     pub(crate) fn may_fit(&self, edges: &[Edge]) -> bool
         ensures { IsFalse result ↔ HasLongRun self.now.accesses edges.now }

@@ -42,9 +42,8 @@ pub struct TwoRuns<A> {
 /// doesn't in the second. The write is the one that the mode refuses: in the lowest location that needs
 /// an observer, the first one in coherence order that needs it.
 ///
-/// The error is the first of these reasons that holds: `NotOfArch`, `TooFewThreads`, `CoherenceOnly`,
-/// `NothingToShow` and `TooManyRegisters` (there are no observers among the threads). If none holds, it may be
-/// `NoMemory`.
+/// The error is the first of these reasons that holds: `NotOfArch`, `TooFewThreads`, `CoherenceOnly`, `NothingToShow`
+/// and `TooManyRegisters` (there are no observers among the threads). If none holds, it may be `NoMemory`.
 pub fn two_runs<A: Arch>(alloc: Global, cycle: &Cycle, name: &str) -> Result<TwoRuns<A>, RunError>
     requires named { IsTestName name.now }
     ensures shown { Shows A.puts A.writing name.now cycle.now result }
