@@ -26,7 +26,8 @@ use Rattle.litmus_text.specs.TestReading.{TestRead}
 use Rattle.two_runs.specs.{IntendedRuns.intended_by, CoherenceRuns.incoherent_by}
 use Rattle.diy_tools.specs.{Devices.{OutAlone, Devices, DevicesSeen, devices}, ExecutionAnswers.{PrintsRun, AnswersRun}}
 use Rattle.diy_tools.specs.{ListAnswers.{AnswersListed, EndsAsked, plan_asked}, ArchMachines.{Machine, machine_of}, Memory.{MayWantMemory, NeverWantsMemory}}
-use Rattle.diy_tools.specs.{declared.status.Status.Status, declared.status.Device.TheVariants.{Input, Out, Shelf}, Refused.refused_list}
+use Rattle.run_status.specs.{declared.status.Status.Status, declared.status.Device.TheVariants.{Input, Out, Shelf}}
+use Rattle.diy_tools.specs.{Refused.refused_list}
 use Rattle.diy_tools.specs.{Statuses.{norm_status, classify_status, listing_status}, PrintAnswers.{AnswersEdges, Prints}}
 use Rattle.diy_tools.specs.{TestAnswers.{asked_text, test_name, test_refused}, WhyAnswers.{AnswersRuns, WritesRuns, why_unshown}}
 use Rattle.diy_tools.specs.{CoherenceAnswers.{coherence_refused, incoherent_text}, NameAnswers.{AnswersName, AnswersSought}}
@@ -34,8 +35,8 @@ use Rattle.diy_tools.specs.{FamilyAnswers.{AnswersClassify, EndsFamilies, files_
 use Rattle.diy_tools.specs.{CheckAnswers.{EndsCheck, check_status}, SumAnswers.{EndsInput, EndsSum, sum_status}, Answers.{Answers, AnswersAsked}}
 use Rattle.diy_tools.specs.Causes.{Causes, CausesAsked, RoseFar}
 use Rattle.test_maker.specs.declared.refusal.Refusal.{Refusal}
-use Rattle.diy_tools.specs.declared.status.Status.TheVariants as statuses
-use Rattle.diy_tools.specs.declared.status.TextKind.TheVariants as texts
+use Rattle.run_status.specs.declared.status.Status.TheVariants as statuses
+use Rattle.run_status.specs.declared.status.TextKind.TheVariants as texts
 use Rattle.diy_tools.proofs.Opened.{file_opened, file_far, input_far}
 
 -- devices that are the same one by one are the same

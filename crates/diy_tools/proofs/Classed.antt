@@ -7,7 +7,8 @@ use Rattle.diy_io.specs.{Shelf.ShelfSeen, Taken.SourceSeen, Wrote.SinkSeen}
 use Rattle.diy_words.specs.declared.request.Request.TheVariants as requests
 use Rattle.diy_words.specs.{declared.usage.Usage.Usage, Given.GivesTask, GivenLaws.gives_classifying}
 use Rattle.diy_words.specs.Requests.{Task, AsksFamilies, asked_of, files_of, IsClassifying}
-use Rattle.diy_tools.specs.{declared.status.Status.Status, declared.status.Status.TheVariants.NoMemory, Answers.{Answers, AnswersAsked}}
+use Rattle.run_status.specs.{declared.status.Status.Status, declared.status.Status.TheVariants.NoMemory}
+use Rattle.diy_tools.specs.{Answers.{Answers, AnswersAsked}}
 use Rattle.diy_tools.specs.{Devices.{Devices, DevicesSeen, devices}, FamilyAnswers.{AnswersClassify, AnswersFamilies}, KeptRequests.ClassifiesNamedFiles}
 
 -- words that give a request for families ask for them

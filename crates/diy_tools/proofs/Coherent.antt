@@ -8,7 +8,8 @@ use Rattle.diy_words.specs.{declared.request.Coherence.Coherence, declared.usage
 use Rattle.diy_words.specs.Requests.{Task, CoherenceTask, AsksCoherence, asked_of}
 use Rattle.diy_words.specs.declared.request.Request.TheVariants as requests
 use Rattle.co_tests_laws.specs.CoRefusals.{coherence_refusal_of, coherence_text}
-use Rattle.diy_tools.specs.{declared.status.Status.Status, Answers.{Answers, AnswersAsked}, ArchMachines.machine_of, CoherenceAnswers.AnswersCoherence}
+use Rattle.run_status.specs.{declared.status.Status.Status}
+use Rattle.diy_tools.specs.{Answers.{Answers, AnswersAsked}, ArchMachines.machine_of, CoherenceAnswers.AnswersCoherence}
 use Rattle.diy_tools.specs.{Devices.devices, PrintAnswers.AnswersEdges, TestAnswers.test_name}
 use Rattle.diy_tools.specs.KeptRequests.{AnswersIncoherence, edges_kept, name_kept, refused_incoherent}
 use Rattle.diy_tools.proofs.Running.{edges_answered, kept_so}

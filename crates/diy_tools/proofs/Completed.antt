@@ -31,7 +31,8 @@ use Rattle.program_meaning.specs.Executions.{Execution}
 use Rattle.litmus_text.specs.TestReading.{TestRead}
 use Rattle.two_runs.specs.{IntendedRuns.intended_by, CoherenceRuns.incoherent_by}
 use Rattle.diy_tools.specs.{ExecutionAnswers.AnswersRun, ListAnswers.{AnswersListed, EndsAsked}, ArchMachines.{Machine, machine_of}, Memory.MayWantMemory}
-use Rattle.diy_tools.specs.{declared.status.Status.Status, declared.status.Device.TheVariants.{Out, Shelf}, Devices.{Devices, DevicesSeen, devices}}
+use Rattle.run_status.specs.{declared.status.Status.Status, declared.status.Device.TheVariants.{Out, Shelf}}
+use Rattle.diy_tools.specs.{Devices.{Devices, DevicesSeen, devices}}
 use Rattle.diy_tools.specs.{Refused.refused_list, Statuses.{norm_status, classify_status, listing_status}, PrintAnswers.{AnswersEdges, Prints}}
 use Rattle.diy_tools.specs.{TestAnswers.{asked_text, test_name, test_refused}, WhyAnswers.{AnswersRuns, WritesRuns, why_unshown}}
 use Rattle.diy_tools.specs.{CoherenceAnswers.{coherence_refused, incoherent_text}, FamilyAnswers.{AnswersClassify, files_status, read_on}}
@@ -40,7 +41,7 @@ use Rattle.diy_tools.specs.{CheckAnswers.{check_status, shown_of}, SumAnswers.{E
 use Rattle.diy_tools.specs.Complete.{Complete, CanBeDone, CanName, CanSum, CanClassify, AreRightTests, IsSoundText, IsRightLog, AreRightLogs, OfItsText, OfItsFiles, NoFaults, IsDone}
 use Rattle.test_maker.specs.declared.refusal.Refusal.{Refusal}
 use Rattle.diy_tools.proofs.{Opened.long_taken, Caused.{by_print, listing_failed, crossing_failed, of_files}}
-use Rattle.diy_tools.specs.declared.status.Status.TheVariants as statuses
+use Rattle.run_status.specs.declared.status.Status.TheVariants as statuses
 
 -- what was taken of a source and what is left of it are a text that it can have
 whole_can : (old new : Option (List ℕ)) (text : List ℕ) → Consumes old new text → IsText old (text ++ unwrap_or new [])

@@ -8,7 +8,8 @@ use Rattle.diy_words.specs.declared.request.Request.TheVariants as requests
 use Rattle.tests_to_files.specs.{declared.ending.ListingEnd.ListingEnd, GivenCycles.EndsGiven, Plans.named_text}
 use Rattle.tests_to_files.specs.declared.ending.ListingEnd.TheVariants as ends
 use Rattle.diycross7_cycles.specs.Choices.{crossed}
-use Rattle.diy_tools.specs.{declared.status.Status.Status, declared.status.Status.TheVariants.NoMemory, CrossAnswers.AnswersChoices}
+use Rattle.run_status.specs.{declared.status.Status.Status, declared.status.Status.TheVariants.NoMemory}
+use Rattle.diy_tools.specs.{CrossAnswers.AnswersChoices}
 use Rattle.diy_tools.specs.{KeptRequests.AnswersCrossing, ArchMachines.{Machine, machine_of}, Statuses.listing_status}
 
 -- what holds of a sink holds of what it shows

@@ -14,7 +14,8 @@ use Rattle.exec_text.specs.Written.{text_of_execution}
 use Rattle.test_maker.specs.{CycleText.cycle_text, Refusals.refusal_of, declared.refusal.Refusal.Refusal}
 use Rattle.co_tests_laws.specs.CoRefusals.{coherence_refusal_of, coherence_text}
 use Rattle.two_runs.specs.{IntendedRuns.{IsRunOf, intended_by}, CoherenceRuns.incoherent_by}
-use Rattle.diy_tools.specs.{declared.status.Status.Status, Answers.{Answers, AnswersAsked}, ArchMachines.{Machine, machine_of}, Devices.devices}
+use Rattle.run_status.specs.{declared.status.Status.Status}
+use Rattle.diy_tools.specs.{Answers.{Answers, AnswersAsked}, ArchMachines.{Machine, machine_of}, Devices.devices}
 use Rattle.diy_tools.specs.{ExecutionAnswers.{AnswersRun, AnswersExecution, AnswersCoherenceExecution}, Refused.refused_list, TestAnswers.test_name}
 use Rattle.diy_tools.specs.KeptRequests.{AnswersIntended, AnswersIncoherent, PrintsInMemory, edges_kept, name_kept, refused_edges, refused_kept, refused_incoherent}
 use Rattle.diy_tools.proofs.Running.{IsKeptSo, kept_so}

@@ -35,7 +35,8 @@ use Rattle.bytes_force_cycles.specs.PrintedHeadline.{BytesForce}
 use Rattle.test_maker.proofs.HavingTests.{accepted_has_test, neither}
 use Rattle.demo_tests.proofs.Cycles.{cycle_named}
 use Rattle.bytes_force_cycles.proofs.Printed.{printed_force}
-use Rattle.diy_tools.specs.{declared.status.Status.Status, declared.status.Status.TheVariants.NoMemory, WhyAnswers.{AnswersRuns, AnswersWhy, WritesRuns}}
+use Rattle.run_status.specs.{declared.status.Status.Status, declared.status.Status.TheVariants.NoMemory}
+use Rattle.diy_tools.specs.{WhyAnswers.{AnswersRuns, AnswersWhy, WritesRuns}}
 use Rattle.diy_tools.specs.{ArchMachines.{Machine, machine_of}, PrintAnswers.AnswersEdges}
 use Rattle.diy_tools.specs.{CoherenceAnswers.{AnswersCoherence, incoherence_refused, incoherent_text}, TestAnswers.{asked_text, test_name}}
 use Rattle.diy_tools.specs.{CrossAnswers.AnswersCross, ListAnswers.{AnswersList, plan_asked}, Answers.{Answers, AnswersAsked}}

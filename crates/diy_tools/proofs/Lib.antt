@@ -1,4 +1,3 @@
-pub mod Reported
 pub mod Running
 pub mod Coherent
 pub mod Shows

@@ -21,14 +21,14 @@ use Rattle.tests_to_files.specs.declared.ending.ListingEnd.TheVariants as listin
 use Rattle.msum7_files.specs.{declared.sum_end.SumEnd.SumEnd, SumEnds.InputSummed}
 use Rattle.msum7_files.specs.declared.sum_end.SumEnd.TheVariants as sums
 use Rattle.test_maker.specs.declared.refusal.Refusal.{Refusal}
-use Rattle.diy_tools.specs.{declared.status.Status.Status, declared.status.TextKind.TextKind, declared.status.Device.TheVariants.{Out, Shelf}}
+use Rattle.run_status.specs.{declared.status.Status.Status, declared.status.TextKind.TextKind, declared.status.Device.TheVariants.{Out, Shelf}}
 use Rattle.diy_tools.specs.{Devices.{Devices, DevicesSeen, devices}, Statuses.{norm_status, classify_status}, NameAnswers.AnswersSought}
 use Rattle.diy_tools.specs.{ListAnswers.{EndsAsked, plan_asked}, CrossAnswers.{AnswersCross, EndsCrossed}, SumAnswers.{EndsInput, EndsSum, sum_status}}
 use Rattle.diy_tools.specs.{ArchMachines.{Machine, machine_of}, TestAnswers.test_name, WhyAnswers.{AnswersRuns, WritesRuns, why_unshown}}
 use Rattle.diy_tools.specs.{CheckAnswers.{EndsCheck, checked_kind, check_status, shown_of}, Answers.{Answers, AnswersAsked}}
 use Rattle.diy_tools.specs.{Limit.{Limited, StopsReading, TookTooMuch}, FamilyAnswers.{AnswersClassify, EndsFamilies, file_kind, files_status, read_on}}
-use Rattle.diy_tools.specs.declared.status.Status.TheVariants as statuses
-use Rattle.diy_tools.specs.declared.status.TextKind.TheVariants as texts
+use Rattle.run_status.specs.declared.status.Status.TheVariants as statuses
+use Rattle.run_status.specs.declared.status.TextKind.TheVariants as texts
 
 -- at most 2^40 bytes were taken of the input, as far as they are counted
 abbrev InputWithin : SourceSeen → SourceSeen → Type 0

@@ -7,9 +7,10 @@ use Rattle.tests_to_files.specs.{declared.ending.ListingEnd.ListingEnd, declared
 use Rattle.tests_to_files.specs.{ListingEnds.{EndsAfter, EndsListing}, Plans.{Plan, plan_of, plan_in}}
 use Rattle.tests_to_files.specs.declared.ending.ListingEnd.TheVariants as ends
 use Rattle.std.specs.Prelude.{List}
-use Rattle.diy_tools.specs.{declared.status.Status.Status, declared.status.Device.TheVariants.Out, ListAnswers.{AnswersList, AnswersListed}}
+use Rattle.run_status.specs.{declared.status.Status.Status, declared.status.Device.TheVariants.Out}
+use Rattle.diy_tools.specs.{ListAnswers.{AnswersList, AnswersListed}}
 use Rattle.diy_tools.specs.{KeptRequests.{EndsOn, EndsLinesOn, asked_listing}, ArchMachines.machine_of, Statuses.listing_status}
-use Rattle.diy_tools.specs.declared.status.Status.TheVariants as statuses
+use Rattle.run_status.specs.declared.status.Status.TheVariants as statuses
 
 -- what holds of a sink holds of what it shows
 after_seen : {Sink : Type 0} (seen : Sink → SinkSeen) (plan : Plan) (given : Option (List Edge)) (end : ListingEnd) (old new : ShelfSeen) (out after : Sink)

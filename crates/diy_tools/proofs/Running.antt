@@ -17,7 +17,8 @@ use Rattle.diy_tools.specs.Devices.{devices}
 use Rattle.diy_tools.specs.KeptRequests.{ChecksFiles, AnswersKept, refused_kept, refused_edges, refused_why, edges_kept, folder_kept, named_kept, MakesCycle}
 use Rattle.diy_tools.specs.{CheckAnswers.AnswersCheck, ArchMachines.machine_of, Refused.{refused_list, refused_composing}, PrintAnswers.AnswersEdges}
 use Rattle.diy_tools.specs.{TestAnswers.test_name, NameAnswers.{AnswersName, AnswersSought}, ListAnswers.AnswersList, Answers.{Answers, AnswersAsked}}
-use Rattle.diy_tools.specs.{WhyAnswers.AnswersRuns, declared.status.Status.Status}
+use Rattle.diy_tools.specs.{WhyAnswers.AnswersRuns}
+use Rattle.run_status.specs.{declared.status.Status.Status}
 use Rattle.test_maker.specs.{Refusals.foreign_edge, CycleText.cycle_text, declared.refusal.Refusal.Refusal}
 use Rattle.diy_words.specs.declared.request.Sought.TheVariants as sought
 use Rattle.diy_words.specs.Requests as words

@@ -10,9 +10,10 @@ use Rattle.litmus_text.specs.TestReading.{TestRead}
 use Rattle.program_meaning.specs.Executions.{Execution}
 use Rattle.test_maker.specs.{CycleText.cycle_text, declared.refusal.Refusal.Refusal}
 use Rattle.two_runs.specs.Shown.{AreRunsFor, why_refused}
-use Rattle.diy_tools.specs.{declared.status.Status.Status, declared.status.Device.TheVariants.{Out, Shelf}, KeptRequests.WritesInMemory, ArchMachines.Machine}
+use Rattle.run_status.specs.{declared.status.Status.Status, declared.status.Device.TheVariants.{Out, Shelf}}
+use Rattle.diy_tools.specs.{KeptRequests.WritesInMemory, ArchMachines.Machine}
 use Rattle.diy_tools.specs.{PrintAnswers.Prints, WhyAnswers.{AnswersRuns, WritesFiles, WritesRuns, why_files, why_line, why_path}}
-use Rattle.diy_tools.specs.declared.status.Status.TheVariants as statuses
+use Rattle.run_status.specs.declared.status.Status.TheVariants as statuses
 
 -- the text that was made is that of the cycle's test without observers
 text_is : (m : Machine) (name : List ℕ) (cycle : List Edge) (text : List ℕ) (test : TestRead) (one two : Execution)

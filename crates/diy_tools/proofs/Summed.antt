@@ -1,7 +1,8 @@
 -- What is answered of a sum, by where its logs are.
 use Rattle.std.proofs.Common.{◌<◌, ◌≤◌, ℕ, List, [], ◌∷◌, length, refl, arith}
 use Rattle.diy_io.specs.{Shelf.ShelfSeen, Taken.SourceSeen, Wrote.SinkSeen}
-use Rattle.diy_tools.specs.{declared.status.Status.Status, Devices.devices, SumAnswers.AnswersSum, KeptRequests.{SumsFiles, SumsInput}}
+use Rattle.run_status.specs.{declared.status.Status.Status}
+use Rattle.diy_tools.specs.{Devices.devices, SumAnswers.AnswersSum, KeptRequests.{SumsFiles, SumsInput}}
 
 -- where words name logs, the sum of the files is the answer
 pub files_answered : (words : List (List ℕ)) (status : Status) (input : SourceSeen) (old new : ShelfSeen) (before after : SinkSeen) → 1 < length words

@@ -3,11 +3,12 @@
 use Rattle.std.specs.Prelude.{ℕ, ◌≡◌, List, Result, Ok, Err}
 use Rattle.diy_words.specs.declared.usage.Usage.{Usage}
 use Rattle.diy_words.specs.Requests.{Task, AsksTest, AsksWhy, AsksCoherence, AsksName, AsksList, AsksFamilies, AsksSum, AsksCross, AsksDemo, AsksCheck, AsksExecution, AsksCoherenceExecution, AsksLines, asked_of}
-use Rattle.diy_tools.specs.{declared.status.Status.Status, Devices.{Devices, OutAlone, InputAndOut, ShelfAndOut, DevicesSeen, devices}, TestAnswers.AnswersTest}
+use Rattle.run_status.specs.{declared.status.Status.Status}
+use Rattle.diy_tools.specs.{Devices.{Devices, OutAlone, InputAndOut, ShelfAndOut, DevicesSeen, devices}, TestAnswers.AnswersTest}
 use Rattle.diy_tools.specs.{NameAnswers.AnswersSought, FamilyAnswers.AnswersClassify, ListAnswers.{AnswersList, AnswersListed}, CrossAnswers.AnswersCross}
 use Rattle.diy_tools.specs.{DemoAnswers.demo_asked, CheckAnswers.AnswersCheck, PrintAnswers.Prints, SumAnswers.AnswersSum, WhyAnswers.AnswersWhy}
 use Rattle.diy_tools.specs.{CoherenceAnswers.AnswersCoherence, ExecutionAnswers.{AnswersExecution, AnswersCoherenceExecution}}
-use Rattle.diy_tools.specs.declared.status.Status.TheVariants as statuses
+use Rattle.run_status.specs.declared.status.Status.TheVariants as statuses
 
 -- the arguments make no request, the status says why, and no device changes; or the tool does what it is asked for, and the devices that it
 -- doesn't use stay as they were

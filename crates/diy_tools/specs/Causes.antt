@@ -20,14 +20,14 @@ use Rattle.msum7_files.specs.{declared.sum_end.SumEnd.SumEnd, SumEnds.LogFileMis
 use Rattle.msum7_files.specs.declared.sum_end.SumEnd.TheVariants as sums
 use Rattle.two_runs.specs.{IntendedRuns.intended_by, CoherenceRuns.incoherent_by}
 use Rattle.test_maker.specs.declared.refusal.Refusal.{Refusal}
-use Rattle.diy_tools.specs.{declared.status.Status.Status, declared.status.Device.TheVariants.{Input, Out, Shelf}}
+use Rattle.run_status.specs.{declared.status.Status.Status, declared.status.Device.TheVariants.{Input, Out, Shelf}}
 use Rattle.diy_tools.specs.{Devices.{Devices, OutAlone, InputAndOut, ShelfAndOut, DevicesSeen, devices}, CheckAnswers.EndsCheck, CrossAnswers.EndsCrossed}
 use Rattle.diy_tools.specs.{DemoAnswers.demo_asked, FamilyAnswers.EndsFamilies, ListAnswers.{EndsAsked, AnswersListed}, Memory.MayWantMemory}
 use Rattle.diy_tools.specs.{NameAnswers.PrintsNamed, Refused.refused_list, SumAnswers.EndsSum, TestAnswers.{asked_text, test_name, test_refused}}
 use Rattle.diy_tools.specs.{ArchMachines.machine_of, WhyAnswers.{WritesRuns, why_unshown}, CoherenceAnswers.{coherence_refused, incoherent_text}}
 use Rattle.diy_tools.specs.ExecutionAnswers.{PrintsRun}
-use Rattle.diy_tools.specs.declared.status.Status.TheVariants as statuses
-use Rattle.diy_tools.specs.declared.status.TextKind.TheVariants as texts
+use Rattle.run_status.specs.declared.status.Status.TheVariants as statuses
+use Rattle.run_status.specs.declared.status.TextKind.TheVariants as texts
 
 -- standard output is as it was, and no file changed
 pub record NothingWritten (old new : Devices) : Type 0 where

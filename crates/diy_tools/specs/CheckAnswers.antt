@@ -9,9 +9,9 @@ use Rattle.exec_check.specs.FilesChecked.{FilesChecked}
 use Rattle.diy_io.specs.{Shelf.ShelfSeen, Wrote.SinkSeen}
 use Rattle.diy_words.specs.declared.{request.Check.Check, request.CheckForm.CheckForm}
 use Rattle.diy_words.specs.declared.request.CheckForm.TheVariants as forms
-use Rattle.diy_tools.specs.declared.status.{Status.Status, TextKind.TextKind, Device.TheVariants.Out, Device.TheVariants.Shelf}
-use Rattle.diy_tools.specs.declared.status.Status.TheVariants.{Done, BadText, NoFile, ReadFault, WriteFault, NoMemory}
-use Rattle.diy_tools.specs.declared.status.TextKind.TheVariants as texts
+use Rattle.run_status.specs.declared.status.{Status.Status, TextKind.TextKind, Device.TheVariants.Out, Device.TheVariants.Shelf}
+use Rattle.run_status.specs.declared.status.Status.TheVariants.{Done, BadText, NoFile, ReadFault, WriteFault, NoMemory}
+use Rattle.run_status.specs.declared.status.TextKind.TheVariants as texts
 use Rattle.diy_tools.specs.{Devices.Devices, Devices.ShelfAndOut, ArchMachines.machine_of}
 
 -- an error in the file of a test or in that of an execution, as an error in a text

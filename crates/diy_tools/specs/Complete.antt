@@ -11,7 +11,8 @@ use Rattle.diy_io.specs.{declared.source.TheConstants.MAX_INPUT, Count.Rose, She
 use Rattle.diy_words.specs.{declared.usage.Usage.Usage, declared.request.Check.Check}
 use Rattle.diy_words.specs.Requests.{Task, Sought, AsksTest, AsksWhy, AsksCoherence, AsksName, AsksList, AsksFamilies, AsksSum, AsksCross, AsksDemo, AsksCheck, AsksExecution, AsksCoherenceExecution, AsksLines, OfEdges, OfName, OfLines, asked_of}
 use Rattle.msum7_files.specs.{Logs.{IsText, IsShort, AreWholeLogs}, SumEnds.AreLogs}
-use Rattle.diy_tools.specs.{declared.status.Status.Status, declared.status.Status.TheVariants.{Done, NoMemory}, Devices.{Devices, DevicesSeen, devices}}
+use Rattle.run_status.specs.{declared.status.Status.Status, declared.status.Status.TheVariants.{Done, NoMemory}}
+use Rattle.diy_tools.specs.{Devices.{Devices, DevicesSeen, devices}}
 use Rattle.diy_tools.specs.{FamilyAnswers.read_on, ArchMachines.machine_of, Memory.MayWantMemory, Refused.refused_list, TestAnswers.test_refused}
 use Rattle.diy_tools.specs.{WhyAnswers.why_unshown, CoherenceAnswers.coherence_refused}
 

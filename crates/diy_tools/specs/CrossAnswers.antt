@@ -6,7 +6,8 @@ use Rattle.diycross7_cycles.specs.Choices.{crossed}
 use Rattle.diy_io.specs.{Shelf.ShelfSeen, Wrote.SinkSeen}
 use Rattle.diy_words.specs.Requests.{CrossTask}
 use Rattle.tests_to_files.specs.{declared.ending.ListingEnd.ListingEnd, GivenCycles.EndsGiven, Plans.named_text}
-use Rattle.diy_tools.specs.{declared.status.Status.Status, declared.status.Status.TheVariants.NoMemory, ArchMachines.{Machine, machine_of}}
+use Rattle.run_status.specs.{declared.status.Status.Status, declared.status.Status.TheVariants.NoMemory}
+use Rattle.diy_tools.specs.{ArchMachines.{Machine, machine_of}}
 use Rattle.diy_tools.specs.Statuses.{listing_status}
 
 -- the cycles of the choices that the arguments ask for

@@ -8,9 +8,10 @@ use Rattle.litmus_text.specs.TestReading.{TestRead}
 use Rattle.exec_text.specs.Written.{text_of_execution}
 use Rattle.two_runs.specs.{IntendedRuns.{IsRunOf, intended_by}, CoherenceRuns.incoherent_by}
 use Rattle.test_maker.specs.declared.refusal.Refusal.{Refusal}
-use Rattle.diy_tools.specs.{declared.status.Status.Status, ArchMachines.{Machine, machine_of}, PrintAnswers.Prints, TestAnswers.{asked_text, test_refused}}
+use Rattle.run_status.specs.{declared.status.Status.Status}
+use Rattle.diy_tools.specs.{ArchMachines.{Machine, machine_of}, PrintAnswers.Prints, TestAnswers.{asked_text, test_refused}}
 use Rattle.diy_tools.specs.CoherenceAnswers.{incoherent_text, coherence_refused}
-use Rattle.diy_tools.specs.declared.status.Status.TheVariants as statuses
+use Rattle.run_status.specs.declared.status.Status.TheVariants as statuses
 
 -- The text of a test is read as a test, and the text of the execution that this test means is printed, or a prefix of it if standard output
 -- fails. The whole text is read as that execution.

@@ -8,10 +8,10 @@ use Rattle.tests_from_files.specs.declared.classified_errors.FilesEnd.TheVariant
 use Rattle.tests_from_files.specs.declared.classified_errors.FileKind.TheVariants as kinds
 use Rattle.cycles_from_lines.specs.{Classified.Classifies, declared.errors.ClassifyError.ClassifyError}
 use Rattle.diy_io.specs.{Shelf.ShelfSeen, Taken.SourceSeen, Wrote.SinkSeen}
-use Rattle.diy_tools.specs.{declared.status.Status.Status, declared.status.TextKind.TextKind, declared.status.Device.TheVariants.{Out, Shelf}}
-use Rattle.diy_tools.specs.declared.status.Status.TheVariants.{Done, BadText, NoFile, ReadFault, WriteFault, NoMemory}
+use Rattle.run_status.specs.{declared.status.Status.Status, declared.status.TextKind.TextKind, declared.status.Device.TheVariants.{Out, Shelf}}
+use Rattle.run_status.specs.declared.status.Status.TheVariants.{Done, BadText, NoFile, ReadFault, WriteFault, NoMemory}
 use Rattle.diy_tools.specs.{Devices.{Devices, InputAndOut, ShelfAndOut}, ArchMachines.machine_of, Statuses.classify_status}
-use Rattle.diy_tools.specs.declared.status.TextKind.TheVariants as texts
+use Rattle.run_status.specs.declared.status.TextKind.TheVariants as texts
 
 -- the names of the cycles of the input's lines are written by their families, or there is a reason why they can't be
 pub record AnswersFamilies (arch : ArchName) (status : Status) (old new : SourceSeen) (before after : SinkSeen) : Type 0 where

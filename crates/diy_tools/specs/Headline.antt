@@ -12,7 +12,7 @@ use Rattle.tests_to_files.specs.Plans.{IsPlanned, planned_text}
 use Rattle.bytes_force_cycles.specs.PrintedHeadline.{BytesForce}
 use Rattle.co_tests_laws.specs.Incoherence.{BytesShowIncoherence}
 use Rattle.two_runs.specs.{IntendedRuns.intended_by, CoherenceRuns.incoherent_by}
-use Rattle.diy_tools.specs.declared.status.{Status.Status, Status.TheVariants.NoMemory}
+use Rattle.run_status.specs.declared.status.{Status.Status, Status.TheVariants.NoMemory}
 use Rattle.diy_tools.specs.{Devices.Devices, Devices.DevicesSeen, Devices.devices, ArchMachines.Machine, ArchMachines.machine_of, Refused.refused_of}
 use Rattle.diy_tools.specs.{PrintAnswers.Prints, TestAnswers.asked_text, TestAnswers.test_name, WhyAnswers.WritesRuns, WhyAnswers.why_unshown}
 use Rattle.diy_tools.specs.{CoherenceAnswers.coherence_refused, CoherenceAnswers.incoherent_text, CrossAnswers.AnswersCross}

@@ -12,7 +12,8 @@ use Rattle.diy_words.specs.declared.request.Sought.TheVariants as sought
 use Rattle.tests_to_files.specs.{declared.ending.ListingEnd.ListingEnd, declared.listing.Listing.Listing, ListedLines.EndsLines, ListingEnds.EndsListing}
 use Rattle.tests_to_files.specs.Plans.{plan_of, plan_in}
 use Rattle.two_runs.specs.{IntendedRuns.intended_by, CoherenceRuns.incoherent_by, declared.shown.TwoRuns.TwoRuns, Shown.why_refused}
-use Rattle.diy_tools.specs.{ExecutionAnswers.AnswersRun, PrintAnswers.{Prints, AnswersEdges}, declared.status.Status.Status}
+use Rattle.diy_tools.specs.{ExecutionAnswers.AnswersRun, PrintAnswers.{Prints, AnswersEdges}}
+use Rattle.run_status.specs.{declared.status.Status.Status}
 use Rattle.diy_tools.specs.{CheckAnswers.{EndsChecked, check_status, shown_of}, CrossAnswers.{AnswersCross, AnswersChoices}}
 use Rattle.diy_tools.specs.{FamilyAnswers.{EndsNamed, files_status}, ArchMachines.{Machine, machine, machine_of}, NameAnswers.{AnswersLines, AnswersName}}
 use Rattle.diy_tools.specs.{TestAnswers.test_name, Devices.{DevicesSeen, devices}, SumAnswers.{sum_status, AnswersSum}, Refused.refused_list}
@@ -25,7 +26,7 @@ use Rattle.exec_check.specs.{declared.checked_errors.CheckEnd.CheckEnd, FilesChe
 use Rattle.arch_trait.specs.{Threads.Puts, Writing.Writing}
 use Rattle.exec_text.specs.Written.{text_of_execution}
 use Rattle.co_tests_laws.specs.CoRefusals.{coherence_refusal_of, coherence_text}
-use Rattle.diy_tools.specs.declared.status.Status.TheVariants as statuses
+use Rattle.run_status.specs.declared.status.Status.TheVariants as statuses
 
 -- the edges that are kept; none if there are too many
 abbrev pub edges_kept : EdgeList → List Edge

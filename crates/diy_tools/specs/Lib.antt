@@ -1,7 +1,6 @@
 pub mod Devices
 pub mod ArchMachines
 pub mod Refused
-pub mod Report
 pub mod Statuses
 pub mod PrintAnswers
 pub mod TestAnswers

@@ -3,7 +3,8 @@
 use Rattle.std.specs.Prelude.{ℕ, ◌+◌, ◌^◌, ◌<◌, ◌⊎◌, ⊤, List, Result}
 use Rattle.diy_io.specs.Count.{count_of}
 use Rattle.diy_words.specs.{declared.usage.Usage.Usage, Requests.{Task, asked_of}}
-use Rattle.diy_tools.specs.{declared.status.Status.Status, declared.status.Status.TheVariants.{BadText, NoMemory}, Devices.{Devices, DevicesSeen, devices}}
+use Rattle.run_status.specs.{declared.status.Status.Status, declared.status.Status.TheVariants.{BadText, NoMemory}}
+use Rattle.diy_tools.specs.{Devices.{Devices, DevicesSeen, devices}}
 use Rattle.diy_tools.specs.Memory.{MayWantMemory}
 
 -- more than 2^40 bytes were taken: from the input, as far as they are counted, or from the last file that was opened during the call

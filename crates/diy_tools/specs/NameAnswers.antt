@@ -6,7 +6,8 @@ use Rattle.cycle_names.specs.Laws.{IsNamed, NamesNone}
 use Rattle.cycles_from_lines.specs.{Normed.{Norms, name_line}, declared.errors.NormError.NormError}
 use Rattle.diy_io.specs.{Taken.SourceSeen, Wrote.SinkSeen}
 use Rattle.diy_words.specs.{declared.usage.UsageKind.TheVariants.UnknownName, Requests.{Sought, OfEdges, OfName, OfLines}}
-use Rattle.diy_tools.specs.{declared.status.Status.Status, declared.status.Status.TheVariants.Usage, PrintAnswers.{AnswersEdges, Prints}, Refused.refused_list}
+use Rattle.run_status.specs.{declared.status.Status.Status, declared.status.Status.TheVariants.Usage}
+use Rattle.diy_tools.specs.{PrintAnswers.{AnswersEdges, Prints}, Refused.refused_list}
 use Rattle.diy_tools.specs.Statuses.{norm_status}
 
 -- a cycle of the architecture has the name, and its line is printed

@@ -4,9 +4,9 @@ use Rattle.std.specs.Prelude.{◌≡◌, ℕ, List, ◌∷◌}
 use Rattle.diy_io.specs.{Shelf.ShelfSeen, Wrote.SinkSeen}
 use Rattle.msum7_files.specs.{declared.sum_end.SumEnd.SumEnd, SumEnds.{InputSummed, FilesSummed}}
 use Rattle.msum7_files.specs.declared.sum_end.SumEnd.TheVariants as sums
-use Rattle.diy_tools.specs.{declared.status.Status.Status, declared.status.TextKind.TheVariants.{Log, TooMuch}}
-use Rattle.diy_tools.specs.declared.status.Device.TheVariants.{Input, Out, Shelf}
-use Rattle.diy_tools.specs.declared.status.Status.TheVariants.{Done, BadText, NoFile, ReadFault, WriteFault, NoMemory}
+use Rattle.run_status.specs.{declared.status.Status.Status, declared.status.TextKind.TheVariants.{Log, TooMuch}}
+use Rattle.run_status.specs.declared.status.Device.TheVariants.{Input, Out, Shelf}
+use Rattle.run_status.specs.declared.status.Status.TheVariants.{Done, BadText, NoFile, ReadFault, WriteFault, NoMemory}
 use Rattle.diy_tools.specs.Devices.{Devices, InputAndOut, ShelfAndOut}
 
 -- the status for each way in which the summing can end

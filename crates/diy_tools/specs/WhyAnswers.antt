@@ -11,9 +11,10 @@ use Rattle.litmus_text.specs.TestReading.{TestRead}
 use Rattle.program_meaning.specs.Executions.{Execution}
 use Rattle.test_maker.specs.{CycleText.cycle_text, declared.refusal.Refusal.Refusal}
 use Rattle.two_runs.specs.Shown.{AreRunsFor, why_refused}
-use Rattle.diy_tools.specs.{declared.status.Status.Status, declared.status.Device.TheVariants.{Out, Shelf}, ArchMachines.{Machine, machine_of}}
+use Rattle.run_status.specs.{declared.status.Status.Status, declared.status.Device.TheVariants.{Out, Shelf}}
+use Rattle.diy_tools.specs.{ArchMachines.{Machine, machine_of}}
 use Rattle.diy_tools.specs.{Refused.refused_list, TestAnswers.test_name}
-use Rattle.diy_tools.specs.declared.status.Status.TheVariants as statuses
+use Rattle.run_status.specs.declared.status.Status.TheVariants as statuses
 
 -- the path of the file of a test with this ending
 abbrev pub why_path : Option (List ℕ) → List ℕ → List ℕ → List ℕ

@@ -1,13 +1,14 @@
 ghost use Rattle.std.specs.Prelude.{◌≡◌, ◌<◌, length};
 ghost use Rattle.diy_io.specs.Shelf.{Idle};
-ghost use Rattle.diy_tools.specs.{CheckAnswers.{check_status, checked_kind, shown_of}, KeptRequests.{CheckEndsFor, ChecksFiles}, Report.{StatusNamesLocation}};
+ghost use Rattle.diy_tools.specs.{CheckAnswers.{check_status, checked_kind, shown_of}, KeptRequests.{CheckEndsFor, ChecksFiles}};
+ghost use Rattle.run_status.specs.{Report.{StatusNamesLocation}};
 
 use crate::machines::on_machine;
-use crate::status::{Device, Status, TextKind};
 use diy_io::{Shelf, Sink, Words};
 use diy_words::{Check, CheckForm};
 use exec_check::{CheckEnd, CheckedKind, FileWords, Shown, check_files};
 use relax_edges::ArchName;
+use run_status::{Device, Status, TextKind};
 use std::alloc::Global;
 
 /// Writes what holds of the execution in one file, as one of the test in another.

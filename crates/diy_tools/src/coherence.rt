@@ -1,7 +1,7 @@
-ghost use Rattle.diy_tools.specs.{KeptRequests.{AnswersIncoherence, AnswersLoop}, ArchMachines.{machine, machine_of}, Report.{StatusNamesLocation}};
+ghost use Rattle.diy_tools.specs.{KeptRequests.{AnswersIncoherence, AnswersLoop}, ArchMachines.{machine, machine_of}};
+ghost use Rattle.run_status.specs.{Report.{StatusNamesLocation}};
 
 use crate::machines::on_machine;
-use crate::status::Status;
 use crate::testing::{cycle_on, print_named};
 use arch_trait::{Arch, Places, ThreadCodes};
 use arrayvec::ArrayVec;
@@ -12,6 +12,7 @@ use edge_algebra::Cycle;
 use final_cond::Cond;
 use litmus_text::Test;
 use relax_edges::ArchName;
+use run_status::Status;
 
 /// Prints the coherence test that is asked for.
 #[tactic(auto, using(crate::proofs::Coherent::incoherent_on))]

@@ -2,17 +2,18 @@ ghost use Rattle.std.specs.{Prelude.{◌≡◌, ◌≤◌, Ok, length}, Option.{
 ghost use Rattle.diy_io.specs.Shelf.{Idle};
 ghost use Rattle.diy_words.specs.{Given.{GivesTask, HasForm}, Requests.{asked_of}};
 ghost use Rattle.diy_words.specs.declared.request.Request.TheVariants as requests;
-ghost use Rattle.diy_tools.specs.{KeptRequests.{AnswersCrossing, CrossesFor, CrossesOn}, Report.{StatusNamesLocation}};
+ghost use Rattle.diy_tools.specs.{KeptRequests.{AnswersCrossing, CrossesFor, CrossesOn}};
+ghost use Rattle.run_status.specs.{Report.{StatusNamesLocation}};
 
 use crate::listing::listing_status;
 use crate::machines::on_machine;
-use crate::status::Status;
 use arch_trait::Arch;
 use diy_io::{MAX_FOLDER, NoMemory, Shelf, Sink, Words};
 use diy_words::{Cross, read_places};
 use diycross7_cycles::crossed_cycles;
 use edges_from_text::Relaxes;
 use relax_edges::{ArchName, ObsMode};
+use run_status::Status;
 use std::alloc::Global;
 use tests_to_files::put_cycles;
 

@@ -1,14 +1,15 @@
 ghost use Rattle.std.specs.Prelude.{◌≡◌};
 ghost use Rattle.diy_words.specs.Given.{HasForm};
 ghost use Rattle.diy_words.specs.declared.request.Request.TheVariants as requests;
-ghost use Rattle.diy_tools.specs.{DemoAnswers.{demo_on}, ArchMachines.{machine_of}, PrintAnswers.{Prints}, Report.{StatusNamesLocation}};
+ghost use Rattle.diy_tools.specs.{DemoAnswers.{demo_on}, ArchMachines.{machine_of}, PrintAnswers.{Prints}};
+ghost use Rattle.run_status.specs.{Report.{StatusNamesLocation}};
 
 use crate::machines::on_machine;
-use crate::status::{Device, Status};
 use demo_tests::{demo as count_tests, families_have_tests};
 use diy_io::{Failed, Sink};
 use diy_words::Demo;
 use relax_edges::ArchName;
+use run_status::{Device, Status};
 
 /// Makes as many tests as are asked for, and prints how many there are of each family and how long they are.
 #[inline(never)]

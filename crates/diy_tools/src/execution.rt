@@ -5,10 +5,10 @@ ghost use Rattle.litmus_text.specs.Printable.{IsTestName};
 ghost use Rattle.diy_words.specs.Given.{HasForm};
 ghost use Rattle.diy_words.specs.declared.request.Request.TheVariants as requests;
 ghost use Rattle.diy_tools.specs.{ArchMachines.{machine, machine_of}, KeptRequests.{AnswersIntended, AnswersIncoherent, RunsOn, LoopRunsOn, PrintsInMemory}};
-ghost use Rattle.diy_tools.specs.{PrintAnswers.{Prints}, Report.{StatusNamesLocation}};
+ghost use Rattle.diy_tools.specs.{PrintAnswers.{Prints}};
+ghost use Rattle.run_status.specs.{Report.{StatusNamesLocation}};
 
 use crate::machines::on_machine;
-use crate::status::{Device, Status};
 use crate::testing::{cycle_on, name_for};
 use arch_trait::Arch;
 use diy_io::{Failed, NoMemory, Sink};
@@ -16,6 +16,7 @@ use diy_words::{Coherence, DiyOne};
 use edge_algebra::Cycle;
 use exec_text::write_execution;
 use relax_edges::{ArchName, ObsMode};
+use run_status::{Device, Status};
 use std::alloc::Global;
 use two_runs::{IntendedRun, RunError, coherence_run, intended_run};
 

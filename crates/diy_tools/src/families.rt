@@ -4,15 +4,16 @@ ghost use Rattle.tests_from_files.specs.FilesEnds.{FilesClassified};
 ghost use Rattle.diy_words.specs.{Given.{GivesTask}, Requests.{asked_of}};
 ghost use Rattle.diy_words.specs.declared.request.Request.TheVariants as requests;
 ghost use Rattle.diy_tools.specs.{Answers.{Answers}, FamilyAnswers.{AnswersFamilies, file_kind, files_status, read_on}, KeptRequests.{ClassifiesNamedFiles}};
-ghost use Rattle.diy_tools.specs.{Report.{StatusNamesLocation}, Statuses.{classify_status}};
+ghost use Rattle.run_status.specs.{Report.{StatusNamesLocation}};
+ghost use Rattle.diy_tools.specs.{Statuses.{classify_status}};
 
 use crate::machines::on_machine;
 use crate::naming::lines_status;
-use crate::status::{Device, Status, TextKind};
 use cycles_from_lines::{ClassifyError, classify_lines};
 use diy_io::{NoMemory, Shelf, Sink, Source, Words};
 use diy_words::read_files;
 use relax_edges::ArchName;
+use run_status::{Device, Status, TextKind};
 use std::alloc::Global;
 use tests_from_files::{FileKind, FilesEnd, classify_files};
 

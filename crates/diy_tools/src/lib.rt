@@ -11,13 +11,11 @@ mod families;
 mod listing;
 mod machines;
 mod naming;
-mod report;
-mod status;
 mod sums;
 mod testing;
 mod tools;
 mod why;
 
-pub use status::{Device, Status, TextKind};
+pub use run_status::{Device, Status, TextKind};
 pub use test_maker::Refusal;
 pub use tools::run;

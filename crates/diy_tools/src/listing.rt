@@ -3,13 +3,14 @@ ghost use Rattle.relax_edges.specs.declared.TheConstants.{MAX_EDGES};
 ghost use Rattle.diy_io.specs.Shelf.{Idle};
 ghost use Rattle.diy_words.specs.{Given.{HasForm, list_kept}, declared.request.Request.TheVariants.{List, Lines}};
 ghost use Rattle.diy_tools.specs.{ListAnswers.{AnswersList, AnswersListed}, KeptRequests.{EndsOn, EndsLinesOn, asked_listing}, ArchMachines.{machine_of}};
-ghost use Rattle.diy_tools.specs.{Report.{StatusNamesLocation}, Statuses.{listing_status}};
+ghost use Rattle.run_status.specs.{Report.{StatusNamesLocation}};
+ghost use Rattle.diy_tools.specs.{Statuses.{listing_status}};
 
 use crate::machines::on_machine;
-use crate::status::{Device, Status};
 use diy_io::{Failed, MAX_FOLDER, Shelf, Sink};
 use diy_words::Diy;
 use relax_edges::ArchName;
+use run_status::{Device, Status};
 use tests_to_files::{Listing, ListingEnd, list_tests, write_listed};
 
 /// Writes the tests of a listing, each in a file.

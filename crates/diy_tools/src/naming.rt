@@ -1,10 +1,10 @@
 ghost use Rattle.std.specs.Prelude.{◌≡◌};
 ghost use Rattle.cycles_from_lines.specs.Normed.{Norms, name_line};
 ghost use Rattle.diy_tools.specs.{PrintAnswers.{AnswersEdges, Prints}, NameAnswers.{AnswersLines, AnswersName}};
-ghost use Rattle.diy_tools.specs.{KeptRequests.{AnswersKept, edges_kept, refused_edges}, Report.{StatusNamesLocation}, Statuses.{lines_status, norm_status}};
+ghost use Rattle.diy_tools.specs.{KeptRequests.{AnswersKept, edges_kept, refused_edges}, Statuses.{lines_status, norm_status}};
+ghost use Rattle.run_status.specs.{Report.{StatusNamesLocation}};
 
 use crate::edges::cycle_of_edges;
-use crate::status::{Device, Status, TextKind};
 use cycle_names::{NotAName, cycle_of};
 use cycles_from_lines::{LinesError, NormError, norm_lines, write_name_line};
 use diy_io::{Failed, Sink, Source};
@@ -12,6 +12,7 @@ use diy_words::{Norm, Sought, Source as Named, UsageKind};
 use edge_algebra::Cycle;
 use edges_from_text::EdgeList;
 use relax_edges::ArchName;
+use run_status::{Device, Status, TextKind};
 
 /// Prints the names of the cycles that are sought, and their edges.
 #[inline(never)]

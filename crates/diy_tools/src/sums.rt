@@ -1,10 +1,11 @@
 ghost use Rattle.std.specs.Prelude.{◌≡◌, ◌<◌, length};
 ghost use Rattle.diy_io.specs.Shelf.{Idle};
-ghost use Rattle.diy_tools.specs.{Report.{StatusNamesLocation}, SumAnswers.{sum_status}, KeptRequests.{AnswersSumOf, SumsFiles, SumsInput}};
+ghost use Rattle.run_status.specs.{Report.{StatusNamesLocation}};
+ghost use Rattle.diy_tools.specs.{SumAnswers.{sum_status}, KeptRequests.{AnswersSumOf, SumsFiles, SumsInput}};
 
-use crate::status::{Device, Status, TextKind};
 use diy_io::{Shelf, Sink, Source, Words};
 use msum7_files::{SumEnd, sum_files, sum_input};
+use run_status::{Device, Status, TextKind};
 use std::alloc::Global;
 
 /// Sums the logs that the arguments after the first name, or the input if there are none.

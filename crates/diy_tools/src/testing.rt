@@ -3,11 +3,11 @@ ghost use Rattle.diy_words.specs.TestNames.{is_name};
 ghost use Rattle.litmus_text.specs.{Printable.{IsTestName}, Tests.{test_seen}, TestText.{test_text}};
 ghost use Rattle.test_maker.specs.Made.{CanPrint, NamesLocation};
 ghost use Rattle.diy_tools.specs.{PrintAnswers.{Prints}, KeptRequests.{AnswersCycle, AnswersOne, MakesCycle, chosen_name, edges_kept, refused_edges}};
-ghost use Rattle.diy_tools.specs.{ArchMachines.{machine, machine_of}, Report.{StatusNamesLocation}};
+ghost use Rattle.diy_tools.specs.{ArchMachines.{machine, machine_of}};
+ghost use Rattle.run_status.specs.{Report.{StatusNamesLocation}};
 
 use crate::edges::cycle_of_edges;
 use crate::machines::on_machine;
-use crate::status::{Device, Status};
 use arch_trait::{Arch, Places, ThreadCodes};
 use arrayvec::ArrayVec;
 use cycle_names::name_of;
@@ -18,6 +18,7 @@ use edges_from_text::EdgeList;
 use final_cond::Cond;
 use litmus_text::{Test, print_test};
 use relax_edges::{ArchName, ObsMode};
+use run_status::{Device, Status};
 use test_maker::{Refusal, make_into};
 
 /// Prints the test that is asked for.

@@ -1,7 +1,7 @@
 ghost use Rattle.std.specs.Prelude.{◌≡◌};
 ghost use Rattle.diy_io.specs.Shelf.{Idle};
 ghost use Rattle.diy_tools.specs.{Answers.{Answers}, Causes.{Causes}, Complete.{Complete}, Headline.{Headline}, Limit.{Limited}, Memory.{NeverWantsMemory}};
-ghost use Rattle.diy_tools.specs.Report.{TakesLine, status_line, StatusNamesLocation};
+ghost use Rattle.run_status.specs.Report.{TakesLine, status_line, StatusNamesLocation};
 
 use crate::checking::check;
 use crate::coherence::coherence;
@@ -11,13 +11,12 @@ use crate::execution::{coherence_execution, execution};
 use crate::families::families;
 use crate::listing::{list, list_lines};
 use crate::naming::norm;
-use crate::report::report;
-use crate::status::Status;
 use crate::sums::sum;
 use crate::testing::diyone;
 use crate::why::why;
 use diy_io::{Shelf, Sink, Source, Words};
 use diy_words::{Request, read_request};
+use run_status::{Status, report};
 use std::alloc::Global;
 
 /// Does what the arguments ask for: it prints to `out` the test of a cycle, or its coherence test, or the
@@ -32,7 +31,7 @@ use std::alloc::Global;
 /// that can run out of memory does (`Complete`); no other tool returns `NoMemory`; and each status has the one
 /// cause that `Causes` gives. No file of the shelf may be open, and none is open afterwards. The line of the
 /// status is written to `err`; if this fails, the status stays the same.
-#[tactic(auto, using(crate::proofs::Reported::takes_line, crate::proofs::Forced::answers_force))]
+#[tactic(auto, using(run_status::proofs::Reported::takes_line, crate::proofs::Forced::answers_force))]
 pub fn run<I: Source, O: Sink, E: Sink, H: Shelf>(
     alloc: Global,
     words: &Words,

@@ -14,11 +14,11 @@ use Rattle.log_sum.specs.declared.errors.LogKind.TheVariants as logs
 use Rattle.diy_words.specs.declared.usage.UsageKind.{UsageKind}
 use Rattle.diy_words.specs.declared.usage.UsageKind.TheVariants as usages
 use Rattle.test_maker.specs.{declared.refusal.Refusal.Refusal, Made.NamesLocation}
-use Rattle.diy_tools.specs.{declared.status.Status.Status, declared.status.TextKind.TextKind, declared.status.Device.Device}
-use Rattle.diy_tools.specs.declared.status.Status.TheVariants as statuses
+use Rattle.run_status.specs.{declared.status.Status.Status, declared.status.TextKind.TextKind, declared.status.Device.Device}
+use Rattle.run_status.specs.declared.status.Status.TheVariants as statuses
 use Rattle.test_maker.specs.declared.refusal.Refusal.TheVariants as refusals
-use Rattle.diy_tools.specs.declared.status.TextKind.TheVariants as texts
-use Rattle.diy_tools.specs.declared.status.Device.TheVariants as devices
+use Rattle.run_status.specs.declared.status.TextKind.TheVariants as texts
+use Rattle.run_status.specs.declared.status.Device.TheVariants as devices
 
 -- the exit status of the program
 abbrev pub exit_of : Status → ℕ

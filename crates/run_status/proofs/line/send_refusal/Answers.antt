@@ -1,5 +1,5 @@
 -- That `send_refusal` sends the line of a refusal.
-use Rattle.diy_tools.proofs.report.send_refusal.Goals as goal
+use Rattle.run_status.proofs.line.send_refusal.Goals as goal
 
 pub returns-in-DoesNotCompose : goal.returns-in-DoesNotCompose
 returns-in-DoesNotCompose g c = rw c.in-DoesNotCompose.is c.refuse_at-in-DoesNotCompose.ensures

@@ -1,5 +1,5 @@
 ghost use Rattle.std.specs.Prelude.{◌≡◌};
-ghost use Rattle.diy_tools.specs.Report.{exit_of};
+ghost use Rattle.run_status.specs.Report.{exit_of};
 
 use cycles_from_lines::LineKind;
 use diy_words::UsageKind;

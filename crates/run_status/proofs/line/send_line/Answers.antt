@@ -1,7 +1,7 @@
 -- That `send_line` sends the line of a status.
 use Rattle.std.proofs.Common.{sym}
 use Rattle.diy_io.specs.PageLaws.{not_spilled}
-use Rattle.diy_tools.proofs.report.send_line.Goals as goal
+use Rattle.run_status.proofs.line.send_line.Goals as goal
 
 pub returns-in-Done : goal.returns-in-Done
 returns-in-Done g c = rw c.in-Done.is (not_spilled _ _ _)

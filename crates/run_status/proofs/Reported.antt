@@ -4,7 +4,7 @@ use Rattle.std.proofs.{lemmas.Option.slice_get_past, lemmas.List.FromFn.{get_or-
 use Rattle.std.specs.{Prelude.{codes, slice_get, None, Result, Ok, Err}, Result.IsErrAnd}
 use Rattle.arch_trait.specs.PlaceNames.{letters, location_name}
 use Rattle.diy_words.specs.declared.usage.UsageKind.{UsageKind}
-use Rattle.diy_tools.specs.{declared.status.Status.TheVariants.Usage, Report.{TakesLine, status_line, usage_line, usage_text, shown_word}}
+use Rattle.run_status.specs.{declared.status.Status.TheVariants.Usage, Report.{TakesLine, status_line, usage_line, usage_text, shown_word}}
 use Rattle.diy_io.specs.{declared.errors.Failed.Failed, Page.{SentAll, Sends}, PageLaws.{sent_wrote, unsent_wrote}, Wrote.{SinkSeen, Wrote}}
 
 -- the last of some letters is the name of its location

@@ -1,9 +1,9 @@
 -- That `report` writes the line of a status, or a prefix of it where the sink fails.
 use Rattle.std.proofs.Common.{sym, ap}
 use Rattle.diy_io.specs.WroteLaws.{wrote_nothing}
-use Rattle.diy_tools.specs.Report.{status_line}
-use Rattle.diy_tools.proofs.Reported.{own_wrote, own_unsent}
-use Rattle.diy_tools.proofs.report.report.Goals as goal
+use Rattle.run_status.specs.Report.{status_line}
+use Rattle.run_status.proofs.Reported.{own_wrote, own_unsent}
+use Rattle.run_status.proofs.line.report.Goals as goal
 
 pub returns-in-Done : goal.returns-in-Done
 returns-in-Done g c = wrote_nothing _ _ (sym (ap (status_line c.args.words.now) c.in-Done.is))

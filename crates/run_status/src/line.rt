@@ -3,7 +3,7 @@ ghost use Rattle.relax_edges.specs.declared.TheConstants.{MAX_EDGES};
 ghost use Rattle.diy_io.specs.{Page.{Sends}, Wrote.{Wrote}};
 ghost use Rattle.test_maker.specs.declared.refusal.Refusal.TheVariants as refusals;
 ghost use Rattle.test_maker.specs.Made.{NamesLocation};
-ghost use Rattle.diy_tools.specs.Report.{status_line, refusal_line, refusal_text, usage_line, usage_text, line_text, log_text, test_kind_text, exec_text, kind_text, word_at, file_text, shown_word, device_text, StatusNamesLocation, text_line};
+ghost use Rattle.run_status.specs.Report.{status_line, refusal_line, refusal_text, usage_line, usage_text, line_text, log_text, test_kind_text, exec_text, kind_text, word_at, file_text, shown_word, device_text, StatusNamesLocation, text_line};
 
 use crate::status::{Device, Status, TextKind};
 use arch_trait::Places;
@@ -18,7 +18,7 @@ use test_maker::Refusal;
 
 /// Writes the line of a status, if it has one. If the sink fails, it has taken a prefix of the line.
 #[inline(never)]
-pub(crate) fn report<E: Sink>(status: Status, words: &Words, err: &mut E) -> Result<(), Failed>
+pub fn report<E: Sink>(status: Status, words: &Words, err: &mut E) -> Result<(), Failed>
     requires { StatusNamesLocation status }
     ensures { Wrote (E.seen err.old) (E.seen err.new) (status_line words.now status) result }
 {
