@@ -1,7 +1,7 @@
 -- The names of cycles by their families, as they are kept and written.
 use Rattle.std.proofs.Common.{◌≡◌, ◌≤◌, ◌<◌, ◌+◌, ℕ, zero, suc, List, [], ◌∷◌, ◌++◌, length, take, get_or, Option, None, Ok, Err, true, false, refl, sym, ap, inl, ◌∙◌, subst, arith, append-nil, append_assoc}
 use Rattle.std.proofs.{lemmas.List.Elements.filter-append, lemmas.List.Sums.fold-append, lemmas.List.Folds.flat_map-map, lemmas.Grind.flat_map-append}
-use Rattle.std.proofs.lemmas.List.{length-map, map_push}
+use Rattle.std.proofs.lemmas.List.{length-map, length_push, map_push, take_more}
 use Rattle.std.specs.{Prelude.{cond, map, filter, fold, codes, Result, OnOk, String, IsTrue, ◌↔◌, slice_set}, List.flat_map, Result.IsErrAnd}
 use Rattle.std.specs.{BTreeSet.{BTreeSet, btree_set_len}, Borrow.Bor, String.string_bytes, declared.alloc.Global.Global}
 use Rattle.list_laws.proofs.Cases.{by_test}
@@ -190,6 +190,20 @@ classified arch s t a b table h w = record { cycles = h.cycles; read = h.read; w
 -- where the names were gathered and the sink failed, a prefix of the text was written
 pub classified_part : (arch : ArchName) (s t : SourceSeen) (a b : SinkSeen) (table : List FamilyEntry) (h : GatheredFamilies arch s t table) → WrotePart a b (families_text h.cycles) → ClassifiedPart arch s t a b
 classified_part arch s t a b table h w = record { cycles = h.cycles; read = h.read; wrote = w }
+
+-- the table without names, with the entry of one more family
+pub entry_more : (all : List Family) (i : ℕ) (d : Family) (table more : List FamilyNames) (entry : FamilyNames) → i < length all
+    → ◌≡◌ {A = List FamilyEntry} (map family_view table) (map (λ f. (f, [])) (take i all)) → more ≡ table ++ entry ∷ []
+    → entry.family ≡ get_or all i d → names_in_set entry.names ≡ [] → ◌≡◌ {A = List FamilyEntry} (map family_view more) (map (λ f. (f, [])) (take (i + 1) all))
+entry_more all i d table more entry inside held pushed family none =
+    let named : FamilyEntry → List FamilyEntry = λ e. map (λ f. (f, [])) (take i all) ++ e ∷ [] in
+    ap (map family_view) pushed ∙ map_push family_view table entry ∙ ap (λ l. l ++ family_view entry ∷ []) held
+    ∙ ap named (λ k. (family k, none k)) ∙ sym (ap (map (λ f. (f, []))) (take_more all i d inside) ∙ map_push (λ f. (f, [])) (take i all) (get_or all i d))
+
+-- with the entry of the cycles of no family, the table has 15 entries
+pub all_entries : (table more : List FamilyNames) (other : FamilyNames) → ◌≡◌ {A = List FamilyEntry} (map family_view table) (map (λ f. (f, [])) all_families)
+    → more ≡ table ++ other ∷ [] → length more ≡ 15
+all_entries table more other held pushed = ap length pushed ∙ length_push table other ∙ ap (λ n. n + 1) (sym (length-map table family_view) ∙ ap length held)
 
 -- nothing is kept at the start, where no family of the table has a name, and the last entry, of the cycles of none, has none
 pub none_held : (table : List FamilyNames) (other : FamilyNames) → ◌≡◌ {A = List FamilyEntry} (map family_view table) (map (λ f. (f, [])) all_families)

@@ -1,7 +1,10 @@
 -- A cycle on which the test says no is not listed.
-use Rattle.std.proofs.Common.{true, false, rules}
+use Rattle.std.proofs.Common.{true, false, refl, rules}
 use Rattle.cycle_enum.specs.Walking.{Says}
 use Rattle.cycle_enum.proofs.walk.Space.is_listed.Goals as goal
+
+pub call-requires : goal.call-requires
+call-requires g c = rw (← c.self.view_is) at (c.requires.knows.take.asked c.args.cycle.now c.edges-edges.ensures.composable c.requires.kept c.args.cycle refl)
 
 pub returns-clause-other : goal.returns-clause-other
 returns-clause-other g c h l =
