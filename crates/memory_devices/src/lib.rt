@@ -1,4 +1,4 @@
-//! The devices in memory, which show their bytes and fail where they are told to.
+//! The devices in memory, which show their bytes and fail exactly where they are told to.
 #![tactic(auto)]
 
 mod mem_files;
