@@ -1,5 +1,5 @@
-use diy_io::MemSink;
 use final_cond::{CondError, CondKind, Final, holds, print_cond, read_cond, read_term};
+use memory_devices::MemSink;
 use relax_edges::Value;
 use std::test::Fail;
 

@@ -1,9 +1,10 @@
 ghost use Rattle.std.specs.Prelude.{◌≡◌};
 ghost use Rattle.diy_io.specs.Shelf.{Idle, IsReading};
 
-use diy_io::{DirShelf, Failed, OpenError, Shelf, Sink, StdSink};
+use diy_io::{Failed, OpenError, Shelf, Sink};
 use std::io::{ErrorKind, Write};
 use std::{fs, io};
+use system_devices::{DirShelf, StdSink};
 
 /// A writer that takes at most three bytes in a call, fails at call 2 and takes nothing at call 4, counted from 0.
 #[derive(Drop)]

@@ -6,8 +6,9 @@ use crate::block::{Block, Keyword, bytes_of, find_block, first};
 use crate::errors::TableError;
 use crate::part::Trial;
 use crate::read_all::read_all;
-use diy_io::{MemShelf, MemSink, MemSource, Sink, TallySink, Words};
+use diy_io::{Sink, TallySink, Words};
 use diy_tools::run;
+use memory_devices::{MemShelf, MemSink, MemSource};
 use std::alloc::Global;
 use std::str;
 

@@ -22,10 +22,11 @@ use crate::errors::TableError;
 use crate::read_all::read_all;
 use crate::report::{name_of, try_row};
 use crate::table::read_table;
-use diy_io::{Sink, StdSink, StdSource};
+use diy_io::Sink;
 use std::alloc::Global;
 use std::process::ExitCode;
 use std::str;
+use system_devices::{StdSink, StdSource};
 
 /// How many rows there are, and how many of them differ.
 #[derive(Clone, Copy, Default)]

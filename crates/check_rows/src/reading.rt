@@ -9,9 +9,9 @@ use arch_power::Power;
 use arch_riscv::Riscv;
 use arch_trait::Arch;
 use arch_x86::X86;
-use diy_io::MemSink;
 use final_cond::print_cond;
 use litmus_text::{ReadError, ReadTest, TextError, arch_of, read_test};
+use memory_devices::MemSink;
 use relax_edges::ArchName;
 use std::alloc::Global;
 

@@ -1,10 +1,5 @@
-pub mod MemSinkLemmas
+pub mod RoomLaws
 pub mod PiecesLemmas
-pub mod StdSinkLemmas
-pub mod SureSourceLemmas
-pub mod FilesLaws
-pub mod EntriesLaws
-pub mod ShelfLaws
 pub mod PageLemmas
 pub mod OpenedLaws
 pub mod FileNameLaws

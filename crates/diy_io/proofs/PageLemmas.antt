@@ -6,7 +6,7 @@ use Rattle.list_laws.proofs.Parts.{take-append-add}
 use Rattle.diy_io.specs.{declared.errors.Failed.Failed, declared.page.TheConstants.PAGE_ROOM, Page.{put_within, page_after, SentAll, Sends}}
 use Rattle.diy_io.specs.{PageLaws.{page_fits, sent_put, sent_both, sent_part, sent_part_more, sends_then, sends_same}, Pieces.joined_text}
 use Rattle.diy_io.specs.Wrote.{SinkSeen, WroteAll, WrotePart}
-use Rattle.diy_io.proofs.{PiecesLemmas.{joined_text_more, joined_text_at}, MemSinkLemmas.{took_all, took_prefix}}
+use Rattle.diy_io.proofs.{PiecesLemmas.{joined_text_more, joined_text_at}, RoomLaws.{took_all, took_prefix}}
 
 abbrev Answer : Type 0
 Answer = Result (Unit {0}) Failed

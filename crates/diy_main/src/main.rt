@@ -1,11 +1,12 @@
 //! The program: hands its arguments, the standard streams and the files of the current folder to `run`.
 #![tactic(auto)]
 
-use diy_io::{DirShelf, NoMemory, StdSink, StdSource, Words};
+use diy_io::{NoMemory, Words};
 use diy_tools::run;
 use std::env;
 use std::io::ErrorKind;
 use std::process::ExitCode;
+use system_devices::{DirShelf, StdSink, StdSource};
 
 /// The arguments after the program's name, or the status with which the program ends if it gets none:
 /// 4 if there is no memory for them, and 3 if the system fails to supply them for another reason.

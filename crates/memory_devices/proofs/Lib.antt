@@ -1,0 +1,4 @@
+pub mod SureSourceLemmas
+pub mod FilesLaws
+pub mod EntriesLaws
+pub mod ShelfLaws

@@ -1,0 +1,3 @@
+pub mod DirShelf
+pub mod StdSink
+pub mod StdSource
