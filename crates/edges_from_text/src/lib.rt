@@ -1,4 +1,4 @@
-//! The edges that a text spells, and a list of them that says when it has too many.
+//! The edge that a text spells, the edges of a text, a list of them that says when it has too many, and lists of relaxations.
 #![tactic(auto)]
 
 mod edge;
