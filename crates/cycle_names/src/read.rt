@@ -9,7 +9,8 @@ use crate::link::is_spelled;
 use crate::name::{MAX_CYCLE_NAME, name_of};
 use arrayvec::{ArrayString, ArrayVec};
 use edge_algebra::{Cycle, cycle};
-use relax_edges::{ArchName, Dir, EDGES, Edge, MAX_EDGES, Mark, read_edge_bytes};
+use edges_from_text::read_edge_bytes;
+use relax_edges::{ArchName, Dir, EDGES, Edge, MAX_EDGES, Mark};
 use thiserror::Error;
 
 type Edges = ArrayVec<Edge, MAX_EDGES>;

@@ -7,8 +7,8 @@ ghost use Rattle.cycles_from_lines.specs.{Cycles.{spelled_made, cycle_made, cycl
 
 use crate::errors::LineKind;
 use edge_algebra::Cycle;
-use edges_from_text::{EdgeList, Separators, read_edges};
-use relax_edges::{ArchName, Com, Dir, Edge, MAX_EDGES, Mark, UnknownEdge};
+use edges_from_text::{EdgeList, Separators, UnknownEdge, read_edges};
+use relax_edges::{ArchName, Com, Dir, Edge, MAX_EDGES, Mark};
 
 /// Sets `cycle` to the cycle of an architecture that a text spells, with blanks between its edges, or
 /// returns the first error that it has. `edges` is space for the edges: what it held doesn't matter.

@@ -4,7 +4,7 @@ use Rattle.std.specs.{Prelude.{◌≡◌, ◌==◌, ◌&&◌, Bool, true, false,
 use Rattle.std.proofs.{Common.{refl, ap, subst, sym, ◌∙◌, arith}, lemmas.Bool.{and_parts, eqb-true}}
 use Rattle.relax_edges.specs.{declared.kinds.Kind.Kind, declared.kinds.Mark.Mark, declared.edge.Edge.Edge}
 use Rattle.relax_edges.specs.EdgeTable.{kind_of, source_of, target_of, source_mark, target_mark, mark_fits, same_mark, unmarked, marked_of, marked_edge}
-use Rattle.relax_edges.specs.{Order.rank_of, AllEdges.edges_in_order, WordReading.marks_read}
+use Rattle.relax_edges.specs.{Order.rank_of, AllEdges.edges_in_order, NamedKinds.marks_read}
 use Rattle.edge_algebra_laws.proofs.{RankLaws.{each_edge, rank_injective}, SpellingLaws.{each_mark, each_kind, kind_of_unmarked}, Joining.same_mark_is}
 
 -- a read that an edge leaves is plain or acquire, a write plain or release

@@ -1,10 +1,10 @@
 -- Laws of the words and spellings of edges, for the crates above.
 use Rattle.std.specs.{Prelude.{◌≡◌, Some, ℕ, true, List, Bool, ◌≤◌, length}, List.list_all, Str.bytes_eq}
 use Rattle.relax_edges.specs.{declared.edge.Edge.Edge, declared.kinds.Mark.Mark, declared.kinds.Kind.Kind, WordParts.word_of}
-use Rattle.relax_edges.specs.{Spelling.{edge_of, is_spelling, spellings_of}, WordReading.marks_read, EdgeTable.{kind_of, unmarked}, AllEdges.edges_in_order}
+use Rattle.relax_edges.specs.{Spelling.{edge_of, is_spelling, spellings_of}, NamedKinds.marks_read, EdgeTable.{kind_of, unmarked}, AllEdges.edges_in_order}
 use Rattle.std.proofs.{Common.{subst, sym, ◌∙◌}, lemmas.List.Folds.Any-from_list_any, lemmas.List.Sums.AllPass-from_list_all, lemmas.Slice.Eq.bytes_eq-Decides}
 use Rattle.relax_edges.proofs.Spellings as spellings
-use Rattle.relax_edges.proofs.KindSpellings as kind_spellings
+use Rattle.relax_edges.proofs.EachKind as kinds
 use Rattle.relax_edges.proofs.WordBounds as word_bounds
 use Rattle.edge_algebra_laws.proofs.RankLaws.{each_edge}
 
@@ -30,11 +30,11 @@ each_mark test h mark = spellings.each_mark test h mark
 
 -- a test that the kind of each edge passes, each kind passes
 pub each_kind : (test : Kind → Bool) → list_all (λ edge. test (kind_of edge)) edges_in_order ≡ true → (kind : Kind) → test kind ≡ true
-each_kind test all kind = kind_spellings.each_kind test all kind
+each_kind test all kind = kinds.each_kind test all kind
 
 -- the kind of the edge of a kind without marks is that kind
 pub kind_of_unmarked : (kind : Kind) → kind_of (unmarked kind) ≡ kind
-kind_of_unmarked kind = kind_spellings.kind_of_unmarked kind
+kind_of_unmarked kind = kinds.kind_of_unmarked kind
 
 -- a printed word has 14 bytes or fewer
 pub word_short : (edge : Edge) → length (word_of edge) ≤ 14

@@ -1,4 +1,7 @@
 pub mod ReadingLaws
+pub mod FenceWords
+pub mod KindSpellings
+pub mod EdgeReadings
 mod RelaxExamples
 pub mod Paths
 pub mod RelaxWords

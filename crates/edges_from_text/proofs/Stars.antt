@@ -7,7 +7,7 @@ use Rattle.std.proofs.lemmas.List.{take-append-drop, map-append, length-append, 
 use Rattle.relax_edges.specs.{declared.edge.Edge.Edge, Spelling.edge_of}
 use Rattle.edges_from_text.specs.Relaxations.{byte_choices, expansions, word_edges}
 use Rattle.edges_from_text.specs.Stars.{star_choices, edges_by_last, edges_by_end}
-use Rattle.relax_edges.proofs.Spellings.{edge_of_short}
+use Rattle.edges_from_text.proofs.EdgeReadings.{edge_of_short}
 
 -- the words with a given beginning, by their last two bytes
 abbrev ends : List ℕ → ℕ → ℕ → List (List ℕ)

@@ -8,3 +8,4 @@ pub mod RelaxSearch
 pub mod RelaxRuns
 pub mod RelaxPrefix
 pub mod Stars
+pub mod WordReading

@@ -1,6 +1,7 @@
-//! The edges that a text spells, and a list of them that says when it has too many.
+//! The edge that a text spells, the edges of a text, a list of them that says when it has too many, and lists of relaxations.
 #![tactic(auto)]
 
+mod edge;
 mod list;
 mod read;
 mod relax;
@@ -11,6 +12,7 @@ mod relax_runs;
 mod relax_search;
 mod relax_words;
 
+pub use edge::{UnknownEdge, read_edge, read_edge_bytes, read_ending};
 pub use list::EdgeList;
 pub use read::{Separators, read_edges};
 pub use relax::{Relax, Relaxes};

@@ -1,8 +1,8 @@
 ghost use Rattle.std.specs.{Prelude.{◌≡◌, [], ◌∷◌, Some, None, is_ok, if◌then◌else◌}, Option.{option_map}};
 ghost use Rattle.edges_from_text.specs.{Spelled.{separates, edges_spelled, edges_of}, KeptEdges.{edges_added}};
 
+use crate::edge::{UnknownEdge, read_edge_bytes};
 use crate::list::EdgeList;
-use relax_edges::{UnknownEdge, read_edge_bytes};
 use text_parts::Class;
 
 /// What separates the edges of a text.

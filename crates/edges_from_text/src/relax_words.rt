@@ -4,9 +4,10 @@ ghost use Rattle.relax_edges.specs.Spelling.{edge_of};
 ghost use Rattle.edges_from_text.specs.{RelaxText.{is_separator, words_of, is_empty}, Relaxations.word_edges};
 ghost use Rattle.edges_from_text.specs.Stars.{edges_by_last, edges_by_end};
 
+use crate::edge::read_ending;
 use crate::relax_runs::{RunEnd, is_separator, run_len};
 use arrayvec::ArrayVec;
-use relax_edges::{Edge, read_ending};
+use relax_edges::Edge;
 
 /// The first word of a text without brackets, and the text after it; `None` if there is no word.
 #[tactic(auto, using(crate::proofs::RelaxWords::words_of_separator, crate::proofs::RelaxWords::words_of_word, crate::proofs::RelaxWords::word_len_some))]

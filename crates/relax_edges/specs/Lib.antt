@@ -6,6 +6,6 @@ pub mod WordParts
 pub mod AllEdges
 pub mod Spelling
 pub mod ReadEdges
-pub mod WordReading
+pub mod NamedKinds
 pub mod Architectures
 pub mod NamedEdges

@@ -160,7 +160,8 @@ impl Kind {
         }
     }
 
-    pub(crate) fn is_of(self, arch: ArchName) -> bool
+    /// Whether the architecture has the edge of this kind without marks.
+    pub fn is_of(self, arch: ArchName) -> bool
         ensures { result ≡ kind_is_of self arch }
     {
         match self {
@@ -174,7 +175,7 @@ impl Kind {
 
 impl Kind {
     /// The edge of this kind without marks.
-    pub(crate) fn without_marks(self) -> Edge
+    pub fn without_marks(self) -> Edge
         ensures { result ≡ unmarked self }
     {
         match self {

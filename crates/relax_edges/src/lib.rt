@@ -6,7 +6,6 @@ mod edge;
 mod kinds;
 mod marked;
 mod order;
-mod read;
 mod word;
 
 pub use arch::read_arch;
@@ -16,7 +15,6 @@ pub use kinds::{
 };
 pub use marked::MarkedEdge;
 pub use order::EDGES;
-pub use read::{UnknownEdge, read_edge, read_edge_bytes, read_ending};
 
 /// The most edges that a cycle may have.
 pub const MAX_EDGES: usize = 48;

@@ -1,94 +1,81 @@
 ghost use Rattle.std.specs.{Prelude.{◌≡◌, ◌∷◌, [], ◌++◌, reverse}, Option.{option_map}, Result.{result_ok}};
-ghost use Rattle.relax_edges.specs.WordReading.{mark_named, kind_read, edge_spelled, dir_named, sd_named, reach_named, com_named, dependency_named, riscv_fence_named, fence_named, communication_of, two_sided_of, one_sided_of, read_as_communication, read_back_two_sided};
+ghost use Rattle.edges_from_text.specs.WordReading.{mark_named, kind_read, edge_spelled, dir_named, sd_named, reach_named, com_named, dependency_named, riscv_fence_named, fence_named, communication_of, two_sided_of, one_sided_of, read_as_communication, read_back_two_sided};
 ghost use Rattle.relax_edges.specs.{Spelling.{edge_of}, EdgeTable.{unmarked}};
 
-use crate::edge::Edge;
-use crate::kinds::{ArchName, Com, DepKind, Dir, FenceKind, Kind, Mark, Pick, Reach, Sd};
+use relax_edges::{ArchName, Com, DepKind, Dir, Edge, FenceKind, Kind, Mark, Pick, Reach, Sd};
 use thiserror::Error;
 
-impl Dir {
-    /// The direction that a letter spells: `R` or `W`.
-    #[inline]
-    fn from_byte(byte: u8) -> Option<Dir>
-        ensures { result ≡ dir_named (byte ∷ []) }
-    {
-        match byte {
-            b'R' => Some(Dir::R),
-            b'W' => Some(Dir::W),
-            _ => None,
-        }
+/// The direction that a letter spells: `R` or `W`.
+#[inline]
+fn dir_from_byte(byte: u8) -> Option<Dir>
+    ensures { result ≡ dir_named (byte ∷ []) }
+{
+    match byte {
+        b'R' => Some(Dir::R),
+        b'W' => Some(Dir::W),
+        _ => None,
     }
 }
 
-impl Sd {
-    /// The choice of location that a letter spells: `s` for the same, `d` for another.
-    #[inline]
-    fn from_byte(byte: u8) -> Option<Sd>
-        ensures { result ≡ sd_named (byte ∷ []) }
-    {
-        match byte {
-            b's' => Some(Sd::Same),
-            b'd' => Some(Sd::Diff),
-            _ => None,
-        }
+/// The choice of location that a letter spells: `s` for the same, `d` for another.
+#[inline]
+fn sd_from_byte(byte: u8) -> Option<Sd>
+    ensures { result ≡ sd_named (byte ∷ []) }
+{
+    match byte {
+        b's' => Some(Sd::Same),
+        b'd' => Some(Sd::Diff),
+        _ => None,
     }
 }
 
-impl Reach {
-    /// The reach that a letter spells: `i` for internal, `e` for external.
-    #[inline]
-    fn from_byte(byte: u8) -> Option<Reach>
-        ensures { result ≡ reach_named (byte ∷ []) }
-    {
-        match byte {
-            b'i' => Some(Reach::Internal),
-            b'e' => Some(Reach::External),
-            _ => None,
-        }
+/// The reach that a letter spells: `i` for internal, `e` for external.
+#[inline]
+fn reach_from_byte(byte: u8) -> Option<Reach>
+    ensures { result ≡ reach_named (byte ∷ []) }
+{
+    match byte {
+        b'i' => Some(Reach::Internal),
+        b'e' => Some(Reach::External),
+        _ => None,
     }
 }
 
-impl Mark {
-    fn from_byte(byte: u8) -> Option<Mark>
-        ensures { result ≡ mark_named (byte ∷ []) }
-    {
-        match byte {
-            b'P' => Some(Mark::Plain),
-            b'A' => Some(Mark::Acquire),
-            b'L' => Some(Mark::Release),
-            _ => None,
-        }
+fn mark_from_byte(byte: u8) -> Option<Mark>
+    ensures { result ≡ mark_named (byte ∷ []) }
+{
+    match byte {
+        b'P' => Some(Mark::Plain),
+        b'A' => Some(Mark::Acquire),
+        b'L' => Some(Mark::Release),
+        _ => None,
     }
 }
 
-impl Com {
-    fn from_bytes(first: u8, second: u8) -> Option<Com>
-        ensures { result ≡ com_named (first ∷ second ∷ []) }
-    {
-        match (first, second) {
-            (b'R', b'f') => Some(Com::Rf),
-            (b'F', b'r') => Some(Com::Fr),
-            (b'W', b's') | (b'C', b'o') => Some(Com::Ws),
-            _ => None,
-        }
+fn com_from_bytes(first: u8, second: u8) -> Option<Com>
+    ensures { result ≡ com_named (first ∷ second ∷ []) }
+{
+    match (first, second) {
+        (b'R', b'f') => Some(Com::Rf),
+        (b'F', b'r') => Some(Com::Fr),
+        (b'W', b's') | (b'C', b'o') => Some(Com::Ws),
+        _ => None,
     }
 }
 
-impl DepKind {
-    fn from_word(text: &[u8]) -> Option<DepKind>
-        ensures { result ≡ dependency_named text.now }
-    {
-        if text == b"DpAddr".as_slice() {
-            Some(DepKind::Addr)
-        } else if text == b"DpCtrl".as_slice() {
-            Some(DepKind::Ctrl)
-        } else if text == b"DpCtrlIsync".as_slice() {
-            Some(DepKind::CtrlIsync)
-        } else if text == b"DpCtrlIsb".as_slice() {
-            Some(DepKind::CtrlIsb)
-        } else {
-            None
-        }
+fn dependency_from_word(text: &[u8]) -> Option<DepKind>
+    ensures { result ≡ dependency_named text.now }
+{
+    if text == b"DpAddr".as_slice() {
+        Some(DepKind::Addr)
+    } else if text == b"DpCtrl".as_slice() {
+        Some(DepKind::Ctrl)
+    } else if text == b"DpCtrlIsync".as_slice() {
+        Some(DepKind::CtrlIsync)
+    } else if text == b"DpCtrlIsb".as_slice() {
+        Some(DepKind::CtrlIsb)
+    } else {
+        None
     }
 }
 
@@ -172,22 +159,20 @@ fn fence_of_six(
     }
 }
 
-impl FenceKind {
-    /// The fence that a text names. Few names have the same length, so the length is tested first.
-    fn from_word(text: &[u8]) -> Option<FenceKind>
-        ensures { result ≡ fence_named text.now }
-    {
-        match text {
-            [first, second, third] => fence_of_three(*first, *second, *third),
-            [first, second, third, fourth] => fence_of_four(*first, *second, *third, *fourth),
-            [first, second, third, fourth, fifth] => {
-                fence_of_five(*first, *second, *third, *fourth, *fifth)
-            }
-            [first, second, third, fourth, fifth, sixth] => {
-                fence_of_six(*first, *second, *third, *fourth, *fifth, *sixth)
-            }
-            _ => riscv_fence(text),
+/// The fence that a text names. Few names have the same length, so the length is tested first.
+fn fence_from_word(text: &[u8]) -> Option<FenceKind>
+    ensures { result ≡ fence_named text.now }
+{
+    match text {
+        [first, second, third] => fence_of_three(*first, *second, *third),
+        [first, second, third, fourth] => fence_of_four(*first, *second, *third, *fourth),
+        [first, second, third, fourth, fifth] => {
+            fence_of_five(*first, *second, *third, *fourth, *fifth)
         }
+        [first, second, third, fourth, fifth, sixth] => {
+            fence_of_six(*first, *second, *third, *fourth, *fifth, *sixth)
+        }
+        _ => riscv_fence(text),
     }
 }
 
@@ -195,8 +180,8 @@ impl FenceKind {
 fn read_communication(first: u8, second: u8, reach: u8) -> Option<Edge>
     ensures { result ≡ option_map unmarked (communication_of first second reach) }
 {
-    let com = Com::from_bytes(first, second)?;
-    let reach = Reach::from_byte(reach)?;
+    let com = com_from_bytes(first, second)?;
+    let reach = reach_from_byte(reach)?;
     Some(Edge::Com { com, reach })
 }
 
@@ -205,13 +190,13 @@ fn read_communication(first: u8, second: u8, reach: u8) -> Option<Edge>
 fn read_two_sided(prefix: &[u8], sd: u8, from: u8, to: u8) -> Option<Edge>
     ensures { result ≡ option_map unmarked (two_sided_of prefix.now sd from to) }
 {
-    let sd = Sd::from_byte(sd)?;
-    let from = Dir::from_byte(from)?;
-    let to = Dir::from_byte(to)?;
+    let sd = sd_from_byte(sd)?;
+    let from = dir_from_byte(from)?;
+    let to = dir_from_byte(to)?;
     if prefix == b"Po".as_slice() {
         return Some(Edge::Po { sd, from, to });
     }
-    let fence = FenceKind::from_word(prefix)?;
+    let fence = fence_from_word(prefix)?;
     Some(Edge::Fenced {
         fence,
         sd,
@@ -225,15 +210,15 @@ fn read_two_sided(prefix: &[u8], sd: u8, from: u8, to: u8) -> Option<Edge>
 fn read_one_sided(prefix: &[u8], sd: u8, to: u8) -> Option<Edge>
     ensures { result ≡ option_map unmarked (one_sided_of prefix.now sd to) }
 {
-    let sd = Sd::from_byte(sd)?;
-    let to = Dir::from_byte(to)?;
+    let sd = sd_from_byte(sd)?;
+    let to = dir_from_byte(to)?;
     if prefix == b"DpData".as_slice() {
         return match to {
             Dir::R => None,
             Dir::W => Some(Edge::Data { sd }),
         };
     }
-    let dep = DepKind::from_word(prefix)?;
+    let dep = dependency_from_word(prefix)?;
     Some(Edge::Dep { dep, sd, to })
 }
 
@@ -264,9 +249,9 @@ fn end_two_sided(prefix: &[u8], from: u8, to: u8) -> Option<Edge>
 fn end_unmarked(prefix: &[u8], before: u8, last: u8) -> Option<Edge>
     ensures { result ≡ option_map unmarked (kind_read (prefix.now ++ before ∷ last ∷ [])) }
 {
-    match Dir::from_byte(last) {
+    match dir_from_byte(last) {
         None => end_communication(prefix, before, last),
-        Some(_) => match Dir::from_byte(before) {
+        Some(_) => match dir_from_byte(before) {
             None => read_one_sided(prefix, before, last),
             Some(_) => end_two_sided(prefix, before, last),
         },
@@ -306,14 +291,14 @@ fn edge_of_letters(kind: Kind, from: Mark, to: Mark) -> Option<Edge>
 
 /// The edge that is spelled by these bytes, if there is one: a prefix and the last two. `read_edge_bytes` is for a text that is
 /// one piece.
-#[tactic(auto, using(crate::proofs::Spellings::ending_is_edge_of))]
+#[tactic(auto, using(crate::proofs::EdgeReadings::ending_is_edge_of))]
 pub fn read_ending(prefix: &[u8], before: u8, last: u8) -> Option<Edge>
     ensures { result ≡ edge_of (prefix.now ++ before ∷ last ∷ []) }
 {
-    let Some(from) = Mark::from_byte(before) else {
+    let Some(from) = mark_from_byte(before) else {
         return end_unmarked(prefix, before, last);
     };
-    let Some(to) = Mark::from_byte(last) else {
+    let Some(to) = mark_from_byte(last) else {
         return end_unmarked(prefix, before, last);
     };
     edge_of_letters(read_kind(prefix)?, from, to)
@@ -325,7 +310,7 @@ pub fn read_ending(prefix: &[u8], before: u8, last: u8) -> Option<Edge>
 pub struct UnknownEdge;
 
 /// The edge that these bytes spell, by the rules of `read_edge`.
-#[tactic(auto, using(crate::proofs::Spellings::edge_of_short))]
+#[tactic(auto, using(crate::proofs::EdgeReadings::edge_of_short))]
 pub fn read_edge_bytes(text: &[u8]) -> Result<Edge, UnknownEdge>
     ensures { result_ok result ≡ edge_of text.now }
 {

@@ -1,22 +1,18 @@
 -- How the spelling of an edge is read from its end: what its last bytes name, and what the text before them names.
 -- Source: own; that this gives the edge that a text spells is a lemma.
-use Rattle.std.specs.{Prelude.{ℕ, Bool, true, false, cond, Option, Some, None, List, [], ◌∷◌, reverse, codes}, List.find, Option.{option_or, option_map}}
+use Rattle.std.specs.{Prelude.{ℕ, Bool, true, false, cond, Option, Some, None, List, [], ◌∷◌, reverse, codes}, Option.{option_or, option_map}}
 use Rattle.std.specs.Str.{bytes_eq}
 use Rattle.relax_edges.specs.{declared.kinds.Dir.Dir, declared.kinds.Sd.Sd, declared.kinds.Sd.TheVariants.{Same, Diff}, declared.kinds.Reach.Reach}
 use Rattle.relax_edges.specs.{declared.kinds.Reach.TheVariants.{Internal, External}, declared.kinds.Com.Com, declared.kinds.FenceKind.FenceKind}
 use Rattle.relax_edges.specs.{declared.kinds.DepKind.DepKind, declared.kinds.ArchName.TheVariants.AArch64, declared.kinds.Kind.Kind, declared.kinds.Mark.Mark}
-use Rattle.relax_edges.specs.{declared.kinds.Mark.TheVariants.{Plain, Acquire, Release}, declared.edge.Edge.Edge, EdgeTable.{kind_is_of, unmarked, marked_edge}}
-use Rattle.relax_edges.specs.WordParts.{dir_word, sd_word, reach_word, com_word, fence_word, dependency_word, mark_word}
+use Rattle.relax_edges.specs.{declared.kinds.Mark.TheVariants.Plain, declared.edge.Edge.Edge, EdgeTable.{kind_is_of, unmarked, marked_edge}}
+use Rattle.relax_edges.specs.{WordParts.{dir_word, sd_word, reach_word, com_word, fence_word, dependency_word, mark_word}, NamedKinds.{kind_named_by, marks_read}}
 use Rattle.relax_edges.specs.declared.kinds.Dir.TheVariants as dirs
 use Rattle.relax_edges.specs.declared.kinds.Com.TheVariants as coms
 use Rattle.relax_edges.specs.declared.kinds.Pick.TheVariants as picks
 use Rattle.relax_edges.specs.declared.kinds.FenceKind.TheVariants as fences
 use Rattle.relax_edges.specs.declared.kinds.DepKind.TheVariants as deps
 use Rattle.relax_edges.specs.declared.kinds.Kind.TheVariants as kinds
-
--- the first of some kinds whose name is the text
-abbrev pub kind_named_by : {K : Type 0} → (K → List ℕ) → List K → List ℕ → Option K
-kind_named_by word kinds text = find (λ kind. bytes_eq text (word kind)) kinds
 
 -- the directions that a letter may name
 abbrev pub dirs_read : List Dir
@@ -130,10 +126,6 @@ read_back_one_sided _ = None
 -- the kind that a text is read as
 unfoldable pub kind_read : List ℕ → Option Kind
 kind_read text = option_or (read_as_communication text) (option_or (read_back_two_sided (reverse text)) (read_back_one_sided (reverse text)))
-
--- the marks that a letter may name
-abbrev pub marks_read : List Mark
-marks_read = Plain ∷ Acquire ∷ Release ∷ []
 
 -- the mark that a text names
 abbrev pub mark_named : List ℕ → Option Mark

@@ -1,24 +1,16 @@
 -- A text is read as the edge without marks that it spells, and as none where it spells none.
 use Rattle.std.specs.Prelude.{ℕ, ◌≡◌, ◌<◌, ◌⊎◌, ◌++◌, ◌∷◌, [], Bool, true, false, List, length, Option, Some, None, reverse, codes}
-use Rattle.std.specs.{List.list_all, List.list_any, List.find, Option.option_or, Option.option_map, Str.bytes_eq}
+use Rattle.std.specs.{List.list_all, List.list_any, Option.option_or, Option.option_map, Str.bytes_eq}
 use Rattle.std.proofs.Common.{refl, arith, ap, subst, sym, ◌∙◌, inl, inr, append_assoc}
 use Rattle.std.proofs.lemmas.{Grind.reverse_onto, List.reverse-reverse, List.reverse-append, Slice.Eq.bytes_eq-Decides}
-use Rattle.list_laws.proofs.{Cases.by_test, Elements.option_or-none}
+use Rattle.list_laws.proofs.Elements.{option_or-none}
 use Rattle.relax_edges.specs.declared.kinds.{Dir.Dir, Sd.Sd, Reach.Reach, Com.Com, FenceKind.FenceKind, DepKind.DepKind, Kind.Kind}
 use Rattle.relax_edges.specs.declared.kinds.Dir.TheVariants as dirs
 use Rattle.relax_edges.specs.declared.kinds.Kind.TheVariants as kinds
-use Rattle.relax_edges.specs.{EdgeTable.kind_of, EdgeTable.unmarked, AllEdges.edges_in_order, Spelling.kind_spellings}
+use Rattle.relax_edges.specs.{EdgeTable.kind_of, EdgeTable.unmarked, AllEdges.edges_in_order, Spelling.kind_spellings, NamedKinds.kind_named_by}
 use Rattle.relax_edges.specs.WordParts.{kind_word, sd_word, dir_word, fence_word, dependency_word}
-use Rattle.relax_edges.specs.WordReading.{kind_named_by, dirs_read, places_read, dependencies_read, plain_fences_read, riscv_fences_read, dir_named, sd_named, reach_named, com_named, dependency_named, plain_fence_named, riscv_fence_named, fence_named, communication, communication_of, two_sided, two_sided_of, one_sided, one_sided_of, read_as_communication, read_back_two_sided, read_back_one_sided, kind_read}
-use Rattle.relax_edges.proofs.Ranks.{each_edge}
-
--- what `find` finds passes the test
-pub find_passes : {A : Type 0} (test : A → Bool) (xs : List A) (x : A) → find test xs ≡ Some x → test x ≡ true
-find_passes test [] x found = cc
-find_passes {A} test (y ∷ ys) x found =
-    by_test (test y)
-    (λ t. grind arith)
-    (λ f. find_passes test ys x (rw f at found))
+use Rattle.edges_from_text.specs.WordReading.{dirs_read, places_read, dependencies_read, plain_fences_read, riscv_fences_read, dir_named, sd_named, reach_named, com_named, dependency_named, plain_fence_named, riscv_fence_named, fence_named, communication, communication_of, two_sided, two_sided_of, one_sided, one_sided_of, read_as_communication, read_back_two_sided, read_back_one_sided, kind_read}
+use Rattle.relax_edges.proofs.{Spellings.find_passes, EachKind.each_kind}
 
 -- the kind that a text names has that text as its word
 pub named_is : {K : Type 0} (word : K → List ℕ) (kinds : List K) (text : List ℕ) (kind : K) → kind_named_by word kinds text ≡ Some kind → text ≡ word kind
@@ -27,15 +19,6 @@ named_is word kinds text kind found = (bytes_eq-Decides text (word kind)).0 (fin
 -- whether a text is a spelling of an edge without marks
 abbrev pub is_kind_spelling : Kind → List ℕ → Bool
 is_kind_spelling kind text = list_any (bytes_eq text) (kind_spellings kind)
-
--- the kind of the edge of a kind without marks is that kind
-pub kind_of_unmarked : (kind : Kind) → kind_of (unmarked kind) ≡ kind
-kind_of_unmarked (x) = grind arith
-
--- a test that the kind of each edge passes, each kind passes
-pub each_kind : (test : Kind → Bool) → list_all (λ edge. test (kind_of edge)) edges_in_order ≡ true → (kind : Kind) → test kind ≡ true
-each_kind test all kind =
-    subst (λ k. test k ≡ true) (kind_of_unmarked kind) (each_edge (λ edge. test (kind_of edge)) all (unmarked kind))
 
 -- a text of another length than three bytes is no communication
 pub communication_bare : (prefix : List ℕ) (before last : ℕ) → length prefix < 1 → read_as_communication (prefix ++ before ∷ last ∷ []) ≡ None

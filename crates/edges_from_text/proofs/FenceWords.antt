@@ -3,7 +3,7 @@ use Rattle.std.specs.{Prelude.{ℕ, ◌≡◌, ◌∷◌, [], Some, None, cond, 
 use Rattle.std.proofs.Math.Bool.{and-false}
 use Rattle.list_laws.proofs.Elements.{option_or-none}
 use Rattle.relax_edges.specs.declared.kinds.FenceKind.TheVariants as fences
-use Rattle.relax_edges.specs.WordReading.{fence_named}
+use Rattle.edges_from_text.specs.WordReading.{fence_named}
 
 -- three bytes name no fence but `DMB`
 pub fence_of_three : (a b d : ℕ) → fence_named (a ∷ b ∷ d ∷ []) ≡ cond (bytes_eq (a ∷ b ∷ d ∷ []) (codes "DMB")) (Some fences.Dmb) None
