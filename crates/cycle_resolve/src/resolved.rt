@@ -1,7 +1,7 @@
 ghost use Rattle.std.specs.Prelude.{◌≡◌, ◌≤◌, ◌<◌, false, [], length, IfOk, position};
 ghost use Rattle.edge_algebra_laws.specs.Rotation.{rotated};
 ghost use Rattle.relax_edges.specs.EdgeTable.{is_external};
-ghost use Rattle.cycle_events.specs.Resolution.{external_count, move_count, ends_outside, turned, event_of, events_of, is_coherence_only, resolution_of, IsResolved};
+ghost use Rattle.cycle_events.specs.Resolution.{external_count, move_count, ends_outside, turned, event_after, event_of, events_of, is_coherence_only, resolution_of, IsResolved};
 
 use arrayvec::ArrayVec;
 use cycle_events::{Event, ResolveError};
@@ -54,6 +54,17 @@ impl Resolved {
         ensures { result ≡ event_of self.now i }
     {
         self.kept.events[usize::from(i)]
+    }
+
+    /// The event that edge `i` enters: the next one, or event 0 after the last.
+    #[tactic(auto, using(crate::proofs::EventsAfter::next_event, crate::proofs::EventsAfter::first_event))]
+    pub fn event_after(&self, i: u8) -> u8
+        requires { i < length self.now }
+        ensures after { result ≡ event_after self.now i }
+        ensures within { result < length self.now }
+    {
+        let count = self.cycle().len();
+        if i < count - 1 { i + 1 } else { 0 }
     }
 
     /// All events, in the order of the edges.

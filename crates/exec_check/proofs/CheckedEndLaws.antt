@@ -7,7 +7,7 @@ use Rattle.relax_edges.specs.declared.kinds.ArchName.{ArchName}
 use Rattle.arch_trait.specs.Writing.{Writing}
 use Rattle.litmus_text.specs.{declared.limits.TheConstants.MAX_TEST_TEXT, TestReading.TestRead}
 use Rattle.program_meaning.specs.Executions.{Execution}
-use Rattle.exec_check.specs.{declared.verdict.Judged.Judged, declared.shown.Shown.Shown, declared.checked_errors.CheckFault.CheckFault, Graphs.shown_text}
+use Rattle.exec_check.specs.{declared.verdict.Judged.Judged, declared.shown.Shown.Shown, declared.checked_errors.CheckFault.CheckFault, ShownTexts.shown_text}
 use Rattle.exec_check.specs.CheckingSteps.{TestFileTo, ExecFileTo, check_end}
 use Rattle.exec_check.specs.FilesChecked.{exec_said, IsTest, BothRead, ExecutionShown, ExecUnread, FilesChecked}
 use Rattle.tests_from_files.specs.{FilesRead.{FileFailed, FileIs}, TestSaid.test_said, FailedFiles.failed_after}

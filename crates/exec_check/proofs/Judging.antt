@@ -4,8 +4,7 @@ use Rattle.std.specs.Prelude.{◌↔◌, IsTrue}
 use Rattle.std.proofs.lemmas.{List.take_more, List.map-append, Option.get_or_from_slice_get, Option.slice_get_within, Option.same_Some}
 use Rattle.relax_edges.specs.declared.{kinds.Value.Value, edge.Edge.Edge}
 use Rattle.final_cond.specs.{Conditions.LeftSeen, Conditions.CondSeen, States.Meets}
-use Rattle.program_meaning.specs.{Executions.Execution, Programs.Program}
-use Rattle.exec_meaning.specs.StandingEdges.{EdgeStands}
+use Rattle.program_meaning.specs.{Executions.Execution, Programs.Program, Standing.EdgeStands}
 
 -- the first edges are judged
 pub record AreJudgedTo (es : List Edge) (p : Program) (x : Execution) (i : ℕ) (judged : List (Edge × Bool)) : Type 0 where

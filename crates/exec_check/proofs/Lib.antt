@@ -3,8 +3,5 @@ pub mod OneVerdict
 pub mod Lines
 pub mod CheckedFileLaws
 pub mod CheckedEndLaws
-pub mod GraphLines
 pub mod ShownLaws
-pub mod Members
-pub mod DrawnLaws
-pub mod ArrowLaws
+pub mod QuotedArrows

@@ -4,7 +4,8 @@ use Rattle.std.specs.Prelude.{ℕ, Bool}
 use Rattle.relax_edges.specs.{declared.kinds.ArchName.ArchName, declared.edge.Edge.Edge}
 use Rattle.litmus_text.specs.{TestReading.TestRead, ReadPrograms.program_read}
 use Rattle.program_meaning.specs.{Executions.Execution, Programs.{Program, IsCandidate}}
-use Rattle.exec_check.specs.{declared.verdict.Verdict.Verdict, Verdicts.{IsVerdict, JudgesEdges, JudgesFurther, judged_cycle}, CheckingSteps.AreEdgesOf}
+use Rattle.exec_graph.specs.JudgedCycles.{AreEdgesOf, JudgesEdges}
+use Rattle.exec_check.specs.{declared.verdict.Verdict.Verdict, Verdicts.{IsVerdict, JudgesFurther, judged_cycle}}
 
 edges_of_judged : (cycle : Option (List Edge)) (p : Program) (x : Execution) (judged : List (Edge × Bool)) → JudgesEdges cycle p x judged → AreEdgesOf cycle judged
 edges_of_judged None p x judged h = h

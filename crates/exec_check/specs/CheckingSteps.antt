@@ -1,8 +1,8 @@
 -- What each of the two files gives. Only private functions and proofs cite this.
 -- Source: own.
-use Rattle.std.specs.Prelude.{◌≡◌, ⊤, ℕ, Bool, List, [], map, Option, Some, None, Result, Ok, Err, IsErr}
+use Rattle.std.specs.Prelude.{◌≡◌, ⊤, ℕ, List, Option, Some, None, Result, Ok, Err, IsErr}
 use Rattle.diy_io.specs.{declared.errors.Failed.Failed, Shelf.ShelfSeen, Opened.FileAbsent}
-use Rattle.relax_edges.specs.{declared.kinds.ArchName.ArchName, declared.edge.Edge.Edge}
+use Rattle.relax_edges.specs.declared.kinds.ArchName.{ArchName}
 use Rattle.arch_trait.specs.{PlaceNames.number_in, Writing.Writing}
 use Rattle.litmus_text.specs.TestReading.{TestRead}
 use Rattle.exec_check.specs.{declared.errors.CheckError.CheckError, declared.verdict.Judged.Judged, declared.verdict.Verdict.Verdict}
@@ -82,11 +82,6 @@ pub record IsJudged (arch : ArchName) (register_number : List ℕ → Option ℕ
 abbrev pub Judges : ArchName → (List ℕ → Option ℕ) → TestRead → List ℕ → Result Judged CheckError → Type 0
 Judges arch register_number test text (Ok j) = IsJudged arch register_number test text j
 Judges arch register_number test text (Err error) = Checks arch register_number test text (Err error)
-
--- these are the edges of a cycle, each with yes or no; if there is no cycle, there are none
-abbrev pub AreEdgesOf : Option (List Edge) → List (Edge × Bool) → Type 0
-AreEdgesOf None judged = judged ≡ []
-AreEdgesOf (Some es) judged = map (λ j. j.0) judged ≡ es
 
 -- a file holds an execution of a test, and this is the verdict on it
 pub record FileJudged (arch : ArchName) (w : Writing) (test : TestRead) (old new : ShelfSeen) (name : List ℕ) (j : Judged) : Type 0 where

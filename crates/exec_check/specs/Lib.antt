@@ -1,6 +1,5 @@
 pub mod Verdicts
-pub mod Graphs
+pub mod ShownTexts
 pub mod FilesChecked
 pub mod CheckedLaws
 pub mod CheckingSteps
-pub mod GraphLaws

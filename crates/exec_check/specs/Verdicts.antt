@@ -1,16 +1,16 @@
 -- The verdict on an execution of a test: whether it is a candidate execution of the test's program, whether it is coherent per
 -- location and meets the condition, and which edges of the cycle that the test quotes stand in it.
 -- Source: own.
-use Rattle.std.specs.Prelude.{ℕ, ◌≡◌, ◌↔◌, ◌+◌, Bool, true, false, IsTrue, List, [], ◌∷◌, ◌++◌, codes, length, map, slice_get, Option, Some, None, Result, Ok, Err}
+use Rattle.std.specs.Prelude.{ℕ, ◌≡◌, ◌↔◌, ◌+◌, Bool, true, false, IsTrue, List, [], ◌∷◌, ◌++◌, codes, length, Option, Some, None, Result, Ok, Err}
 use Rattle.std.specs.{Fmt.decimal, Result.result_ok}
 use Rattle.relax_edges.specs.{declared.kinds.ArchName.ArchName, declared.edge.Edge.Edge, WordParts.word_of}
 use Rattle.cycle_events.specs.Resolution.{resolution_of}
 use Rattle.cycles_from_lines.specs.Cycles.{quoted_cycle}
 use Rattle.final_cond.specs.States.{Meets}
 use Rattle.litmus_text.specs.{TestReading.TestRead, ReadPrograms.program_read}
-use Rattle.program_meaning.specs.{Executions.Execution, Programs.{Program, IsCandidate, IsCoherentIn}}
+use Rattle.program_meaning.specs.{Executions.Execution, Programs.{IsCandidate, IsCoherentIn}}
 use Rattle.tests_force_cycles.specs.FinalStates.{final_state}
-use Rattle.exec_meaning.specs.StandingEdges.{EdgeStands}
+use Rattle.exec_graph.specs.{JudgedCycles.JudgesEdges, Graphs.answer_word}
 use Rattle.exec_text.specs.ExecutionText.{execution_read}
 use Rattle.exec_check.specs.{declared.errors.CheckError.CheckError, declared.errors.CheckError.TheVariants.{Exec, NoMemory}, declared.verdict.Verdict.Verdict}
 
@@ -22,16 +22,6 @@ resolved_cycle (Some cycle) = result_ok (resolution_of cycle)
 -- the resolution of the cycle that the quoted text of a test spells, if there is one
 abbrev pub judged_cycle : ArchName → TestRead → Option (List Edge)
 judged_cycle arch test = resolved_cycle (quoted_cycle arch test.quoted)
-
--- the edges of a cycle, in order, number i with yes exactly when edge i stands in an execution of a program
-pub record AreJudged (es : List Edge) (p : Program) (x : Execution) (judged : List (Edge × Bool)) : Type 0 where
-  pub edges : map (λ j. j.0) judged ≡ es
-  pub each : (i : ℕ) (j : Edge × Bool) → slice_get judged i ≡ Some j → (IsTrue j.1 ↔ EdgeStands es p x i)
-
--- the edges of the cycle are judged in this way; if there is no cycle, there are no edges
-abbrev pub JudgesEdges : Option (List Edge) → Program → Execution → List (Edge × Bool) → Type 0
-JudgesEdges None p x judged = judged ≡ []
-JudgesEdges (Some es) p x judged = AreJudged es p x judged
 
 -- the terms of a test's condition hold in the final state of an execution
 abbrev pub EndsInCondition : (List ℕ → Option ℕ) → TestRead → Execution → Type 0
@@ -72,11 +62,6 @@ Checks arch register_number test text (Ok v) = JudgesText arch register_number t
 Checks arch register_number test text (Err (Exec line kind)) =
     execution_read (length test.threads) test.places text ≡ Err (record { line = line; kind = kind })
 Checks arch register_number test text (Err NoMemory) = Unit {0}
-
--- `yes` or `no`
-abbrev pub answer_word : Bool → List ℕ
-answer_word true = codes "yes"
-answer_word false = codes "no"
 
 -- a line of a word and an answer
 unfoldable pub answer_line : List ℕ → Bool → List ℕ

@@ -1,7 +1,8 @@
 ghost use Rattle.std.specs.Prelude.{◌≡◌, IfOk};
 ghost use Rattle.litmus_text.specs.ReadPrograms.{program_read};
 ghost use Rattle.program_meaning.specs.Programs.{IsCandidate};
-ghost use Rattle.exec_check.specs.Verdicts.{AreJudged, JudgesEdges, judged_cycle, resolved_cycle};
+ghost use Rattle.exec_graph.specs.JudgedCycles.{AreJudged, JudgesEdges};
+ghost use Rattle.exec_check.specs.Verdicts.{judged_cycle, resolved_cycle};
 
 use crate::verdict::JudgedEdges;
 use arch_trait::Arch;

@@ -1,13 +1,19 @@
 ghost use Rattle.std.specs.Prelude.{◌≡◌, IfOk, option_map};
 ghost use Rattle.diy_io.specs.Wrote.{Wrote};
 ghost use Rattle.arch_trait.specs.PlaceNames.{number_in};
-ghost use Rattle.exec_check.specs.{Verdicts.{IsVerdict}, Graphs.{graph_if, shown_text}, CheckingSteps.{text_of}};
+ghost use Rattle.litmus_text.specs.ReadPrograms.{program_read};
+ghost use Rattle.program_meaning.specs.Programs.{IsCandidate};
+ghost use Rattle.exec_graph.specs.JudgedCycles.{AreEdgesOf};
+ghost use Rattle.exec_check.specs.{Verdicts.{IsVerdict, judged_cycle}, ShownTexts.{graph_if, graph_text, shown_text}, CheckingSteps.{text_of}};
 
-use crate::graph::graph_of;
+use crate::edges::resolved_cycle;
 use crate::verdict::{Judged, Verdict};
 use crate::writing::write_verdict;
 use arch_trait::Arch;
+use cycles_from_lines::quoted_cycle;
 use diy_io::{Failed, NoMemory, Page, Sink};
+use exec_graph::{Picture, draw_graph};
+use exec_meaning::{Execution, seen_accesses};
 use litmus_text::ReadTest;
 use std::alloc::Global;
 
@@ -51,6 +57,30 @@ fn graph_if<A: Arch>(
     }
     let text = graph_of(alloc, test, &judged.exec, &judged.verdict)?;
     Ok(Some(text))
+}
+
+/// The text of the graph of a candidate execution of a test, on which this is the verdict.
+fn graph_of<A: Arch>(
+    alloc: Global,
+    test: &ReadTest<A>,
+    exec: &Execution,
+    verdict: &Verdict,
+) -> Result<Vec<u8>, NoMemory>
+    requires candidate { IsCandidate (program_read test.now) exec.now }
+    requires edges { AreEdgesOf (judged_cycle A.NAME test.now) verdict.now.edges.items }
+    ensures { IfOk result (λ text. text.items ≡ graph_text test.now exec.now verdict.now) }
+{
+    let seen = seen_accesses(alloc, test, exec)?;
+    let cycle = resolved_cycle(quoted_cycle(A::NAME, test.quoted()));
+    let picture = Picture {
+        places: test.places(),
+        threads: test.threads(),
+        seen: &seen,
+        judged: verdict.edges.as_slice(),
+        cond: test.cond(),
+        holds: verdict.condition,
+    };
+    draw_graph(alloc, &picture, &cycle)
 }
 
 /// Writes the graph, if there is one, and otherwise the verdict. If the sink fails, it has taken a prefix of the text.

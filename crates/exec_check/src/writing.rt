@@ -1,11 +1,12 @@
-ghost use Rattle.std.specs.Prelude.{◌≡◌, ◌+◌, ◌≤◌, length};
+ghost use Rattle.std.specs.Prelude.{◌+◌, ◌≤◌, length};
 ghost use Rattle.diy_io.specs.{Page.{Sends}, Wrote.{Wrote}};
-ghost use Rattle.exec_check.specs.Verdicts.{answer_line, answer_word, edge_line, edge_lines, further_lines, judged_lines, verdict_text};
+ghost use Rattle.exec_check.specs.Verdicts.{answer_line, edge_line, edge_lines, further_lines, judged_lines, verdict_text};
 ghost use Rattle.relax_edges.specs.declared.TheConstants.{MAX_EDGES};
 
 use crate::verdict::Verdict;
 use arrayvec::ArrayString;
 use diy_io::{Failed, Page, Sink};
+use exec_graph::answer_word;
 use itoa::Buffer;
 use relax_edges::Edge;
 
@@ -100,10 +101,4 @@ fn send_answer<O: Sink>(
 {
     let answer = answer_word(answer).as_bytes();
     page.send_pieces(&[word, b" ", answer, b"\n"], out)
-}
-
-pub(crate) fn answer_word(answer: bool) -> &'static str
-    ensures { result.now ≡ answer_word answer }
-{
-    if answer { "yes" } else { "no" }
 }

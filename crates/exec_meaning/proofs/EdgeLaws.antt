@@ -1,9 +1,8 @@
 -- The tests of edges decide their definitions.
-use Rattle.std.proofs.Common.{◌≡◌, ◌≢◌, ℕ, ◌+◌, ◌^◌, ◌<◌, ◌≤◌, length, arith, Bool, true, false, ◌==◌, ◌&&◌, not, List, [], ◌∷◌, map, Option, Some, None, refl, sym, ap, subst, ◌∙◌}
+use Rattle.std.proofs.Common.{◌≡◌, ◌≢◌, ℕ, ◌+◌, ◌^◌, ◌<◌, ◌≤◌, arith, Bool, true, false, ◌==◌, ◌&&◌, not, List, [], ◌∷◌, map, Option, Some, None, refl, sym, ap, subst, ◌∙◌}
 use Rattle.std.proofs.{lemmas.Bool.Decides.nat_tests, lemmas.Nat.Bits.bit_at_above, Math.Pow.pow_mono, lemmas.Option.same_Some}
 use Rattle.std.proofs.lemmas.Bool.{and_parts, and_from, eqb-true, eq-eqb, lt-ltb, ltb-true, ne_eqb}
 use Rattle.std.specs.{Bool.Decides, Int.bit_at}
-use Rattle.cycle_events.specs.Resolution.{event_after}
 use Rattle.relax_edges.specs.{declared.kinds.Dir.Dir, declared.kinds.Sd.Sd, declared.kinds.Sd.TheVariants.{Same, Diff}, declared.kinds.Reach.Reach}
 use Rattle.relax_edges.specs.{declared.kinds.Reach.TheVariants.{Internal, External}, declared.kinds.Com.Com, declared.kinds.Pick.Pick}
 use Rattle.relax_edges.specs.{declared.kinds.FenceKind.FenceKind, declared.kinds.DepKind.DepKind, declared.kinds.Kind.Kind, declared.kinds.Mark.Mark}
@@ -206,16 +205,6 @@ stands_from threads x edge e f h =
     ((mark_decides e.visit.mark (source_mark edge)).1 h.leaves_mark)
     (and_from (same_mark f.visit.mark (target_mark edge)) (ties_by (kind_of edge) threads e f.visit)
     ((mark_decides f.visit.mark (target_mark edge)).1 h.enters_mark) ((ties_decides (kind_of edge) threads e f).1 h.ties)))
-
--- an edge before the last enters the next event
-pub next_event : (es : List Edge) (i : ℕ) → i + 1 < length es → event_after es i ≡ i + 1
-unfolding event_after
-next_event es i h = rw (other (i + 1) (length es) h) refl
-
--- the last edge enters event 0
-pub first_event : (es : List Edge) (i : ℕ) → i + 1 ≡ length es → event_after es i ≡ 0
-unfolding event_after
-first_event es i h = rw (eq-eqb (i + 1) (length es) h) refl
 
 -- a mask of 64 loads isn't that of a later load alone
 pub no_mask : (mask load : ℕ) → mask < 2 ^ 64 → 64 ≤ load → mask == 2 ^ load ≡ false

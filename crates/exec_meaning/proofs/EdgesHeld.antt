@@ -7,8 +7,8 @@ use Rattle.relax_edges.specs.declared.edge.Edge.TheVariants as edges
 use Rattle.cycle_events.specs.Resolution.{IsResolved, edge_at, event_after}
 use Rattle.cycle_events.proofs.Around.{source_after}
 use Rattle.program_meaning.specs.{declared.WriteAt.WriteAt, Accesses.{Access, Visit, at_name}, Executions.Execution, Programs.{Program, accesses_in, visits_in}}
-use Rattle.program_meaning.specs.Standing.{NamedAccess, IsEvent, Stands, event_name}
-use Rattle.exec_meaning.specs.StandingEdges.{EdgeStands, named, stands, stands_if}
+use Rattle.program_meaning.specs.Standing.{EdgeStands, NamedAccess, IsEvent, Stands, event_name}
+use Rattle.exec_meaning.specs.StandingEdges.{named, stands, stands_if}
 use Rattle.exec_meaning.proofs.EdgeLaws.{stands_means, stands_from}
 
 -- an event is the access that was found under its name

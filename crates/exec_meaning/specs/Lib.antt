@@ -1,4 +1,3 @@
 pub mod EndedRuns
 pub mod StandingEdges
 pub mod Finals
-pub mod SeenAccesses

@@ -1,4 +1,4 @@
--- When an edge of a cycle stands in an execution of a program, and the tests by which that is decided.
+-- The tests by which it is decided whether an edge of a cycle stands in an execution of a program.
 -- Source: own.
 use Rattle.std.specs.{Prelude.{ℕ, ◌+◌, ◌==◌, ◌&&◌, Bool, true, false, not, nat_lt, List, [], ◌∷◌, Option, Some, None, option_map}, List.list_all}
 use Rattle.relax_edges.specs.{declared.kinds.Sd.Sd, declared.kinds.Sd.TheVariants.{Same, Diff}, declared.kinds.Reach.Reach}
@@ -12,21 +12,11 @@ use Rattle.relax_edges.specs.declared.kinds.DepKind.TheVariants as deps
 use Rattle.relax_edges.specs.declared.kinds.Kind.TheVariants as edges
 use Rattle.micro_ops.specs.declared.operation.Barrier.{Barrier}
 use Rattle.micro_ops.specs.declared.operation.Barrier.TheVariants as barriers
-use Rattle.cycle_events.specs.Resolution.{edge_at, event_after}
 use Rattle.exec_meaning.specs.declared.edges.Tie.{Tie}
 use Rattle.exec_meaning.specs.declared.edges.Tie.TheVariants as ties
 use Rattle.program_meaning.specs.{declared.WriteAt.WriteAt, Accesses.{Access, Barred, Visit, at_name}, Executions.{Execution, same_write}}
-use Rattle.program_meaning.specs.{Coherence.{coherence_place, source_at}, Programs.{Program, accesses_in, visits_in}}
-use Rattle.program_meaning.specs.Standing.{AccessAt, NamedAccess, access_at, IsEvent, Stands, mask_of, is_in_mask}
-
--- edge i of a cycle stands in an execution of a program: event i and the one after it are accesses in it, and the edge stands
--- from the first to the second
-pub record EdgeStands (es : List Edge) (p : Program) (x : Execution) (i : ℕ) : Type 0 where
-  pub source : NamedAccess
-  pub target : NamedAccess
-  pub leaves : IsEvent es (visits_in p x) i source
-  pub enters : IsEvent es (visits_in p x) (event_after es i) target
-  pub stands : Stands (accesses_in p x) x (edge_at es i) source target
+use Rattle.program_meaning.specs.Coherence.{coherence_place, source_at}
+use Rattle.program_meaning.specs.Standing.{AccessAt, NamedAccess, access_at, mask_of, is_in_mask}
 
 -- this access with this name
 abbrev pub named : WriteAt → Visit → NamedAccess

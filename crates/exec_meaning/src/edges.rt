@@ -1,8 +1,7 @@
 ghost use Rattle.std.specs.{Prelude.{◌≡◌, ◌↔◌, ◌==◌, ◌^◌, ◌<◌, IsTrue, IfOk, length, map}, Int.{bit_at}};
-ghost use Rattle.cycle_events.specs.Resolution.{event_after};
-ghost use Rattle.program_meaning.specs.{Accesses.{visits_of}, Standing.{access_at, is_in_mask, event_name}, Programs.{IsCandidate}};
+ghost use Rattle.program_meaning.specs.{Accesses.{visits_of}, Standing.{EdgeStands, access_at, is_in_mask, event_name}, Programs.{IsCandidate}};
 ghost use Rattle.litmus_text.specs.ReadPrograms.{program_read};
-ghost use Rattle.exec_meaning.specs.StandingEdges.{EdgeStands, named_access, same_fence, barriers_agree, is_alone, are_at, is_source, reaches, comes_before, communicates_by, joins, depends_as, barriers_wait, waits, depends_by, ties_by, stands, stands_if};
+ghost use Rattle.exec_meaning.specs.StandingEdges.{named_access, same_fence, barriers_agree, is_alone, are_at, is_source, reaches, comes_before, communicates_by, joins, depends_as, barriers_wait, waits, depends_by, ties_by, stands, stands_if};
 
 use crate::accesses::{Accesses, all_accesses, is_read, is_same};
 use crate::coherent::{place_of_name, reads_before_name, source_of_name};
@@ -279,16 +278,6 @@ fn event_name(resolved: &Resolved, i: u8) -> WriteAt
     }
 }
 
-/// The event that edge `i` enters.
-#[tactic(auto, using(crate::proofs::EdgeLaws::next_event, crate::proofs::EdgeLaws::first_event))]
-fn event_after(resolved: &Resolved, i: u8) -> u8
-    requires { i < length resolved.now }
-    ensures { result ≡ event_after resolved.now i }
-{
-    let count = resolved.cycle().len();
-    if i < count - 1 { i + 1 } else { 0 }
-}
-
 /// Whether edge `i` of a cycle stands in a candidate execution of a test: event `i` and the one after it are
 /// accesses in it, and the edge stands from the first to the second. It may return `NoMemory` instead.
 pub fn edge_stands<A: Arch>(
@@ -305,7 +294,7 @@ pub fn edge_stands<A: Arch>(
     let traces = candidate_runs(alloc, test, exec)?;
     let all = all_accesses(alloc, &traces)?;
     let from = event_name(resolved, i);
-    let to = event_name(resolved, event_after(resolved, i));
+    let to = event_name(resolved, resolved.event_after(i));
     let source = named_access(alloc, &traces, from)?;
     let target = named_access(alloc, &traces, to)?;
     let edge = resolved.cycle().edge(i);

@@ -14,5 +14,5 @@ pub use candidate::is_candidate;
 pub use coherent::is_coherent;
 pub use edges::edge_stands;
 pub use final_state::final_of;
-pub use program_meaning::{Access, Execution, Read, WriteAt};
-pub use seen::{SeenAccess, seen_accesses};
+pub use program_meaning::{Access, Execution, Read, SeenAccess, WriteAt};
+pub use seen::seen_accesses;

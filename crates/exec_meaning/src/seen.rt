@@ -1,7 +1,6 @@
 ghost use Rattle.std.specs.{Prelude.{◌≡◌, ◌≤◌, ◌++◌, length, map, IfOk, OnOk}, List.{enumerate_from, flat_map}};
-ghost use Rattle.program_meaning.specs.{Accesses.{visits_of}, Programs.{IsCandidate}};
+ghost use Rattle.program_meaning.specs.{Accesses.{visits_of}, Programs.{IsCandidate}, SeenAccesses.{seen_access, seen_in, seen_in_thread}};
 ghost use Rattle.litmus_text.specs.ReadPrograms.{program_read};
-ghost use Rattle.exec_meaning.specs.SeenAccesses.{seen_access, seen_in, seen_in_thread};
 
 use crate::accesses::{Accesses, all_accesses};
 use crate::coherent::{NumberedAccess, coherence_place, source_at};
@@ -10,24 +9,9 @@ use arch_trait::Arch;
 use diy_io::NoMemory;
 use litmus_text::ReadTest;
 use micro_ops::{Item, Trace};
-use program_meaning::{Access, Execution, WriteAt};
+use program_meaning::{Access, Execution, SeenAccess};
 use relax_edges::Mark;
 use std::alloc::{AllocError, Global};
-
-/// An access of a candidate execution, with what the execution says of it.
-#[derive(Clone, Copy)]
-pub struct SeenAccess {
-    pub thread: u8,
-    /// Its number among the thread's accesses, from 0.
-    pub number: usize,
-    pub access: Access,
-    pub mark: Mark,
-    /// The write that it reads, or none for the initial value. For a write it means nothing.
-    pub source: Option<WriteAt>,
-    /// Its coherence position: for a write its position in the coherence order of its location, from 1; for a
-    /// read that of the write that it reads, or 0 for the initial value.
-    pub order: usize,
-}
 
 /// An access, by its thread and its number there, with what the execution says of it.
 fn seen_access(

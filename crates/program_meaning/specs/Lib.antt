@@ -7,3 +7,4 @@ pub mod Standing
 pub mod Intended
 pub mod Deciding
 pub mod KeptExecutions
+pub mod SeenAccesses

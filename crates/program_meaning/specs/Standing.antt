@@ -122,6 +122,15 @@ pub record IsEvent (es : List Edge) (visits : List (List Visit)) (i : ℕ) (e : 
   pub visit_is : at_name visits e.name ≡ Some e.visit
   pub direction : e.visit.access.dir ≡ source_of (edge_at es i)
 
+-- edge i of a cycle stands in an execution of a program: event i and the one after it are accesses in it, and the edge stands
+-- from the first to the second
+pub record EdgeStands (es : List Edge) (p : Program) (x : Execution) (i : ℕ) : Type 0 where
+  pub source : NamedAccess
+  pub target : NamedAccess
+  pub leaves : IsEvent es (visits_in p x) i source
+  pub enters : IsEvent es (visits_in p x) (event_after es i) target
+  pub stands : Stands (accesses_in p x) x (edge_at es i) source target
+
 -- an access has three empty masks
 pub record IsFree (visit : Visit) : Type 0 where
   pub address : visit.address_mask ≡ 0

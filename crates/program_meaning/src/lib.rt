@@ -3,10 +3,12 @@
 #![tactic(auto)]
 
 mod execution;
+mod seen;
 
 pub use execution::{Execution, Read};
 use micro_ops::Barrier;
 use relax_edges::Dir;
+pub use seen::SeenAccess;
 
 /// Names an access of a program, such as a write: its thread, and its number among the thread's accesses, both from 0.
 #[derive(Clone, Copy, PartialEq, Eq)]

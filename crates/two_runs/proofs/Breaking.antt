@@ -4,9 +4,8 @@ use Rattle.relax_edges.specs.declared.{kinds.ObsMode.ObsMode, edge.Edge.Edge}
 use Rattle.cycle_events.specs.Resolution.{edge_at, event_after, event_before}
 use Rattle.cycle_events.proofs.Around.{after_below, before_below, after_before}
 use Rattle.program_meaning.specs.{Accesses.Access, Executions.Execution, Programs.Program, Programs.accesses_in, Standing.AccessAt, Standing.Joins}
-use Rattle.program_meaning.specs.{Standing.access_at, Intended.cycle_accesses, Intended.event_at}
+use Rattle.program_meaning.specs.{Standing.{EdgeStands, access_at}, Intended.cycle_accesses, Intended.event_at}
 use Rattle.accesses_force_cycles.proofs.{AllStand.is_event_at, Resolves.Resolves}
-use Rattle.exec_meaning.specs.StandingEdges.{EdgeStands}
 
 -- the edge into an event that it doesn't join with the one before doesn't stand in the execution
 pub edge_breaks : (es : List Edge) (mode : ObsMode) (number : ℕ → ℕ) (p : Program) (x : Execution) (event : ℕ) → Resolves es → accesses_in p x ≡ cycle_accesses es mode number → event < length es → (Joins (cycle_accesses es mode number) x (edge_at es (event_before es event)) (event_at es number (event_before es event)) (event_at es number event) → ⊥) → EdgeStands es p x (event_before es event) → ⊥

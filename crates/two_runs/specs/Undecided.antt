@@ -7,9 +7,8 @@ use Rattle.cycle_events.specs.{Resolution.event_before, Values.observer_need, de
 use Rattle.final_cond.specs.Conditions.{LeftSeen}
 use Rattle.arch_trait.specs.{Laws.IsArch, PlaceNames.number_in, Threads.Puts, Writing.{Writing, name_in}, SeenTests.TestSeen}
 use Rattle.litmus_text.specs.{Printable.IsTestName, TestReading.{TestRead, test_read}, TestText.test_text}
-use Rattle.program_meaning.specs.{Executions.Execution, Programs.{Program, IsCandidate, IsCoherentIn}, Standing.AllStand, Intended.intended}
+use Rattle.program_meaning.specs.{Executions.Execution, Programs.{Program, IsCandidate, IsCoherentIn}, Standing.{AllStand, EdgeStands}, Intended.intended}
 use Rattle.accesses_force_cycles.specs.Exchange.{exchanged}
-use Rattle.exec_meaning.specs.StandingEdges.{EdgeStands}
 use Rattle.tests_force_cycles.specs.{FinalStates.final_state, TestHeadline.{HasCode, IsRenumbered}, TestPrograms.test_program, TestOf.test_of}
 use Rattle.bytes_force_cycles.specs.Readings.{program_read, place_in_test}
 

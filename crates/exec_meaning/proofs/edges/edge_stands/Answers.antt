@@ -1,15 +1,11 @@
 -- The answer is whether the edge stands in the execution.
 use Rattle.std.proofs.Common.{map, refl, ◌∙◌, ap, sym}
 use Rattle.cycle_events.specs.Resolution.{edge_at}
-use Rattle.cycle_events.proofs.Around.{after_below}
 use Rattle.program_meaning.specs.{Accesses.at_name, Accesses.visits_of, Standing.event_name}
 use Rattle.litmus_text.specs.ReadPrograms.{program_read}
 use Rattle.exec_meaning.specs.StandingEdges.{named_access, stands_if}
 use Rattle.exec_meaning.proofs.{RunLaws.accesses_are, RunLaws.visits_are, EdgesHeld.edge_decided, EdgesHeld.edge_is}
 use Rattle.exec_meaning.proofs.edges.edge_stands.Goals as goal
-
-pub event_name-to-requires : goal.event_name-to-requires
-event_name-to-requires g c = rw c.event_after.ensures (after_below c.args.resolved.now c.args.i c.requires.within)
 
 pub returns : goal.returns
 returns g c =
@@ -25,7 +21,7 @@ returns g c =
     let target = c.in_ok-target.ensures ∙ ap (λ l. named_access (map (λ trace. visits_of trace.items) l) to) c.deref-3.ensures.value in
     edge_decided es p c.args.exec.now c.args.i vs c.deref-4.result.now from to (at_name vs from) (at_name vs to) c.stands_if.result
     (visits_are p c.args.exec.now traces c.in_ok-traces.ensures) (accesses_are p c.args.exec.now traces c.in_ok-traces.ensures ∙ sym all) c.cycle.ensures.resolved c.requires.within
-    c.event_name-from.ensures (c.event_name-to.ensures ∙ ap (event_name es) c.event_after.ensures) refl refl
+    c.event_name-from.ensures (c.event_name-to.ensures ∙ ap (event_name es) c.event_after.ensures.after) refl refl
     (c.stands_if.ensures ∙ ap (λ e. stands_if c.deref-4.result.now c.args.exec.now e c.in_ok-source.source c.in_ok-target.target) edge
     ∙ ap (λ e. stands_if c.deref-4.result.now c.args.exec.now (edge_at es c.args.i) e c.in_ok-target.target) source
     ∙ ap (λ f. stands_if c.deref-4.result.now c.args.exec.now (edge_at es c.args.i) (named_access vs from) f) target)

@@ -1,7 +1,6 @@
 -- What holds in the loop over the items of a run.
 use Rattle.std.proofs.Common.{◌≡◌, ◌≤◌, ◌++◌, drop}
-use Rattle.program_meaning.specs.Accesses.{visits_of}
-use Rattle.exec_meaning.specs.SeenAccesses.{seen_in_thread}
+use Rattle.program_meaning.specs.{Accesses.visits_of, SeenAccesses.seen_in_thread}
 use Rattle.exec_meaning.proofs.SeenLaws.{seen_from}
 use Rattle.exec_meaning.proofs.seen.push_seen.Given as goal
 

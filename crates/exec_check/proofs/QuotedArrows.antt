@@ -1,0 +1,18 @@
+-- The bold arrows in the graph of a candidate are those of the edges of the quoted cycle that stand.
+use Rattle.std.proofs.Common.{◌≡◌, ℕ, Bool, true, false, List, Option}
+use Rattle.std.specs.{Prelude.◌↔◌, List.Contains}
+use Rattle.relax_edges.specs.declared.kinds.ArchName.{ArchName}
+use Rattle.litmus_text.specs.{TestReading.TestRead, ReadPrograms.program_read}
+use Rattle.program_meaning.specs.Executions.{Execution}
+use Rattle.exec_graph.specs.{Graphs.{Arrow, standing_arrows}, GraphLaws.IsOfStandingEdge}
+use Rattle.exec_graph.proofs.ArrowLaws.{standing_arrows_law}
+use Rattle.exec_check.specs.{declared.verdict.Verdict.Verdict, Verdicts.{JudgesFurther, judged_cycle}, ShownTexts.QuotedArrowsLaw}
+
+of_further : (b : Bool) (arch : ArchName) (register_number : List ℕ → Option ℕ) (test : TestRead) (x : Execution) (v : Verdict) (arrow : Arrow)
+    → JudgesFurther b arch register_number test x v → b ≡ true
+    → (Contains (standing_arrows v.edges.items) arrow ↔ IsOfStandingEdge (judged_cycle arch test) (program_read test) x arrow)
+of_further true arch register_number test x v arrow h e = standing_arrows_law (judged_cycle arch test) (program_read test) x v.edges.items arrow h.edges
+of_further false arch register_number test x v arrow h e = cc e
+
+pub quoted_arrows_law : QuotedArrowsLaw
+quoted_arrows_law arch register_number test x v arrow h e = of_further v.candidate arch register_number test x v arrow h.further e

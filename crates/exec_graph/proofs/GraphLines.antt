@@ -1,0 +1,183 @@
+-- The lines of a graph, appended one after another.
+use Rattle.std.proofs.Common.{◌≡◌, ◌≤◌, ◌<◌, ℕ, zero, suc, ◌+◌, ◌-◌, ◌==◌, Bor, Bool, true, false, cond, List, [], ◌∷◌, ◌++◌, length, map, take, drop, get_or, Some, slice_get, refl, sym, ap, ◌∙◌, subst, arith, append_assoc, append-nil, length-append}
+use Rattle.std.proofs.{lemmas.List.{drop_all, take_all}, lemmas.List.Elements.filter-append, lemmas.List.Folds.flat_map-map, lemmas.Option.slice_get-get_or}
+use Rattle.std.proofs.{lemmas.Bool.{eq-eqb, ne_eqb}, lemmas.Grind.flat_map-append}
+use Rattle.std.specs.{Prelude.codes, Fmt.decimal, List.{enumerate_from, filter, flat_map, list_any}}
+use Rattle.list_laws.proofs.{Cases.by_same, Elements.drop_given}
+use Rattle.diy_io.specs.{declared.page.TheConstants.LINE_ROOM, Page.page_after, PageLaws.page_fits, Pieces.joined_text, SinkLaws.flat_map_more}
+use Rattle.diy_io.proofs.PiecesLemmas.{joined_text_more}
+use Rattle.list_laws.specs.Numbers.{upto}
+use Rattle.relax_edges.specs.{declared.edge.Edge.Edge, WordParts.word_of, EdgeTable.kind_of}
+use Rattle.exec_graph.specs.Graphs.{access_name, answer_word, arrow_line, arrow_of, condition_line, initial_places, kind_look, lap_word, pairs_by, quoted_byte, reads_initial, standing_edges, standing_lines}
+use Rattle.final_cond.specs.{Conditions.CondSeen, CondText.cond_text}
+use Rattle.cycle_events.specs.Resolution.{event_after}
+use Rattle.program_meaning.specs.{declared.seen.SeenAccess.SeenAccess, Standing.event_name}
+
+-- one more piece
+pub piece_more : (old text more : List ℕ) (pieces : List (Bor (List ℕ))) (i : ℕ) (d : Bor (List ℕ)) → i < length pieces
+    → text ≡ old ++ joined_text (take i pieces) → more ≡ text ++ (get_or pieces i d).now → more ≡ old ++ joined_text (take (i + 1) pieces)
+piece_more old text more pieces i d inside h e =
+    e ∙ ap (λ t. t ++ (get_or pieces i d).now) h ∙ append_assoc old (joined_text (take i pieces)) (get_or pieces i d).now
+    ∙ ap (λ t. old ++ t) (sym (joined_text_more pieces i d inside))
+
+-- the texts of elements, with one element more
+pub each_more : {X : Type 0} (f : X → List ℕ) (xs : List X) (i : ℕ) (d : X) (old text more : List ℕ) → i < length xs
+    → text ≡ old ++ flat_map f (take i xs) → more ≡ text ++ f (get_or xs i d) → more ≡ old ++ flat_map f (take (i + 1) xs)
+each_more f xs i d old text more inside h e =
+    e ∙ ap (λ t. t ++ f (get_or xs i d)) h ∙ append_assoc old (flat_map f (take i xs)) (f (get_or xs i d))
+    ∙ ap (λ t. old ++ t) (sym (flat_map_more f xs i d inside))
+
+passing_text : {X : Type 0} (f : X → List ℕ) (test : X → Bool) (xs : List X) → flat_map (λ x. cond (test x) (f x) []) xs ≡ flat_map f (filter test xs)
+passing_text f test [] = refl
+passing_text f test (x ∷ xs) = ap (λ t. cond (test x) (f x) [] ++ t) (passing_text f test xs) ∙ first (test x)
+  where
+    first : (b : Bool) → cond b (f x) [] ++ flat_map f (filter test xs) ≡ flat_map f (cond b (x ∷ filter test xs) (filter test xs))
+    first true = refl
+    first false = refl
+
+-- where no element is left, the texts are those of the elements that pass
+pub passing_all : {X : Type 0} (f : X → List ℕ) (test : X → Bool) (xs : List X) (k : ℕ) (old text : List ℕ) → length xs ≤ k
+    → text ≡ old ++ flat_map (λ x. cond (test x) (f x) []) (take k xs) → text ≡ old ++ flat_map f (filter test xs)
+passing_all f test xs k old text h e =
+    e ∙ ap (λ l. old ++ flat_map (λ x. cond (test x) (f x) []) l) (take_all k xs h) ∙ ap (λ t. old ++ t) (passing_text f test xs)
+
+-- the texts of pairs are those of the pairs that begin with each element, one after another
+pub pairs_text : {X : Type 0} (g : X × X → List ℕ) (test : X → X → Bool) (all xs : List X)
+    → flat_map g (flat_map (λ e. map (λ f. (e, f)) (filter (test e) all)) xs) ≡ flat_map (λ e. flat_map (λ f. g (e, f)) (filter (test e) all)) xs
+pairs_text g test all [] = refl
+pairs_text g test all (x ∷ xs) =
+    flat_map-append g (map (λ f. (x, f)) (filter (test x) all)) (flat_map (λ e. map (λ f. (e, f)) (filter (test e) all)) xs)
+    ∙ ap (λ t. t ++ flat_map g (flat_map (λ e. map (λ f. (e, f)) (filter (test e) all)) xs)) (flat_map-map g (λ f. (x, f)) (filter (test x) all))
+    ∙ ap (λ t. flat_map (λ f. g (x, f)) (filter (test x) all) ++ t) (pairs_text g test all xs)
+
+-- the lines of the edges that stand, from a number on
+abbrev pub standing_from : List Edge → ℕ → List (Edge × Bool) → List ℕ
+standing_from es k judged = flat_map (λ (j : ℕ × (Edge × Bool)). arrow_line (arrow_of es j.0 j.1.0)) (filter (λ (j : ℕ × (Edge × Bool)). j.1.1) (enumerate_from k judged))
+
+first_standing : (es : List Edge) (k : ℕ) (edge : Edge) (stands : Bool) (more : List (Edge × Bool))
+    → cond stands (arrow_line (arrow_of es k edge)) [] ++ standing_from es (k + 1) more ≡ standing_from es k ((edge, stands) ∷ more)
+first_standing es k edge true more = refl
+first_standing es k edge false more = refl
+
+-- after an edge, its line is appended, if it stands
+pub standing_more : (es : List Edge) (judged : List (Edge × Bool)) (k : ℕ) (j : Edge × Bool) (text more all : List ℕ) → slice_get judged k ≡ Some j
+    → text ++ standing_from es k (drop k judged) ≡ all → more ≡ text ++ cond j.1 (arrow_line (arrow_of es k j.0)) []
+    → more ++ standing_from es (k + 1) (drop (k + 1) judged) ≡ all
+standing_more es judged k j text more all is h e =
+    ap (λ t. t ++ standing_from es (k + 1) (drop (k + 1) judged)) e
+    ∙ append_assoc text (cond j.1 (arrow_line (arrow_of es k j.0)) []) (standing_from es (k + 1) (drop (k + 1) judged))
+    ∙ ap (λ t. text ++ t) (first_standing es k j.0 j.1 (drop (k + 1) judged))
+    ∙ sym (ap (λ l. text ++ standing_from es k l) (drop_given judged k j is)) ∙ h
+
+-- the same, where the edges are known as those of a cycle
+pub standing_next : (es resolved : List Edge) (judged : List (Edge × Bool)) (k : ℕ) (d : Edge × Bool) (text more all : List ℕ) → es ≡ resolved → k < length judged
+    → text ++ standing_from es k (drop k judged) ≡ all
+    → more ≡ text ++ cond (get_or judged k d).1 (arrow_line (arrow_of resolved k (get_or judged k d).0)) []
+    → more ++ standing_from es (k + 1) (drop (k + 1) judged) ≡ all
+standing_next es resolved judged k d text more all e inside h m =
+    standing_more es judged k (get_or judged k d) text more all (slice_get-get_or judged k d inside) h
+    (subst (λ l. more ≡ text ++ cond (get_or judged k d).1 (arrow_line (arrow_of l k (get_or judged k d).0)) []) (sym e) m)
+
+-- where no edge is left, the lines of all that stand are appended
+pub standing_all : (judged : List (Edge × Bool)) (k : ℕ) (old text : List ℕ) → length judged ≤ k
+    → text ++ standing_from (map (λ j. j.0) judged) k (drop k judged) ≡ old ++ standing_from (map (λ j. j.0) judged) 0 judged
+    → text ≡ old ++ standing_lines judged
+standing_all judged k old text h e =
+    let es = map (λ (j : Edge × Bool). j.0) judged in
+    sym (append-nil text) ∙ sym (ap (λ l. text ++ standing_from es k l) (drop_all k judged h)) ∙ e
+    ∙ ap (λ t. old ++ t) (sym (flat_map-map arrow_line (λ (j : ℕ × (Edge × Bool)). arrow_of es j.0 j.1.0) (standing_edges judged)))
+
+-- a page that holds a short text alone
+pub short_page : (old page text : List ℕ) → old ≡ [] → page ≡ page_after old text → length text < LINE_ROOM → page ≡ text
+short_page old page text e h short =
+    h ∙ ap (λ l. page_after l text) e ∙ page_fits [] text (omega arith)
+
+-- the lines of the elements from a number on
+abbrev pub numbered_from : {X : Type 0} → (ℕ × X → List ℕ) → ℕ → List X → List ℕ
+numbered_from f k xs = flat_map f (enumerate_from k xs)
+
+-- after an element, its line is appended
+pub numbered_more : {X : Type 0} (f : ℕ × X → List ℕ) (xs : List X) (k : ℕ) (d : X) (text more all : List ℕ) → k < length xs
+    → text ++ numbered_from f k (drop k xs) ≡ all → more ≡ text ++ f (k, get_or xs k d) → more ++ numbered_from f (k + 1) (drop (k + 1) xs) ≡ all
+numbered_more f xs k d text more all inside h e =
+    ap (λ t. t ++ numbered_from f (k + 1) (drop (k + 1) xs)) e ∙ append_assoc text (f (k, get_or xs k d)) (numbered_from f (k + 1) (drop (k + 1) xs))
+    ∙ sym (ap (λ l. text ++ numbered_from f k l) (drop_given xs k (get_or xs k d) (slice_get-get_or xs k d inside))) ∙ h
+
+-- where no element is left, the lines are appended
+pub numbered_all : {X : Type 0} (f : ℕ × X → List ℕ) (xs : List X) (k : ℕ) (text all : List ℕ) → length xs ≤ k
+    → text ++ numbered_from f k (drop k xs) ≡ all → text ≡ all
+numbered_all f xs k text all h e = sym (append-nil text) ∙ sym (ap (λ l. text ++ numbered_from f k l) (drop_all k xs h)) ∙ e
+
+-- a lap that isn't the first is written as a number
+pub some_lap : (lap : ℕ) → (lap ≡ 0 → ⊥) → decimal lap ≡ lap_word lap
+some_lap zero h = absurd (h refl)
+some_lap (suc lap) h = refl
+
+-- where no pair is left, the lines are those of all pairs
+pub pairs_all : {X : Type 0} (g : X × X → List ℕ) (test : X → X → Bool) (xs : List X) (k : ℕ) (old text : List ℕ) → length xs ≤ k
+    → text ≡ old ++ flat_map (λ e. flat_map (λ f. g (e, f)) (filter (test e) xs)) (take k xs) → text ≡ old ++ flat_map g (pairs_by test xs)
+pairs_all g test xs k old text h e =
+    e ∙ ap (λ l. old ++ flat_map (λ e. flat_map (λ f. g (e, f)) (filter (test e) xs)) l) (take_all k xs h)
+    ∙ ap (λ t. old ++ t) (sym (pairs_text g test xs xs))
+
+-- the first of all follows nothing
+pub first_follows_none : (before after : ℕ) → after ≡ 0 → false ≡ (after == before + 1)
+first_follows_none before after e = sym (ne_eqb after (before + 1) (λ q. absurd (omega (arith, q, e))))
+
+-- any other follows the one before it
+pub follows_one : (before after : ℕ) → (after ≡ 0 → ⊥) → (after - 1 == before) ≡ (after == before + 1)
+follows_one before after h =
+    by_same after (before + 1)
+    (λ e. let q : after - 1 ≡ before = omega (arith, e) in eq-eqb (after - 1) before q ∙ sym (eq-eqb after (before + 1) e))
+    (λ ne. ne_eqb (after - 1) before (λ q. ne (omega (arith, q, h))) ∙ sym (ne_eqb after (before + 1) ne))
+
+-- one place more
+pub initial_more : (seen : List SeenAccess) (k : ℕ) (list more : List ℕ) → list ≡ initial_places k seen
+    → more ≡ list ++ cond (list_any (reads_initial k) seen) (k ∷ []) [] → more ≡ initial_places (k + 1) seen
+initial_more seen k list more h e =
+    let s : k + 1 ≡ suc k = omega arith in
+    rw s (e ∙ ap (λ l. l ++ cond (list_any (reads_initial k) seen) (k ∷ []) []) h
+    ∙ sym (filter-append (λ place. list_any (reads_initial place) seen) (upto k) (k ∷ [])))
+
+-- the texts of the numbers below another, with one number more
+pub upto_more : (f : ℕ → List ℕ) (k : ℕ) (old text more : List ℕ) → text ≡ old ++ flat_map f (upto k) → more ≡ text ++ f k
+    → more ≡ old ++ flat_map f (upto (k + 1))
+upto_more f k old text more h e =
+    let s : k + 1 ≡ suc k = omega arith in
+    rw s (e ∙ ap (λ t. t ++ f k) h ∙ append_assoc old (flat_map f (upto k)) (f k)
+    ∙ ap (λ t. old ++ t) (sym (flat_map-append f (upto k) (k ∷ []) ∙ ap (λ t. flat_map f (upto k) ++ t) (append-nil (f k)))))
+
+few_more : (k : ℕ) (b : Bool) (list : List ℕ) → length list ≤ k → length (list ++ cond b (k ∷ []) []) ≤ k + 1
+few_more k true list h = omega (arith, length-append list (k ∷ []))
+few_more k false list h = omega (arith, length-append list [])
+
+pub initial_few : (k : ℕ) (b : Bool) (list more : List ℕ) → length list ≤ k → more ≡ list ++ cond b (k ∷ []) [] → length more ≤ k + 1
+initial_few k b list more h e = subst (λ l. length l ≤ k + 1) (sym e) (few_more k b list h)
+
+-- the condition and whether its terms hold, appended piece by piece
+pub condition_appended : (condition : CondSeen) (answer : Bool) (old first second word : List ℕ) → first ≡ old ++ codes "  label=\""
+    → second ≡ first ++ flat_map quoted_byte (cond_text condition) → word ≡ answer_word answer
+    → second ++ (codes "\\ncondition " ++ word ++ codes "\"\n") ≡ old ++ condition_line condition answer
+unfolding condition_line
+condition_appended condition answer old first second word h k e = rw (k, h, e) (simp append_assoc)
+
+-- four texts, and then four more together
+four_and_four : (old l e n f m word s look a b c d : List ℕ) → a ≡ old ++ l → b ≡ a ++ e → c ≡ b ++ n → d ≡ c ++ f
+    → d ++ (m ++ word ++ s ++ look) ≡ old ++ (l ++ e ++ n ++ f ++ m ++ word ++ s ++ look)
+four_and_four old l e n f m word s look a b c d h k p q = rw (q, p, k, h) (simp append_assoc)
+
+-- the line of an edge that stands, appended piece by piece
+pub standing_appended : (es : List Edge) (i : ℕ) (edge : Edge) (old a b c d word look : List ℕ) → a ≡ old ++ codes "  " → b ≡ a ++ access_name (event_name es i)
+    → c ≡ b ++ codes " -> " → d ≡ c ++ access_name (event_name es (event_after es i)) → word ≡ word_of edge → look ≡ kind_look (kind_of edge)
+    → d ++ (codes " [taillabel=\"" ++ word ++ codes "\", style=bold, " ++ look) ≡ old ++ arrow_line (arrow_of es i edge)
+unfolding arrow_line
+standing_appended es i edge old a b c d word look h k m n w l =
+    ap (λ t. d ++ (codes " [taillabel=\"" ++ t ++ codes "\", style=bold, " ++ look)) w
+    ∙ ap (λ t. d ++ (codes " [taillabel=\"" ++ word_of edge ++ codes "\", style=bold, " ++ t)) l
+    ∙ four_and_four old (codes "  ") (access_name (event_name es i)) (codes " -> ") (access_name (event_name es (event_after es i))) (codes " [taillabel=\"") (word_of edge)
+    (codes "\", style=bold, ") (kind_look (kind_of edge)) a b c d h k m n
+
+-- six texts, appended one after another
+pub six_appended : (old a b c d e f s t u v w : List ℕ) (x : List ℕ) → s ≡ old ++ a → t ≡ s ++ b → u ≡ t ++ c → v ≡ u ++ d → w ≡ v ++ e → x ≡ w ++ f
+    → x ≡ old ++ (a ++ (b ++ (c ++ (d ++ (e ++ f)))))
+six_appended old a b c d e f s t u v w x h k l m n p = rw (p, n, m, l, k, h) (simp append_assoc)

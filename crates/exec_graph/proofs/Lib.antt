@@ -1,0 +1,4 @@
+pub mod GraphLines
+pub mod Members
+pub mod DrawnLaws
+pub mod ArrowLaws

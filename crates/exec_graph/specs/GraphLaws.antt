@@ -1,0 +1,154 @@
+-- Laws of what a graph shows: its nodes are the accesses of the execution and the initial writes that are read, a pair of nodes is in the
+-- list of a relation exactly when the relation holds between them, and the bold arrows are those of exactly the edges of a judged cycle that
+-- stand. The laws of nodes and relations hold for every execution. In one that is no candidate, a write may be missing in the coherence
+-- order, and then has position 0 there; and a read may have no source, and then counts as a read of the initial value.
+-- Source: own.
+use Rattle.std.specs.{Prelude.{ℕ, ◌≡◌, ◌↔◌, ◌+◌, ◌<◌, Bool, List, Option, Some, None, slice_get}, List.Contains}
+use Rattle.relax_edges.specs.declared.edge.Edge.{Edge}
+use Rattle.relax_edges.specs.declared.kinds.Dir.TheVariants as dirs
+use Rattle.program_meaning.specs.{Accesses.{Access, at_name}, Executions.Execution, Coherence.{coherence_place, order_at, source_at}}
+use Rattle.program_meaning.specs.{Programs.{Program, accesses_in, visits_in}, Standing.{EdgeStands, NamedAccess, ComesBefore, access_at}, SeenAccesses.seen_access}
+use Rattle.exec_graph.specs.{declared.drawn.Drawn.Drawn, declared.drawn.Relation.Relation, JudgedCycles.JudgesEdges}
+use Rattle.exec_graph.specs.Graphs.{Arrow, access_drawn, co_pairs, drawn_in, fr_pairs, initial_write, pairs_by, po_pairs, relates, rf_pairs, standing_arrows}
+
+-- a node of a graph: the initial write of a location, or an access
+pub data Node : Type 0 where
+  InitialWrite : ℕ → Node
+  TheAccess : NamedAccess → Node
+
+-- an access of an execution of a program
+abbrev pub IsAccessIn : Program → Execution → NamedAccess → Type 0
+IsAccessIn p x e = at_name (visits_in p x) e.name ≡ Some e.visit
+
+-- an access reads the initial value of a location
+pub record ReadsInitial (threads : List (List Access)) (x : Execution) (place : ℕ) (e : NamedAccess) : Type 0 where
+  pub reads : e.visit.access.dir ≡ dirs.R
+  pub there : e.visit.access.place ≡ place
+  pub source : source_at threads x e.name ≡ None
+
+-- some access reads the initial value of this location, which is one of the program
+pub record IsInitiallyRead (p : Program) (x : Execution) (place : ℕ) : Type 0 where
+  pub within : place < p.places
+  pub reader : NamedAccess
+  pub is_access : IsAccessIn p x reader
+  pub reads : ReadsInitial (accesses_in p x) x place reader
+
+-- a node of the graph of an execution of a program: the initial write of a location whose initial value is read, or an access
+abbrev pub IsNodeIn : Program → Execution → Node → Type 0
+IsNodeIn p x (InitialWrite place) = IsInitiallyRead p x place
+IsNodeIn p x (TheAccess e) = IsAccessIn p x e
+
+-- how a node is drawn
+abbrev pub drawn_as : List (List Access) → Execution → Node → Drawn
+drawn_as threads x (InitialWrite place) = initial_write place
+drawn_as threads x (TheAccess e) = access_drawn (seen_access threads x e.name.thread e.name.access e.visit.access e.visit.mark)
+
+-- what is drawn is a node of the graph of an execution
+pub record IsDrawn (p : Program) (x : Execution) (drawn : Drawn) : Type 0 where
+  pub node : Node
+  pub is_node : IsNodeIn p x node
+  pub is : drawn ≡ drawn_as (accesses_in p x) x node
+
+-- exactly the nodes are drawn
+abbrev pub NodesLaw : Type 0
+NodesLaw = (p : Program) (x : Execution) (drawn : Drawn) → (Contains (drawn_in p x) drawn ↔ IsDrawn p x drawn)
+
+-- each pair in the list of a relation is a pair of nodes
+abbrev pub EndsLaw : Type 0
+EndsLaw = (relation : Relation) (p : Program) (x : Execution) (a b : Drawn) → Contains (pairs_by (relates relation) (drawn_in p x)) (a, b)
+    → IsDrawn p x a × IsDrawn p x b
+
+-- the second is the next access of the thread of the first
+pub record IsNextAccess (e f : NamedAccess) : Type 0 where
+  pub thread : f.name.thread ≡ e.name.thread
+  pub next : f.name.access ≡ e.name.access + 1
+
+-- program order leads to the next access, and no initial write is in it
+abbrev pub FollowsInThread : List (List Access) → Execution → Node → Node → Type 0
+FollowsInThread threads x (TheAccess e) (TheAccess f) = IsNextAccess e f
+FollowsInThread threads x (TheAccess e) (InitialWrite place) = ⊥
+FollowsInThread threads x (InitialWrite place) n = ⊥
+
+-- the second is a read, and reads the first
+pub record IsReadBy (threads : List (List Access)) (x : Execution) (e f : NamedAccess) : Type 0 where
+  pub reads : f.visit.access.dir ≡ dirs.R
+  pub source : source_at threads x f.name ≡ Some e.name
+
+-- reads-from leads from what is read, a write or an initial write, to what reads it
+abbrev pub IsReadFrom : List (List Access) → Execution → Node → Node → Type 0
+IsReadFrom threads x (TheAccess e) (TheAccess f) = IsReadBy threads x e f
+IsReadFrom threads x (InitialWrite place) (TheAccess f) = ReadsInitial threads x place f
+IsReadFrom threads x (TheAccess e) (InitialWrite place) = ⊥
+IsReadFrom threads x (InitialWrite place) (InitialWrite other) = ⊥
+
+-- both write to one location, and the second is next in its coherence order
+pub record IsNextWrite (threads : List (List Access)) (x : Execution) (e f : NamedAccess) : Type 0 where
+  pub first : e.visit.access.dir ≡ dirs.W
+  pub second : f.visit.access.dir ≡ dirs.W
+  pub there : e.visit.access.place ≡ f.visit.access.place
+  pub next : coherence_place threads x f.name f.visit.access ≡ coherence_place threads x e.name e.visit.access + 1
+
+-- an access writes to a location, and is the first in its coherence order
+pub record IsFirstWrite (x : Execution) (place : ℕ) (e : NamedAccess) : Type 0 where
+  pub writes : e.visit.access.dir ≡ dirs.W
+  pub there : e.visit.access.place ≡ place
+  pub first : slice_get (order_at x place) 0 ≡ Some e.name
+
+-- coherence order leads to the next write, and from an initial write to the first one
+abbrev pub FollowsInOrder : List (List Access) → Execution → Node → Node → Type 0
+FollowsInOrder threads x (TheAccess e) (TheAccess f) = IsNextWrite threads x e f
+FollowsInOrder threads x (InitialWrite place) (TheAccess f) = IsFirstWrite x place f
+FollowsInOrder threads x (TheAccess e) (InitialWrite place) = ⊥
+FollowsInOrder threads x (InitialWrite place) (InitialWrite other) = ⊥
+
+-- the first is a read, and the second a write to its location, later in the coherence order than what is read
+pub record IsReadBefore (threads : List (List Access)) (x : Execution) (e f : NamedAccess) : Type 0 where
+  pub reads : e.visit.access.dir ≡ dirs.R
+  pub writes : f.visit.access.dir ≡ dirs.W
+  pub there : e.visit.access.place ≡ f.visit.access.place
+  pub later : ComesBefore threads x (access_at e) (access_at f)
+
+-- from-read leads from a read to each later write, and never from or to an initial write
+abbrev pub IsOverwritten : List (List Access) → Execution → Node → Node → Type 0
+IsOverwritten threads x (TheAccess e) (TheAccess f) = IsReadBefore threads x e f
+IsOverwritten threads x (TheAccess e) (InitialWrite place) = ⊥
+IsOverwritten threads x (InitialWrite place) n = ⊥
+
+-- a pair of nodes is in a list exactly when this relation holds between them
+abbrev pub ListsPairs : (List Drawn → List (Drawn × Drawn)) → (List (List Access) → Execution → Node → Node → Type 0) → Type 0
+ListsPairs pairs Related =
+    (p : Program) (x : Execution) (m n : Node) → IsNodeIn p x m → IsNodeIn p x n → let threads = accesses_in p x in
+    (Contains (pairs (drawn_in p x)) (drawn_as threads x m, drawn_as threads x n) ↔ Related threads x m n)
+
+-- `po_pairs` lists exactly the pairs of program order to the next access
+abbrev pub PoPairsLaw : Type 0
+PoPairsLaw = ListsPairs po_pairs FollowsInThread
+
+-- `rf_pairs` lists exactly the pairs of reads-from
+abbrev pub RfPairsLaw : Type 0
+RfPairsLaw = ListsPairs rf_pairs IsReadFrom
+
+-- `co_pairs` lists exactly the pairs of coherence order to the next write
+abbrev pub CoPairsLaw : Type 0
+CoPairsLaw = ListsPairs co_pairs FollowsInOrder
+
+-- `fr_pairs` lists exactly the pairs of from-read
+abbrev pub FrPairsLaw : Type 0
+FrPairsLaw = ListsPairs fr_pairs IsOverwritten
+
+-- an arrow is that of an edge of a cycle that stands in an execution: it leads from the access of its event to that of the next event
+pub record IsOfStandingEdge (cycle : Option (List Edge)) (p : Program) (x : Execution) (arrow : Arrow) : Type 0 where
+  pub es : List Edge
+  pub number : ℕ
+  pub cycle_is : cycle ≡ Some es
+  pub edge_is : slice_get es number ≡ Some arrow.edge
+  pub stands : EdgeStands es p x number
+  pub source_is : arrow.source ≡ stands.source.name
+  pub target_is : arrow.target ≡ stands.target.name
+
+-- if the edges of a cycle are judged, exactly those that stand in the execution are drawn, each from the access of its event to that of
+-- the next event; if there is no cycle, none is
+abbrev pub StandingArrowsLaw : Type 0
+StandingArrowsLaw =
+    (cycle : Option (List Edge)) (p : Program) (x : Execution) (judged : List (Edge × Bool)) (arrow : Arrow)
+    → JudgesEdges cycle p x judged → (Contains (standing_arrows judged) arrow ↔ IsOfStandingEdge cycle p x arrow)

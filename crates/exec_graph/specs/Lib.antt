@@ -1,0 +1,3 @@
+pub mod JudgedCycles
+pub mod Graphs
+pub mod GraphLaws
