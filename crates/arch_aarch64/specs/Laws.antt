@@ -2,7 +2,7 @@
 use Rattle.std.proofs.{Common.refl, Common.arith, lemmas.Bool.Decides.nat_tests, lemmas.Bool.and_from}
 use Rattle.relax_edges.specs.declared.kinds.ArchName.TheVariants as archs
 use Rattle.arch_trait.specs.Laws.{IsArch}
-use Rattle.arch_trait_laws.proofs.{AddressedInstructions.KeepsInstructions, Addressed.keeps_laws, OwnCode.tests, OwnCode.indexed, OwnCode.sums}
+use Rattle.arch_trait.proofs.{AddressedInstructions.KeepsInstructions, Addressed.keeps_laws, OwnCode.tests, OwnCode.indexed, OwnCode.sums}
 use Rattle.arch_instructions_laws.specs.Tables.{operands_fit}
 use Rattle.arch_instructions_laws.proofs.Barriers.{fences_had}
 use Rattle.arch_aarch64.specs.{Table.forms, Table.table, Puts.puts, Puts.instructions}

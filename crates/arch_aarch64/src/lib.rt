@@ -67,7 +67,7 @@ impl Arch for A64 {
         read_by(table(), word, operands)
     }
 
-    #[tactic(auto, using(arch_trait_laws::proofs::FormBacks::name_at))]
+    #[tactic(auto, using(arch_trait::proofs::FormBacks::name_at))]
     fn register_name(r: u8, out: &mut RegName) {
         out.clear();
         NAMES.push(r, out);

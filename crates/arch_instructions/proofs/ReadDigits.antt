@@ -2,8 +2,8 @@
 use Rattle.std.proofs.Common.{ℕ, ◌+◌, ◌-◌, ◌*◌, ◌/◌, ◌%◌, ◌<◌, ◌≤◌, ◌≡◌, List, [], ◌∷◌, ◌++◌, Some, length, get_or, ap, sym, ◌∙◌, refl, arith}
 use Rattle.std.specs.Fmt.{decimal}
 use Rattle.std.proofs.lemmas.Fmt.{decimal_digit, decimal_step}
-use Rattle.text_parts_laws.specs.NumberTexts.{number_of}
-use Rattle.text_parts_laws.proofs.NumberLaws.{number_of-decimal}
+use Rattle.text_parts.specs.NumberTexts.{number_of}
+use Rattle.text_parts.proofs.NumberLaws.{number_of-decimal}
 
 -- a digit is the decimal of its number
 pub one_read : (a : ℕ) → 48 ≤ a → a ≤ 57 → number_of (a ∷ []) ≡ Some (a - 48)

@@ -1,5 +1,5 @@
 ghost use Rattle.std.specs.Prelude.{◌≡◌, ◌∷◌, []};
-ghost use Rattle.text_parts_laws.specs.NumberTexts.{number_of};
+ghost use Rattle.text_parts.specs.NumberTexts.{number_of};
 ghost use Rattle.arch_trait.specs.Writing.{register_at, immediate_number};
 
 use arch_trait::MAX_IMMEDIATE;

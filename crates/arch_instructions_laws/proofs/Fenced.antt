@@ -9,7 +9,7 @@ use Rattle.relax_edges.specs.declared.kinds.Dir.TheVariants as dirs
 use Rattle.micro_ops.specs.{declared.operation.Micro.Micro, Running.{Run, labels_of, lands}}
 use Rattle.micro_ops.specs.declared.operation.Micro.TheVariants as ops
 use Rattle.micro_ops.specs.declared.operation.Barrier.TheVariants as barriers
-use Rattle.arch_trait_laws.proofs.{Rules.{run_load_at, run_store_at}, Accesses.{writes_none, spare_plain, did_load, did_store, did_nothing, did_barrier}}
+use Rattle.arch_trait.proofs.{Rules.{run_load_at, run_store_at}, Accesses.{writes_none, spare_plain, did_load, did_store, did_nothing, did_barrier}}
 use Rattle.arch_trait.specs.{declared.link.Link.Link, declared.step.Shape.Shape, Cells.MakesOneAccess, Taking.{Taken, take_next}, Threads.{Put, Puts}}
 use Rattle.arch_trait.specs.Links.{link_is_of, depends_on_load, link_control, link_items, is_addr, is_data}
 use Rattle.arch_trait.specs.Laws.{DidLink, MakesLinks, MakesAccess, MakesLoads, MakesStores, IsArch, link_room, link_labels, is_at_place}

@@ -6,7 +6,7 @@ use Rattle.relax_edges.specs.declared.kinds.FenceKind.TheVariants as fences
 use Rattle.micro_ops.specs.{declared.operation.Micro.Micro, declared.operation.Barrier.Barrier}
 use Rattle.micro_ops.specs.declared.operation.Micro.TheVariants as ops
 use Rattle.micro_ops.specs.declared.operation.Barrier.TheVariants as barriers
-use Rattle.text_parts_laws.specs.Names.{is_place_name}
+use Rattle.text_parts.specs.Names.{is_place_name}
 use Rattle.arch_trait.specs.Writing.{raw_of, op_name, is_well_named, is_label_name, label_name}
 use Rattle.arch_instructions_laws.specs.{declared.kind.Kind.Kind, declared.kind.Operand.Operand}
 use Rattle.arch_instructions_laws.specs.{Kinds.{barrier_number, same_barrier, operands_of, raw_with, with_place_name, unnamed}, Tables.given_operands}

@@ -3,10 +3,10 @@ use Rattle.std.proofs.Common.{ℕ, suc, ◌+◌, ◌-◌, ◌^◌, ◌<◌, ◌�
 use Rattle.std.specs.{Fmt.decimal, List.list_all, Str.bytes_eq}
 use Rattle.std.proofs.{Math.Seq.take-append_seam, Math.Seq.drop-append_seam, lemmas.Slice.Eq.bytes_eq-Decides}
 use Rattle.std.proofs.lemmas.Bool.{and_parts, le-leb, lt-ltb, eq-eqb, ltb-true, leb-true}
-use Rattle.text_parts_laws.specs.NumberTexts.{number_of}
-use Rattle.text_parts_laws.proofs.NumberLaws.{number_of-decimal}
+use Rattle.text_parts.specs.NumberTexts.{number_of}
+use Rattle.text_parts.proofs.NumberLaws.{number_of-decimal}
 use Rattle.arch_trait.specs.Writing.{register_at, label_name}
-use Rattle.arch_trait_laws.proofs.SpellingLaws.{immediate_back}
+use Rattle.arch_trait.proofs.SpellingLaws.{immediate_back}
 use Rattle.arch_instructions_laws.specs.declared.{form.Hole.Hole, kind.Operand.Operand}
 use Rattle.arch_instructions_laws.specs.declared.form.Hole.TheVariants as holes
 use Rattle.arch_instructions_laws.specs.declared.kind.Operand.TheVariants as operands

@@ -4,8 +4,8 @@ use Rattle.std.specs.{Fmt.decimal, List.list_all, Str.bytes_eq}
 use Rattle.std.proofs.lemmas.Bool.{and_parts, and_from, and_right, leb-true, ltb-true}
 use Rattle.std.proofs.lemmas.{Fmt.length-decimal-le, List.Folds.list_all-append, Slice.Eq.bytes_eq-Decides}
 use Rattle.list_laws.proofs.{Elements.list_all-weaker, Cases.by_test, Digits.three_digits, Digits.digits_of}
-use Rattle.text_parts_laws.specs.Names.{is_place_name, is_place_byte}
-use Rattle.text_parts_laws.proofs.{NameLaws.place_passes, NameLaws.register_passes, NameLaws.decimal_passes, CutLaws.all_both}
+use Rattle.text_parts.specs.Names.{is_place_name, is_place_byte}
+use Rattle.text_parts.proofs.{NameLaws.place_passes, NameLaws.register_passes, NameLaws.decimal_passes, CutLaws.all_both}
 use Rattle.arch_trait.specs.{Cells.is_cell_byte, InstructionReading.few, ByteLaws.place_in_word, WordBytes.is_instruction_byte}
 use Rattle.arch_trait.specs.Writing.{is_plain, all_plain_texts, label_name, label_word}
 use Rattle.arch_instructions_laws.specs.declared.{form.Hole.Hole, kind.Operand.Operand}

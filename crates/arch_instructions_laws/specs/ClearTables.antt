@@ -2,7 +2,7 @@
 -- Source: own.
 use Rattle.std.specs.Prelude.{ℕ, ◌+◌, ◌==◌, Bool, true, false, not, ◌&&◌, ◌||◌, nat_le, List, [], ◌∷◌, ◌++◌, is_some, length, codes}
 use Rattle.std.specs.{List.{list_all, list_any}, Str.bytes_eq}
-use Rattle.text_parts_laws.specs.Blanks.{is_blank}
+use Rattle.text_parts.specs.Blanks.{is_blank}
 use Rattle.arch_trait.specs.{Cells.is_cell_byte, declared.arch.TheConstants.MAX_INSTRUCTION_TEXT}
 use Rattle.arch_instructions_laws.specs.{declared.form.Hole.Hole, Tables.{PieceText, FormText, piece_found}}
 use Rattle.arch_instructions_laws.specs.declared.form.Hole.TheVariants as holes

@@ -2,7 +2,7 @@
 -- Source: own; the litmus format of herdtools, whose cells hold one instruction each.
 use Rattle.std.specs.Prelude.{ℕ, ◌+◌, ◌-◌, ◌==◌, Bool, true, false, cond, ◌&&◌, nat_lt, nat_le, List, [], ◌∷◌, ◌++◌, Option, Some, None, option_map, option_and_then, map, take, drop, length}
 use Rattle.std.specs.{List.list_any, Str.bytes_eq, Fmt.decimal}
-use Rattle.text_parts_laws.specs.NumberTexts.{number_of}
+use Rattle.text_parts.specs.NumberTexts.{number_of}
 use Rattle.micro_ops.specs.declared.operation.Micro.{Micro}
 use Rattle.micro_ops.specs.declared.operation.Micro.TheVariants as ops
 use Rattle.arch_trait.specs.{Forms.label_alone, InstructionReading.few}

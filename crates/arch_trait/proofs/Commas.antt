@@ -3,7 +3,7 @@ use Rattle.std.proofs.Common.{ℕ, ◌+◌, ◌-◌, ◌<◌, ◌≤◌, ◌≡�
 use Rattle.std.proofs.{lemmas.Bool.{ltb-true, ltb-false, eqb-true}, Math.Seq.take-length, lemmas.List.Splits.{slice_split_first, slice_split_none}}
 use Rattle.std.proofs.lemmas.List.Sums.{fails_before_first}
 use Rattle.std.specs.List.{position, slice_split, onto_first}
-use Rattle.text_parts_laws.specs.Blanks.{trim_blanks}
+use Rattle.text_parts.specs.Blanks.{trim_blanks}
 use Rattle.arch_trait.specs.{Writing.{none, one, two, three, four, more}, InstructionReading.{few, operands_in}}
 
 -- a text cut at its first comma, and one without a comma

@@ -1,7 +1,7 @@
 -- Immediates and labels read back from their text.
 use Rattle.std.proofs.{Common.{ℕ, ◌≤◌, ◌≡◌, refl, Some, ◌∙◌, arith}, lemmas.Bool.le-leb}
 use Rattle.std.specs.Fmt.{decimal}
-use Rattle.text_parts_laws.proofs.NumberLaws.{number_of-decimal}
+use Rattle.text_parts.proofs.NumberLaws.{number_of-decimal}
 use Rattle.micro_ops.specs.declared.operation.Micro.TheVariants as ops
 use Rattle.arch_trait.specs.Writing.{immediate_number, label, label_name, label_word, label_raw}
 

@@ -3,8 +3,8 @@ use Rattle.std.proofs.Common.{ℕ, ◌≡◌, ◌==◌, refl, Bool, true, false,
 use Rattle.std.proofs.lemmas.Bool.{and_parts, not-true}
 use Rattle.std.specs.List.{list_all, slice_split}
 use Rattle.list_laws.proofs.Elements.{list_all-weaker}
-use Rattle.text_parts_laws.specs.{Blanks.{unblanked, before_blanks, trim_blanks, is_inked}, LeadingRuns.after_run}
-use Rattle.text_parts_laws.proofs.{RunLaws.{stops, after_halts, whole_run}, BlankLaws.{inked_ends, end_stays}, PieceLaws.{split_off, split_whole}}
+use Rattle.text_parts.specs.{Blanks.{unblanked, before_blanks, trim_blanks, is_inked}, LeadingRuns.after_run}
+use Rattle.text_parts.proofs.{RunLaws.{stops, after_halts, whole_run}, BlankLaws.{inked_ends, end_stays}, PieceLaws.{split_off, split_whole}}
 use Rattle.micro_ops.specs.declared.operation.Micro.{Micro}
 use Rattle.arch_trait.specs.{Threads.Puts, WordBytes.is_instruction_byte}
 use Rattle.arch_trait.specs.Writing.{OperandTexts, none, one, two, three, four, more, Written, Writing, WritesBack, listed, written_text, op_text, is_plain, all_plain_texts, raw_of, op_name, is_well_named, with_number}

@@ -3,7 +3,7 @@ use Rattle.std.proofs.Common.{ℕ, zero, suc, ◌+◌, ◌/◌, ◌%◌, ◌<◌
 use Rattle.std.proofs.{lemmas.Bool.{and_from, and_parts, or_left, ltb-true}, lemmas.List.Folds.list_all-append}
 use Rattle.std.proofs.lemmas.List.FromFn.{map-range_with_len_more, length-map-range_with_len}
 use Rattle.std.specs.{List.{list_all, IsDistinct}, Str.bytes_eq}
-use Rattle.text_parts_laws.specs.Names.{is_place_name, is_register_name}
+use Rattle.text_parts.specs.Names.{is_place_name, is_register_name}
 use Rattle.list_laws.proofs.{Elements.list_all-weaker, Places.none_passes, Distinct.distinct_push}
 use Rattle.arch_trait.specs.{declared.step.TheConstants.MAX_STEPS, PlaceNames.{IsTable, number_in, location_letters, location_name, letters}}
 

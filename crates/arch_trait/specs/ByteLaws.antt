@@ -1,8 +1,8 @@
 -- The bytes of locations' names may be in lines, cells and words of a printed test, and so may all bytes of names and numbers
--- (`place_passes` of `text_parts_laws` and the laws next to it).
+-- (`place_passes` of `text_parts` and the laws next to it).
 -- Source: own.
 use Rattle.std.proofs.{Common.{◌≡◌, ℕ, true, arith}, lemmas.Bool.Decides.nat_tests}
-use Rattle.text_parts_laws.specs.Names.{is_place_byte}
+use Rattle.text_parts.specs.Names.{is_place_byte}
 use Rattle.arch_trait.specs.{Cells.{is_line_byte, is_cell_byte}, WordBytes.is_instruction_byte}
 
 -- a byte of a location's name may be in a line

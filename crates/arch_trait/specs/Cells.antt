@@ -2,7 +2,7 @@
 -- Source: the litmus format of the herdtools, in which bars divide cells and a semicolon ends a row.
 use Rattle.std.specs.Prelude.{ℕ, ◌≤◌, ◌==◌, ◌≡◌, Bool, true, false, not, ◌&&◌, ◌||◌, nat_le, List, [], ◌∷◌, ◌++◌, codes, length, Option, count_by}
 use Rattle.std.specs.{List.{list_all, list_any}, Str.bytes_eq}
-use Rattle.text_parts_laws.specs.{LeadingRuns.leading_run, Blanks.unblanked, Words.is_argument_byte}
+use Rattle.text_parts.specs.{LeadingRuns.leading_run, Blanks.unblanked, Words.is_argument_byte}
 use Rattle.relax_edges.specs.declared.kinds.Mark.{Mark}
 use Rattle.micro_ops.specs.declared.operation.Micro.{Micro}
 use Rattle.micro_ops.specs.declared.operation.Micro.TheVariants as ops

@@ -1,7 +1,7 @@
 -- How an instruction is read from the text of its cell, and how its name gets a number.
 -- Source: the litmus format of the herdtools; where blanks may come is our own.
 use Rattle.std.specs.{Prelude.{ℕ, ◌≡◌, ◌==◌, true, cond, List, [], ◌∷◌, Option, Some, None, Result, Ok, Err, map}, List.slice_split}
-use Rattle.text_parts_laws.specs.{Names.is_place_name, Blanks.{is_inked, unblanked, trim_blanks}, LeadingRuns.{leading_run, after_run}}
+use Rattle.text_parts.specs.{Names.is_place_name, Blanks.{is_inked, unblanked, trim_blanks}, LeadingRuns.{leading_run, after_run}}
 use Rattle.micro_ops.specs.{declared.operation.Micro.Micro, Machines.InRange}
 use Rattle.arch_trait.specs.{declared.reading.InstrError.InstrError, PlaceNames.{number_added, names_added}, Threads.Puts}
 use Rattle.arch_trait.specs.Writing.{OperandTexts, none, one, two, three, four, more, Written, Name, nothing, place, label, RawInstr, Writing, is_label_name, with_number}

@@ -1,5 +1,5 @@
 ghost use Rattle.std.specs.Prelude.{◌≡◌, ◌<◌, ◌≤◌, ◌++◌, ◌∷◌, ◌==◌, [], List, ℕ, map, length, slice_index_or, true, None};
-ghost use Rattle.text_parts_laws.specs.Names.{is_place_name};
+ghost use Rattle.text_parts.specs.Names.{is_place_name};
 ghost use Rattle.arch_trait.specs.PlaceNames.{IsTable, letters, location_name, number_in, number_added, names_added};
 
 use crate::push::push_ascii;

@@ -1,7 +1,7 @@
 -- The table of X86 is clear, and within the range of the machine.
 use Rattle.std.proofs.Common.{◌≡◌, refl, true}
 use Rattle.std.specs.{Fmt.digits, List.list_all}
-use Rattle.text_parts_laws.specs.NumberTexts.{number_of}
+use Rattle.text_parts.specs.NumberTexts.{number_of}
 use Rattle.arch_trait.specs.Writing.{immediate_number}
 use Rattle.arch_instructions_laws.specs.Tables.{piece_found, after_prefix, before_suffix}
 use Rattle.arch_instructions_laws.specs.ClearTables.{is_clear, differ, piece_apart, pieces_apart, forms_apart, is_piece_good, most_of, is_form_good}

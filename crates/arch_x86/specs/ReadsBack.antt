@@ -1,7 +1,7 @@
 -- X86's instructions read back from their text, and its registers have names of their own.
 use Rattle.std.proofs.Common.{◌≡◌, refl, true, rules}
 use Rattle.std.specs.{List.list_all, List.IsDistinct, Str.bytes_eq}
-use Rattle.text_parts_laws.specs.Names.{is_register_name}
+use Rattle.text_parts.specs.Names.{is_register_name}
 use Rattle.arch_trait.specs.{InstructionReading.ReadsOwn, Writing.WritesBack}
 use Rattle.arch_instructions_laws.proofs.Ranges as ranges
 use Rattle.arch_instructions_laws.proofs.ReadsBack.{AreNames, writes_back}

@@ -12,8 +12,8 @@ use Rattle.final_cond.specs.{declared.cond.Quantifier.Quantifier, Conditions.{Le
 use Rattle.final_cond.specs.{CondText.{quantifier_word, left_text, term_text, further_term_text, terms_text, cond_text}, ConditionReadBack.IsFormedTerm}
 use Rattle.final_cond.specs.ConditionReading.{has_form}
 use Rattle.final_cond.specs.declared.cond.Quantifier.TheVariants as quantifiers
-use Rattle.text_parts_laws.specs.Names.{is_register_name}
-use Rattle.text_parts_laws.proofs.{LengthLaws.pieces_short, NameLaws.{place_name_short, register_name_short}, NumberLaws.{two_digits, ten_digits}}
+use Rattle.text_parts.specs.Names.{is_register_name}
+use Rattle.text_parts.proofs.{LengthLaws.pieces_short, NameLaws.{place_name_short, register_name_short}, NumberLaws.{two_digits, ten_digits}}
 use Rattle.arch_trait.specs.{declared.arch.TheConstants.MAX_INSTRS, Threads.ThreadCode, Writing.{Writing, op_text, name_in}, SeenTests.TestSeen}
 use Rattle.litmus_text.specs.declared.limits.TheConstants.{MAX_TEST_TEXT}
 use Rattle.litmus_text.specs.TestText.{header_line, edges_line, item_text, items_lines, initial_lines, column_of, width_of, cell_text, row_line, row_count, table_lines, test_lines, with_line_feed, test_text}

@@ -6,11 +6,11 @@ use Rattle.relax_edges.specs.{declared.TheConstants.MAX_EDGES, declared.kinds.Ar
 use Rattle.cycle_events.specs.Resolution.{move_count}
 use Rattle.micro_ops.specs.declared.operation.Micro.{Micro}
 use Rattle.final_cond.specs.{Conditions.TermSeen, ConditionReadBack.IsFormedTerm}
-use Rattle.text_parts_laws.specs.Names.{is_register_name}
-use Rattle.text_parts_laws.proofs.NameLaws.{place_name_short, register_name_short}
+use Rattle.text_parts.specs.Names.{is_register_name}
+use Rattle.text_parts.proofs.NameLaws.{place_name_short, register_name_short}
 use Rattle.arch_trait.specs.{Cells.{WritesCells, MakesOneAccess, is_access}, LabelOrder.labels_after, Laws.{IsArch, InOrder}}
 use Rattle.arch_trait.specs.{PlaceNames.{letters, location_name}, Threads.{Puts, compiled}, Writing.{Writing, WritesBack, name_in, op_text}}
-use Rattle.arch_trait_laws.proofs.NameLaws.{length-letters, location_new}
+use Rattle.arch_trait.proofs.NameLaws.{length-letters, location_new}
 use Rattle.litmus_text.specs.{Printable.IsTestName, Progress.{CodeFits, code_lands}, Reread.IsReadable, ReadTerms.TermFits}
 use Rattle.bytes_force_cycles.proofs.{FormedFits.links_single, Lengths.{AreShort, IsSmall, text_short}, SomeTerm.some_term}
 use Rattle.bytes_force_cycles.proofs.Fits.{all_links_fit, code_short, each_code, terms_fit, thread_code_fits, thread_is, thread_lands}

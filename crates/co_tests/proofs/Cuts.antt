@@ -10,9 +10,9 @@ use Rattle.cycle_events.specs.{Resolution.{edge_at, slot_of}, Values.value_of}
 use Rattle.cycle_events.proofs.{Threads.slot_in, Locations.ends_with}
 use Rattle.arch_trait.specs.{declared.link.Link.Link, declared.link.Link.TheVariants.Plain, declared.step.Step.Step, Links.edge_link}
 use Rattle.tests_force_cycles.specs.{CycleSteps.{event_link, event_step}, TestOf.plain}
-use Rattle.co_tests_laws.specs.{CutResolution.{cut_of, cut_open, is_ordering, orders_by}, CoherenceTests.writes_in}
-use Rattle.co_tests_laws.proofs.{Opened.{same_at, source_same, source_mark_same}, Events.IsLoop}
-use Rattle.co_tests_laws.proofs.Values.{Cut, IsCut, one_location, written, value_early, value_late, later_cut, first_cut, none_diff}
+use Rattle.co_tests.specs.{CutResolution.{cut_of, cut_open, is_ordering, orders_by}, CoherenceTests.writes_in}
+use Rattle.co_tests.proofs.{Opened.{same_at, source_same, source_mark_same}, Events.IsLoop}
+use Rattle.co_tests.proofs.Values.{Cut, IsCut, one_location, written, value_early, value_late, later_cut, first_cut, none_diff}
 use Rattle.co_tests.specs.Shape.{HasShape}
 
 -- the cut of edges of which the first has a number is at this place

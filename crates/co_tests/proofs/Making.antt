@@ -16,16 +16,16 @@ use Rattle.final_cond.specs.{declared.cond.Cond.Cond, declared.cond.Quantifier.Q
 use Rattle.final_cond.specs.Conditions.{TermSeen, cond_view, term_view}
 use Rattle.arch_trait.specs.{declared.code.Code.Code, declared.step.Step.Step, Codes.{IsFormedCode, thread_code_of}, Laws.IsArch, Links.branches}
 use Rattle.arch_trait.specs.{PlaceNames.letters, SeenTests.TestSeen, Threads.{Puts, ThreadCode, compiled, shape_of}}
-use Rattle.arch_trait_laws.proofs.CodeLaws.{is_formed}
+use Rattle.arch_trait.proofs.CodeLaws.{is_formed}
 use Rattle.litmus_text.specs.Tests.{IsPrintable}
 use Rattle.tests_force_cycles.specs.{CycleSteps.event_step, TestOf.{plain, is_named_location, last_term, last_terms, load_terms}}
 use Rattle.tests_force_cycles.proofs.{Headline.room_left, StepsAt.by_steps}
 use Rattle.test_maker.specs.{Made.AreOfArch, Refusals.{foreign_edge, is_crowded}, declared.refusal.Refusal.Refusal}
 use Rattle.test_maker.specs.declared.refusal.Refusal.TheVariants.{TooManyRegisters}
-use Rattle.co_tests_laws.specs.{CutResolution.{cut_open, is_ordering}, CoRefusals.{crowded_thread, is_no_coherence}}
-use Rattle.co_tests_laws.specs.CoherenceTests.{HasCoherenceTest, coherence_steps, coherence_test_of, writes_in}
-use Rattle.co_tests_laws.proofs.{Values.{IsCut, one_location, one_move, write_count_is}, Events.unobserved, Fits.{IsLoopOf, loop_thread}}
-use Rattle.co_tests_laws.proofs.Accepted.{accepted_has_test, writes_rotated, all_rotated, any_rotated}
+use Rattle.co_tests.specs.{CutResolution.{cut_open, is_ordering}, CoRefusals.{crowded_thread, is_no_coherence}}
+use Rattle.co_tests.specs.CoherenceTests.{HasCoherenceTest, coherence_steps, coherence_test_of, writes_in}
+use Rattle.co_tests.proofs.{Values.{IsCut, one_location, one_move, write_count_is}, Events.unobserved, Fits.{IsLoopOf, loop_thread}}
+use Rattle.co_tests.proofs.Accepted.{accepted_has_test, writes_rotated, all_rotated, any_rotated}
 use Rattle.co_tests.specs.{Made.{MakesOfArch, MakesTurned, refusal_of_arch}, Shape.HasShape, Terms.last_of_writes, Threads.PutsThreads}
 use Rattle.test_maker.proofs.Printing.{ArePlaced, formed_printable}
 

@@ -10,8 +10,8 @@ use Rattle.cycle_events.proofs.Threads.{thread_end, thread_out, thread_up}
 use Rattle.arch_trait.specs.declared.step.Step.{Step}
 use Rattle.tests_force_cycles.specs.{CycleSteps.{event_step, thread_steps}, TestOf.plain}
 use Rattle.tests_force_cycles.proofs.StepsAt.{steps-count, thread_steps_at}
-use Rattle.co_tests_laws.specs.{CutResolution.cut_open, CoherenceTests.coherence_steps}
-use Rattle.co_tests_laws.proofs.{Opened.{opened-threads, opened_events}, Events.none_observed}
+use Rattle.co_tests.specs.{CutResolution.cut_open, CoherenceTests.coherence_steps}
+use Rattle.co_tests.proofs.{Opened.{opened-threads, opened_events}, Events.none_observed}
 use Rattle.test_maker.proofs.Ranges.{filter_until, filter_none}
 
 -- the accesses of a thread among the first events

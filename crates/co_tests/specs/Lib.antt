@@ -1,3 +1,8 @@
+pub mod CutResolution
+pub mod CoherenceTests
+pub mod Arc
+pub mod CoRefusals
+pub mod Incoherence
 pub mod Made
 pub mod Shape
 pub mod Terms

@@ -3,7 +3,7 @@ use Rattle.std.specs.{Prelude.{◌≡◌, ◌≤◌, true, false, List}, List.li
 use Rattle.relax_edges.specs.{declared.edge.Edge.Edge, EdgeTable.is_diff}
 use Rattle.edge_algebra_laws.specs.Composable.{IsCycle}
 use Rattle.cycle_events.specs.Resolution.{ends_outside, external_count}
-use Rattle.co_tests_laws.specs.{CutResolution.is_ordering, CoherenceTests.writes_in}
+use Rattle.co_tests.specs.{CutResolution.is_ordering, CoherenceTests.writes_in}
 
 -- a cycle has its last edge and at least one other external, is over one location, and has a cut and at most two writes
 pub record HasShape (es : List Edge) : Type 0 where

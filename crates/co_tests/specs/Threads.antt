@@ -6,7 +6,7 @@ use Rattle.final_cond.specs.{declared.cond.Cond.Cond, Conditions.term_view}
 use Rattle.arch_trait.specs.{declared.code.Code.Code, declared.step.Step.Step, Codes.thread_code_of, Threads.{Puts, compiled}}
 use Rattle.tests_force_cycles.specs.TestOf.{load_terms, thread_terms}
 use Rattle.test_maker.specs.{Refusals.is_crowded, declared.refusal.Refusal.Refusal, declared.refusal.Refusal.TheVariants.TooManyRegisters}
-use Rattle.co_tests_laws.specs.{CoherenceTests.coherence_steps, CoRefusals.crowded_thread}
+use Rattle.co_tests.specs.{CoherenceTests.coherence_steps, CoRefusals.crowded_thread}
 
 -- a call makes the code of a thread after those before it and appends the terms of its loads, or refuses the thread, which needs
 -- too many registers

@@ -3,7 +3,7 @@ ghost use Rattle.cycle_events.specs.Resolution.{turned};
 ghost use Rattle.arch_trait.specs.Writing.{name_in};
 ghost use Rattle.litmus_text.specs.Tests.{test_seen};
 ghost use Rattle.test_maker.specs.Made.{AreOfArch, CanPrint, NamesLocation};
-ghost use Rattle.co_tests_laws.specs.CoherenceTests.{HasCoherenceTest};
+ghost use Rattle.co_tests.specs.CoherenceTests.{HasCoherenceTest};
 ghost use Rattle.co_tests.specs.{Made.{MakesCoherenceTest, MakesSeen, MakesOfArch, MakesTurned}, Shape.{HasShape}};
 
 use crate::condition::put_last_term;

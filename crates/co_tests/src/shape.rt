@@ -2,7 +2,7 @@ ghost use Rattle.std.specs.{Prelude.{◌≡◌, ◌<◌, ◌≤◌, length, posi
 ghost use Rattle.edge_algebra_laws.specs.Rotation.{rotated};
 ghost use Rattle.relax_edges.specs.EdgeTable.{is_diff, is_external};
 ghost use Rattle.cycle_events.specs.Resolution.{ends_outside, external_count, turned};
-ghost use Rattle.co_tests_laws.specs.{CutResolution.{cut_of, is_ordering}, CoherenceTests.{writes_in}};
+ghost use Rattle.co_tests.specs.{CutResolution.{cut_of, is_ordering}, CoherenceTests.{writes_in}};
 
 use relax_edges::{Dir, Edge, Kind, MAX_EDGES};
 

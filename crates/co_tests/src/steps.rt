@@ -1,7 +1,7 @@
 ghost use Rattle.std.specs.Prelude.{◌≡◌, ◌<◌, length, Some};
 ghost use Rattle.cycle_events.specs.Values.{value_of};
 ghost use Rattle.tests_force_cycles.specs.{CycleSteps.{event_link, event_step}, TestOf.{plain}};
-ghost use Rattle.co_tests_laws.specs.CutResolution.{cut_of, cut_open};
+ghost use Rattle.co_tests.specs.CutResolution.{cut_of, cut_open};
 ghost use Rattle.co_tests.specs.Shape.{HasShape};
 
 use crate::shape::write_count;

@@ -3,7 +3,7 @@ ghost use Rattle.arrayvec.specs.ArrayVec.{array_vec_len};
 ghost use Rattle.arch_trait.specs.{Threads.{FitSteps}, Writing.{name_in}};
 ghost use Rattle.tests_force_cycles.specs.CycleSteps.{numbers_read};
 ghost use Rattle.test_maker.specs.Made.{AreOfArch};
-ghost use Rattle.co_tests_laws.specs.CutResolution.{cut_of};
+ghost use Rattle.co_tests.specs.CutResolution.{cut_of};
 ghost use Rattle.co_tests.specs.{Shape.{HasShape}, Threads.{PutsThread, PutsThreads}};
 
 use crate::condition::put_load_terms;

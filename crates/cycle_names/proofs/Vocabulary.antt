@@ -73,5 +73,5 @@ pub use Rattle.relax_edges.specs.declared.kinds.Mark.TheVariants.{Plain}
 pub use Rattle.relax_edges.specs.declared.kinds.Reach.TheVariants.{Internal}
 pub use Rattle.relax_edges.specs.declared.kinds.Sd.TheVariants.{Diff}
 pub use Rattle.relax_edges.specs.declared.order.TheConstants.{EDGES}
-pub use Rattle.text_parts_laws.proofs.PieceLaws.{split_off, split_whole}
-pub use Rattle.text_parts_laws.specs.Names.{is_name_byte}
+pub use Rattle.text_parts.proofs.PieceLaws.{split_off, split_whole}
+pub use Rattle.text_parts.specs.Names.{is_name_byte}

@@ -4,7 +4,7 @@ use Rattle.relax_edges.specs.{declared.kinds.ArchName.ArchName, declared.edge.Ed
 use Rattle.edge_algebra_laws.specs.{Composable.IsCycle, Rotation.IsRotation}
 use Rattle.cycle_names.specs.{declared.name.TheConstants.MAX_CYCLE_NAME, declared.family.Family.Family, Rotations.{is_of_family, named_rotation}}
 use Rattle.cycle_names.specs.CycleNames.{name_of}
-use Rattle.text_parts_laws.specs.Names.{is_name_byte}
+use Rattle.text_parts.specs.Names.{is_name_byte}
 
 -- whether an architecture has all edges of a cycle
 abbrev pub are_of_arch : ArchName → List Edge → Bool

@@ -2,7 +2,7 @@
 use Rattle.std.proofs.Common.{◌≡◌, ◌==◌, ℕ, List, [], ◌∷◌, ◌++◌, get_or, Some, None, true, refl, sym, ap, ◌∙◌}
 use Rattle.std.specs.Prelude.{not, unwrap_or}
 use Rattle.std.proofs.lemmas.{List.Sums.AllPass-from_list_all, Bool.not-true}
-use Rattle.text_parts_laws.specs.Cuts.{is_without, CutParts}
+use Rattle.text_parts.specs.Cuts.{is_without, CutParts}
 use Rattle.cycles_from_lines.specs.{Cycles.after_colon, Cycles.without_label, LineSteps.Without, LineSteps.CutsAtSign}
 use Rattle.cycles_from_lines.proofs.LineLaws.{without_first, without_rest}
 

@@ -2,8 +2,8 @@
 use Rattle.std.proofs.{Common.{◌≡◌, ◌==◌, ℕ, Bool, true, not, List, [], ◌∷◌, Option, Some, None, Ok, refl, sym, ap, ◌∙◌}, lemmas.Bool.eqb-true}
 use Rattle.std.specs.List.{slice_split, list_all}
 use Rattle.list_laws.proofs.Cases.{by_test}
-use Rattle.text_parts_laws.specs.{Blanks.is_blank, Cuts.is_without}
-use Rattle.text_parts_laws.proofs.PieceLaws.{first_piece}
+use Rattle.text_parts.specs.{Blanks.is_blank, Cuts.is_without}
+use Rattle.text_parts.proofs.PieceLaws.{first_piece}
 use Rattle.relax_edges.specs.{declared.kinds.ArchName.ArchName, declared.edge.Edge.Edge, AllEdges.edges_in_order, Spelling.{edge_of, spellings_of}}
 use Rattle.relax_edges.specs.ReadEdges.{before_edges}
 use Rattle.edge_algebra_laws.proofs.SpellingLaws.{each_spelling}

@@ -6,7 +6,7 @@ use Rattle.std.specs.{List.Sorted.{IsPermutation, IsStrictlySortedBy}, Ordering.
 use Rattle.std.specs.{String.string_bytes, BTreeSet.{BTreeSet, insert_key}, declared.cmp.Ordering.Ordering}
 use Rattle.std.specs.{declared.cmp.Ordering.TheVariants.{Less, Equal, Greater}, declared.alloc.Global.Global}
 use Rattle.list_laws.proofs.Cases.{by_test}
-use Rattle.text_parts_laws.proofs.OrderLaws.{Above, Ascends, above_all, not_equal, none_above, any_insert, bytes_same}
+use Rattle.text_parts.proofs.OrderLaws.{Above, Ascends, above_all, not_equal, none_above, any_insert, bytes_same}
 use Rattle.cycles_from_lines.specs.{Classified.with_cycle_name, KeptNames.{names_in_set, is_absent, AreAmong}}
 
 -- where a text that is there is put in order, nothing changes

@@ -11,9 +11,9 @@ use Rattle.cycles_from_lines.specs.{declared.reader.Found.Found, declared.reader
 use Rattle.cycles_from_lines.specs.Cycles.{line_said, line_fault, is_sound, are_sound, cycle_said, cycles_of, is_long_line}
 use Rattle.cycles_from_lines.specs.LineReading.{TookUpTo, Untouched, ReadAll, ReadToFault, ReadToLimit, ReadToStop, ReadSome, whole_of, cycles_before}
 use Rattle.cycles_from_lines.specs.LineSteps.{Without, CutsAtSign, ReaderSeen, HasRead, GivesLine, GivesNext, line_said_by, Fills, FillsBuffer, Ended, Stops, Ends, LessToDo, Continues, last_cycle}
-use Rattle.text_parts_laws.specs.Lines.{without_return, ended_lines, unended, last_line, lines_of}
+use Rattle.text_parts.specs.Lines.{without_return, ended_lines, unended, last_line, lines_of}
 use Rattle.cycles_from_lines.proofs.LineLaws.{ended_after, unended_after, lines_after, ended_none, unended_all, ended_nil, unended_nil, short_pending, long_first, ended_count}
-use Rattle.text_parts_laws.proofs.LineLaws.{ended_cut, unended_cut, lines_cut}
+use Rattle.text_parts.proofs.LineLaws.{ended_cut, unended_cut, lines_cut}
 
 -- bytes that are taken one after another
 consumes_both : (a b c : Option (List ℕ)) (x y : List ℕ) → Consumes a b x → Consumes b c y → Consumes a c (x ++ y)

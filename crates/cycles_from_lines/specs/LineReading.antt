@@ -6,7 +6,7 @@ use Rattle.relax_edges.specs.{declared.kinds.ArchName.ArchName, declared.edge.Ed
 use Rattle.cycles_from_lines.specs.{declared.errors.LineKind.LineKind, declared.errors.LinesError.LinesError}
 use Rattle.cycles_from_lines.specs.declared.errors.LinesError.TheVariants.{Wrong, TooMuch, InputFault}
 use Rattle.cycles_from_lines.specs.Cycles.{FirstFault, are_sound, cycles_of, is_sound, is_long_line}
-use Rattle.text_parts_laws.specs.Lines.{without_return, ended_lines, unended, lines_of}
+use Rattle.text_parts.specs.Lines.{without_return, ended_lines, unended, lines_of}
 
 -- what was taken of a source, followed by what is left of it if that is shown: then this is all that it had
 abbrev pub whole_of : List ℕ → SourceSeen → List ℕ

@@ -7,7 +7,7 @@ use Rattle.cycles_from_lines.specs.{declared.errors.LineKind.LineKind, declared.
 use Rattle.cycles_from_lines.specs.{declared.reader.Found.Found, declared.reader.Found.TheVariants.{Next, Last}, Cycles.{line_said, are_sound, cycles_of}}
 use Rattle.cycles_from_lines.specs.LineReading.{ReadAll, ReadUpTo, TookUpTo, Untouched}
 use Rattle.cycles_from_lines.specs.declared.reader.Line.TheVariants as lines
-use Rattle.text_parts_laws.specs.Lines.{without_return, ended_lines, unended}
+use Rattle.text_parts.specs.Lines.{without_return, ended_lines, unended}
 
 -- a text doesn't have this byte
 abbrev pub Without : ℕ → List ℕ → Type 0

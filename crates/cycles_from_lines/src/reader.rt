@@ -2,7 +2,7 @@ ghost use Rattle.std.specs.Prelude.{◌≡◌, ◌≤◌, ◌<◌, ℕ, ◌+◌,
 ghost use Rattle.relax_edges.specs.declared.edge.Edge.{Edge};
 ghost use Rattle.cycles_from_lines.specs.{Cycles.{is_long_line}, KeptLines.{said_with}};
 ghost use Rattle.cycles_from_lines.specs.LineSteps.{ReaderSeen, Without, GivesNext, line_said_by, Fills, FillsBuffer, Stops, ReadsOn, Refills, LessToDo, FindsLast, ReadsLast, Ends, work};
-ghost use Rattle.text_parts_laws.specs.Lines.{without_return};
+ghost use Rattle.text_parts.specs.Lines.{without_return};
 
 use crate::MAX_CYCLE_LINE;
 use crate::errors::{LineKind, LinesError};

@@ -7,7 +7,7 @@ use Rattle.diy_io.specs.{Shelf.ShelfSeen, Taken.SourceSeen, Wrote.SinkSeen}
 use Rattle.diy_words.specs.{declared.request.Coherence.Coherence, declared.usage.Usage.Usage, Given.GivesTask}
 use Rattle.diy_words.specs.Requests.{Task, CoherenceTask, AsksCoherence, asked_of}
 use Rattle.diy_words.specs.declared.request.Request.TheVariants as requests
-use Rattle.co_tests_laws.specs.CoRefusals.{coherence_refusal_of, coherence_text}
+use Rattle.co_tests.specs.CoRefusals.{coherence_refusal_of, coherence_text}
 use Rattle.run_status.specs.{declared.status.Status.Status}
 use Rattle.diy_tools.specs.{Answers.{Answers, AnswersAsked}, ArchMachines.machine_of, CoherenceAnswers.AnswersCoherence}
 use Rattle.diy_tools.specs.{Devices.devices, PrintAnswers.AnswersEdges, TestAnswers.test_name}

@@ -12,7 +12,7 @@ use Rattle.program_meaning.specs.Executions.{Execution}
 use Rattle.litmus_text.specs.TestReading.{TestRead}
 use Rattle.exec_text.specs.Written.{text_of_execution}
 use Rattle.test_maker.specs.{CycleText.cycle_text, Refusals.refusal_of, declared.refusal.Refusal.Refusal}
-use Rattle.co_tests_laws.specs.CoRefusals.{coherence_refusal_of, coherence_text}
+use Rattle.co_tests.specs.CoRefusals.{coherence_refusal_of, coherence_text}
 use Rattle.two_runs.specs.{IntendedRuns.{IsRunOf, intended_by}, CoherenceRuns.incoherent_by}
 use Rattle.run_status.specs.{declared.status.Status.Status}
 use Rattle.diy_tools.specs.{Answers.{Answers, AnswersAsked}, ArchMachines.{Machine, machine_of}, Devices.devices}

@@ -45,8 +45,8 @@ use Rattle.diy_tools.specs.{Headline.{Headline, HeadlineAsked, PrintsIntended, P
 use Rattle.test_maker.specs.declared.refusal.Refusal.TheVariants as refusals
 use Rattle.two_runs.specs.{IntendedRuns.intended_by, CoherenceRuns.incoherent_by}
 use Rattle.tests_to_files.specs.{Plans.{IsPlanned, planned_text}, WantedLaws.wanted_has_test}
-use Rattle.co_tests_laws.specs.{CoRefusals.{coherence_refusal_of, coherence_text}, Incoherence.BytesShowIncoherence}
-use Rattle.co_tests_laws.proofs.{Accepted.accepted_has_test as accepted_has_loop, Printed.printed_show}
+use Rattle.co_tests.specs.{CoRefusals.{coherence_refusal_of, coherence_text}, Incoherence.BytesShowIncoherence}
+use Rattle.co_tests.proofs.{Accepted.accepted_has_test as accepted_has_loop, Printed.printed_show}
 use Rattle.diycross7_cycles.specs.Laws.{IsCrossed}
 use Rattle.diycross7_cycles.proofs.Crossing.{crosses_all}
 use Rattle.diy_tools.proofs.TestNames.{words_name}

@@ -1,7 +1,7 @@
 -- A text that can name a test: words, printed tests and the names of cycles have one form of it.
 use Rattle.std.proofs.{Common.{◌≡◌, ℕ, true, nat_lt, nat_le, List, length, arith}, lemmas.Bool.{and_parts, and_from}, lemmas.Bool.Decides.nat_tests}
 use Rattle.std.specs.{Prelude.{◌&&◌, ◌↔◌}, List.list_all}
-use Rattle.text_parts_laws.specs.Names.{is_name_byte}
+use Rattle.text_parts.specs.Names.{is_name_byte}
 use Rattle.litmus_text.specs.Printable.{IsTestName}
 use Rattle.diy_words.specs.TestNames.{is_name}
 

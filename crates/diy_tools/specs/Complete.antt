@@ -6,7 +6,7 @@ use Rattle.tests_from_files.specs.FilesEnds.{ReadFiles}
 use Rattle.exec_check.specs.FilesChecked.{AreTestAndExecution}
 use Rattle.cycle_names.specs.Laws.{NamesNone}
 use Rattle.cycles_from_lines.specs.Cycles.{are_sound}
-use Rattle.text_parts_laws.specs.Lines.{lines_of}
+use Rattle.text_parts.specs.Lines.{lines_of}
 use Rattle.diy_io.specs.{declared.source.TheConstants.MAX_INPUT, Count.Rose, Shelf.Files}
 use Rattle.diy_words.specs.{declared.usage.Usage.Usage, declared.request.Check.Check}
 use Rattle.diy_words.specs.Requests.{Task, Sought, AsksTest, AsksWhy, AsksCoherence, AsksName, AsksList, AsksFamilies, AsksSum, AsksCross, AsksDemo, AsksCheck, AsksExecution, AsksCoherenceExecution, AsksLines, OfEdges, OfName, OfLines, asked_of}

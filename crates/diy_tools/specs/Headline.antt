@@ -10,7 +10,7 @@ use Rattle.diy_words.specs.declared.usage.Usage.{Usage}
 use Rattle.diy_words.specs.Requests.{Task, ListTask, AsksTest, AsksWhy, AsksCoherence, AsksList, CrossTask, AsksCross, AsksExecution, AsksCoherenceExecution, AsksLines, asked_of}
 use Rattle.tests_to_files.specs.Plans.{IsPlanned, planned_text}
 use Rattle.bytes_force_cycles.specs.PrintedHeadline.{BytesForce}
-use Rattle.co_tests_laws.specs.Incoherence.{BytesShowIncoherence}
+use Rattle.co_tests.specs.Incoherence.{BytesShowIncoherence}
 use Rattle.two_runs.specs.{IntendedRuns.intended_by, CoherenceRuns.incoherent_by}
 use Rattle.run_status.specs.declared.status.{Status.Status, Status.TheVariants.NoMemory}
 use Rattle.diy_tools.specs.{Devices.Devices, Devices.DevicesSeen, Devices.devices, ArchMachines.Machine, ArchMachines.machine_of, Refused.refused_of}

@@ -25,7 +25,7 @@ use Rattle.tests_from_files.specs.declared.classified_errors.FilesEnd.{FilesEnd}
 use Rattle.exec_check.specs.{declared.checked_errors.CheckEnd.CheckEnd, FilesChecked.FilesChecked}
 use Rattle.arch_trait.specs.{Threads.Puts, Writing.Writing}
 use Rattle.exec_text.specs.Written.{text_of_execution}
-use Rattle.co_tests_laws.specs.CoRefusals.{coherence_refusal_of, coherence_text}
+use Rattle.co_tests.specs.CoRefusals.{coherence_refusal_of, coherence_text}
 use Rattle.run_status.specs.declared.status.Status.TheVariants as statuses
 
 -- the edges that are kept; none if there are too many

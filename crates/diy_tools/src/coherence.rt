@@ -36,7 +36,7 @@ fn coherence_on<A: Arch, O: Sink>(request: &Coherence, out: &mut O) -> Status
 }
 
 /// Prints the coherence test of a cycle, if it has one.
-#[tactic(auto, unfolding(co_tests_laws::specs::CoRefusals::coherence_text))]
+#[tactic(auto, unfolding(co_tests::specs::CoRefusals::coherence_text))]
 fn answer_loop<A: Arch, O: Sink>(cycle: &Cycle, name: &Option<TestName>, out: &mut O) -> Status
     ensures answers { AnswersLoop (machine A.puts A.writing) name.now cycle.now result (O.seen out.old) (O.seen out.new) }
     ensures location { StatusNamesLocation result }

@@ -1,6 +1,6 @@
 -- Names of tests. Source: own, after the file names of diy.
 use Rattle.std.specs.{Prelude.{ℕ, Bool, ◌&&◌, nat_lt, nat_le, List, length}, List.list_all}
-use Rattle.text_parts_laws.specs.Names.{is_name_byte}
+use Rattle.text_parts.specs.Names.{is_name_byte}
 use Rattle.diy_words.specs.declared.request.TheConstants.{MAX_GIVEN_NAME}
 
 -- a text can name a test

@@ -1,5 +1,5 @@
 ghost use Rattle.std.specs.{Prelude.{◌≡◌, Some, None, Option, if◌then◌else◌}, Option.{option_map}, List.{list_all}};
-ghost use Rattle.text_parts_laws.specs.Names.{is_name_byte};
+ghost use Rattle.text_parts.specs.Names.{is_name_byte};
 ghost use Rattle.diy_words.specs.TestNames.{is_name};
 
 use crate::request::{MAX_GIVEN_NAME, TestName};

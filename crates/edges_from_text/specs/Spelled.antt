@@ -1,7 +1,7 @@
 -- The edges that a text spells, with separators between them.
 -- Source: own.
 use Rattle.std.specs.{Prelude.{ℕ, Bool, ◌==◌, ◌||◌, List, [], ◌∷◌, Option, Some}, List.slice_split}
-use Rattle.text_parts_laws.specs.Blanks.{is_blank}
+use Rattle.text_parts.specs.Blanks.{is_blank}
 use Rattle.relax_edges.specs.{declared.edge.Edge.Edge, Spelling.edge_of, ReadEdges.before_edges}
 use Rattle.edges_from_text.specs.{declared.read.Separators.Separators, declared.read.Separators.TheVariants.{Blanks, BlanksAndCommas}}
 

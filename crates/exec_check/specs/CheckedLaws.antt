@@ -9,7 +9,7 @@ use Rattle.litmus_text.specs.{declared.limits.TheConstants.MAX_TEST_TEXT, TestRe
 use Rattle.program_meaning.specs.Executions.{Execution}
 use Rattle.exec_text.specs.{declared.errors.ExecFault.ExecFault, declared.errors.ExecKind.TheVariants.TooLarge}
 use Rattle.exec_text.specs.ExecutionText.{execution_read, reads_and_writes_read}
-use Rattle.text_parts_laws.specs.Lines.{lines_of}
+use Rattle.text_parts.specs.Lines.{lines_of}
 use Rattle.tests_from_files.specs.{declared.errors.TestFileError.TestFileError, FilesRead.Begins, TestSaid.test_said}
 use Rattle.tests_from_files.specs.FewBytes.{AreFew, none_few, one_few, both_few, prefix_few, begun_few, few_taken}
 use Rattle.tests_from_files.specs.FirstBytes.{JudgesFirstBytes, RefusesLong, judges_first_bytes, tests_by_first_bytes}

@@ -3,7 +3,7 @@ use Rattle.std.proofs.{Common.{◌≡◌, ◌≤◌, ◌+◌, ℕ, List, [], ◌
 use Rattle.std.proofs.{lemmas.List.Elements.{All-head, All-tail}, lemmas.List.FromFn.length-enumerate_from, lemmas.Bool.and_parts}
 use Rattle.std.specs.{Prelude.{Option, Some, Ok}, List.{All, AllByRecursion, enumerate_from, flat_map, list_all, range_with_len, zip}}
 use Rattle.list_laws.proofs.Elements.{all_append}
-use Rattle.text_parts_laws.specs.{Names.is_place_name, Words.words}
+use Rattle.text_parts.specs.{Names.is_place_name, Words.words}
 use Rattle.litmus_text.specs.{TestText.with_line_feed, declared.limits.TheConstants.MAX_TEST_TEXT}
 use Rattle.program_meaning.specs.{declared.WriteAt.WriteAt, Executions.Execution}
 use Rattle.exec_text.specs.declared.errors.ExecKind.TheVariants.{BadThread, BadRead, BadPlace, BadWrite}

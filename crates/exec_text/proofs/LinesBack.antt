@@ -4,9 +4,9 @@ use Rattle.std.proofs.Common.{◌≡◌, ◌≤◌, ℕ, List, [], ◌∷◌, �
 use Rattle.std.proofs.{lemmas.Bool.Decides.nat_tests, lemmas.List.append-nil}
 use Rattle.std.specs.{Prelude.{Bool, ◌&&◌, nat_le, nat_lt, codes, Option, Some, Ok}, List.{AllByRecursion, list_all, flat_map}}
 use Rattle.list_laws.proofs.Elements.{list_all-weaker}
-use Rattle.text_parts_laws.specs.{Blanks.is_inked, Words.words, Lines.lines_of, Cuts.CutParts}
+use Rattle.text_parts.specs.{Blanks.is_inked, Words.words, Lines.lines_of, Cuts.CutParts}
 use Rattle.litmus_text.specs.TestText.{with_line_feed}
-use Rattle.text_parts_laws.proofs.{OrderLaws.bytes_same, WordLaws.{words_both, one_word}, CutLaws.{all_both, without_class}, LineLaws.class_kept}
+use Rattle.text_parts.proofs.{OrderLaws.bytes_same, WordLaws.{words_both, one_word}, CutLaws.{all_both, without_class}, LineLaws.class_kept}
 use Rattle.exec_text.specs.{declared.errors.ExecKind.ExecKind, ExecutionText.{all_named, line_read}, Written.line_of}
 use Rattle.exec_text.proofs.{Appending.further, FirstLines.{line_none, line_cut}, WordsBack.{IsWord, is_graphic}}
 

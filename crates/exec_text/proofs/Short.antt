@@ -2,8 +2,8 @@
 use Rattle.std.proofs.Common.{◌≡◌, ◌≤◌, ◌<◌, ◌+◌, ◌*◌, ℕ, List, [], ◌∷◌, ◌++◌, map, length, true, ap, arith, length-append, suc-mul}
 use Rattle.std.proofs.{lemmas.Grind.flat_map-append, lemmas.List.Elements.{All-head, All-map, All-tail}, lemmas.List.length-map, lemmas.Bool.and_parts}
 use Rattle.std.specs.{Prelude.{codes, Option, Some, None}, Fmt.decimal, List.{All, enumerate_from, flat_map, list_all, zip}}
-use Rattle.text_parts_laws.specs.Names.{is_place_name}
-use Rattle.text_parts_laws.proofs.{LengthLaws.pieces_short, NameLaws.place_name_short, NumberLaws.{two_digits, ten_digits}}
+use Rattle.text_parts.specs.Names.{is_place_name}
+use Rattle.text_parts.proofs.{LengthLaws.pieces_short, NameLaws.place_name_short, NumberLaws.{two_digits, ten_digits}}
 use Rattle.litmus_text.specs.{TestText.with_line_feed, declared.limits.TheConstants.{MAX_TEST_TEXT, MAX_THREADS, MAX_ACCESSES}}
 use Rattle.program_meaning.specs.{declared.WriteAt.WriteAt, Executions.Execution}
 use Rattle.exec_text.specs.ExecutionText.{place_head, thread_head}

@@ -5,7 +5,7 @@ use Rattle.std.proofs.{Math.ListN.replicate, Math.Seq.{get_or-append_seam, set-a
 use Rattle.std.specs.{Prelude.{Result, Ok, Err, Option}, List.range_with_len}
 use Rattle.program_meaning.specs.{declared.WriteAt.WriteAt, Executions.Execution}
 use Rattle.program_meaning.specs.KeptExecutions.{added_to_list, empty_lists, nothing_kept, with_read, with_write}
-use Rattle.text_parts_laws.specs.{Words.words, Lines.lines_of}
+use Rattle.text_parts.specs.{Words.words, Lines.lines_of}
 use Rattle.exec_text.specs.{declared.errors.ExecKind.ExecKind, declared.errors.ExecFault.ExecFault, declared.errors.ExecError.ExecError}
 use Rattle.exec_text.specs.declared.errors.ExecKind.TheVariants.{BadThread, BadRead, BadPlace, BadWrite, StrayLine}
 use Rattle.exec_text.specs.ExecutionText.{access_named, at_line, execution_of, execution_read, line_read, reads_and_writes_read, each_line_read, place_head, put_line, read_named, thread_head}

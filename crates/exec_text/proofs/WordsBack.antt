@@ -3,8 +3,8 @@ use Rattle.std.proofs.{Common.{◌≡◌, ◌<◌, ◌≤◌, ◌^◌, ℕ, List
 use Rattle.std.proofs.{lemmas.Bool.Decides.nat_tests, lemmas.Slice.Eq.bytes_eq-Decides}
 use Rattle.std.specs.{Prelude.{Bool, ◌&&◌, codes, nat_lt, Option, Some, None, option_and_then}, Char.is_ascii_digit, Fmt.decimal, List.list_all, Str.bytes_eq}
 use Rattle.list_laws.proofs.{Digits.digits_of, Cases.by_test}
-use Rattle.text_parts_laws.specs.{Names.{is_place_byte, is_place_name}, Cuts.cut_at, Words.is_nil}
-use Rattle.text_parts_laws.proofs.{NameLaws.{place_passes, decimal_passes}, NumberLaws.number_of-decimal, CutLaws.{cut_back, cut_none, all_both, without_class}}
+use Rattle.text_parts.specs.{Names.{is_place_byte, is_place_name}, Cuts.cut_at, Words.is_nil}
+use Rattle.text_parts.proofs.{NameLaws.{place_passes, decimal_passes}, NumberLaws.number_of-decimal, CutLaws.{cut_back, cut_none, all_both, without_class}}
 use Rattle.litmus_text.specs.declared.limits.TheConstants.{MAX_TEST_TEXT, MAX_ACCESSES}
 use Rattle.program_meaning.specs.declared.WriteAt.{WriteAt}
 use Rattle.exec_text.specs.ExecutionText.{access_written, access_named, kept_below, number_below, place_head, read_written, read_named, source_named, thread_head}

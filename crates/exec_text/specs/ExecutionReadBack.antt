@@ -1,7 +1,7 @@
 -- Which executions are read back from the text that is written for them.
 -- Source: own.
 use Rattle.std.specs.{Prelude.{◌≡◌, ◌<◌, ◌≤◌, ◌^◌, ℕ, true, List, length, Option, Some, None, Ok}, List.{All, list_all}}
-use Rattle.text_parts_laws.specs.Names.{is_place_name}
+use Rattle.text_parts.specs.Names.{is_place_name}
 use Rattle.litmus_text.specs.declared.limits.TheConstants.{MAX_TEST_TEXT, MAX_ACCESSES}
 use Rattle.program_meaning.specs.{declared.WriteAt.WriteAt, Executions.Execution}
 use Rattle.exec_text.specs.{ExecutionText.execution_read, Written.text_of_execution}

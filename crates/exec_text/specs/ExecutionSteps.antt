@@ -6,7 +6,7 @@ use Rattle.program_meaning.specs.Executions.{Execution}
 use Rattle.exec_text.specs.declared.{errors.ExecKind.ExecKind, errors.ExecFault.ExecFault, errors.ExecError.ExecError, reading.LineError.LineError}
 use Rattle.exec_text.specs.declared.errors.ExecError.TheVariants as errors
 use Rattle.exec_text.specs.declared.reading.LineError.TheVariants as line_errors
-use Rattle.text_parts_laws.specs.Lines.{lines_of}
+use Rattle.text_parts.specs.Lines.{lines_of}
 
 -- a way to add one thing to list number k of an execution: a read to a thread, or a write to a location
 abbrev pub WayToAdd : Type 0 → Type 0

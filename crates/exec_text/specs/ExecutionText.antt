@@ -3,7 +3,7 @@
 -- Source: own.
 use Rattle.std.specs.Prelude.{ℕ, ◌+◌, cond, List, [], ◌∷◌, ◌++◌, length, map, codes, nat_lt, Option, Some, None, option_and_then, Result, Ok, Err, slice_index_or}
 use Rattle.std.specs.{Fmt.decimal, List.range_with_len, Option.option_map, Str.bytes_eq}
-use Rattle.text_parts_laws.specs.{NumberTexts.number_of, Cuts.cut_at, Words.words, Lines.lines_of, ReadingSteps.◌>>=◌}
+use Rattle.text_parts.specs.{NumberTexts.number_of, Cuts.cut_at, Words.words, Lines.lines_of, ReadingSteps.◌>>=◌}
 use Rattle.program_meaning.specs.{declared.WriteAt.WriteAt, Executions.Execution}
 use Rattle.exec_text.specs.{declared.errors.ExecKind.ExecKind, declared.errors.ExecFault.ExecFault}
 use Rattle.exec_text.specs.declared.errors.ExecKind.TheVariants.{BadThread, BadRead, BadPlace, BadWrite, EndMissing, StrayLine, TooLarge}

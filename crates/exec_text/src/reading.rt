@@ -1,5 +1,5 @@
 ghost use Rattle.std.specs.{Prelude.{◌≡◌, ◌<◌, ◌+◌, [], IfOk, length, map, slice_index_or}, List.{range_with_len}};
-ghost use Rattle.text_parts_laws.specs.{Words.{words}, Lines.{lines_of}};
+ghost use Rattle.text_parts.specs.{Words.{words}, Lines.{lines_of}};
 ghost use Rattle.exec_text.specs.declared.errors.ExecKind.TheVariants.{BadThread, BadRead, BadPlace, BadWrite, EndMissing};
 ghost use Rattle.exec_text.specs.ExecutionText.{access_named, all_named, execution_read, read_named, thread_head, reads_told, writes_told, all_reads_told, all_writes_told, place_head_at};
 ghost use Rattle.exec_text.specs.ExecutionSteps.{AtLine, ReadsLine, ReadsLines, ReadsText, line_added, lines_added};

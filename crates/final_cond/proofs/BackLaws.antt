@@ -11,8 +11,8 @@ use Rattle.final_cond.specs.{CondText.{quantifier_word, left_text, term_text, te
 use Rattle.final_cond.specs.ConditionReadBack.{IsFormedTerm, IsFormedCondition}
 use Rattle.final_cond.specs.ConditionReading.{sign_read, opening_read, left_at_start, register_at_start, has_form, left_read, value_read, right_read, term_read, follow_read, terms_read, parts_read, cond_read}
 use Rattle.final_cond.specs.declared.read.Follow.TheVariants as follows
-use Rattle.text_parts_laws.specs.{Names.is_place_byte, LeadingRuns.{leading_run, after_run}, Blanks.{is_blank, unblanked}}
-use Rattle.text_parts_laws.proofs.{NumberLaws.number_of-decimal, RunLaws.{after_halts, stops, IsRun, whole_run}}
+use Rattle.text_parts.specs.{Names.is_place_byte, LeadingRuns.{leading_run, after_run}, Blanks.{is_blank, unblanked}}
+use Rattle.text_parts.proofs.{NumberLaws.number_of-decimal, RunLaws.{after_halts, stops, IsRun, whole_run}}
 
 -- a text that begins with a byte of a word isn't changed where blanks are passed over
 digits_unblanked : (digits rest : List ℕ) → list_all is_ascii_digit digits ≡ true → 0 < length digits → unblanked (digits ++ rest) ≡ digits ++ rest

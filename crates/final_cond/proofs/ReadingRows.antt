@@ -5,7 +5,7 @@ use Rattle.final_cond.specs.{declared.cond.Quantifier.TheVariants.{Exists, NotEx
 use Rattle.final_cond.specs.{declared.errors.CondError.CondError, declared.errors.CondKind.TheVariants.{BadQuantifier, BadTerm, BadValue, BadEnd}}
 use Rattle.final_cond.specs.Conditions.{InRegister, AtPlace, TermSeen, CondSeen}
 use Rattle.final_cond.specs.ConditionReading.{sign_read, opening_read, left_at_start, left_read, value_read, right_read, term_read, follow_read, terms_read, parts_read, cond_read}
-use Rattle.text_parts_laws.specs.{Names.{is_place_name, is_register_name}, NumberTexts.number_of, LeadingRuns.{leading_run, after_run}}
+use Rattle.text_parts.specs.{Names.{is_place_name, is_register_name}, NumberTexts.number_of, LeadingRuns.{leading_run, after_run}}
 
 abbrev place_is : List ℕ → ℕ → TermSeen
 place_is name value = record { left = AtPlace name; value = value }

@@ -4,7 +4,7 @@ use Rattle.std.specs.Prelude.{Bool, Ok, Err}
 use Rattle.final_cond.specs.{declared.errors.CondKind.TheVariants.BadEnd, declared.read.Follow.Follow, Conditions.{LeftSeen, TermSeen}}
 use Rattle.final_cond.specs.ConditionReading.{Fault, ConditionRead, cond_fault, term_read, follow_read, terms_read, before_terms}
 use Rattle.final_cond.specs.declared.read.Follow.TheVariants as follows
-use Rattle.text_parts_laws.specs.{Blanks.unblanked, ReadingSteps.◌>>=◌}
+use Rattle.text_parts.specs.{Blanks.unblanked, ReadingSteps.◌>>=◌}
 
 -- terms, and those that are read after them
 abbrev pub remainder : List TermSeen → ConditionRead (List TermSeen) → ConditionRead (List TermSeen)

@@ -7,9 +7,9 @@ use Rattle.final_cond.specs.{declared.errors.CondKind.TheVariants.{BadQuantifier
 use Rattle.final_cond.specs.Conditions.{LeftSeen, TermSeen, CondSeen}
 use Rattle.final_cond.specs.ConditionReading.{Fault, ConditionRead, sign_at_start, sign_read, found, before_text, quantifier_of, quantifier_at_start, opening_read, bracket_closed, bracketed_at_start, register_of_thread, register_at_start, left_at_start, known_left, only_known, left_read, value_at_start, value_read, right_read, term_read, and_at_start, follow_at_start, follow_read, and_further, terms_read, end_at_start, parts_read}
 use Rattle.final_cond.specs.declared.read.Follow.TheVariants as follows
-use Rattle.text_parts_laws.specs.{Names.is_place_byte, NumberTexts.number_of, LeadingRuns.{leading_run, after_run}, Blanks.{is_blank, unblanked}}
-use Rattle.text_parts_laws.specs.{ReadingSteps.◌>>=◌, Words.is_argument_byte}
-use Rattle.text_parts_laws.proofs.RunLaws.{after_run-le}
+use Rattle.text_parts.specs.{Names.is_place_byte, NumberTexts.number_of, LeadingRuns.{leading_run, after_run}, Blanks.{is_blank, unblanked}}
+use Rattle.text_parts.specs.{ReadingSteps.◌>>=◌, Words.is_argument_byte}
+use Rattle.text_parts.proofs.RunLaws.{after_run-le}
 
 -- the text after what was read, or from the error on, has at most so many bytes
 abbrev Stays : {A : Type 0} → (A → List ℕ) → ℕ → Result A Fault → Type 0

@@ -8,8 +8,8 @@ use Rattle.final_cond.specs.declared.{cond.Quantifier.TheVariants.NotExists, con
 use Rattle.final_cond.specs.declared.{errors.CondError.CondError, read.Follow.Follow}
 use Rattle.final_cond.specs.declared.errors.CondKind.TheVariants.{BadQuantifier, BadTerm, BadValue, BadEnd}
 use Rattle.final_cond.specs.declared.read.Follow.TheVariants as follows
-use Rattle.text_parts_laws.specs.{Names.is_place_byte, Names.is_place_name, Names.is_register_name, NumberTexts.number_of, LeadingRuns.leading_run}
-use Rattle.text_parts_laws.specs.{LeadingRuns.after_run, Blanks.unblanked, Words.is_argument_byte, ReadingSteps.◌>>=◌}
+use Rattle.text_parts.specs.{Names.is_place_byte, Names.is_place_name, Names.is_register_name, NumberTexts.number_of, LeadingRuns.leading_run}
+use Rattle.text_parts.specs.{LeadingRuns.after_run, Blanks.unblanked, Words.is_argument_byte, ReadingSteps.◌>>=◌}
 use Rattle.final_cond.specs.Conditions.{LeftSeen, InRegister, AtPlace, TermSeen, CondSeen}
 
 -- what is wrong, and the text from there on

@@ -1,5 +1,5 @@
 ghost use Rattle.std.specs.{Prelude.{◌≡◌, ◌≤◌, true, length, option_map, cond, Some, None}, Char.{is_ascii}, List.{list_all}};
-ghost use Rattle.text_parts_laws.specs.Names.{is_place_name, is_register_name};
+ghost use Rattle.text_parts.specs.Names.{is_place_name, is_register_name};
 
 use crate::cond::{PlaceName, RegName};
 use arrayvec::ArrayString;
@@ -11,7 +11,7 @@ pub const MAX_CONDITION_NAME: usize = 16;
 
 /// Whether these bytes have the form of a location's name: a letter or `_`, then letters, digits
 /// and `_`, at most `MAX_CONDITION_NAME` bytes in all. Letters and digits are those of ASCII.
-#[tactic(auto, using(text_parts_laws::proofs::NameLaws::is_place_name_parts), unfolding(text_parts_laws::specs::Names::is_place_name))]
+#[tactic(auto, using(text_parts::proofs::NameLaws::is_place_name_parts), unfolding(text_parts::specs::Names::is_place_name))]
 pub fn is_place_name(name: &[u8]) -> bool
     ensures { result ≡ is_place_name name.now }
 {
@@ -26,7 +26,7 @@ pub fn is_place_name(name: &[u8]) -> bool
 
 /// Whether these bytes have the form of a register's name: a letter, then letters and digits, at
 /// most `MAX_CONDITION_NAME` bytes in all. Letters and digits are those of ASCII.
-#[tactic(auto, using(text_parts_laws::proofs::NameLaws::is_register_name_parts), unfolding(text_parts_laws::specs::Names::is_register_name))]
+#[tactic(auto, using(text_parts::proofs::NameLaws::is_register_name_parts), unfolding(text_parts::specs::Names::is_register_name))]
 pub fn is_register_name(name: &[u8]) -> bool
     ensures { result ≡ is_register_name name.now }
 {
@@ -39,7 +39,7 @@ pub fn is_register_name(name: &[u8]) -> bool
     }
 }
 
-#[tactic(auto, using(text_parts_laws::proofs::NameLaws::utf8_from_ascii))]
+#[tactic(auto, using(text_parts::proofs::NameLaws::utf8_from_ascii))]
 fn name_of(bytes: &[u8]) -> ArrayString<MAX_CONDITION_NAME>
     requires ascii { list_all is_ascii bytes.now ≡ true }
     requires short { length bytes.now ≤ MAX_CONDITION_NAME }
@@ -54,7 +54,7 @@ fn name_of(bytes: &[u8]) -> ArrayString<MAX_CONDITION_NAME>
 }
 
 /// The name of a location, if these bytes have the form of one.
-#[tactic(auto, using(text_parts_laws::proofs::NameLaws::place_name_ascii, text_parts_laws::proofs::NameLaws::place_name_short))]
+#[tactic(auto, using(text_parts::proofs::NameLaws::place_name_ascii, text_parts::proofs::NameLaws::place_name_short))]
 pub fn place_name(name: &[u8]) -> Option<PlaceName>
     ensures { option_map (λ p. p.bytes) result ≡ cond (is_place_name name.now) (Some name.now) None }
 {
@@ -66,7 +66,7 @@ pub fn place_name(name: &[u8]) -> Option<PlaceName>
 }
 
 /// The name of a register, if these bytes have the form of one.
-#[tactic(auto, using(text_parts_laws::proofs::NameLaws::register_name_ascii, text_parts_laws::proofs::NameLaws::register_name_short))]
+#[tactic(auto, using(text_parts::proofs::NameLaws::register_name_ascii, text_parts::proofs::NameLaws::register_name_short))]
 pub fn register_name(name: &[u8]) -> Option<RegName>
     ensures { option_map (λ p. p.bytes) result ≡ cond (is_register_name name.now) (Some name.now) None }
 {

@@ -2,7 +2,7 @@ ghost use Rattle.std.specs.Prelude.{◌≡◌, [], map, option_map, IfOk, IfErr}
 ghost use Rattle.final_cond.specs.Conditions.{left_view, term_view, cond_view, InRegister, AtPlace};
 ghost use Rattle.final_cond.specs.ConditionAnswers.{GivesCondition, left_and_rest, term_and_rest};
 ghost use Rattle.final_cond.specs.ConditionReading.{sign_read, quantifier_of, opening_read, known_left, only_known, has_form, place_at_start, bracketed_at_start, register_at_start, left_at_start, left_read, value_read, right_read, term_read, follow_read, terms_read, parts_read, cond_read};
-ghost use Rattle.text_parts_laws.specs.Blanks.{unblanked};
+ghost use Rattle.text_parts.specs.Blanks.{unblanked};
 
 use crate::cond::{Cond, Left, MAX_TERMS, Quantifier, Term};
 use crate::errors::{CondError, CondFault, CondKind};

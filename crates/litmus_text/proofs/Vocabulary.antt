@@ -71,10 +71,10 @@ pub use Rattle.std.specs.List.{All, AllByRecursion, enumerate_from, filter, flat
 pub use Rattle.std.specs.Prelude.{Bool, Err, List, None, Ok, Option, Result, Some, [], codes, cond, count_by, false, is_some, length, map, nat_eq, nat_le, nat_lt, not, suc, take, true, zero, ℕ, ◌&&◌, ◌++◌, ◌+◌, ◌<◌, ◌==◌, ◌||◌, ◌∷◌, ◌≡◌, ◌≤◌}
 pub use Rattle.std.specs.{Char.is_ascii_digit, Fmt.decimal, Result.IsErrAnd, Str.bytes_eq}
 unfoldable pub use Rattle.std.specs.{Fmt.digits, List.IsDistinct}
-pub use Rattle.text_parts_laws.proofs.BlankLaws.{before_blanks-le, before_padded, inked_ends, kept_inked, spaces_class, trimmed_class, trimmed_padded, trimmed_start, unblanked_spaces}
-pub use Rattle.text_parts_laws.proofs.CutLaws.{all_both, cut_back, cut_length, cut_none, without_class}
-pub use Rattle.text_parts_laws.proofs.{LineLaws.class_kept, NameLaws.decimal_passes, NameLaws.place_passes, NameLaws.register_passes, NumberLaws.not_digits, OrderLaws.bytes_same, PieceLaws.first_piece, RunLaws.after_run-le, RunLaws.stops}
-pub use Rattle.text_parts_laws.proofs.WordLaws.{one_word, words_both}
-pub use Rattle.text_parts_laws.specs.Blanks.{is_blank, is_inked, trim_blanks, unblanked}
-pub use Rattle.text_parts_laws.specs.{Cuts.CutParts, Cuts.is_without, Lines.but_last, Lines.is_line_feed, Names.is_name_byte, Names.is_place_byte, ReadingSteps.◌>>=◌, Words.is_nil}
-unfoldable pub use Rattle.text_parts_laws.specs.{Blanks.before_blanks, Cuts.cut_at, LeadingRuns.after_run, LeadingRuns.leading_run, Lines.without_return, Names.is_place_name, Names.is_register_name, NumberTexts.number_of, Words.words}
+pub use Rattle.text_parts.proofs.BlankLaws.{before_blanks-le, before_padded, inked_ends, kept_inked, spaces_class, trimmed_class, trimmed_padded, trimmed_start, unblanked_spaces}
+pub use Rattle.text_parts.proofs.CutLaws.{all_both, cut_back, cut_length, cut_none, without_class}
+pub use Rattle.text_parts.proofs.{LineLaws.class_kept, NameLaws.decimal_passes, NameLaws.place_passes, NameLaws.register_passes, NumberLaws.not_digits, OrderLaws.bytes_same, PieceLaws.first_piece, RunLaws.after_run-le, RunLaws.stops}
+pub use Rattle.text_parts.proofs.WordLaws.{one_word, words_both}
+pub use Rattle.text_parts.specs.Blanks.{is_blank, is_inked, trim_blanks, unblanked}
+pub use Rattle.text_parts.specs.{Cuts.CutParts, Cuts.is_without, Lines.but_last, Lines.is_line_feed, Names.is_name_byte, Names.is_place_byte, ReadingSteps.◌>>=◌, Words.is_nil}
+unfoldable pub use Rattle.text_parts.specs.{Blanks.before_blanks, Cuts.cut_at, LeadingRuns.after_run, LeadingRuns.leading_run, Lines.without_return, Names.is_place_name, Names.is_register_name, NumberTexts.number_of, Words.words}

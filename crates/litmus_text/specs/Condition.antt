@@ -9,7 +9,7 @@ use Rattle.final_cond.specs.{declared.cond.TheConstants.MAX_TERMS, declared.cond
 use Rattle.final_cond.specs.Conditions.{LeftSeen, InRegister, AtPlace, TermSeen, CondSeen}
 use Rattle.final_cond.specs.ConditionReading.{Fault, opening_read, left_read, right_read, follow_read, end_at_start, has_form}
 use Rattle.final_cond.specs.declared.read.Follow.TheVariants as follows
-use Rattle.text_parts_laws.specs.{Blanks.unblanked, ReadingSteps.◌>>=◌}
+use Rattle.text_parts.specs.{Blanks.unblanked, ReadingSteps.◌>>=◌}
 use Rattle.arch_trait.specs.{PlaceNames.{number_in, number_added}, Writing.Writing}
 use Rattle.litmus_text.specs.{declared.errors.TestKind.TestKind, declared.errors.TestKind.TheVariants.{BadCondition, TooLarge, EndMissing}}
 use Rattle.litmus_text.specs.{declared.errors.TextError.TextError, TextLines.{Lines, ends, line, bad}, TestTable.with_names}

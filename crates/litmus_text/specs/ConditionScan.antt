@@ -4,7 +4,7 @@ use Rattle.std.specs.Prelude.{ℕ, zero, suc, ◌==◌, cond, ◌&&◌, nat_lt, 
 use Rattle.final_cond.specs.{declared.cond.TheConstants.MAX_TERMS, declared.read.Follow.Follow, Conditions.{LeftSeen, InRegister, AtPlace, TermSeen}}
 use Rattle.final_cond.specs.ConditionReading.{opening_read, left_read, right_read, follow_read, end_at_start, has_form}
 use Rattle.final_cond.specs.declared.read.Follow.TheVariants as follows
-use Rattle.text_parts_laws.specs.{Blanks.unblanked, ReadingSteps.◌>>=◌}
+use Rattle.text_parts.specs.{Blanks.unblanked, ReadingSteps.◌>>=◌}
 use Rattle.arch_trait.specs.{PlaceNames.{number_in, number_added, names_added}, Writing.Writing}
 use Rattle.litmus_text.specs.{declared.errors.TestKind.TheVariants.{BadCondition, TooLarge}, declared.errors.TextError.TextError, TextLines.bad}
 use Rattle.litmus_text.specs.Condition.{Setting, CondRead, at_begin, line_of_rest}

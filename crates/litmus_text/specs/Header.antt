@@ -3,7 +3,7 @@
 use Rattle.std.specs.{Prelude.{ℕ, ◌==◌, Bool, false, cond, not, ◌&&◌, nat_le, List, [], ◌∷◌, Option, Some, None, Ok, length}, Char.is_ascii_alphabetic}
 use Rattle.std.specs.Str.{bytes_eq}
 use Rattle.relax_edges.specs.{declared.kinds.ArchName.ArchName, Architectures.{arch_word, arch_of}}
-use Rattle.text_parts_laws.specs.{LeadingRuns.{leading_run, after_run}, Words.{is_nil, words}, Cuts.cut_at}
+use Rattle.text_parts.specs.{LeadingRuns.{leading_run, after_run}, Words.{is_nil, words}, Cuts.cut_at}
 use Rattle.litmus_text.specs.{declared.errors.TestKind.TheVariants.{BadHeader, BadQuote, EndMissing}, declared.limits.TheConstants.MAX_TEST_NAME}
 use Rattle.litmus_text.specs.TextLines.{Lines, ends, line, TextRead, bad}
 

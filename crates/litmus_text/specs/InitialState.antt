@@ -4,8 +4,8 @@ use Rattle.std.specs.{Prelude.{ℕ, ◌+◌, ◌-◌, ◌==◌, Bool, cond, ◌&
 use Rattle.std.specs.Str.{bytes_eq}
 use Rattle.relax_edges.specs.declared.kinds.Value.{Value}
 use Rattle.relax_edges.specs.declared.kinds.Value.TheVariants as values
-use Rattle.text_parts_laws.specs.{Names.is_place_name, NumberTexts.number_of, Blanks.{unblanked, trim_blanks, before_blanks}, ReadingSteps.◌>>=◌, Words.is_nil}
-use Rattle.text_parts_laws.specs.{Cuts.cut_at, Lines.but_last}
+use Rattle.text_parts.specs.{Names.is_place_name, NumberTexts.number_of, Blanks.{unblanked, trim_blanks, before_blanks}, ReadingSteps.◌>>=◌, Words.is_nil}
+use Rattle.text_parts.specs.{Cuts.cut_at, Lines.but_last}
 use Rattle.final_cond.specs.{Conditions.{LeftSeen, InRegister, AtPlace}, ConditionReading.left_at_start}
 use Rattle.arch_trait.specs.{PlaceNames.{number_in, number_added, names_added}, Writing.Writing}
 use Rattle.litmus_text.specs.{declared.errors.TestKind.TheVariants.{BadInit, TooLarge, EndMissing}, declared.errors.TextError.TextError}

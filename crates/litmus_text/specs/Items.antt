@@ -3,7 +3,7 @@
 use Rattle.std.specs.{Prelude.{◌≡◌, ◌<◌, ℕ, ◌==◌, Bool, true, not, ◌&&◌, is_some, List, [], ◌∷◌, ◌++◌, map, length}, List.{list_any, flat_map, enumerate_from}}
 use Rattle.relax_edges.specs.declared.kinds.Value.{Value}
 use Rattle.relax_edges.specs.declared.kinds.Value.TheVariants as values
-use Rattle.text_parts_laws.specs.Names.{is_place_name}
+use Rattle.text_parts.specs.Names.{is_place_name}
 use Rattle.arch_trait.specs.{Threads.ThreadCode, PlaceNames.{number_in, names_added}, Writing.Writing}
 use Rattle.litmus_text.specs.{declared.limits.TheConstants.MAX_THREADS, Placing.place_in}
 

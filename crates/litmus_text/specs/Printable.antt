@@ -1,7 +1,7 @@
 -- The bytes of a printed test.
 -- Source: own.
 use Rattle.std.specs.{Prelude.{◌≡◌, ℕ, ◌==◌, Bool, true, not, ◌&&◌, ◌||◌, nat_le, List, length}, List.list_all}
-use Rattle.text_parts_laws.specs.Names.{is_name_byte}
+use Rattle.text_parts.specs.Names.{is_name_byte}
 use Rattle.arch_trait.specs.Cells.{is_line_byte}
 
 -- a byte of a row's cells: one of a line that ends neither a cell nor a row

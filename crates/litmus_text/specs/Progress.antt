@@ -1,7 +1,7 @@
 -- How far the rows of a printed table were read: for each thread the operations that were read and those that are left.
 -- Source: own.
 use Rattle.std.specs.Prelude.{◌≡◌, ℕ, ◌+◌, Bool, true, not, ◌&&◌, ◌||◌, nat_lt, is_some, cond, List, [], ◌∷◌, ◌++◌}
-use Rattle.text_parts_laws.specs.Names.{is_place_name}
+use Rattle.text_parts.specs.Names.{is_place_name}
 use Rattle.micro_ops.specs.declared.operation.Micro.{Micro}
 use Rattle.micro_ops.specs.declared.operation.Micro.TheVariants as ops
 use Rattle.arch_trait.specs.{Threads.Puts, PlaceNames.number_in, Cells.is_access, LabelOrder.is_next, LabelOrder.labels_after}

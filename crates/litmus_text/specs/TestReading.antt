@@ -10,7 +10,7 @@ use Rattle.litmus_text.specs.{declared.errors.TestKind.TheVariants.TooLarge, dec
 use Rattle.litmus_text.specs.{TextLines.{Lines, lines_from, bad}, InitialState.{Begun, initial_read}, Condition.condition_read}
 use Rattle.litmus_text.specs.Header.{header_read, quote_read, after_settings, arch_read}
 use Rattle.litmus_text.specs.TestTable.{Column, head_read, rows_read, all_labels_judged, after_locations}
-use Rattle.text_parts_laws.specs.ReadingSteps.{◌>>=◌}
+use Rattle.text_parts.specs.ReadingSteps.{◌>>=◌}
 
 -- a thread: its registers to which the initial state gives values, in the order of their items, and its operations
 pub record ThreadRead : Type 0 where

@@ -9,7 +9,7 @@ use Rattle.micro_ops.specs.declared.operation.Micro.{Micro}
 use Rattle.micro_ops.specs.declared.operation.Micro.TheVariants as ops
 use Rattle.arch_trait.specs.{Cells.{ends_rows, first_word, is_access}, PlaceNames.{number_added, names_added}, InstructionReading.written_in}
 use Rattle.arch_trait.specs.Writing.{Writing, Name, RawInstr, is_well_named, with_number}
-use Rattle.text_parts_laws.specs.{Blanks.trim_blanks, ReadingSteps.◌>>=◌, Words.is_nil, Cuts.cut_at}
+use Rattle.text_parts.specs.{Blanks.trim_blanks, ReadingSteps.◌>>=◌, Words.is_nil, Cuts.cut_at}
 use Rattle.arch_trait.specs.Writing as writing
 use Rattle.litmus_text.specs.{declared.errors.TestKind.TestKind, declared.errors.TextError.TextError}
 use Rattle.litmus_text.specs.{declared.limits.TheConstants.{MAX_THREADS, MAX_ROWS, MAX_ACCESSES}, declared.reading.table.Placed.Placed}

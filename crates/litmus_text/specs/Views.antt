@@ -3,7 +3,7 @@
 use Rattle.std.specs.{Prelude.{◌≡◌, ◌<◌, ℕ, length, Bool, true, List, [], ◌∷◌, Option, Some, None, option_map, Result, Ok, map}, Borrow.Bor}
 use Rattle.final_cond.specs.{declared.cond.Cond.Cond, declared.cond.Term.Term, declared.cond.TheConstants.MAX_TERMS}
 use Rattle.final_cond.specs.Conditions.{TermSeen, term_view, cond_view}
-use Rattle.text_parts_laws.specs.{Names.is_place_name, ReadingSteps.◌>>=◌}
+use Rattle.text_parts.specs.{Names.is_place_name, ReadingSteps.◌>>=◌}
 use Rattle.litmus_text.specs.declared.{reading.cuts.Pieces.Pieces, reading.text.Text.Text, reading.lines.Lines.Lines as Left}
 use Rattle.litmus_text.specs.declared.{reading.joined.Joined.Joined as JoinedText, reading.items.Worth.Worth as TextWorth}
 use Rattle.litmus_text.specs.declared.{reading.items.Item.Item as TextItem, reading.initial.Begun.Begun as State}

@@ -1,7 +1,7 @@
 -- What is read line by line, by the blocks: the facts of lines, the place where they end, and the error that bytes show.
 use Rattle.std.proofs.Common.{◌≡◌, ◌<◌, ℕ, zero, suc, ◌+◌, List, [], ◌∷◌, ◌++◌, length, drop, true, false, refl, sym, ap, ◌∙◌, arith, subst, append_assoc, append-nil, Some, None}
 use Rattle.std.specs.Prelude.{Option, Result, Ok, Err}
-use Rattle.text_parts_laws.specs.{Lines.{without_return, whole_lines, unended}, ReadingSteps.◌>>=◌}
+use Rattle.text_parts.specs.{Lines.{without_return, whole_lines, unended}, ReadingSteps.◌>>=◌}
 use Rattle.log_sum.specs.{declared.errors.LogKind.LogKind, declared.errors.LogKind.TheVariants.LineTooLong, declared.errors.LogError.LogError}
 use Rattle.log_sum.specs.{declared.errors.SumError.SumError, declared.errors.Fault.Fault, declared.errors.Fault.TheVariants.{Wrong, NoMemory}}
 use Rattle.log_sum.specs.{declared.kinds.Place.Place, declared.kinds.Place.TheVariants.Outside, Facts.{Fact, Entry, fact_fault}, Counts.count_read}

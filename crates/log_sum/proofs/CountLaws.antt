@@ -4,8 +4,8 @@ use Rattle.std.specs.{Prelude.{true, false, cond, nat_lt, Some, None, Result, Ok
 use Rattle.std.specs.Str.Parse.{digits_value, ParsesUnsigned}
 use Rattle.list_laws.proofs.Digits.{digits_model}
 use Rattle.log_sum.specs.{declared.errors.LogKind.TheVariants.{BadState, BadCount}, Counts.count_read}
-use Rattle.text_parts_laws.specs.{LeadingRuns.{leading_run, after_run}, Words.is_nil}
-use Rattle.text_parts_laws.proofs.RunLaws.{run_passes}
+use Rattle.text_parts.specs.{LeadingRuns.{leading_run, after_run}, Words.is_nil}
+use Rattle.text_parts.proofs.RunLaws.{run_passes}
 
 -- what is parsed is the digits' value, if it is small
 pub parsed : {E : Type 0} (digits : List ℕ) (r : Result ℕ E) → list_all is_ascii_digit digits ≡ true → 0 < length digits → ParsesUnsigned 64 10 digits r

@@ -5,7 +5,7 @@ use Rattle.log_sum.specs.{declared.errors.Fault.Fault, declared.errors.Fault.The
 use Rattle.log_sum.specs.{declared.errors.LogKind.TheVariants.LineTooLong, declared.errors.SumError.SumError, declared.kinds.Place.Place}
 use Rattle.log_sum.specs.LogReading.{LogSeen, fault_at, is_too_long, nothing_seen, text_judged, line_judged, lines_judged, rest_judged, bytes_judged, last_judged, end_at, end_judged, file_judged, files_judged, input_judged}
 use Rattle.log_sum.specs.{Representing.{SumProgress, Kept, EndedTo}, Feeding.{IsFed, AreMarked, FollowsSeen, ReadOn, JudgedTo, PieceTo, EndTo, sum_refusal}}
-use Rattle.text_parts_laws.specs.{ReadingSteps.◌>>=◌, Lines.{without_return, whole_lines, unended}}
+use Rattle.text_parts.specs.{ReadingSteps.◌>>=◌, Lines.{without_return, whole_lines, unended}}
 use Rattle.log_sum.proofs.{ReadingLaws.{is_one_line, so_far, so_far_more, so_far_ended, input_by_lines, rest_more, rest_ended, read_on}, SumLaws.none_marked}
 use Rattle.log_sum.proofs.{FollowLaws.entry_marked, StayLaws.{input_fault, nothing_more}, Grammar.judged_text}
 

@@ -3,7 +3,7 @@ use Rattle.std.specs.{Prelude.{◌≡◌, ℕ, ◌+◌, List, [], ◌∷◌, ◌
 use Rattle.std.proofs.Common.{refl, ap, ◌∙◌, arith, append_assoc, append-nil}
 use Rattle.list_laws.specs.Errors.{with_before, unless}
 use Rattle.diy_io.specs.Count.{count_of}
-use Rattle.text_parts_laws.specs.{Lines.{last_line, whole_lines, unended}, ReadingSteps.◌>>=◌}
+use Rattle.text_parts.specs.{Lines.{last_line, whole_lines, unended}, ReadingSteps.◌>>=◌}
 use Rattle.log_sum.specs.{declared.errors.LogKind.LogKind, declared.errors.LogKind.TheVariants.LineTooLong, declared.errors.LogError.LogError}
 use Rattle.log_sum.specs.{declared.kinds.Place.Place, declared.kinds.Place.TheVariants.Outside, Facts.{Entry, Fact, facts_of, fact_fault}, SumText.sum_text}
 use Rattle.log_sum.specs.{Representing.logs_text, LineReading.{Said, log_line_said, place_after, fact_said, test_after}}

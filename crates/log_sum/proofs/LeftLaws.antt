@@ -7,8 +7,8 @@ use Rattle.std.specs.{List.Sorted.{IsSortedBy, IsStrictlySortedBy}, Ordering.{na
 use Rattle.std.specs.declared.cmp.Ordering.TheVariants.{Less}
 use Rattle.log_sum.specs.{Texts.begins_with, LogStates.{left_kept, sides_read}}
 use Rattle.log_sum.specs.Equalities.{equality_of, before_sign, left_side, HasSign, same_left, has_left_twice}
-use Rattle.text_parts_laws.specs.Cuts.{cut_at, is_without, CutParts}
-use Rattle.text_parts_laws.proofs.{CutLaws.{cut_back, cut_parts, all_both}, OrderLaws.order}
+use Rattle.text_parts.specs.Cuts.{cut_at, is_without, CutParts}
+use Rattle.text_parts.proofs.{CutLaws.{cut_back, cut_parts, all_both}, OrderLaws.order}
 use Rattle.log_sum.proofs.{OrderLaws.apart_less, StateLaws.{text_at, shown_at}}
 
 -- a text has no sign

@@ -1,8 +1,8 @@
 -- The number of the running line: one more than the line feeds of its log so far.
 use Rattle.std.proofs.{Common.{◌≡◌, ℕ, ◌+◌, List, [], ◌∷◌, length, refl, sym, ap, ◌∙◌, arith}, lemmas.List.Splits.length-slice_split}
 use Rattle.std.specs.Prelude.{Ok}
-use Rattle.text_parts_laws.specs.Lines.{is_line_feed, whole_lines, unended}
-use Rattle.text_parts_laws.proofs.PieceLaws.{first_piece, length-but_last}
+use Rattle.text_parts.specs.Lines.{is_line_feed, whole_lines, unended}
+use Rattle.text_parts.proofs.PieceLaws.{first_piece, length-but_last}
 use Rattle.diy_io.specs.{Count.count_of, Sink.line_feed_count}
 use Rattle.log_sum.specs.LogReading.{LogSeen, nothing_seen, next_line, text_judged, line_judged, lines_judged, rest_judged, bytes_judged, file_judged, files_judged, input_judged}
 use Rattle.log_sum.specs.Representing.{running_line}

@@ -3,7 +3,7 @@ use Rattle.std.proofs.{Common.{◌≡◌, ℕ, List, [], ◌∷◌, Some, false,
 use Rattle.std.specs.{Prelude.T, Ordering.{nat_cmp, is_eq, is_lt}, Cmp.Lexicographic.slice_cmp, BTreeMap.insert_entry, Str.bytes_eq}
 use Rattle.std.specs.{declared.cmp.Ordering.TheVariants.Less, FinMap.Entries.{put, find, is_sorted, is_sorted-put, find-put, same_entries}}
 use Rattle.log_sum.specs.{declared.kinds.Mark.Mark, Summed.StateSummed, SummingSteps.known_state, StateEntries.ordered}
-use Rattle.text_parts_laws.proofs.OrderLaws.{order, is_text}
+use Rattle.text_parts.proofs.OrderLaws.{order, is_text}
 
 -- a text is below another that differs from it and isn't below it
 pub apart_less : (x y : List ℕ) → is_lt (slice_cmp nat_cmp y x) ≡ false → bytes_eq x y ≡ false → slice_cmp nat_cmp x y ≡ Less

@@ -3,8 +3,8 @@ use Rattle.std.proofs.Common.{◌≡◌, ◌-◌, ℕ, zero, suc, List, [], ◌�
 use Rattle.std.proofs.lemmas.Slice.Eq.{bytes_eq-Decides}
 use Rattle.std.specs.{Prelude.{Option, Result, Ok, Err, Bool, cond, nat_lt, filter, fold, option_map}, List.{flat_map, before_first}}
 use Rattle.list_laws.proofs.Cases.{by_test}
-use Rattle.text_parts_laws.specs.{Words.words, Blanks.{is_blank, is_inked, before_blanks}, LeadingRuns.{leading_run, after_run}}
-use Rattle.text_parts_laws.proofs.WordLaws.{word_found}
+use Rattle.text_parts.specs.{Words.words, Blanks.{is_blank, is_inked, before_blanks}, LeadingRuns.{leading_run, after_run}}
+use Rattle.text_parts.proofs.WordLaws.{word_found}
 use Rattle.log_sum.specs.{declared.errors.LogKind.LogKind, declared.kinds.Kind.Kind, declared.kinds.Verdict.Verdict, declared.kinds.Place.Place}
 use Rattle.log_sum.specs.{declared.kinds.Place.TheVariants.{Outside, Histogram, States, Judgement, Rest, Conditioned}, Texts.begins_with, Counts.count_read}
 use Rattle.log_sum.specs.{Facts.{Row, Fact}, LogLines.{quantifier, test_line, histogram_line, log_row, is_judgement, is_observation, hash_line}}

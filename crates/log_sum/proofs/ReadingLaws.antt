@@ -6,9 +6,9 @@ use Rattle.list_laws.proofs.Cases.{by_test, eq_swap}
 use Rattle.log_sum.specs.{declared.errors.LogError.LogError, Facts.{Fact, Entry, facts_of, tests_of, with_test_name}, Summed.{Summed, summed}}
 use Rattle.log_sum.specs.{Representing.sum_table, Feeding.entry_of}
 use Rattle.log_sum.specs.LogReading.{LogSeen, lines_judged, line_judged, bytes_judged, rest_judged, file_judged, files_judged, input_judged, nothing_seen}
-use Rattle.text_parts_laws.specs.{ReadingSteps.◌>>=◌, Lines.{is_line_feed, but_last, last_of, whole_lines, unended}}
-use Rattle.text_parts_laws.proofs.PieceLaws.{first_piece, split_whole, split_both, split_append, but_last_append, last_append, whole_split}
-use Rattle.text_parts_laws.proofs.OrderLaws.{bytes_same}
+use Rattle.text_parts.specs.{ReadingSteps.◌>>=◌, Lines.{is_line_feed, but_last, last_of, whole_lines, unended}}
+use Rattle.text_parts.proofs.PieceLaws.{first_piece, split_whole, split_both, split_append, but_last_append, last_append, whole_split}
+use Rattle.text_parts.proofs.OrderLaws.{bytes_same}
 
 -- a text has no line feed
 abbrev pub is_one_line : List ℕ → Bool

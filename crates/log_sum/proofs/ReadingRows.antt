@@ -6,8 +6,8 @@ use Rattle.log_sum.specs.{declared.errors.LogError.LogError, declared.errors.Log
 use Rattle.log_sum.specs.{LogStates.{form_read, with_pieces, state_read, state_form}, Facts.{marked_sum, state_sum, states_of, mark_in, fact_fault}}
 use Rattle.log_sum.specs.{LogLines.{test_line, histogram_line, log_row, condition_line, hash_line}, LogGrammar.log_texts, Representing.logs_text}
 use Rattle.log_sum.specs.SumText.{state_line, head_text, sum_verdict_text, condition_text, claim_text, hash_text, observation_text, summed_text, sum_text}
-use Rattle.text_parts_laws.specs.{LeadingRuns.{leading_run, after_run}, Blanks.before_blanks, Words.words, Cuts.cut_at}
-use Rattle.text_parts_laws.specs.Lines.{without_return, whole_lines, unended}
+use Rattle.text_parts.specs.{LeadingRuns.{leading_run, after_run}, Blanks.before_blanks, Words.words, Cuts.cut_at}
+use Rattle.text_parts.specs.Lines.{without_return, whole_lines, unended}
 
 abbrev nl : List ℕ → List ℕ
 nl line = line ++ 10 ∷ []

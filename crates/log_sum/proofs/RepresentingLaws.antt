@@ -1,7 +1,7 @@
 -- Laws of a summer that was fed in pieces, for those who use it.
 use Rattle.std.proofs.Common.{◌≡◌, ◌⊎◌, ℕ, List, [], ◌∷◌, ◌++◌, Ok, Err, true, refl, sym, ap, ◌∙◌, arith, append_assoc, append-nil, inl, inr}
 use Rattle.std.specs.Prelude.{Result}
-use Rattle.text_parts_laws.specs.{Lines.whole_lines, ReadingSteps.◌>>=◌}
+use Rattle.text_parts.specs.{Lines.whole_lines, ReadingSteps.◌>>=◌}
 use Rattle.log_sum.specs.{Facts.Entry, SumText.sum_text, declared.errors.LogError.LogError, LogReading.{LogSeen, input_judged}}
 use Rattle.log_sum.specs.Representing.{Kept, Represents, IsBetweenLogs, ShowsFault, ShowsNone, sum_table, facts_so_far, kept_text, logs_text, SumOrFault}
 use Rattle.log_sum.proofs.{PrintLaws.sum_is, StayLaws.file_more, Grammar.{judged_text, text_fault}, CarryLaws.{fault_shown, none_shown}}

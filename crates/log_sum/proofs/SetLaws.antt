@@ -6,11 +6,11 @@ use Rattle.std.specs.{Prelude.{Bool, ◌||◌, cond, Option, Ok, Err, T, map}, L
 use Rattle.std.specs.{List.Sorted.{IsPermutation, IsSortedBy, IsStrictlySortedBy}, Ordering.{nat_cmp, eq_by_cmp, is_lt}}
 use Rattle.std.specs.{Cmp.Lexicographic.{slice_cmp, nat_list_eq_equiv}, BTreeSet.insert_key, declared.cmp.Ordering.TheVariants.Less}
 use Rattle.std.specs.FinMap.Entries.{put, find, is_sorted, below_all, is_sorted-put, same_entries}
-use Rattle.text_parts_laws.specs.{Words.is_nil, Blanks.unblanked, Cuts.cut_at}
+use Rattle.text_parts.specs.{Words.is_nil, Blanks.unblanked, Cuts.cut_at}
 use Rattle.log_sum.specs.{LogStates.{has_left, sides_read, with_equality, and_then, state_read, or_bad}, declared.errors.LogKind.LogKind}
 use Rattle.log_sum.specs.Equalities.{equality_of, and_equality, with_piece, left_side, HasSign, same_left, has_left_twice, with_one, with_all}
 use Rattle.list_laws.proofs.Cases.{by_test}
-use Rattle.text_parts_laws.proofs.OrderLaws.{order, is_text, any_insert}
+use Rattle.text_parts.proofs.OrderLaws.{order, is_text, any_insert}
 use Rattle.log_sum.proofs.StateLaws.{rest_read, rest_goes, rest_whole, set_begins}
 use Rattle.log_sum.proofs.LeftLaws.{read_left, read_sign, begins_left, ascend_apart, twice_not_apart, sorted_ascends}
 

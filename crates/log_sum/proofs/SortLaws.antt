@@ -8,7 +8,7 @@ use Rattle.list_laws.proofs.Cases.{by_test}
 use Rattle.log_sum.specs.{declared.state_table.StateSum.StateSum, StateSpelling.IsSpelled, SummingSteps.known_state}
 use Rattle.log_sum.specs.StateEntries.{sum_view, state_view, states_view, AreInOrder, EntriesAreWritten}
 use Rattle.log_sum.proofs.{OrderLaws.{apart_less, ordered_same}, EntryLaws.entries_known}
-use Rattle.text_parts_laws.proofs.OrderLaws.{order}
+use Rattle.text_parts.proofs.OrderLaws.{order}
 
 by_bytes : IsEquivalence (λ (x y : Vec ℕ Global). bytes_eq x.items y.items)
 by_bytes = grind (arith, bytes_eq-Decides)

@@ -3,8 +3,8 @@ use Rattle.std.proofs.Common.{◌≡◌, ◌==◌, ℕ, zero, suc, ◌<◌, ◌�
 use Rattle.std.proofs.{lemmas.Bool.eqb-true, lemmas.List.map_push}
 use Rattle.std.specs.{Prelude.{cond, Option, map, Result, Err, get_or, take, slice_index_or}, List.slice_split}
 use Rattle.list_laws.proofs.Cases.{by_test}
-use Rattle.text_parts_laws.specs.{Blanks.{is_blank, unblanked}, Words.is_nil, LeadingRuns.after_run, Cuts.cut_at}
-use Rattle.text_parts_laws.proofs.{CutLaws.{cut_parts, uncut_without}, PieceLaws.{split_off, split_whole}}
+use Rattle.text_parts.specs.{Blanks.{is_blank, unblanked}, Words.is_nil, LeadingRuns.after_run, Cuts.cut_at}
+use Rattle.text_parts.proofs.{CutLaws.{cut_parts, uncut_without}, PieceLaws.{split_off, split_whole}}
 use Rattle.log_sum.specs.LogStates.{with_pieces, with_equality, sides_read, and_then, later_unblanked, state_read, state_form, later_forms, separated, form_with}
 use Rattle.log_sum.specs.{declared.errors.LogKind.LogKind, declared.errors.Fault.Fault, SumViews.IsLineFault}
 

@@ -11,7 +11,7 @@ use Rattle.log_sum.specs.Summed.{Summed, StateSummed, some_or, state_by, summed}
 use Rattle.log_sum.specs.{SummingSteps.{or_this, marked, with_marked, known_state, count_known, with_row, fact_to}, Feeding.Marked}
 use Rattle.list_laws.proofs.Cases.{by_test, eq_swap}
 use Rattle.diy_io.specs.Count.{last_count}
-use Rattle.text_parts_laws.proofs.OrderLaws.{is_text, compare, Above, Ascends, above_all, fold_ascends, not_equal, any_fold, bytes_same}
+use Rattle.text_parts.proofs.OrderLaws.{is_text, compare, Above, Ascends, above_all, fold_ascends, not_equal, any_fold, bytes_same}
 
 -- the facts of a sort, with a fact more
 kinds_more : (facts : List Fact) (fact : Fact) → kinds (facts ++ fact ∷ []) ≡ kinds facts ++ kinds (fact ∷ [])

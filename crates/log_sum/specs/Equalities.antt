@@ -3,7 +3,7 @@
 use Rattle.std.specs.{Prelude.{ℕ, Bool, false, ◌||◌, cond, List, [], ◌∷◌, ◌++◌, Option, Some, None, Result, Ok, Err, IsSome}, Ordering.nat_cmp}
 use Rattle.std.specs.{Cmp.Lexicographic.slice_cmp, BTreeSet.insert_key, Str.bytes_eq}
 use Rattle.log_sum.specs.{declared.errors.LogKind.LogKind, declared.errors.LogKind.TheVariants.BadState, LogStates.{left_kept, sides_read, has_left, and_then}}
-use Rattle.text_parts_laws.specs.Cuts.{cut_at}
+use Rattle.text_parts.specs.Cuts.{cut_at}
 
 -- an equality as it is kept, from the sides of its piece
 abbrev pub equality_of : List ℕ × List ℕ → List ℕ

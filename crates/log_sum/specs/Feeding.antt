@@ -8,7 +8,7 @@ use Rattle.log_sum.specs.Facts.{Row, Fact, Entry, a_row, facts_of, rows, same_st
 use Rattle.log_sum.specs.{LogReading.{LogSeen, nothing_seen, fault_at, said_judged, input_judged, files_judged}, declared.kinds.Place.Place}
 use Rattle.log_sum.specs.{declared.kinds.Place.TheVariants.Outside, Representing.{SumProgress, Kept, sum_table, test_name_at}, Summed.Summed}
 use Rattle.log_sum.specs.declared.errors.SumError.TheVariants as sums
-use Rattle.text_parts_laws.specs.Lines.{unended}
+use Rattle.text_parts.specs.Lines.{unended}
 
 -- all rows of a state have the mark that the first one has
 pub record Marked (rs : List Row) : Type 0 where

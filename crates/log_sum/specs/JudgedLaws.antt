@@ -2,7 +2,7 @@
 -- Source: own.
 use Rattle.std.proofs.Common.{◌≡◌, ℕ, List, [], ◌∷◌, ◌++◌, true, refl}
 use Rattle.std.specs.Prelude.{Result, Ok, Err}
-use Rattle.text_parts_laws.specs.ReadingSteps.{◌>>=◌}
+use Rattle.text_parts.specs.ReadingSteps.{◌>>=◌}
 use Rattle.log_sum.specs.declared.{errors.LogError.LogError, kinds.Mark.Mark, kinds.Mark.TheVariants.Starred, kinds.Mark.TheVariants.Plain}
 use Rattle.log_sum.specs.{Facts.same_state_mark, LogReading.LogSeen, LogReading.file_judged, LogReading.files_judged}
 

@@ -6,7 +6,7 @@ use Rattle.log_sum.specs.{declared.kinds.Place.Place, declared.errors.LogKind.Th
 use Rattle.log_sum.specs.{declared.kinds.Place.TheVariants.{Outside, Histogram, States, Judgement, Rest, Conditioned}, Texts.begins_with}
 use Rattle.log_sum.specs.Facts.{Row, Fact, a_kind, a_row, a_condition, a_hash}
 use Rattle.log_sum.specs.LogLines.{test_line, histogram_line, log_row, is_judgement, condition_line, quantifier, hash_line, is_observation}
-use Rattle.text_parts_laws.specs.Words.{words}
+use Rattle.text_parts.specs.Words.{words}
 
 -- what a line says
 pub data Said : Type 0 where

@@ -3,7 +3,7 @@
 use Rattle.std.specs.Prelude.{ℕ, ◌+◌, ◌-◌, nat_lt, Bool, true, false, cond, List, [], ◌∷◌, ◌++◌, length, map, take, drop, filter, fold, Option, Some, None, option_map, Result, Ok, Err}
 use Rattle.std.specs.{List.{flat_map, list_any, before_first}, Option.{is_some, is_none}}
 use Rattle.list_laws.specs.Errors.{with_before, unless}
-use Rattle.text_parts_laws.specs.{Words.words, Lines.{without_return, whole_lines, unended, last_line}}
+use Rattle.text_parts.specs.{Words.words, Lines.{without_return, whole_lines, unended, last_line}}
 use Rattle.diy_io.specs.Count.{count_of, next_count}
 use Rattle.log_sum.specs.{declared.errors.LogKind.LogKind, declared.errors.LogError.LogError, declared.kinds.Kind.Kind, declared.kinds.Verdict.Verdict}
 use Rattle.log_sum.specs.{declared.kinds.Place.Place, declared.errors.LogKind.TheVariants.{Truncated, BadState, KindDiffers, LineTooLong}}

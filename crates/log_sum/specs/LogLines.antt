@@ -5,7 +5,7 @@ use Rattle.log_sum.specs.{declared.errors.LogKind.LogKind, declared.kinds.Kind.K
 use Rattle.log_sum.specs.{declared.kinds.Mark.Mark, declared.kinds.Mark.TheVariants.{Starred, Plain}, declared.kinds.Verdict.Verdict}
 use Rattle.log_sum.specs.{declared.kinds.Verdict.TheVariants.{Validated, NotValidated}, declared.errors.LogKind.TheVariants.{BadState, NoCounts}}
 use Rattle.log_sum.specs.{Texts.{joined_words, ends_with, before_end, begins_with}, Counts.count_read, LogStates.form_read, Facts.Row}
-use Rattle.text_parts_laws.specs.{Words.is_nil, Blanks.{trim_blanks, unblanked}}
+use Rattle.text_parts.specs.{Words.is_nil, Blanks.{trim_blanks, unblanked}}
 
 -- a kind by its word
 abbrev pub kind_named : List ℕ → Option Kind

@@ -2,7 +2,7 @@
 -- only clauses of private functions cite this file.
 -- Source: own.
 use Rattle.std.specs.Prelude.{ℕ, cond, List, [], ◌∷◌, ◌++◌, Option, Some, None, Result, Ok, Err}
-use Rattle.text_parts_laws.specs.{Lines.without_return, Lines.whole_lines, Lines.unended, ReadingSteps.◌>>=◌}
+use Rattle.text_parts.specs.{Lines.without_return, Lines.whole_lines, Lines.unended, ReadingSteps.◌>>=◌}
 use Rattle.log_sum.specs.declared.{errors.LogKind.LogKind, errors.LogKind.TheVariants.Truncated, errors.LogKind.TheVariants.LineTooLong}
 use Rattle.log_sum.specs.declared.{errors.LogError.LogError, kinds.Place.Place, kinds.Place.TheVariants.Outside}
 pub use Rattle.log_sum.specs.LogGrammar.{is_too_long}

@@ -6,7 +6,7 @@ use Rattle.diy_io.specs.{Count.count_of, Sink.line_feed_count}
 use Rattle.log_sum.specs.{declared.errors.LogError.LogError, declared.errors.SumError.SumError, declared.errors.SumError.TheVariants.{Log, NoMemory}}
 use Rattle.log_sum.specs.{declared.kinds.Place.Place, declared.kinds.Place.TheVariants.Outside, Facts.{Entry, facts_of, tests_of}, Summed.{Summed, summed}}
 use Rattle.log_sum.specs.{SumText.{summed_text, sum_text}, LogGrammar.{LogLine, ended_texts, texts_before, numbered, facts_in, lines_say, inside, all_judged}}
-use Rattle.text_parts_laws.specs.{Lines.{whole_lines, unended}, ReadingSteps.◌>>=◌}
+use Rattle.text_parts.specs.{Lines.{whole_lines, unended}, ReadingSteps.◌>>=◌}
 
 -- how far the reading is: the tests by name, in the order in which each was first seen; the position in the running log, the
 -- index of the test of the running block, and the number of the running line

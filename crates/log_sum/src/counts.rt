@@ -7,7 +7,7 @@ use text_parts::{Class, split_run};
 
 /// The count at the start of a text, and the text after it. `BadState` if there is no digit, `BadCount` if the count
 /// is above 2^64-1.
-#[tactic(auto, using(text_parts_laws::proofs::WordLaws::empty_is_nil, crate::proofs::CountLaws::prefix_digits, crate::proofs::CountLaws::no_digit, crate::proofs::CountLaws::counted, crate::proofs::CountLaws::not_counted))]
+#[tactic(auto, using(text_parts::proofs::WordLaws::empty_is_nil, crate::proofs::CountLaws::prefix_digits, crate::proofs::CountLaws::no_digit, crate::proofs::CountLaws::counted, crate::proofs::CountLaws::not_counted))]
 pub(crate) fn read_count(text: &[u8]) -> Result<(u64, &[u8]), LogKind>
     ensures { GivesParsed count_and_rest result (count_read text.now) }
 {
@@ -22,7 +22,7 @@ pub(crate) fn read_count(text: &[u8]) -> Result<(u64, &[u8]), LogKind>
 }
 
 /// The count that digits write, if it is at most 2^64-1.
-#[tactic(auto, using(crate::proofs::CountLaws::parsed, text_parts_laws::proofs::NumberLaws::digits_ascii))]
+#[tactic(auto, using(crate::proofs::CountLaws::parsed, text_parts::proofs::NumberLaws::digits_ascii))]
 fn count_of(digits: &[u8]) -> Option<u64>
     requires some { 0 < length digits.now }
     requires all { list_all is_ascii_digit digits.now ≡ true }

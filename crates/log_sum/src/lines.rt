@@ -2,7 +2,7 @@ ghost use Rattle.std.specs.{Prelude.{◌≡◌, option_map, take, IfOk}, Borrow.
 ghost use Rattle.log_sum.specs.SumViews.{GivesParsed, ReadsBy, ReadsOr, row_code_said, said_read, condition_view};
 ghost use Rattle.log_sum.specs.LogLines.{kind_named, test_line, is_states, are_states, after_histogram, histogram_line, mark_written, mark_read, log_row, is_judgement, verdict_cut, condition_line, quantifier, hash_line, is_observation};
 ghost use Rattle.log_sum.specs.{LineReading.{hash_said, condition_said, rest_said, log_line_said}, Texts.{joined_words}};
-ghost use Rattle.text_parts_laws.specs.Words.{words};
+ghost use Rattle.text_parts.specs.Words.{words};
 
 use crate::counts::read_count;
 use crate::errors::{Fault, LogKind};
@@ -77,7 +77,7 @@ fn is_states(text: &[u8]) -> bool
 }
 
 /// Whether nothing follows a count in its word, and `states)` or `state)` is the only word after it.
-#[tactic(auto, using(text_parts_laws::proofs::WordLaws::empty_is_nil))]
+#[tactic(auto, using(text_parts::proofs::WordLaws::empty_is_nil))]
 fn are_states(remainder: &[u8], rest: &[u8]) -> bool
     ensures { result ≡ are_states remainder.now (words rest.now) }
 {

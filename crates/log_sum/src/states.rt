@@ -2,7 +2,7 @@ ghost use Rattle.std.specs.{Prelude.{◌≡◌, ◌++◌, ◌∷◌, [], option_
 ghost use Rattle.log_sum.specs.SumViews.{GivesOr, texts_of};
 ghost use Rattle.log_sum.specs.LogStates.{left_kept, is_side, state_read, form_read, state_form, or_bad, sides_read, separated, form_with};
 ghost use Rattle.log_sum.specs.Equalities.{HasSign, has_left_twice, left_side, same_left, with_all, with_piece};
-ghost use Rattle.text_parts_laws.specs.Cuts.{cut_at};
+ghost use Rattle.text_parts.specs.Cuts.{cut_at};
 
 use crate::errors::{Fault, LogKind};
 use diy_io::NoMemory;
@@ -38,7 +38,7 @@ fn put_left(text: &mut Vec<u8>, left: &[u8]) -> Result<(), NoMemory>
 }
 
 /// Whether a side of an equality isn't empty and has no blank.
-#[tactic(auto, using(text_parts_laws::proofs::WordLaws::empty_is_nil))]
+#[tactic(auto, using(text_parts::proofs::WordLaws::empty_is_nil))]
 fn is_side(text: &[u8]) -> bool
     ensures { result ≡ is_side text.now }
 {

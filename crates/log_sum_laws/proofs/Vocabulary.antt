@@ -36,12 +36,12 @@ unfoldable pub use Rattle.log_sum.specs.{LogStates.form_read, LogStates.state_fo
 unfoldable pub use Rattle.log_sum.specs.SumText.{claim_text, condition_text, hash_text, head_text, observation_text, state_line, sum_text, sum_verdict_text, summed_text}
 unfoldable pub use Rattle.log_sum.specs.Summed.{summed}
 pub use Rattle.log_sum_laws.specs.Laws.{IsSum, KeepsSumLimits, NoFault, Represent, SumOfSums, SumsAreLogs, a_log, a_sum, none}
-pub use Rattle.text_parts_laws.proofs.BlankLaws.{before_twice, end_stays, ink_stays, trimmed_class, unblanked_spaces}
-pub use Rattle.text_parts_laws.proofs.{CutLaws.all_both, CutLaws.cut_back, CutLaws.cut_parts, LineLaws.class_kept}
-pub use Rattle.text_parts_laws.proofs.OrderLaws.{Above, Ascends, above_all, any_fold, bytes_same, compare, fold_ascends, insert_ascends, is_text, none_above, order, reversed}
-pub use Rattle.text_parts_laws.proofs.{PieceLaws.first_piece, PieceLaws.split_off, RunLaws.after_class, RunLaws.after_halts, RunLaws.stops, RunLaws.whole_run}
-pub use Rattle.text_parts_laws.proofs.WordLaws.{one_word, words_both}
-pub use Rattle.text_parts_laws.specs.{Blanks.is_blank, Blanks.is_inked, Blanks.kept_before, Blanks.trim_blanks, Blanks.unblanked, Cuts.CutParts}
-pub use Rattle.text_parts_laws.specs.{Lines.but_last, Lines.is_line_feed, Lines.last_of, ReadingSteps.◌>>=◌, Words.is_nil}
-unfoldable pub use Rattle.text_parts_laws.specs.{Blanks.before_blanks, Cuts.cut_at, LeadingRuns.after_run, LeadingRuns.leading_run}
-unfoldable pub use Rattle.text_parts_laws.specs.{Lines.unended, Lines.whole_lines, Lines.without_return, Words.words}
+pub use Rattle.text_parts.proofs.BlankLaws.{before_twice, end_stays, ink_stays, trimmed_class, unblanked_spaces}
+pub use Rattle.text_parts.proofs.{CutLaws.all_both, CutLaws.cut_back, CutLaws.cut_parts, LineLaws.class_kept}
+pub use Rattle.text_parts.proofs.OrderLaws.{Above, Ascends, above_all, any_fold, bytes_same, compare, fold_ascends, insert_ascends, is_text, none_above, order, reversed}
+pub use Rattle.text_parts.proofs.{PieceLaws.first_piece, PieceLaws.split_off, RunLaws.after_class, RunLaws.after_halts, RunLaws.stops, RunLaws.whole_run}
+pub use Rattle.text_parts.proofs.WordLaws.{one_word, words_both}
+pub use Rattle.text_parts.specs.{Blanks.is_blank, Blanks.is_inked, Blanks.kept_before, Blanks.trim_blanks, Blanks.unblanked, Cuts.CutParts}
+pub use Rattle.text_parts.specs.{Lines.but_last, Lines.is_line_feed, Lines.last_of, ReadingSteps.◌>>=◌, Words.is_nil}
+unfoldable pub use Rattle.text_parts.specs.{Blanks.before_blanks, Cuts.cut_at, LeadingRuns.after_run, LeadingRuns.leading_run}
+unfoldable pub use Rattle.text_parts.specs.{Lines.unended, Lines.whole_lines, Lines.without_return, Words.words}

@@ -3,7 +3,7 @@
 use Rattle.std.specs.{Prelude.{◌≡◌, ℕ, ◌≤◌, true, not, List, [], ◌∷◌, ◌++◌, length, Some, Ok}, List.list_all}
 use Rattle.diy_io.specs.Count.{last_count}
 use Rattle.log_sum.specs.{Facts.{Entry, facts_of}, LogGrammar.{is_too_long, all_judged}, Summed.summed, SumText.sum_text, Representing.logs_text}
-use Rattle.text_parts_laws.specs.Lines.{without_return, whole_lines}
+use Rattle.text_parts.specs.Lines.{without_return, whole_lines}
 
 -- a printed sum keeps the limits of a log: none of its lines is too long, the number of states of each test isn't above the
 -- greatest count, and no hash ends with a carriage return, which would be taken for a part of the line's end

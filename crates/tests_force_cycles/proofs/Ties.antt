@@ -3,7 +3,7 @@ use Rattle.std.proofs.{Common.{◌≡◌, ℕ, ◌<◌, ◌^◌, Bool, true, fal
 use Rattle.relax_edges.specs.declared.kinds.Dir.TheVariants as dirs
 use Rattle.relax_edges.specs.{declared.kinds.Kind.Kind, EdgeTable.kind_source}
 use Rattle.arch_trait.specs.{declared.link.Link.Link, Links.{kind_link, branches, is_addr, is_data, mask_if, link_control}}
-use Rattle.arch_trait_laws.proofs.Items.{control_row}
+use Rattle.arch_trait.proofs.Items.{control_row}
 use Rattle.program_meaning.specs.{Accesses.{Access, is_read, reads_by, reads_before}, Standing.{NamedAccess, IsTied, TiesBy, is_in_mask, mask_of}}
 use Rattle.tests_force_cycles.proofs.Visits.{link_barred}
 

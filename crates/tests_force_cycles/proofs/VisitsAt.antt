@@ -7,7 +7,7 @@ use Rattle.relax_edges.specs.declared.kinds.Dir.TheVariants as dirs
 use Rattle.relax_edges.specs.declared.kinds.Mark.TheVariants as marks
 use Rattle.arch_trait.specs.{declared.step.Step.Step, declared.link.Link.TheVariants.Plain, Links.link_control}
 use Rattle.arch_trait.specs.Threads.{FitSteps, is_load_dir, loads_in, loads_after, first_number, left_after, control_after}
-use Rattle.arch_trait_laws.proofs.{Accesses.branch_depends, Items.link_below}
+use Rattle.arch_trait.proofs.{Accesses.branch_depends, Items.link_below}
 use Rattle.program_meaning.specs.{Accesses.{Visit, accesses_of, reads_by, is_read}, Standing.{IsFree, StartsFree}}
 use Rattle.accesses_force_cycles.specs.Joining.{AreFree}
 use Rattle.tests_force_cycles.proofs.Visits.{link_barred, step_visit, thread_visits}

@@ -1,11 +1,11 @@
 ghost use Rattle.std.specs.Prelude.{◌≡◌, ◌≤◌, length};
-ghost use Rattle.text_parts_laws.specs.Blanks.{unblanked, before_blanks, trim_blanks};
+ghost use Rattle.text_parts.specs.Blanks.{unblanked, before_blanks, trim_blanks};
 
 use crate::classes::Class;
 use crate::runs::split_run;
 
 /// A text without the blanks (spaces and tabs) at its start.
-#[tactic(auto, using(text_parts_laws::proofs::RunLaws::after_run_short))]
+#[tactic(auto, using(crate::proofs::RunLaws::after_run_short))]
 pub fn without_blanks(text: &[u8]) -> &[u8]
     ensures text { result.now ≡ unblanked text.now }
     ensures short { length result.now ≤ length text.now }

@@ -1,5 +1,5 @@
 ghost use Rattle.std.specs.Prelude.{◌≡◌, ◌<◌, true, length, option_map, IfSome, MatchOption};
-ghost use Rattle.text_parts_laws.specs.Cuts.{cut_at, is_without, CutParts};
+ghost use Rattle.text_parts.specs.Cuts.{cut_at, is_without, CutParts};
 
 use memchr::memchr;
 

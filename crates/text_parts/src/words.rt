@@ -1,5 +1,5 @@
 ghost use Rattle.std.specs.Prelude.{◌≡◌, ◌<◌, length, option_map, IfSome};
-ghost use Rattle.text_parts_laws.specs.Words.{words, words_seen};
+ghost use Rattle.text_parts.specs.Words.{words, words_seen};
 
 use crate::blanks::without_blanks;
 use crate::classes::Class;

@@ -8,10 +8,10 @@ use Rattle.program_meaning.specs.{Executions.Execution, Programs.IsCandidate}
 use Rattle.tests_force_cycles.specs.TestOf.{plain}
 use Rattle.bytes_force_cycles.specs.Readings.{program_read}
 use Rattle.bytes_force_cycles.proofs.BackLaws.{reads_back}
-use Rattle.co_tests_laws.specs.{CutResolution.cut_open, CoherenceTests.HasCoherenceTest, CoherenceTests.coherence_test_of, CoherenceTests.incoherent_execution}
-use Rattle.co_tests_laws.specs.{CoRefusals.coherence_text, Incoherence.BytesShowIncoherence}
+use Rattle.co_tests.specs.{CutResolution.cut_open, CoherenceTests.HasCoherenceTest, CoherenceTests.coherence_test_of, CoherenceTests.incoherent_execution}
+use Rattle.co_tests.specs.{CoRefusals.coherence_text, Incoherence.BytesShowIncoherence}
 use Rattle.co_tests.specs.Shape.{HasShape}
-use Rattle.co_tests_laws.proofs.{Asked.HasLoopCode, Printed.has_code, Readable.readable, Values.one_move}
+use Rattle.co_tests.proofs.{Asked.HasLoopCode, Printed.has_code, Readable.readable, Values.one_move}
 use Rattle.two_runs.specs.IntendedRuns.{IsRunOf}
 use Rattle.two_runs.proofs.{CutRuns.cut_small, ReadAgain.one_reading, ReadAgain.run_read, ShownLaws.run_intended}
 

@@ -10,9 +10,9 @@ use Rattle.cycle_events.specs.{Resolution.{edge_at, location_of, thread_of}, Val
 use Rattle.cycle_events.proofs.Writes.{write_at_parts}
 use Rattle.program_meaning.specs.{Accesses.reads_by, Executions.Execution, Standing.event_name, Intended.{location_numbered, observer_reads, write_of}}
 use Rattle.tests_force_cycles.specs.TestOf.{plain}
-use Rattle.co_tests_laws.specs.CutResolution.{cut_open}
-use Rattle.co_tests_laws.proofs.Opened.{opened-length, opened-threads, opened_thread, same_at, source_same}
-use Rattle.co_tests_laws.proofs.{Values.{IsCut, one_location, one_move, value_positive}, Events.{IsLoop, none_observed, opened_name, thread_under}}
+use Rattle.co_tests.specs.CutResolution.{cut_open}
+use Rattle.co_tests.proofs.Opened.{opened-length, opened-threads, opened_thread, same_at, source_same}
+use Rattle.co_tests.proofs.{Values.{IsCut, one_location, one_move, value_positive}, Events.{IsLoop, none_observed, opened_name, thread_under}}
 use Rattle.two_runs.specs.Runs.{cycle_reads, is_read_of, order_of, run_by}
 use Rattle.two_runs.proofs.{Fitting.IsSmallCycle, Numbering.numbered_here}
 

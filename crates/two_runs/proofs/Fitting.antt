@@ -9,7 +9,7 @@ use Rattle.list_laws.proofs.Numbers.{get_or-upto, length-map-upto, length-upto}
 use Rattle.cycle_events.specs.{Resolution.{IsResolved, events_in, external_count, location_of, move_count, thread_of}, Values.{value_of, write_at, write_count}}
 use Rattle.cycle_events.proofs.{Arcs.thread_below, Sizes.{external_and_moves, thread_size_most}, Threads.slot_most, Along.value_most}
 use Rattle.cycle_events.proofs.{Along.write_count_most, ValueLaws.threads_and_observers, Writes.write_of as number_written}
-use Rattle.text_parts_laws.specs.Names.{is_place_name}
+use Rattle.text_parts.specs.Names.{is_place_name}
 use Rattle.litmus_text.specs.declared.limits.TheConstants.{MAX_ACCESSES}
 use Rattle.program_meaning.specs.{declared.WriteAt.WriteAt, Accesses.is_read, Standing.event_name}
 use Rattle.program_meaning.specs.Intended.{event_access, event_read, location_numbered, observed_locations, observer_reads, reads_in, write_of}

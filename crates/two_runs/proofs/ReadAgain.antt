@@ -4,10 +4,10 @@ use Rattle.std.specs.{Prelude.{Option, Result, Ok}, List.{AllByRecursion, list_a
 use Rattle.relax_edges.specs.{declared.TheConstants.MAX_EDGES, declared.kinds.ArchName.ArchName, declared.kinds.ObsMode.ObsMode, declared.edge.Edge.Edge}
 use Rattle.list_laws.proofs.Numbers.{length-map-upto}
 use Rattle.cycle_events.specs.Resolution.{external_count, move_count}
-use Rattle.text_parts_laws.specs.Names.{is_place_name}
+use Rattle.text_parts.specs.Names.{is_place_name}
 use Rattle.arch_trait.specs.{Cells.{WritesCells, MakesOneAccess}, Laws.IsArch, PlaceNames.{letters, location_name}, Threads.Puts}
 use Rattle.arch_trait.specs.{Writing.{Writing, WritesBack, name_in}, SeenTests.TestSeen}
-use Rattle.arch_trait_laws.proofs.NameLaws.{length-letters, location_new}
+use Rattle.arch_trait.proofs.NameLaws.{length-letters, location_new}
 use Rattle.litmus_text.specs.{declared.errors.TextError.TextError, TestReadsBack.{TestReadsBack, is_in}, Printable.IsTestName, Reread.reread}
 use Rattle.litmus_text.specs.{TestReading.{TestRead, test_read}, TestText.test_text}
 use Rattle.bytes_force_cycles.proofs.{BackLaws.{reads_back, numbered_in}, Readable.readable, Rereading.got_is}

@@ -6,7 +6,7 @@ use Rattle.litmus_text.specs.TestReading.{TestRead}
 use Rattle.program_meaning.specs.Executions.{Execution}
 use Rattle.cycle_events.specs.Resolution.{turned}
 use Rattle.arch_trait.specs.{Threads.Puts, Writing.Writing}
-use Rattle.co_tests_laws.specs.{CoherenceTests.incoherent_execution, CoRefusals.{coherence_refusal_of, coherence_text}}
+use Rattle.co_tests.specs.{CoherenceTests.incoherent_execution, CoRefusals.{coherence_refusal_of, coherence_text}}
 use Rattle.two_runs.specs.{IntendedRuns.IsRunOf, declared.intended.IntendedRun.IntendedRun, declared.errors.RunError.RunError}
 use Rattle.two_runs.specs.declared.errors.RunError.TheVariants as errors
 

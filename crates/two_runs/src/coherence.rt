@@ -2,7 +2,7 @@ ghost use Rattle.std.specs.Prelude.{◌≡◌, IfErr, IfOk};
 ghost use Rattle.arch_trait.specs.Writing.{name_in};
 ghost use Rattle.litmus_text.specs.{Printable.{IsTestName}, Tests.{test_seen}, TestText.{test_text}};
 ghost use Rattle.test_maker.specs.Made.{CanPrint};
-ghost use Rattle.co_tests_laws.specs.CoherenceTests.{HasCoherenceTest, coherence_test_of, incoherent_execution};
+ghost use Rattle.co_tests.specs.CoherenceTests.{HasCoherenceTest, coherence_test_of, incoherent_execution};
 ghost use Rattle.two_runs.specs.{IntendedRuns.{IsRunOf, RunNamesLocation}, CoherenceRuns.{GivesCoherenceRun}};
 
 use crate::errors::RunError;
@@ -10,8 +10,7 @@ use crate::incoherent::incoherent_run;
 use crate::intended::IntendedRun;
 use crate::printed::read_printed;
 use arch_trait::Arch;
-use co_tests::co_test_into;
-use co_tests_laws::printed_show_incoherence;
+use co_tests::{co_test_into, printed_show_incoherence};
 use diy_io::NoMemory;
 use edge_algebra::Cycle;
 use litmus_text::Test;

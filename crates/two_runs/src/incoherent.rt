@@ -3,7 +3,7 @@ ghost use Rattle.cycle_events.specs.{Resolution.{external_count}, Values.{is_wri
 ghost use Rattle.program_meaning.specs.KeptExecutions.{empty_lists};
 ghost use Rattle.program_meaning.specs.{Intended.{write_of}, Standing.{event_name}};
 ghost use Rattle.co_tests.specs.Shape.{HasShape};
-ghost use Rattle.co_tests_laws.specs.{CoherenceTests.{incoherent_execution}, CutResolution.{cut_of, cut_open}};
+ghost use Rattle.co_tests.specs.{CoherenceTests.{incoherent_execution}, CutResolution.{cut_of, cut_open}};
 ghost use Rattle.two_runs.specs.Runs.{cycle_reads, is_read_of, order_of, thread_reads, with_appended};
 
 use co_tests::{cut_of, external_count, value_of, write_count};

@@ -1,5 +1,5 @@
 ghost use Rattle.std.specs.{Prelude.{◌≡◌}, Char.{is_ascii_alphabetic}};
-ghost use Rattle.text_parts_laws.specs.{LeadingRuns.{leading_run, after_run}, Blanks.{unblanked}, Words.{is_argument_byte, words}};
+ghost use Rattle.text_parts.specs.{LeadingRuns.{leading_run, after_run}, Blanks.{unblanked}, Words.{is_argument_byte, words}};
 ghost use Rattle.litmus_text.specs.{TextCuts.{pieces}, Header.{two_words}, Views.{cut_seen, pieces_left, FirstPiece}};
 
 use text_parts::{Class, cut, next_word, split_run, without_blanks};

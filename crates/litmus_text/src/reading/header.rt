@@ -3,7 +3,7 @@ ghost use Rattle.relax_edges.specs.Architectures.{arch_of};
 ghost use Rattle.litmus_text.specs.ReadingAnswers.{GivesTest};
 ghost use Rattle.litmus_text.specs.Header.{arch_read, arch_in, header_read, name_in_header, quote_read, quote_line, quote_cut, is_setting, after_settings, two_words};
 ghost use Rattle.litmus_text.specs.{TextLines.{line}, Views.{text_left, cut_seen}};
-ghost use Rattle.text_parts_laws.specs.{Cuts.{cut_at}, Words.{words}};
+ghost use Rattle.text_parts.specs.{Cuts.{cut_at}, Words.{words}};
 
 use crate::errors::{TestKind, TextError, error_at_line};
 use crate::limits::MAX_TEST_NAME;

@@ -1,5 +1,5 @@
 ghost use Rattle.std.specs.Prelude.{◌≡◌, ◌<◌, ◌+◌, ◌^◌, true, length, option_map, IfSome, IfOk};
-ghost use Rattle.text_parts_laws.specs.{Names.{is_place_name}, Lines.{but_last}};
+ghost use Rattle.text_parts.specs.{Names.{is_place_name}, Lines.{but_last}};
 ghost use Rattle.litmus_text.specs.{ReadingAnswers.{GivesInMemory}, TextCuts.{pieces}};
 ghost use Rattle.litmus_text.specs.InitialState.{nothing_begun, is_given, with_worth, name_begun, item_put, item_read, braced, braced_read, initial_read};
 ghost use Rattle.litmus_text.specs.Views.{text_left, joined_seen, pieces_read, begun_seen, worth_seen, worth_formed, item_seen, item_formed, braced_seen};

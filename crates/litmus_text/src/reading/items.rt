@@ -1,6 +1,6 @@
 ghost use Rattle.std.specs.Prelude.{◌≡◌, true, option_map, IfSome};
 ghost use Rattle.final_cond.specs.{Conditions.{left_view}, ConditionReading.{left_at_start}};
-ghost use Rattle.text_parts_laws.specs.Blanks.{trim_blanks};
+ghost use Rattle.text_parts.specs.Blanks.{trim_blanks};
 ghost use Rattle.litmus_text.specs.{InitialState.{worth_of, item_with, whole_left, item_of, item_if}, Views.{worth_seen, worth_formed, item_seen, item_formed}};
 
 use crate::limits::MAX_THREADS;

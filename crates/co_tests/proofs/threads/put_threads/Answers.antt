@@ -10,8 +10,8 @@ use Rattle.arch_trait.specs.{declared.step.Step.Step, Codes.thread_code_of, Thre
 use Rattle.tests_force_cycles.specs.TestOf.{plain, thread_terms}
 use Rattle.tests_force_cycles.proofs.Terms.{reads-count, thread_terms-count}
 use Rattle.test_maker.specs.declared.refusal.Refusal.TheVariants.{TooManyRegisters}
-use Rattle.co_tests_laws.specs.CoherenceTests.{coherence_steps}
-use Rattle.co_tests_laws.proofs.Fits.{loop_thread}
+use Rattle.co_tests.specs.CoherenceTests.{coherence_steps}
+use Rattle.co_tests.proofs.Fits.{loop_thread}
 use Rattle.co_tests.proofs.{Cuts.loop_at, threads.put_threads.Goals.{then-is_external+in-Ok, else-is_external}}
 use Rattle.co_tests.proofs.Growing.{grown_none, grown_more, grown_refused, grown_all}
 use Rattle.co_tests.proofs.ThreadSteps.{none_yet, one_more, steps_most, thread_whole, thread_within, threads_count}

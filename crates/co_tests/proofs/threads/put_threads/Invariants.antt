@@ -4,7 +4,7 @@ use Rattle.arrayvec.specs.ArrayVec.{array_vec_len}
 use Rattle.final_cond.specs.Conditions.{term_view}
 use Rattle.cycle_events.specs.Resolution.{thread_of}
 use Rattle.arch_trait.specs.{Codes.thread_code_of, Writing.name_in}
-use Rattle.co_tests_laws.specs.CoherenceTests.{coherence_steps}
+use Rattle.co_tests.specs.CoherenceTests.{coherence_steps}
 use Rattle.co_tests.proofs.{Growing.Grown, ThreadSteps.steps_so_far}
 use Rattle.co_tests.proofs.threads.put_threads.Given as goal
 

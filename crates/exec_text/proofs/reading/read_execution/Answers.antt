@@ -1,7 +1,7 @@
 -- What is read is the reading of the text, and has the threads and places of the test.
 use Rattle.std.proofs.Common.{◌≡◌, length, ap, ◌∙◌, arith}
 use Rattle.program_meaning.specs.KeptExecutions.{nothing_kept}
-use Rattle.text_parts_laws.specs.Lines.{lines_of}
+use Rattle.text_parts.specs.Lines.{lines_of}
 use Rattle.exec_text.proofs.Whole.{threads_wrong, threads_read, orders_many, places_wrong, both_read, ended_read, shape_read, stray_read, short_read, wrong_text}
 use Rattle.exec_text.proofs.reading.read_execution.Goals as goal
 

@@ -3,7 +3,7 @@ use Rattle.std.proofs.Common.{◌≡◌, ◌+◌, [], map, drop, length, sym, ap
 use Rattle.std.specs.Prelude.{slice_index_or}
 use Rattle.program_meaning.specs.KeptExecutions.{with_write}
 use Rattle.exec_text.specs.{declared.errors.ExecKind.TheVariants.{BadPlace, BadWrite}, ExecutionText.{access_named, line_read, place_head}}
-use Rattle.text_parts_laws.specs.Lines.{lines_of}
+use Rattle.text_parts.specs.Lines.{lines_of}
 use Rattle.exec_text.proofs.{LinesRead.{one_line, one_stops, none_left, all_read, error_line}, Growing.{writes_kept, elements_from, no_elements}}
 use Rattle.exec_text.proofs.reading.read_places.Goals as goal
 

@@ -4,7 +4,7 @@ use Rattle.std.specs.List.{range_with_len}
 use Rattle.program_meaning.specs.KeptExecutions.{with_read}
 use Rattle.exec_text.specs.{declared.errors.ExecKind.TheVariants.{BadThread, BadRead}, ExecutionText.{read_named, line_read, each_line_read, thread_head}}
 use Rattle.exec_text.specs.ExecutionSteps.{lines_added}
-use Rattle.text_parts_laws.specs.Lines.{lines_of}
+use Rattle.text_parts.specs.Lines.{lines_of}
 use Rattle.exec_text.proofs.reading.read_threads.Given as goal
 
 abbrev pub invariant-loop-thread : goal.invariant-loop-thread

@@ -1,5 +1,5 @@
 use Rattle.std.proofs.Common.{sym, ◌∙◌}
-use Rattle.text_parts_laws.proofs.BlankLaws.{blank_off, inked_stays, none_stays}
+use Rattle.text_parts.proofs.BlankLaws.{blank_off, inked_stays, none_stays}
 use Rattle.text_parts.proofs.blanks.without_last_blanks.Goals as goal
 
 pub loop-text-preserved : goal.loop-text-preserved

@@ -1,6 +1,6 @@
 use Rattle.std.proofs.Common.{◌<◌, ◌≤◌, length, sym, ◌∙◌, arith}
-use Rattle.text_parts_laws.specs.Blanks.{is_inked}
-use Rattle.text_parts_laws.proofs.{RunLaws.less_remainder, WordLaws.{word_found, no_word_found, empty_is_nil, some_if}}
+use Rattle.text_parts.specs.Blanks.{is_inked}
+use Rattle.text_parts.proofs.{RunLaws.less_remainder, WordLaws.{word_found, no_word_found, empty_is_nil, some_if}}
 use Rattle.text_parts.proofs.words.next_word.Goals as goal
 
 pub returns-then-is_empty-clause-words : goal.returns-then-is_empty-clause-words

@@ -1,7 +1,7 @@
 -- What is made is the execution that the coherence test of the cycle asks for.
 use Rattle.std.proofs.Common.{◌∙◌, sym, ap, subst}
 use Rattle.arch_trait.specs.{SeenTests.TestSeen, Writing.name_in}
-use Rattle.co_tests_laws.specs.CoherenceTests.{HasCoherenceTest, coherence_test_of}
+use Rattle.co_tests.specs.CoherenceTests.{HasCoherenceTest, coherence_test_of}
 use Rattle.two_runs.proofs.CoherenceLaws.{of_cycle}
 use Rattle.two_runs.proofs.coherence.coherence_run.Goals as goal
 

@@ -3,7 +3,7 @@ use Rattle.std.proofs.Common.{◌∙◌, sym, ap, subst}
 use Rattle.arch_trait.specs.{SeenTests.TestSeen}
 use Rattle.litmus_text.specs.{TestReading.test_read, TestText.test_text}
 use Rattle.co_tests.specs.Shape.{HasShape}
-use Rattle.co_tests_laws.specs.CoherenceTests.{incoherent_execution}
+use Rattle.co_tests.specs.CoherenceTests.{incoherent_execution}
 use Rattle.two_runs.specs.IntendedRuns.{IsRead, IsRunOf}
 use Rattle.two_runs.proofs.CoherenceLaws.{has_shape, is_coherence_run}
 use Rattle.two_runs.proofs.coherence.run_of_test.Goals as goal

@@ -2,8 +2,8 @@
 use Rattle.std.proofs.Common.{◌≡◌, ◌+◌, sym, ◌∙◌, arith, None, refl}
 use Rattle.cycle_events.specs.Values.{write_count}
 use Rattle.program_meaning.specs.Intended.{write_of}
-use Rattle.co_tests_laws.specs.CutResolution.{cut_open}
-use Rattle.co_tests_laws.proofs.Values.{write_count_is}
+use Rattle.co_tests.specs.CutResolution.{cut_open}
+use Rattle.co_tests.proofs.Values.{write_count_is}
 use Rattle.co_tests.proofs.Cuts.{loop_at}
 use Rattle.two_runs.proofs.CycleOrders.{place_begins, place_inside, place_more, place_same, place_whole}
 use Rattle.two_runs.proofs.incoherent.add_order.Goals as goal

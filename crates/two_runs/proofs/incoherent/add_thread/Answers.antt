@@ -1,8 +1,8 @@
 -- The thread has all its reads.
 use Rattle.std.proofs.Common.{◌≡◌, sym, ◌∙◌, ap, arith, length}
 use Rattle.program_meaning.specs.Intended.{write_of}
-use Rattle.co_tests_laws.specs.CutResolution.{cut_open}
-use Rattle.co_tests_laws.proofs.{Opened.opened-length, Values.one_location}
+use Rattle.co_tests.specs.CutResolution.{cut_open}
+use Rattle.co_tests.proofs.{Opened.opened-length, Values.one_location}
 use Rattle.co_tests.proofs.Cuts.{loop_at}
 use Rattle.two_runs.proofs.CycleReads.{thread_begins, thread_more, thread_same, thread_whole}
 use Rattle.two_runs.proofs.incoherent.add_thread.Goals as goal

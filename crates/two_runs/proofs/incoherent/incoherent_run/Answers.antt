@@ -1,6 +1,6 @@
 -- The cycle has a cut.
 use Rattle.std.proofs.Common.{◌≡◌, ◌∙◌, sym, true, false}
-use Rattle.co_tests_laws.specs.CutResolution.{is_ordering}
+use Rattle.co_tests.specs.CutResolution.{is_ordering}
 use Rattle.co_tests.proofs.Making.{none_found}
 use Rattle.two_runs.proofs.incoherent.incoherent_run.Goals as goal
 

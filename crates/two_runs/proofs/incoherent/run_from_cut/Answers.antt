@@ -3,7 +3,7 @@ use Rattle.std.proofs.Common.{◌≡◌, [], ◌∷◌, None, ◌∙◌, ap}
 use Rattle.relax_edges.specs.declared.kinds.ObsMode.TheVariants.{Avoid}
 use Rattle.program_meaning.specs.Executions.{Execution}
 use Rattle.tests_force_cycles.specs.TestOf.{plain}
-use Rattle.co_tests_laws.specs.CutResolution.{cut_open}
+use Rattle.co_tests.specs.CutResolution.{cut_open}
 use Rattle.co_tests.proofs.Cuts.{loop_at}
 use Rattle.two_runs.specs.Runs.{cycle_reads, order_of, with_appended}
 use Rattle.two_runs.proofs.{CutRuns.cut_run, ShownLaws.run_intended}

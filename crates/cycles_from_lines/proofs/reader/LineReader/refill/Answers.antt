@@ -1,7 +1,7 @@
 -- That `refill` reads on only where the pending line isn't too long, and finds why it can't.
 use Rattle.std.proofs.Common.{ap, sym, subst, ◌∙◌}
 use Rattle.cycles_from_lines.specs.{declared.errors.LineKind.TheVariants.LineTooLong, LineReading.ReadToFault}
-use Rattle.text_parts_laws.specs.Lines.{without_return}
+use Rattle.text_parts.specs.Lines.{without_return}
 use Rattle.cycles_from_lines.proofs.{LineLaws.{is_long, is_short}, ReadLaws.{long_given, stopped_there}}
 use Rattle.cycles_from_lines.proofs.reader.LineReader.refill.Goals as goal
 

@@ -3,7 +3,7 @@ use Rattle.std.proofs.{Common.{◌≡◌, ◌<◌, ◌≤◌, ℕ, List, length,
 use Rattle.std.specs.Prelude.{Err, Result}
 use Rattle.log_sum.specs.{declared.errors.LogError.LogError, SumViews.{progress_view, are_in_order}, LogReading.{LogSeen, text_judged, end_judged}}
 use Rattle.log_sum.specs.{Representing.{SumProgress, Kept}, Feeding.{FollowsSeen, JudgedTo}}
-use Rattle.text_parts_laws.specs.ReadingSteps.{◌>>=◌}
+use Rattle.text_parts.specs.ReadingSteps.{◌>>=◌}
 use Rattle.log_sum.proofs.FeedLaws.{fed_follows, end_after, last_nothing, last_text, end_answered, last_answered, nothing_there, some_there, none_there}
 use Rattle.log_sum.proofs.summer.Summer.end_line.Goals.{then-not-is_empty+in_ok-judge, else-not-is_empty}
 use Rattle.log_sum.proofs.summer.Summer.end_line.Goals as goal

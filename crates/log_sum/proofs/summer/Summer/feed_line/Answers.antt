@@ -3,7 +3,7 @@ use Rattle.std.proofs.{Common.{◌≡◌, ◌<◌, ◌≤◌, ◌++◌, [], leng
 use Rattle.std.specs.Prelude.{Ok, Err}
 use Rattle.log_sum.specs.{declared.errors.LogKind.TheVariants.LineTooLong, SumViews.progress_view, LogReading.{LogSeen, fault_at}}
 use Rattle.log_sum.specs.{Representing.{SumProgress, Kept}, Feeding.FollowsSeen}
-use Rattle.text_parts_laws.specs.Lines.{without_return}
+use Rattle.text_parts.specs.Lines.{without_return}
 use Rattle.log_sum.proofs.FeedLaws.{line_long, line_read, long_ended, nothing_there, none_there}
 use Rattle.log_sum.proofs.summer.Summer.feed_line.Goals as goal
 

@@ -1,7 +1,7 @@
 -- `Summer::feed_lines` reads the lines that end in a piece, and holds the rest of the piece.
 use Rattle.std.proofs.{Common.{◌++◌, ◌∷◌, [], List, ℕ, refl, sym, ap, ◌∙◌, append_assoc, append-nil, subst}, lemmas.Result.err_from_is_err_and}
 use Rattle.log_sum.specs.Feeding.{IsFed, PieceTo}
-use Rattle.text_parts_laws.proofs.CutLaws.{cut_parts, uncut_without}
+use Rattle.text_parts.proofs.CutLaws.{cut_parts, uncut_without}
 use Rattle.log_sum.proofs.FeedLaws.{fed_follows, line_fed, line_answered, part_answered, piece_whole}
 use Rattle.log_sum.proofs.summer.Summer.feed_lines.Goals as goal
 

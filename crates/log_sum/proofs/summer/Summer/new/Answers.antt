@@ -2,7 +2,7 @@
 use Rattle.std.proofs.Common.{◌≡◌, ℕ, true, List, [], ◌∷◌, refl, ◌∙◌, Ok, map}
 use Rattle.std.specs.{List.list_all, declared.vec.Vec.Vec, declared.alloc.Global.Global}
 use Rattle.log_sum.specs.{declared.test_sum.TestSum.TestSum, SumViews.named_view, LogReading.{nothing_seen, input_judged, bytes_judged, rest_judged}}
-use Rattle.text_parts_laws.specs.Lines.{whole_lines, unended}
+use Rattle.text_parts.specs.Lines.{whole_lines, unended}
 use Rattle.log_sum.proofs.CarryLaws.{fed_represents}
 use Rattle.log_sum.proofs.summer.Summer.new.Goals as goal
 

@@ -1,6 +1,0 @@
--- The law `accepted_have_tests` holds.
-use Rattle.co_tests_laws.proofs.Accepted.{accepted_has_test}
-use Rattle.co_tests_laws.proofs.accepted_have_tests.Goals as goal
-
-pub returns : goal.returns
-returns g c = accepted_has_test g.A.Arch.puts

@@ -1,5 +1,0 @@
-pub mod CutResolution
-pub mod CoherenceTests
-pub mod Arc
-pub mod CoRefusals
-pub mod Incoherence
