@@ -10,7 +10,7 @@ use Rattle.micro_ops.specs.declared.operation.Micro.TheVariants as ops
 use Rattle.arch_trait.specs.{Cells.{is_cell_byte, first_word, ends_rows, is_label_op, WritesCells}, InstructionReading.few, Threads.Puts}
 use Rattle.arch_trait.specs.{ByteLaws.place_in_cell, declared.arch.TheConstants.MAX_INSTRUCTION_TEXT}
 use Rattle.arch_trait.specs.Writing.{OperandTexts, listed, written_text, op_name, is_well_named}
-use Rattle.arch_trait.proofs.SpellingLaws.{listed_stops}
+use Rattle.arch_trait.proofs.Spelling.{listed_stops}
 use Rattle.arch_instructions_laws.specs.{declared.kind.Operand.Operand, Kinds.operands_of}
 use Rattle.arch_instructions_laws.specs.Tables.{PieceText, TableText, fits_first, after_hole, operands_fit, does, table_has, hole_filled, piece_texts, given_operands, form_written, first_written, table_written, table_writing}
 use Rattle.arch_instructions_laws.specs.ClearTables.{is_fixed_byte, is_first_byte, is_piece_good, most_in, most_of, is_clear}

@@ -6,7 +6,7 @@ use Rattle.std.proofs.lemmas.Bool.{and_parts, le-leb, lt-ltb, eq-eqb, ltb-true, 
 use Rattle.text_parts.specs.NumberTexts.{number_of}
 use Rattle.text_parts.proofs.NumberLaws.{number_of-decimal}
 use Rattle.arch_trait.specs.Writing.{register_at, label_name}
-use Rattle.arch_trait.proofs.SpellingLaws.{immediate_back}
+use Rattle.arch_trait.proofs.PlainTexts.{immediate_back}
 use Rattle.arch_instructions_laws.specs.declared.{form.Hole.Hole, kind.Operand.Operand}
 use Rattle.arch_instructions_laws.specs.declared.form.Hole.TheVariants as holes
 use Rattle.arch_instructions_laws.specs.declared.kind.Operand.TheVariants as operands

@@ -7,7 +7,7 @@ use Rattle.micro_ops.specs.declared.operation.Micro.{Micro}
 use Rattle.micro_ops.specs.declared.operation.Micro.TheVariants as ops
 use Rattle.arch_trait.specs.{declared.numbered.Numbered.Numbered, Forms.{label_alone, register_names}, Threads.Puts}
 use Rattle.arch_trait.specs.Writing.{WritesBack, Written, none, RawInstr, op_name, is_well_named, raw_of, is_plain, all_plain_texts, label_word}
-use Rattle.arch_trait.proofs.{FormBacks.{IsNumbered, names_count, names_formed, names_once, label_word_plain}, SpellingLaws.label_back}
+use Rattle.arch_trait.proofs.{FormBacks.{IsNumbered, names_count, names_formed, names_once, label_word_plain}, PlainTexts.label_back}
 use Rattle.arch_instructions_laws.specs.{declared.form.Labels.Labels, Kinds.operands_of, ClearTables.{forms_apart, is_form_good, is_clear}}
 use Rattle.arch_instructions_laws.specs.Tables.{FormText, TableText, does, are_known, table_has, given_operands, first_written, table_written, first_form_read, label_read, table_raw, table_writing}
 use Rattle.arch_instructions_laws.specs.declared.form.Labels.TheVariants as labels

@@ -9,7 +9,7 @@ use Rattle.micro_ops.specs.{declared.held.Held.Held, declared.operation.Micro.Mi
 use Rattle.micro_ops.specs.{Machine.{num, held_at_place, bit, written}, Running.{Run, At, go, exec, labels_of, lands}, RunLaws.exec_append}
 use Rattle.micro_ops.specs.declared.operation.Micro.TheVariants as ops
 use Rattle.micro_ops.specs.declared.operation.Item.TheVariants as items
-use Rattle.arch_trait.proofs.{Rules.{holding, after_load, after_store}, TakingLaws.{address_bounds, address_kept, address_added}}
+use Rattle.arch_trait.proofs.{Rules.{holding, after_load, after_store}, Taking.{address_bounds, address_kept, address_added}}
 use Rattle.arch_trait.specs.{declared.link.Link.Link, Cells.access_count, Links.{branches, depends_on_load, is_addr, is_data}}
 use Rattle.arch_trait.specs.Taking.{Taken, address_in, address_of, with_address}
 use Rattle.arch_trait.specs.Laws.{IsTaken, HoldsPlaces, HasSource, Did, DidLoad, DidLink, access_room, is_at_place}

@@ -11,7 +11,7 @@ use Rattle.micro_ops.specs.Running.{Run, At, go, exec, labels_of, lands}
 use Rattle.micro_ops.specs.declared.operation.Micro.TheVariants as ops
 use Rattle.micro_ops.specs.declared.operation.Item.TheVariants as items
 use Rattle.micro_ops.specs.declared.operation.Barrier.TheVariants as barriers
-use Rattle.arch_trait.proofs.{Rules.holding, TakingLaws.{address_there, address_next}}
+use Rattle.arch_trait.proofs.{Rules.holding, Taking.{address_there, address_next}}
 use Rattle.arch_trait.proofs.Accesses.{Writes, IsSpare, writes_none, writes_more, written_same, spare_with, address_is, address_below, did_load, did_store, did_nothing, did_barrier, on_source, xor_runs, written_other, addr_depends, data_depends, addr_no_data}
 use Rattle.arch_trait.proofs.AddressedInstructions.{IsBut, KeepsInstructions, load_op_has, load_op_runs, load_op_wants, load_through_has, load_through_runs, load_through_short, load_through_wants, store_op_has, store_op_runs, store_through_has, store_through_runs, store_through_short}
 use Rattle.arch_trait.specs.{declared.link.Link.Link, Links.{link_is_of, depends_on_load, is_addr, is_data, mask_if, source_if, link_control, link_items}}

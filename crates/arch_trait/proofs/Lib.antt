@@ -10,10 +10,6 @@ pub mod Masks
 pub mod Rules
 pub mod RunsRenumbered
 pub mod Accesses
-pub mod CodeLaws
-pub mod NameLaws
-pub mod TakingLaws
-pub mod SpellingLaws
 pub mod Taking
 pub mod Runs
 pub mod Codes

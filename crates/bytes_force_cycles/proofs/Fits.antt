@@ -12,7 +12,7 @@ use Rattle.text_parts.specs.Names.{is_place_name, is_register_name}
 use Rattle.arch_trait.specs.{declared.arch.TheConstants.MAX_INSTRS, declared.step.Step.Step, Cells.MakesOneAccess, Codes.{AllBelow, IsFormedCode}}
 use Rattle.arch_trait.specs.{Laws.{IsArch, InOrder}, Links.branches, PlaceNames.{letters, location_name, number_in}, Writing.{Writing, WritesBack, name_in}}
 use Rattle.arch_trait.specs.Threads.{Puts, ThreadCode, FitSteps, compiled, is_load_dir, setting_out, visits}
-use Rattle.arch_trait.proofs.{Ordered.{compiled_ordered, compiled_accesses}, NameLaws.location_new, CodeLaws.{is_formed, thread_short}}
+use Rattle.arch_trait.proofs.{Ordered.{compiled_ordered, compiled_accesses}, Tables.location_new, Whole.is_formed, Codes.thread_short}
 use Rattle.litmus_text.specs.{Items.{Link, LinkFits, links_of}, Progress.{CodeFits, code_lands}, ReadTerms.TermFits}
 use Rattle.bytes_force_cycles.proofs.{FormedFits.{HasPlaces, code_fits, lands_once, links_fit}, Rereading.got_is}
 use Rattle.accesses_force_cycles.proofs.Lists.{image_of}

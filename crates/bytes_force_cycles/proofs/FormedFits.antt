@@ -9,7 +9,7 @@ use Rattle.text_parts.specs.Names.{is_place_name}
 use Rattle.arch_trait.specs.{declared.step.Step.Step, Cells.{is_access, access_count}, LabelOrder.{labels_after, is_next, labels_ordered}, Codes.is_within}
 use Rattle.arch_trait.specs.{Laws.InOrder, PlaceNames.number_in, Threads.{Puts, ThreadCode, visits}, Writing.Writing}
 use Rattle.litmus_text.specs.{TestTable.{is_label_of, comes_once}, Progress.{is_placed, CodeFits, code_lands}, Items.{Link, links_of, links_once, LinkFits}}
-use Rattle.arch_trait.proofs.TakingLaws.{in_order_le}
+use Rattle.arch_trait.proofs.Taking.{in_order_le}
 
 -- the place of each visit has a name of its form in a table
 abbrev pub HasPlaces : List (List ℕ) → (ℕ → List ℕ) → List Step → Type 0

@@ -10,7 +10,7 @@ use Rattle.text_parts.specs.Names.{is_register_name}
 use Rattle.text_parts.proofs.NameLaws.{place_name_short, register_name_short}
 use Rattle.arch_trait.specs.{Cells.{WritesCells, MakesOneAccess, is_access}, LabelOrder.labels_after, Laws.{IsArch, InOrder}}
 use Rattle.arch_trait.specs.{PlaceNames.{letters, location_name}, Threads.{Puts, compiled}, Writing.{Writing, WritesBack, name_in, op_text}}
-use Rattle.arch_trait.proofs.NameLaws.{length-letters, location_new}
+use Rattle.arch_trait.proofs.Tables.{length-letters, location_new}
 use Rattle.litmus_text.specs.{Printable.IsTestName, Progress.{CodeFits, code_lands}, Reread.IsReadable, ReadTerms.TermFits}
 use Rattle.bytes_force_cycles.proofs.{FormedFits.links_single, Lengths.{AreShort, IsSmall, text_short}, SomeTerm.some_term}
 use Rattle.bytes_force_cycles.proofs.Fits.{all_links_fit, code_short, each_code, terms_fit, thread_code_fits, thread_is, thread_lands}

@@ -12,7 +12,7 @@ use Rattle.cycle_events.specs.Resolution as resolution
 use Rattle.cycle_events.proofs.{Arcs.{leaving, thread_below}, Locations.location_first, Threads.event_in_slot}
 use Rattle.arch_trait.specs.{declared.step.Step.Step, Laws.IsArch, PlaceNames.{location_name, letters}, PlaceRenumbering.renumbered, Taking.initial_values}
 use Rattle.arch_trait.specs.{Threads.{Puts, ThreadCode, compiled}, Writing.name_in, SeenTests.TestSeen}
-use Rattle.arch_trait.proofs.{NameLaws.{length-letters, letters_more, location_new}, CodeLaws.makes_steps}
+use Rattle.arch_trait.proofs.{Tables.{length-letters, letters_more, location_new}, Whole.makes_steps}
 use Rattle.litmus_text.specs.{Items.links_of, TestReadsBack.{is_in, op_is_in}, Placing.place_in, Reread.thread_reread}
 use Rattle.litmus_text.specs.Placing as placing
 use Rattle.litmus_text.proofs.NamesBack.{IsAmong, none_among, push_among, few_names}

@@ -16,7 +16,7 @@ use Rattle.final_cond.specs.{declared.cond.Cond.Cond, declared.cond.Quantifier.Q
 use Rattle.final_cond.specs.Conditions.{TermSeen, cond_view, term_view}
 use Rattle.arch_trait.specs.{declared.code.Code.Code, declared.step.Step.Step, Codes.{IsFormedCode, thread_code_of}, Laws.IsArch, Links.branches}
 use Rattle.arch_trait.specs.{PlaceNames.letters, SeenTests.TestSeen, Threads.{Puts, ThreadCode, compiled, shape_of}}
-use Rattle.arch_trait.proofs.CodeLaws.{is_formed}
+use Rattle.arch_trait.proofs.Whole.{is_formed}
 use Rattle.litmus_text.specs.Tests.{IsPrintable}
 use Rattle.tests_force_cycles.specs.{CycleSteps.event_step, TestOf.{plain, is_named_location, last_term, last_terms, load_terms}}
 use Rattle.tests_force_cycles.proofs.{Headline.room_left, StepsAt.by_steps}

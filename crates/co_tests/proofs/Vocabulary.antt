@@ -25,7 +25,7 @@ pub use Rattle.arch_trait.specs.{PlaceNames.letters, PlaceNames.location_name, P
 pub use Rattle.arch_trait.specs.Threads.{FitStep, FitSteps, HoldNumbers, Puts, ThreadCode, compiled, control_after, is_load_dir, is_store_dir, loads_in, shape_of, thread_items, visits}
 pub use Rattle.arch_trait.specs.{Writing.WritesBack, Writing.Writing, Writing.name_in, declared.arch.TheConstants.MAX_INSTRS}
 pub use Rattle.arch_trait.specs.{declared.link.Link.TheVariants.Plain, declared.step.Step.Step}
-pub use Rattle.arch_trait.proofs.{CodeLaws.is_formed, CodeLaws.makes_steps, CodeLaws.thread_short, NameLaws.length-letters, NameLaws.location_new}
+pub use Rattle.arch_trait.proofs.{Whole.{is_formed, makes_steps}, Codes.thread_short, Tables.{length-letters, location_new}}
 pub use Rattle.arch_trait.proofs.{Ordered.compiled_accesses, Ordered.compiled_ordered, Renumbered.renumbered_makes}
 pub use Rattle.bytes_force_cycles.proofs.BackLaws.{numbered_in, reads_back}
 pub use Rattle.bytes_force_cycles.proofs.Fits.{IsThreadCode, all_links, all_read_terms, each_code, numbers_small}

@@ -8,7 +8,7 @@ use Rattle.cycle_events.specs.Resolution.{move_count}
 use Rattle.final_cond.specs.{Conditions.CondSeen, States.Meets}
 use Rattle.arch_trait.specs.{declared.step.Step.Step, Threads.{Puts, ThreadCode, shape_of}, PlaceRenumbering.renumbered, Laws.IsArch, PlaceNames.location_name}
 use Rattle.arch_trait.specs.SeenTests.{TestSeen}
-use Rattle.arch_trait.proofs.{NameLaws.length-letters, Renumbered.renumbered_same}
+use Rattle.arch_trait.proofs.{Tables.length-letters, Renumbered.renumbered_same}
 use Rattle.program_meaning.specs.{Executions.Execution, Programs.{Program, IsCandidate, IsCoherentIn}, Standing.AllStand, Intended.{IsNumbering, intended}}
 use Rattle.accesses_force_cycles.specs.Joining.{IsOutcome}
 use Rattle.accesses_force_cycles.proofs.{Needs.served_if_valued, Laws.{all_edges_stand_law, one_outcome_law, an_outcome_law}}

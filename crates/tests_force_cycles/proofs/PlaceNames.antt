@@ -7,7 +7,7 @@ use Rattle.list_laws.proofs.Cases.{by_test}
 use Rattle.cycle_events.specs.Resolution.{IsResolved, move_count}
 use Rattle.cycle_events.proofs.Sizes.{external_and_moves}
 use Rattle.arch_trait.specs.PlaceNames.{location_name, letters, number_in}
-use Rattle.arch_trait.proofs.NameLaws.{location_new}
+use Rattle.arch_trait.proofs.Tables.{location_new}
 use Rattle.program_meaning.specs.Intended.{IsNumbering}
 use Rattle.accesses_force_cycles.proofs.Numbering.{numbering_onto}
 use Rattle.tests_force_cycles.proofs.Everywhere.{position_none, position_first}

@@ -11,7 +11,7 @@ use Rattle.cycle_events.specs.Resolution.{IsResolved, edge_at, external_count, m
 use Rattle.cycle_events.specs.Values.{is_observed, is_write, write_count}
 use Rattle.cycle_events.proofs.{Arcs.{location_below, thread_below}, Lists.count_filter}
 use Rattle.arch_trait.specs.{declared.step.Step.Step, Threads.{Puts, is_load_dir, loads_in, setting_out, compiled}}
-use Rattle.arch_trait.proofs.CodeLaws.{thread_loads_length}
+use Rattle.arch_trait.proofs.Codes.{thread_loads_length}
 use Rattle.program_meaning.specs.Intended.{observed_locations}
 use Rattle.tests_force_cycles.specs.CycleSteps.{thread_steps, observer_steps, cycle_steps, numbers_read}
 use Rattle.tests_force_cycles.specs.TestOf.{is_named_location, last_term, last_terms, thread_terms, load_terms}

@@ -7,7 +7,7 @@ use Rattle.cycle_events.specs.Resolution.{external_count, move_count}
 use Rattle.text_parts.specs.Names.{is_place_name}
 use Rattle.arch_trait.specs.{Cells.{WritesCells, MakesOneAccess}, Laws.IsArch, PlaceNames.{letters, location_name}, Threads.Puts}
 use Rattle.arch_trait.specs.{Writing.{Writing, WritesBack, name_in}, SeenTests.TestSeen}
-use Rattle.arch_trait.proofs.NameLaws.{length-letters, location_new}
+use Rattle.arch_trait.proofs.Tables.{length-letters, location_new}
 use Rattle.litmus_text.specs.{declared.errors.TextError.TextError, TestReadsBack.{TestReadsBack, is_in}, Printable.IsTestName, Reread.reread}
 use Rattle.litmus_text.specs.{TestReading.{TestRead, test_read}, TestText.test_text}
 use Rattle.bytes_force_cycles.proofs.{BackLaws.{reads_back, numbered_in}, Readable.readable, Rereading.got_is}

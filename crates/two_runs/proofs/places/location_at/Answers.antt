@@ -8,7 +8,7 @@ use Rattle.test_maker.proofs.Naming.{letter_at}
 use Rattle.two_runs.specs.Runs.{numbers_by}
 use Rattle.two_runs.proofs.Numbering.{numbered_here, numbered_nowhere, none_more}
 use Rattle.two_runs.proofs.places.location_at.Goals as goal
-use Rattle.arch_trait.proofs.NameLaws.{length-letters}
+use Rattle.arch_trait.proofs.Tables.{length-letters}
 
 pub get-requires : goal.get-requires
 get-requires c = omega (arith, c.loop-location-test.true, length-letters c.locations-locations.result, ap length c.letters-names.ensures)
