@@ -174,7 +174,6 @@ const WORDS: [[&str; 2]; 166] = [
     ["WsiLP", "WsiPL"],
 ];
 
-#[tactic(auto, unfolding(crate::specs::AllEdges::edges_in_order))]
 fn words() -> &'static [&'static str]
     ensures { map (λ word. word.now) result.now ≡ map word_of edges_in_order }
 {
