@@ -1,6 +1,6 @@
 -- Every barrier, and what a test of all of them says of each.
 -- Source: own.
-use Rattle.std.proofs.Common.{ℕ, ◌≡◌, true, Bool, not, ◌||◌, List, [], ◌∷◌, arith}
+use Rattle.std.proofs.Common.{◌≡◌, true, Bool, not, ◌||◌, List, [], ◌∷◌, arith}
 use Rattle.std.specs.List.{list_all}
 use Rattle.list_laws.proofs.Cases.{implied}
 use Rattle.relax_edges.specs.{EdgeTable.fence_is_of, declared.kinds.ArchName.ArchName, declared.kinds.FenceKind.FenceKind}

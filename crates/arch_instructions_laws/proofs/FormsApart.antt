@@ -1,7 +1,7 @@
 -- No text is an instruction of two forms that are apart.
-use Rattle.std.proofs.Common.{ℕ, ◌-◌, ◌≡◌, ◌==◌, true, not, ◌&&◌, ◌||◌, nat_le, List, [], ◌∷◌, ◌++◌, Some, None, map, take, drop, ◌∙◌, arith}
+use Rattle.std.proofs.Common.{ℕ, ◌-◌, ◌≡◌, ◌==◌, true, not, ◌&&◌, ◌||◌, nat_le, List, [], ◌∷◌, ◌++◌, Some, None, map, ◌∙◌, arith}
 use Rattle.std.proofs.{lemmas.Bool.{and_parts, not-true}, lemmas.List.take-append-drop, lemmas.Slice.Eq.bytes_eq-Decides}
-use Rattle.std.specs.{Prelude.{Option, is_some, option_and_then}, List.list_all, Str.bytes_eq}
+use Rattle.std.specs.{Prelude.{Option, is_some, option_and_then}, List.list_all}
 use Rattle.list_laws.proofs.Cases.{eq_swap}
 use Rattle.arch_instructions_laws.specs.{declared.form.Hole.Hole, declared.kind.Operand.Operand, Kinds.FoundOperand}
 use Rattle.arch_instructions_laws.specs.Tables.{PieceText, FormText, fits_first, after_hole, operands_fit, hole_filled, piece_texts, after_prefix, before_suffix, hole_found, piece_found, joined_operands, pieces_found, form_found, piece_text}

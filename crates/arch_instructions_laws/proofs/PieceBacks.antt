@@ -1,6 +1,6 @@
 -- The operands of an instruction read back by its form.
 use Rattle.std.proofs.Common.{ℕ, suc, ◌+◌, ◌-◌, ◌^◌, ◌<◌, ◌≤◌, ◌≡◌, refl, true, ◌&&◌, nat_le, nat_lt, List, [], ◌∷◌, ◌++◌, Some, map, length, ◌∙◌, ap, length-append, arith}
-use Rattle.std.specs.{Fmt.decimal, List.list_all, Str.bytes_eq}
+use Rattle.std.specs.{Fmt.decimal, List.list_all}
 use Rattle.std.proofs.{Math.Seq.take-append_seam, Math.Seq.drop-append_seam, lemmas.Slice.Eq.bytes_eq-Decides}
 use Rattle.std.proofs.lemmas.Bool.{and_parts, le-leb, lt-ltb, eq-eqb, ltb-true, leb-true}
 use Rattle.text_parts.specs.NumberTexts.{number_of}

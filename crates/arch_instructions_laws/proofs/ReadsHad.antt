@@ -5,7 +5,7 @@ use Rattle.std.specs.{Prelude.{◌==◌, option_and_then}, List.list_any, Str.by
 use Rattle.list_laws.proofs.Cases.{by_test}
 use Rattle.micro_ops.specs.declared.operation.Micro.{Micro}
 use Rattle.micro_ops.specs.declared.operation.Micro.TheVariants as ops
-use Rattle.arch_trait.specs.{Writing.{OperandTexts, one, RawInstr, Written, immediate_number, label_raw}, Forms.label_alone}
+use Rattle.arch_trait.specs.{Writing.{OperandTexts, RawInstr, Written, immediate_number, label_raw}, Forms.label_alone}
 use Rattle.arch_instructions_laws.specs.{declared.form.Hole.Hole, declared.form.Labels.Labels, declared.kind.Kind.Kind, declared.kind.Operand.Operand}
 use Rattle.arch_instructions_laws.specs.Kinds.{FoundOperand, found_register, found_number, found_place, found_label, operands_of}
 use Rattle.arch_instructions_laws.specs.Tables.{PieceText, FormText, TableText, fits_first, after_hole, operands_fit, does, table_has, hole_found, piece_found, pieces_found, joined_operands, form_found, raw_or, first_form_read, texts_in, are_known, label_read, raw_if, table_raw}

@@ -12,7 +12,7 @@ use Rattle.micro_ops.specs.declared.operation.Item.TheVariants as items
 use Rattle.arch_trait.proofs.{Rules.{holding, after_load, after_store}, Taking.{address_bounds, address_kept, address_added}}
 use Rattle.arch_trait.specs.{declared.link.Link.Link, Cells.access_count, Links.{branches, depends_on_load, is_addr, is_data}}
 use Rattle.arch_trait.specs.Taking.{Taken, address_in, address_of, with_address}
-use Rattle.arch_trait.specs.Laws.{IsTaken, HoldsPlaces, HasSource, Did, DidLoad, DidLink, access_room, is_at_place}
+use Rattle.arch_trait.specs.Laws.{IsTaken, HoldsPlaces, HasSource, Did, DidLoad, DidLink, is_at_place}
 use Rattle.arch_trait.specs.declared.link.Link.TheVariants as links
 
 -- what laws ask of code, but for its run
@@ -130,10 +130,6 @@ did_nothing r = did_control [] r r.state.flag r.state.flag_mask r.state.control 
 pub did_barrier : (code : List Micro) (kind : Barrier) (r : Run) (c : ℕ) → DidLink code r [] c →
     DidLink (code ++ ops.Barrier kind ∷ []) r (items.Barrier kind c ∷ []) c
 did_barrier code kind r c d = grind (arith, exec_append code (ops.Barrier kind ∷ []) (At r), append-nil r.made)
-
--- an access has room for two operations
-pub two_fit : (link : Link) → 2 ≤ access_room link
-two_fit link = grind arith
 
 -- what holds of a register with a load's number holds of the register that a dependency is on
 pub on_source : (r : Run) (from : Option ℕ) (k : ℕ) (P : Option ℕ → Type 0) → HasSource r from k →

@@ -1,5 +1,5 @@
 -- Rotations of a cycle: they are refused alike, and their events are the same with other numbers.
-use Rattle.std.proofs.Common.{◌≡◌, ℕ, ◌+◌, ◌-◌, ◌%◌, ◌<◌, ◌≤◌, Bool, true, false, ◌==◌, ◌&&◌, ◌||◌, nat_lt, cond, List, [], ◌∷◌, ◌++◌, length, take, Ok, Err, sym, ◌∙◌, ap, arith, length-append}
+use Rattle.std.proofs.Common.{◌≡◌, ℕ, ◌+◌, ◌-◌, ◌%◌, ◌<◌, ◌≤◌, Bool, true, ◌==◌, ◌&&◌, ◌||◌, nat_lt, cond, List, [], ◌∷◌, ◌++◌, length, take, Ok, Err, sym, ◌∙◌, ap, arith, length-append}
 use Rattle.std.specs.List.{count_by, list_any}
 use Rattle.std.proofs.{lemmas.List.take-append-le, lemmas.List.get_or_append_left, lemmas.List.get_or-append-add, lemmas.List.Sums.sum_by-append}
 use Rattle.std.proofs.{lemmas.Bool.ne_eqb, lemmas.Bool.and_right, lemmas.Bool.ltb-false, Math.Bool.or_comm, Math.Nat.add-mod-mod}

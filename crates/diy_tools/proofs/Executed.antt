@@ -1,5 +1,5 @@
 -- What is answered of a request for the execution that a test asks for.
-use Rattle.std.proofs.Common.{◌≡◌, ℕ, List, Option, None, refl, sym, subst, Ok, inl, inr}
+use Rattle.std.proofs.Common.{◌≡◌, ℕ, List, Option, refl, sym, subst, Ok}
 use Rattle.std.specs.{Prelude.Result, Option.option_or}
 use Rattle.relax_edges.specs.{declared.edge.Edge.Edge, declared.kinds.ArchName.ArchName, declared.kinds.ObsMode.ObsMode}
 use Rattle.edges_from_text.specs.{declared.list.EdgeList.EdgeList, declared.list.EdgeList.TheVariants.{Whole, TooLong}, KeptEdges.kept_edges}
@@ -10,14 +10,13 @@ use Rattle.diy_words.specs.Requests.{Task, TestTask, CoherenceTask, AsksExecutio
 use Rattle.diy_words.specs.declared.request.Request.TheVariants as requests
 use Rattle.program_meaning.specs.Executions.{Execution}
 use Rattle.litmus_text.specs.TestReading.{TestRead}
-use Rattle.exec_text.specs.Written.{text_of_execution}
 use Rattle.test_maker.specs.{CycleText.cycle_text, Refusals.refusal_of, declared.refusal.Refusal.Refusal}
 use Rattle.co_tests.specs.CoRefusals.{coherence_refusal_of, coherence_text}
-use Rattle.two_runs.specs.{IntendedRuns.{IsRunOf, intended_by}, CoherenceRuns.incoherent_by}
+use Rattle.two_runs.specs.{IntendedRuns.{intended_by}, CoherenceRuns.incoherent_by}
 use Rattle.run_status.specs.{declared.status.Status.Status}
 use Rattle.diy_tools.specs.{Answers.{Answers, AnswersAsked}, ArchMachines.{Machine, machine_of}, Devices.devices}
 use Rattle.diy_tools.specs.{ExecutionAnswers.{AnswersRun, AnswersExecution, AnswersCoherenceExecution}, Refused.refused_list, TestAnswers.test_name}
-use Rattle.diy_tools.specs.KeptRequests.{AnswersIntended, AnswersIncoherent, PrintsInMemory, edges_kept, name_kept, refused_edges, refused_kept, refused_incoherent}
+use Rattle.diy_tools.specs.KeptRequests.{AnswersIntended, AnswersIncoherent, edges_kept, name_kept, refused_edges, refused_kept, refused_incoherent}
 use Rattle.diy_tools.proofs.Running.{IsKeptSo, kept_so}
 
 -- what is answered on an architecture is answered on the one with its name

@@ -8,15 +8,15 @@ use Rattle.edge_algebra.specs.Compose.{composed}
 use Rattle.diy_io.specs.{Wrote.SinkSeen, Taken.SourceSeen, Shelf.ShelfSeen}
 use Rattle.edges_from_text.specs.{declared.list.EdgeList.EdgeList, declared.list.EdgeList.TheVariants.{Whole, TooLong}, KeptEdges.kept_edges}
 use Rattle.cycles_from_lines.specs.Normed.{name_line}
-use Rattle.diy_words.specs.{declared.request.Diy.Diy, declared.request.Sought.Sought, declared.usage.Usage.Usage, declared.request.Check.Check}
+use Rattle.diy_words.specs.{declared.request.Sought.Sought, declared.usage.Usage.Usage, declared.request.Check.Check}
 use Rattle.diy_words.specs.{declared.request.Norm.Norm, declared.request.Why.Why}
-use Rattle.diy_words.specs.Requests.{Task, ListTask, AsksName, AsksList, AsksCheck, OfEdges, OfName, OfLines, asked_of}
-use Rattle.diy_words.specs.Given.{IsSought, GivesTask, list_kept}
+use Rattle.diy_words.specs.Requests.{Task, AsksName, AsksCheck, OfEdges, OfName, OfLines, asked_of}
+use Rattle.diy_words.specs.Given.{IsSought, GivesTask}
 use Rattle.diycross7_cycles.specs.ComposedLaws.{composed_same}
 use Rattle.diy_tools.specs.Devices.{devices}
 use Rattle.diy_tools.specs.KeptRequests.{ChecksFiles, AnswersKept, refused_kept, refused_edges, refused_why, edges_kept, folder_kept, named_kept, MakesCycle}
 use Rattle.diy_tools.specs.{CheckAnswers.AnswersCheck, ArchMachines.machine_of, Refused.{refused_list, refused_composing}, PrintAnswers.AnswersEdges}
-use Rattle.diy_tools.specs.{TestAnswers.test_name, NameAnswers.{AnswersName, AnswersSought}, ListAnswers.AnswersList, Answers.{Answers, AnswersAsked}}
+use Rattle.diy_tools.specs.{TestAnswers.test_name, NameAnswers.{AnswersName, AnswersSought}, Answers.{Answers, AnswersAsked}}
 use Rattle.diy_tools.specs.{WhyAnswers.AnswersRuns}
 use Rattle.run_status.specs.{declared.status.Status.Status}
 use Rattle.test_maker.specs.{Refusals.foreign_edge, CycleText.cycle_text, declared.refusal.Refusal.Refusal}
@@ -110,16 +110,6 @@ name_answered words request status shelf old new before after given h = of_asked
           both = sought_answered asked.arch request.cycle asked.cycle status old new before after g.1
               (subst (λ a. AnswersKept a request.cycle status old new before after) g.0 h);
         }
-    of_asked asked g = absurd g
-
--- what is answered of a request for a listing
-pub list_answered : (words : List (List ℕ)) (request : Diy) (status : Status) (input : SourceSeen) (old new : ShelfSeen) (before after : SinkSeen)
-    → GivesTask (Ok (requests.List request)) (asked_of words)
-    → AnswersList (list_kept request) status old new before after → Answers words status (input, before, old) (input, after, new)
-list_answered words request status input old new before after given h = of_asked (asked_of words) given
-  where
-    of_asked : (asked : Result Task Usage) → GivesTask (Ok (requests.List request)) asked → AnswersAsked words asked status (devices (input, before, old)) (devices (input, after, new))
-    of_asked (Ok (AsksList asked)) g = record { input = refl; both = subst (λ (l : ListTask). AnswersList l status old new before after) g h }
     of_asked asked g = absurd g
 
 -- what is answered of a request to check an execution

@@ -3,7 +3,7 @@ use Rattle.std.proofs.Common.{◌≡◌, ℕ, Bool, true, false, List, [], ◌�
 use Rattle.std.specs.Prelude.{if◌then◌else◌}
 use Rattle.diy_words.specs.{declared.options.Tool.Tool, declared.usage.Usage.Usage, Parts.{parts_of, tool_named}, Sayings.Saying}
 use Rattle.diy_words.specs.{Gathered.{Gathered, gathered_of, all_given}, SaidInOrder.{sayings, said_all}, Notes.{no_notes, said_noted}}
-use Rattle.diy_words.specs.Requests.{Task, AsksTest, AsksWhy, AsksCoherence, AsksName, AsksList, AsksFamilies, AsksSum, AsksCross, AsksDemo, AsksCheck, AsksExecution, AsksCoherenceExecution, AsksLines, asks, families_with, demo_with, why_asked, coherence_asked, test_asked, test_or_execution, coherence_or_execution, one_asked, diyone_asked, diy_asked, list_or_lines, check_asked, norm_asked, cross_asked, tool_asked, said_asked, asked_for, asked_of}
+use Rattle.diy_words.specs.Requests.{Task, AsksTest, AsksWhy, AsksCoherence, AsksName, AsksList, AsksFamilies, AsksSum, AsksCross, AsksDemo, AsksCheck, AsksExecution, AsksCoherenceExecution, AsksLines, asks, families_with, demo_with, why_asked, coherence_asked, test_asked, test_or_execution, coherence_or_execution, one_asked, diyone_asked, diy_asked, check_asked, norm_asked, cross_asked, tool_asked, said_asked, asked_for, asked_of}
 use Rattle.diy_words.specs.declared.options.Tool.TheVariants as tools
 use Rattle.diy_words.proofs.{NotedLaws.said_so, OperandLaws.{AreFaultless, given_from, all_said}}
 

@@ -6,8 +6,8 @@ use Rattle.list_laws.proofs.Elements.{drop_given}
 use Rattle.relax_edges.specs.{declared.kinds.Dir.Dir, declared.kinds.Mark.Mark}
 use Rattle.micro_ops.specs.{declared.operation.Barrier.Barrier, declared.operation.Item.Item, RunThreads.EndedRun}
 use Rattle.micro_ops.specs.declared.operation.Item.TheVariants as items
-use Rattle.program_meaning.specs.{Accesses.{Access, Barred, Visit, visits_from, visits_of, accesses_of}, Executions.Execution}
-use Rattle.program_meaning.specs.{declared.seen.SeenAccess.SeenAccess, Programs.{Program, accesses_in, runs_of, visits_in}}
+use Rattle.program_meaning.specs.{Accesses.{Access, Barred, Visit, visits_from, visits_of}, Executions.Execution}
+use Rattle.program_meaning.specs.{declared.seen.SeenAccess.SeenAccess, Programs.{Program, accesses_in, runs_of}}
 use Rattle.program_meaning.specs.SeenAccesses.{seen_access, seen_in, seen_in_thread}
 use Rattle.exec_meaning.specs.EndedRuns.{ended_run}
 use Rattle.exec_meaning.proofs.RunLaws.{visits_are}

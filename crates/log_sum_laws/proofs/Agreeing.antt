@@ -1,5 +1,5 @@
 -- Facts that have no error in any order: they agree.
-use Rattle.log_sum_laws.proofs.Vocabulary.{AllByRecursion, option_map, bytes_eq, ◌≡◌, ℕ, ◌+◌, ◌≤◌, List, [], ◌∷◌, ◌++◌, true, false, refl, sym, ◌∙◌, arith, subst, append_assoc, append-nil, zero-add, Some, None, Bool, cond, Option, nat_lt, map-append, filter-append, sum_by-append, bytes_eq-Decides, by_test, all_append, all_parts, LogKind, HashDiffers, last_count, Row, Fact, Entry, a_kind, a_row, a_condition, a_hash, kinds, rows, conditions, hashes, first_of, same_kind, same_state_mark, marked_sum, state_sum, mark_in, is_other, fault_if, fact_fault, facts_of, same_mark_is, some_or, bytes_same}
+use Rattle.log_sum_laws.proofs.Vocabulary.{AllByRecursion, option_map, bytes_eq, ◌≡◌, ℕ, ◌+◌, ◌≤◌, List, [], ◌∷◌, ◌++◌, true, false, refl, sym, ◌∙◌, arith, subst, append_assoc, append-nil, zero-add, Some, None, Bool, cond, Option, nat_lt, map-append, filter-append, sum_by-append, bytes_eq-Decides, by_test, all_append, all_parts, LogKind, HashDiffers, last_count, Row, Fact, Entry, a_kind, a_row, a_condition, a_hash, kinds, rows, conditions, hashes, first_of, same_state_mark, marked_sum, state_sum, mark_in, is_other, fault_if, fact_fault, facts_of, same_mark_is, some_or, bytes_same}
 use Rattle.log_sum_laws.proofs.{Cases.{Kind, Mark, Allowed, Plain}, Blocks.Clean}
 
 -- facts of a sort
@@ -112,10 +112,6 @@ pub record Agrees (facts : List Fact) : Type 0 where
   pub profile : Profile
   pub fits : AllByRecursion (FitsTo profile) facts
   pub small : (m : Mark) → marked_sum m (rows facts) ≤ last_count
-
--- kinds that are tested to be the same are the same
-pub kind_is : (a b : Kind) → same_kind a b ≡ true → a ≡ b
-kind_is a b h = grind arith
 
 abbrev profile_of : List Fact → Profile
 profile_of facts = record {

@@ -4,7 +4,7 @@ use Rattle.std.proofs.Common.{ℕ, ◌+◌, ◌^◌, ◌<◌, ◌≡◌, ◌==�
 use Rattle.std.proofs.{lemmas.Nat.pow_pos, lemmas.List.Sums.sum_by-append, Math.Pow.pow_mono}
 use Rattle.relax_edges.specs.declared.kinds.Value.{Value}
 use Rattle.micro_ops.specs.{declared.held.Held.Held, declared.operation.Micro.Micro, declared.operation.Item.Item, Machine.{Effect, step}}
-use Rattle.micro_ops.specs.Running.{Run, Point, At, Past, Wants, Stuck, go, exec, taken, led, wanting, is_load, occurs, lands, is_past, writes, is_written, is_read_item, NamesLoads, beginning, starting, add_item, AllNameLoads, RunNamesLoads, OnRun}
+use Rattle.micro_ops.specs.Running.{Run, Point, At, Past, Wants, Stuck, go, exec, taken, led, wanting, is_load, occurs, lands, is_past, is_written, is_read_item, NamesLoads, beginning, starting, add_item, AllNameLoads, RunNamesLoads, OnRun}
 use Rattle.micro_ops.specs.declared.operation.Micro.TheVariants as ops
 use Rattle.micro_ops.specs.declared.operation.Item.TheVariants as items
 use Rattle.micro_ops.proofs.Steps.{OnEffect, Named, step_named, reads_in, ItemNames}

@@ -1,5 +1,5 @@
 -- The steps of writing files on a shelf one after another, and what they come to.
-use Rattle.std.proofs.Common.{◌≡◌, ◌<◌, ℕ, ◌+◌, get_or, drop, map, List, [], ◌∷◌, ◌++◌, length, refl, sym, ◌∙◌, ap, subst, append-nil, append_assoc}
+use Rattle.std.proofs.Common.{◌≡◌, ◌<◌, ℕ, ◌+◌, get_or, drop, map, List, [], ◌∷◌, ◌++◌, length, refl, sym, ◌∙◌, ap, subst, append_assoc}
 use Rattle.std.proofs.lemmas.List.{drop_more, map-append}
 use Rattle.diy_io.specs.Shelf.{ShelfSeen, Idle}
 use Rattle.tests_to_files.specs.{declared.putting.File.File, GivenCycles.PutUpTo, Putting.{PutFiles, PutPart, file_put}}
@@ -37,7 +37,3 @@ files_stop files i f a b c h e p part = record {
   parts = ap (map file_put) (p.parts ∙ ap (λ r. p.done ++ r) (left_at files i f h e)) ∙ map-append file_put p.done (f ∷ drop (i + 1) files);
   part = put_then_part a b c (map file_put p.done) f.path.bytes f.bytes.now p.put part;
 }
-
--- no file is left
-pub files_end : (files rest : List File) (a b : ShelfSeen) → FilesPut files rest a b → rest ≡ [] → PutFiles a b (map file_put files)
-files_end files rest a b p left = subst (λ fs. PutFiles a b (map file_put fs)) (sym (p.parts ∙ ap (λ r. p.done ++ r) left ∙ append-nil p.done)) p.put

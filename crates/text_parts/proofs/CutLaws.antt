@@ -1,7 +1,7 @@
 -- A cut at the first place of a byte.
 use Rattle.std.proofs.Common.{◌≡◌, ◌==◌, ◌+◌, ◌-◌, ◌<◌, ◌≤◌, ℕ, zero, suc, List, [], ◌∷◌, ◌++◌, Some, None, true, get_or, take, drop, length, length-append, refl, sym, ap, ◌∙◌, arith, false}
 use Rattle.std.proofs.{lemmas.Bool.{eq-eqb, and_from}, lemmas.List.take-append-drop, Math.Seq.{drop-cons, take-length}, lemmas.List.Folds.list_all-append}
-use Rattle.std.specs.{Prelude.{not, Bool, Option}, List.list_all}
+use Rattle.std.specs.{Prelude.{Bool, Option}, List.list_all}
 use Rattle.list_laws.proofs.{Cases.by_test, Elements.rest_from}
 use Rattle.text_parts.specs.Cuts.{before_cut, cut_at, is_without, CutParts}
 
