@@ -3,11 +3,11 @@ use thiserror::Error;
 /// Why a text of relaxations is refused.
 #[derive(Clone, Copy, Debug, Error)]
 pub enum RelaxKind {
-    #[error("a word stands for no edge")]
+    #[error("a word names no edge")]
     UnknownEdge,
-    #[error("a bracket is not closed, is empty, holds a bracket, or closes nothing")]
+    #[error("a bracket is not closed, has no word, holds a bracket, or closes nothing")]
     BadBracket,
-    #[error("a bracket has more than 8 edges")]
+    #[error("a bracket has more than 8 words")]
     RelaxTooLong,
     #[error("no choice of the edges joins")]
     DoesNotJoin,
