@@ -292,7 +292,7 @@ fn edge_of_letters(kind: Kind, from: Mark, to: Mark) -> Option<Edge>
 /// The edge that is spelled by these bytes, if there is one: a prefix and the last two. `read_edge_bytes` is for a text that is
 /// one piece.
 #[tactic(auto, using(crate::proofs::EdgeReadings::ending_is_edge_of))]
-pub fn read_ending(prefix: &[u8], before: u8, last: u8) -> Option<Edge>
+pub(crate) fn read_ending(prefix: &[u8], before: u8, last: u8) -> Option<Edge>
     ensures { result ≡ edge_of (prefix.now ++ before ∷ last ∷ []) }
 {
     let Some(from) = mark_from_byte(before) else {

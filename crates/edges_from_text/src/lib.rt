@@ -12,7 +12,7 @@ mod relax_runs;
 mod relax_search;
 mod relax_words;
 
-pub use edge::{UnknownEdge, read_edge, read_edge_bytes, read_ending};
+pub use edge::{UnknownEdge, read_edge, read_edge_bytes};
 pub use list::EdgeList;
 pub use read::{Separators, read_edges};
 pub use relax::{Relax, Relaxes};
