@@ -1,8 +1,7 @@
 -- Cases to split on, with the goal given first: a test is true or false, a number is below another or not.
-use Rattle.std.proofs.Common.{◌≡◌, ℕ, ◌<◌, ◌≤◌, Bool, true, false, Option, Some, None, refl, inl, inr, not, ◌||◌, arith, List, sym}
-use Rattle.std.specs.{Prelude.◌⊎◌, Ordering.ordering_index, Str.bytes_eq, Cmp.both_ways}
+use Rattle.std.proofs.Common.{◌≡◌, ℕ, ◌<◌, ◌≤◌, Bool, true, false, Option, Some, None, refl, inl, inr, not, ◌||◌, List, sym}
+use Rattle.std.specs.{Prelude.◌⊎◌, Str.bytes_eq, Cmp.both_ways}
 use Rattle.std.proofs.lemmas.{Bool.cases_lt, Bool.cases_eq, Slice.Eq.bytes_eq-Decides}
-use Rattle.std.specs.declared.cmp.{Ordering.Ordering, Ordering.TheVariants.Less, Ordering.TheVariants.Equal, Ordering.TheVariants.Greater}
 
 -- a test is true, or it is false
 pub by_test : {G : Type 0} (b : Bool) → (b ≡ true → G) → (b ≡ false → G) → G
@@ -34,13 +33,6 @@ by_same {G} m n s d = either (cases_eq m n)
 pub by_option : {A G : Type 0} (o : Option A) → (o ≡ None → G) → ((x : A) → o ≡ Some x → G) → G
 by_option None n s = n refl
 by_option (Some x) n s = s x refl
-
--- answers of comparisons with one index are the same
-pub same_index : (r s : Ordering) → ordering_index r ≡ ordering_index s → r ≡ s
-same_index Less Less e = refl
-same_index Equal Equal e = refl
-same_index Greater Greater e = refl
-same_index _ _ e = absurd (omega arith)
 
 -- two texts are equal whichever is named first
 pub eq_swap : (a b : List ℕ) → bytes_eq a b ≡ bytes_eq b a

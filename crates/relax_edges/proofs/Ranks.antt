@@ -1,7 +1,8 @@
 -- The rank orders edges as the byte order of lists orders their printed words.
 use Rattle.std.specs.{Prelude.{◌≡◌, ◌<◌, ◌==◌, ◌↔◌, IsTrue, Bool, true, length, slice_get, Some}, Ordering.{nat_cmp, ordering_index}}
 use Rattle.std.specs.{Cmp.Lexicographic.slice_cmp, List.list_all}
-use Rattle.std.proofs.{Common.{refl, ap, subst}, lemmas.Bool.{eqb-true, eq-eqb}, lemmas.List.Elements.All-get_or, lemmas.List.Sums.AllPass-from_list_all}
+use Rattle.std.specs.declared.cmp.{Ordering.Ordering, Ordering.TheVariants.Less, Ordering.TheVariants.Equal, Ordering.TheVariants.Greater}
+use Rattle.std.proofs.{Common.{refl, ap, subst, arith}, lemmas.Bool.{eqb-true, eq-eqb}, lemmas.List.Elements.All-get_or, lemmas.List.Sums.AllPass-from_list_all}
 use Rattle.std.proofs.lemmas.Option.{slice_get_within, get_or_from_slice_get}
 use Rattle.relax_edges.specs.{declared.kinds.Dir.Dir, declared.kinds.Sd.Sd, declared.kinds.Sd.TheVariants.{Same, Diff}, declared.kinds.Reach.Reach}
 use Rattle.relax_edges.specs.{declared.kinds.Reach.TheVariants.{Internal, External}, declared.kinds.Com.Com, declared.kinds.FenceKind.FenceKind}
@@ -17,7 +18,6 @@ use Rattle.relax_edges.specs.declared.kinds.FenceKind.TheVariants as fences
 use Rattle.relax_edges.specs.declared.kinds.DepKind.TheVariants as deps
 use Rattle.relax_edges.specs.declared.marked.MarkableKind.TheVariants as markables
 use Rattle.relax_edges.specs.declared.edge.Edge.TheVariants as edges
-use Rattle.list_laws.proofs.Cases.{same_index}
 
 -- a fact about place and directions, from its eight cases
 eight : (P : Sd → Dir → Dir → Type 0)
@@ -188,6 +188,13 @@ compare_alike a b = ordering_index (slice_cmp nat_cmp (word_of a) (word_of b)) =
 all_alike : list_all (λ a. list_all (compare_alike a) edges_in_order) edges_in_order ≡ true
 unfolding rank_of edges_in_order compare_alike
 all_alike = refl
+
+-- answers of comparisons with one index are the same
+same_index : (r s : Ordering) → ordering_index r ≡ ordering_index s → r ≡ s
+same_index Less Less e = refl
+same_index Equal Equal e = refl
+same_index Greater Greater e = refl
+same_index _ _ e = absurd (omega arith)
 
 -- the printed words of two edges compare as their ranks do
 pub rank_orders : (a b : Edge) → slice_cmp nat_cmp (word_of a) (word_of b) ≡ nat_cmp (rank_of a) (rank_of b)

@@ -2,8 +2,7 @@
 use Rattle.std.specs.{Prelude.{ℕ, ◌≡◌, ◌++◌, Bool, true, false, not, cond, List, [], ◌∷◌, Option, Some, None, take, drop, reverse, codes}}
 use Rattle.std.specs.{List.{list_all, list_any, find}, Str.bytes_eq, Ordering.nat_cmp, Cmp.nat_cmp_is, Cmp.Lexicographic.slice_cmp}
 use Rattle.std.specs.declared.cmp.Ordering.TheVariants.{Equal}
-use Rattle.std.proofs.{Common.{refl, arith, ap, sym, ◌∙◌}, lemmas.Bool.false≢true, lemmas.Slice.Eq.bytes_eq-Decides, lemmas.Map.Lookups.exact_unsigned}
-use Rattle.list_laws.proofs.Cases.{by_test}
+use Rattle.std.proofs.{Common.{refl, arith, ap, sym, ◌∙◌}, lemmas.Bool.{false≢true, not-true}, lemmas.Slice.Eq.bytes_eq-Decides, lemmas.Map.Lookups.exact_unsigned}
 use Rattle.relax_edges.specs.{declared.kinds.Mark.Mark, declared.edge.Edge.Edge, Order.rank_of, WordParts.word_of, AllEdges.edges_in_order}
 use Rattle.relax_edges.specs.{NamedKinds.marks_read, Spelling.{spellings_of, is_spelling, edge_of}}
 use Rattle.relax_edges.proofs.Ranks.{each_edge, rank_injective, rank_orders}
@@ -11,24 +10,15 @@ use Rattle.relax_edges.proofs.Ranks.{each_edge, rank_injective, rank_orders}
 -- what `find` finds passes the test
 pub find_passes : {A : Type 0} (test : A → Bool) (xs : List A) (x : A) → find test xs ≡ Some x → test x ≡ true
 find_passes test [] x found = cc
-find_passes {A} test (y ∷ ys) x found =
-    by_test (test y)
-    (λ t. grind arith)
-    (λ f. find_passes test ys x (rw f at found))
+find_passes test (y ∷ ys) x found = grind (arith, (find_passes test ys x))
 
 -- where `find` finds none, all fail the test
 all_fail : {A : Type 0} (test : A → Bool) (xs : List A) → find test xs ≡ None → list_all (λ x. not (test x)) xs ≡ true
 all_fail test [] none = refl
-all_fail {A} test (x ∷ xs) none =
-    by_test (test x)
-    (λ t. let e : Some x ≡ None = rw t at none in cc)
-    (λ f. rw f (all_fail test xs (rw f at none)))
+all_fail test (x ∷ xs) none = grind (arith, (all_fail test xs))
 
 find_none : (test : Edge → Bool) (edge : Edge) → find test edges_in_order ≡ None → test edge ≡ false
-find_none test edge none =
-    by_test (test edge)
-    (λ t. absurd (false≢true (rw t at (each_edge (λ x. not (test x)) (all_fail test edges_in_order none) edge))))
-    (λ f. f)
+find_none test edge none = not-true (test edge) (each_edge (λ x. not (test x)) (all_fail test edges_in_order none) edge)
 
 -- what a test says of all, it says of one that another test finds
 pub record Chosen {A : Type 0} (first second : A → Bool) : Type 0 where
@@ -38,10 +28,7 @@ pub record Chosen {A : Type 0} (first second : A → Bool) : Type 0 where
 
 pub chosen : {A : Type 0} (first second : A → Bool) (xs : List A) → list_all first xs ≡ true → list_any second xs ≡ true → Chosen first second
 chosen first second [] all any = cc
-chosen first second (x ∷ xs) all any =
-    by_test (first x)
-    (λ f. grind (arith, (chosen first second xs (rw f at all))))
-    (λ f. absurd (false≢true (rw f at all)))
+chosen first second (x ∷ xs) all any = grind (arith, (chosen first second xs))
 
 -- a text that is an edge's word is a spelling of it
 is_word : Edge → Bool
