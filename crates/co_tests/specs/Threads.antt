@@ -1,22 +1,12 @@
 -- How a coherence test grows thread by thread: for clauses of private functions.
-use Rattle.std.specs.Prelude.{ℕ, ◌≡◌, true, false, List, [], ◌∷◌, ◌++◌, map, Some, None, Result, Ok, Err}
+use Rattle.std.specs.Prelude.{ℕ, ◌≡◌, List, [], ◌∷◌, ◌++◌, map, Some, None, Result, Ok, Err}
 use Rattle.arrayvec.specs.ArrayVec.{ArrayVec}
 use Rattle.relax_edges.specs.declared.edge.Edge.{Edge}
 use Rattle.final_cond.specs.{declared.cond.Cond.Cond, Conditions.term_view}
-use Rattle.arch_trait.specs.{declared.code.Code.Code, declared.step.Step.Step, Codes.thread_code_of, Threads.{Puts, compiled}}
-use Rattle.tests_force_cycles.specs.TestOf.{load_terms, thread_terms}
-use Rattle.test_maker.specs.{Refusals.is_crowded, declared.refusal.Refusal.Refusal, declared.refusal.Refusal.TheVariants.TooManyRegisters}
+use Rattle.arch_trait.specs.{declared.code.Code.Code, Codes.thread_code_of, Threads.{Puts, compiled}}
+use Rattle.tests_force_cycles.specs.TestOf.{load_terms}
+use Rattle.test_maker.specs.{declared.refusal.Refusal.Refusal}
 use Rattle.co_tests.specs.{CoherenceTests.coherence_steps, CoRefusals.crowded_thread}
-
--- a call makes the code of a thread after those before it and appends the terms of its loads, or refuses the thread, which needs
--- too many registers
-abbrev pub PutsThread : Puts → (ℕ → List ℕ) → ℕ → List Step → ArrayVec Code → ArrayVec Code → Cond → Cond → Result (Unit {0}) Refusal → Type 0
-PutsThread a register_name thread steps threads threads' cond cond' (Ok _) =
-    (is_crowded a steps ≡ false) ×
-    (map thread_code_of threads'.items ≡ map thread_code_of threads.items ++ compiled a steps ∷ []) ×
-    (cond'.quantifier ≡ cond.quantifier) × (map term_view cond'.terms.items ≡ map term_view cond.terms.items ++ thread_terms a register_name thread steps)
-PutsThread a register_name thread steps threads threads' cond cond' (Err refusal) =
-    (is_crowded a steps ≡ true) × (refusal ≡ TooManyRegisters thread)
 
 -- a call makes the code of all threads and appends the terms of their loads, or refuses the first that needs too many registers
 abbrev pub PutsThreads : Puts → (ℕ → List ℕ) → List Edge → ArrayVec Code → Cond → Cond → Result (Unit {0}) Refusal → Type 0

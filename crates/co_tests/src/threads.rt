@@ -1,18 +1,16 @@
-ghost use Rattle.std.specs.Prelude.{◌≡◌, ◌<◌, ◌≤◌, ◌+◌, false, length, map, Some};
+ghost use Rattle.std.specs.Prelude.{◌≡◌, ◌≤◌, Some};
 ghost use Rattle.arrayvec.specs.ArrayVec.{array_vec_len};
-ghost use Rattle.arch_trait.specs.{Threads.{FitSteps}, Writing.{name_in}};
-ghost use Rattle.tests_force_cycles.specs.CycleSteps.{numbers_read};
+ghost use Rattle.arch_trait.specs.Writing.{name_in};
 ghost use Rattle.test_maker.specs.Made.{AreOfArch};
 ghost use Rattle.co_tests.specs.CutResolution.{cut_of};
-ghost use Rattle.co_tests.specs.{Shape.{HasShape}, Threads.{PutsThread, PutsThreads}};
+ghost use Rattle.co_tests.specs.{Shape.{HasShape}, Threads.{PutsThreads}};
 
-use crate::condition::put_load_terms;
 use crate::steps::step_of;
-use arch_trait::{Arch, MAX_STEPS, Step, ThreadCodes};
+use arch_trait::{Arch, Step, ThreadCodes};
 use arrayvec::ArrayVec;
-use final_cond::{Cond, MAX_TERMS};
+use final_cond::Cond;
 use relax_edges::{Edge, MAX_EDGES};
-use test_maker::Refusal;
+use test_maker::{Refusal, put_thread};
 
 /// Makes `threads` the code of the threads of a cycle at one location that is cut at an edge, and
 /// appends what their loads read to the condition. What `threads` held before is dropped. If a thread
@@ -44,26 +42,4 @@ pub fn put_threads<A: Arch>(
         }
     }
     Ok(())
-}
-
-/// Makes the code of the next thread, and appends what its loads read to the condition.
-fn put_thread<A: Arch>(
-    thread: u8,
-    steps: &[Step],
-    threads: &mut ThreadCodes,
-    cond: &mut Cond,
-) -> Result<(), Refusal>
-    requires fit { FitSteps A.puts.name false steps.now }
-    requires few { length steps.now ≤ MAX_STEPS }
-    requires room { array_vec_len threads.old < MAX_EDGES }
-    requires terms_room { array_vec_len cond.old.terms + length (numbers_read steps.now) ≤ MAX_TERMS }
-    ensures { PutsThread A.puts (name_in A.writing.registers) thread steps.now threads.old threads.new cond.old cond.new result }
-{
-    match threads.compile_next::<A>(steps) {
-        Ok(()) => {
-            put_load_terms::<A>(thread, steps, threads.last_loads(), &mut cond.terms);
-            Ok(())
-        }
-        Err(_) => Err(Refusal::TooManyRegisters { thread }),
-    }
 }

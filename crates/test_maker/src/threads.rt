@@ -39,8 +39,11 @@ pub fn put_threads<A: Arch>(
     Ok(())
 }
 
-/// Makes the code of the next thread, and appends what its loads read to the condition.
-fn put_thread<A: Arch>(
+/// Makes the code of the next thread of a test from its steps, after the threads before it, and appends what its loads read
+/// to the condition. If the thread needs too many registers, it returns `TooManyRegisters`.
+///
+/// The steps must fit the architecture, and there must be room for the thread and for its terms.
+pub fn put_thread<A: Arch>(
     thread: u8,
     steps: &[Step],
     threads: &mut ThreadCodes,
