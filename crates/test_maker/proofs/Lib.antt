@@ -3,6 +3,7 @@ pub mod Filling
 pub mod Ranges
 pub mod Forcing
 pub mod Growing
+pub mod Rooms
 pub mod Naming
 pub mod OfArch
 pub mod Printing

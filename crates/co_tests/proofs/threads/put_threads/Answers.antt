@@ -13,7 +13,7 @@ use Rattle.test_maker.specs.declared.refusal.Refusal.TheVariants.{TooManyRegiste
 use Rattle.co_tests.specs.CoherenceTests.{coherence_steps}
 use Rattle.co_tests.proofs.Fits.{loop_thread}
 use Rattle.co_tests.proofs.{Cuts.loop_at, threads.put_threads.Goals.{then-is_external+in-Ok, else-is_external}}
-use Rattle.co_tests.proofs.Growing.{grown_none, grown_more, grown_refused, grown_all}
+use Rattle.test_maker.proofs.Growing.{crowded_here, grown_none, grown_more, grown_all}
 use Rattle.co_tests.proofs.ThreadSteps.{none_yet, one_more, steps_most, thread_whole, thread_within, threads_count}
 use Rattle.co_tests.proofs.threads.put_threads.Goals as goal
 
@@ -80,7 +80,7 @@ returns-in-Err g c =
     let whole = thread_whole es c.loop-i.thread c.loop-i.i c.as_slice.result.now (omega (arith, c.loop-i-test.true)) out c.loop-i.invariant.thread (c.as_slice.ensures.value ∙ pushed)
     (omega (arith, c.loop-i.invariant.thread, thread_within es c.loop-i.i (omega (arith, c.loop-i-test.true)) out)) in
     ap (option_map (λ thread. TooManyRegisters thread))
-    (grown_refused g.A.Arch.puts (name_in g.A.Arch.writing.registers) (coherence_steps es) c.loop-i.thread c.as_slice.result.now _ _ _ c.loop-i.invariant.grown whole c.in-Err.ensures.0)
+    (crowded_here g.A.Arch.puts (coherence_steps es) c.loop-i.thread c.as_slice.result.now c.loop-i.invariant.grown.fitting whole c.in-Err.ensures.0)
     ∙ ap Some (sym c.in-Err.ensures.1)
 
 pub overflow_add-thread : goal.overflow_add-thread

@@ -5,7 +5,8 @@ use Rattle.final_cond.specs.Conditions.{term_view}
 use Rattle.cycle_events.specs.Resolution.{thread_of}
 use Rattle.arch_trait.specs.{Codes.thread_code_of, Writing.name_in}
 use Rattle.co_tests.specs.CoherenceTests.{coherence_steps}
-use Rattle.co_tests.proofs.{Growing.Grown, ThreadSteps.steps_so_far}
+use Rattle.test_maker.proofs.Growing.{Grown}
+use Rattle.co_tests.proofs.ThreadSteps.{steps_so_far}
 use Rattle.co_tests.proofs.threads.put_threads.Given as goal
 
 abbrev pub invariant-loop-i : goal.invariant-loop-i

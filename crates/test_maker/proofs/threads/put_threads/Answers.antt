@@ -1,10 +1,21 @@
 -- That `put_threads` makes the code of all threads, or refuses the first that needs too many registers.
-use Rattle.std.proofs.{Common.arith, lemmas.Result.err_from_is_err_and}
-use Rattle.arch_trait.specs.Writing.{name_in}
-use Rattle.tests_force_cycles.specs.TestOf.{plain}
+use Rattle.std.proofs.{Common.{◌∙◌, ap, arith, map, refl, sym, Some}, lemmas.Result.err_from_is_err_and}
+use Rattle.std.specs.Option.{option_map}
+use Rattle.final_cond.specs.Conditions.{term_view}
+use Rattle.arch_trait.specs.{Codes.thread_code_of, Writing.name_in}
+use Rattle.tests_force_cycles.specs.{CycleSteps.cycle_steps, TestOf.plain}
 use Rattle.tests_force_cycles.proofs.StepsFit.{steps_fit}
-use Rattle.test_maker.proofs.Growing.{grown_more, grown_refused, thread_room, load_room}
+use Rattle.test_maker.specs.declared.refusal.Refusal.TheVariants.{TooManyRegisters}
+use Rattle.test_maker.proofs.{Growing.{crowded_here, grown_none, grown_more, grown_all}, Rooms.{thread_room, load_room}}
 use Rattle.test_maker.proofs.threads.put_threads.Goals as goal
+
+pub loop-thread-init : goal.loop-thread-init
+loop-thread-init g c = record {
+  grown =
+      grown_none g.A.Arch.puts (name_in g.A.Arch.writing.registers) (cycle_steps c.args.valued.now.edges c.args.valued.now.mode plain)
+      (map thread_code_of c.clear.new.self.items) (map term_view c.args.cond.now.terms.items) (ap (map thread_code_of) c.clear.ensures);
+  quantifier = refl;
+}
 
 pub put_thread-requires-clause-fit : goal.put_thread-requires-clause-fit
 put_thread-requires-clause-fit g c =
@@ -15,21 +26,31 @@ pub put_thread-requires-clause-room : goal.put_thread-requires-clause-room
 put_thread-requires-clause-room g c =
     let resolved = c.resolved.ensures.resolved in
     thread_room g.A.Arch.puts (name_in g.A.Arch.writing.registers) c.args.valued.now.edges c.args.valued.now.mode c.loop-thread.thread c.loop-thread.threads c.args.cond.now c.loop-thread.cond
-    resolved c.loop-thread.invariant (omega arith)
+    resolved c.loop-thread.invariant.grown (omega arith)
 
 pub put_thread-requires-clause-terms_room : goal.put_thread-requires-clause-terms_room
 put_thread-requires-clause-terms_room g c =
     let resolved = c.resolved.ensures.resolved in
     (load_room g.A.Arch.puts (name_in g.A.Arch.writing.registers) c.args.valued.now.edges c.args.valued.now.mode c.loop-thread.thread c.steps_of-steps.result.now c.loop-thread.threads c.args.cond.now c.loop-thread.cond
-    resolved c.loop-thread.invariant c.steps_of-steps.ensures.steps c.requires.last)
+    resolved c.loop-thread.invariant.grown c.steps_of-steps.ensures.steps c.requires.last)
 
 pub returns-in_err-put_thread : goal.returns-in_err-put_thread
 returns-in_err-put_thread g c =
     let p = err_from_is_err_and c.from_residual.result c.from_residual.ensures.1 in
-    rw (p.1, p.2) (grown_refused g.A.Arch.puts (name_in g.A.Arch.writing.registers) c.args.valued.now.edges c.args.valued.now.mode c.loop-thread.thread c.steps_of-steps.result.now c.loop-thread.threads c.put_thread.new.threads c.args.cond.now c.loop-thread.cond c.put_thread.new.cond c.in_err-put_thread.field-0.0
-    c.loop-thread.invariant c.steps_of-steps.ensures.steps c.in_err-put_thread.ensures)
+    let all = cycle_steps c.args.valued.now.edges c.args.valued.now.mode plain in
+    rw (p.1, p.2) (ap (option_map (λ thread. TooManyRegisters thread))
+    (crowded_here g.A.Arch.puts all c.loop-thread.thread c.steps_of-steps.result.now c.loop-thread.invariant.grown.fitting c.steps_of-steps.ensures.steps c.in_err-put_thread.ensures.0)
+    ∙ ap Some (sym c.in_err-put_thread.ensures.1))
 
 pub loop-thread-preserved : goal.loop-thread-preserved
-loop-thread-preserved g c =
-    grown_more g.A.Arch.puts (name_in g.A.Arch.writing.registers) c.args.valued.now.edges c.args.valued.now.mode c.loop-thread.thread c.steps_of-steps.result.now _ _ _ _ _
-    c.loop-thread.invariant c.steps_of-steps.ensures.steps c.in_ok-put_thread.ensures
+loop-thread-preserved g c = record {
+  grown =
+      grown_more g.A.Arch.puts (name_in g.A.Arch.writing.registers) (cycle_steps c.args.valued.now.edges c.args.valued.now.mode plain) c.loop-thread.thread c.steps_of-steps.result.now _ _ _ _ _
+      c.loop-thread.invariant.grown c.steps_of-steps.ensures.steps c.in_ok-put_thread.ensures.0 c.in_ok-put_thread.ensures.1 c.in_ok-put_thread.ensures.3;
+  quantifier = c.in_ok-put_thread.ensures.2 ∙ c.loop-thread.invariant.quantifier;
+}
+
+pub returns : goal.returns
+returns g c =
+    let all = grown_all g.A.Arch.puts (name_in g.A.Arch.writing.registers) (cycle_steps c.args.valued.now.edges c.args.valued.now.mode plain) c.loop-thread.thread _ _ _ c.loop-thread.invariant.grown (omega arith) in
+    (ap (option_map (λ thread. TooManyRegisters thread)) all.fitting, all.codes_are, c.loop-thread.invariant.quantifier, all.terms_are)

@@ -1,7 +1,11 @@
 -- The loop of `put_threads`: the threads so far are made.
+use Rattle.std.proofs.Common.{◌≡◌}
 use Rattle.arch_trait.specs.Writing.{name_in}
-use Rattle.test_maker.proofs.Growing.{Grown}
+use Rattle.test_maker.proofs.Rooms.{GrownTo}
 use Rattle.test_maker.proofs.threads.put_threads.Given as goal
 
 abbrev pub invariant-loop-thread : goal.invariant-loop-thread
-invariant-loop-thread g l = Grown g.A.Arch.puts (name_in g.A.Arch.writing.registers) l.valued.edges l.valued.mode l.thread l.threads l.fn.cond l.cond
+invariant-loop-thread g l = record {
+  grown : GrownTo g.A.Arch.puts (name_in g.A.Arch.writing.registers) l.valued.edges l.valued.mode l.thread l.threads l.fn.cond l.cond;
+  quantifier : l.cond.quantifier ≡ l.fn.cond.quantifier;
+}
