@@ -1,5 +1,5 @@
 -- The coherence test of a cycle, under a name of a test's form, is within the limits of the format.
-use Rattle.co_tests.proofs.Vocabulary.{◌≡◌, ℕ, suc, ◌+◌, ◌-◌, ◌<◌, ◌≤◌, ◌==◌, Bool, true, false, cond, List, [], ◌∷◌, ◌++◌, length, map, Some, slice_get, refl, sym, ◌∙◌, ap, subst, arith, append-nil, length-append, ◌&&◌, ◌||◌, is_some, count_by, AllByRecursion, sum_by, eqb-true, le-leb, and_from, leb-true, length-map, sum_by-cons, count_by-le-length, length-filter, slice_get_within, bytes_eq-Decides, upto, by_test, all_append, sum_upto_same, classes_total, MAX_EDGES, Dir, ArchName, Kind, Avoid, Edge, kind_of, kind_source, kind_target, source_of, target_of, is_external, edge_at, external_count, move_count, thread_of, slot_of, events_in, event_after, event_in_slot, after_below, source_after, TermSeen, is_place_name, place_name_short, MAX_INSTRS, Step, WritesCells, MakesOneAccess, IsArch, InOrder, branches, letters, location_name, number_in, Writing, WritesBack, name_in, Puts, ThreadCode, compiled, is_load_dir, is_store_dir, loads_in, visits, compiled_ordered, compiled_accesses, length-letters, location_new, is_formed, thread_short, IsTestName, LinkFits, links_of, CodeFits, code_lands, IsReadable, TermFits, got_map, image_of, written_by, event_step, thread_steps, cycle_steps, plain, is_named_location, last_term, last_terms, load_terms, position_first, letter_at, load_terms-count, sum_map, thread_steps_at, by_steps, steps-count, steps_few, HasPlaces, code_fits, lands_once, links_fit, links_single, IsThreadCode, each_code, all_read_terms, numbers_small, all_links, AreShort, IsSmall, text_short, got_is, term_most, counted_one, cut_open, writes_in, coherence_steps, coherence_test_of, texts_short, registers_short, formed_terms, ordered_few}
+use Rattle.co_tests.proofs.Vocabulary.{◌≡◌, ℕ, suc, ◌+◌, ◌<◌, ◌≤◌, ◌==◌, Bool, true, false, cond, List, [], ◌∷◌, ◌++◌, length, map, Some, slice_get, refl, sym, ◌∙◌, ap, subst, arith, append-nil, length-append, ◌&&◌, ◌||◌, is_some, count_by, AllByRecursion, sum_by, eqb-true, le-leb, and_from, leb-true, length-map, sum_by-cons, count_by-le-length, length-filter, slice_get_within, bytes_eq-Decides, upto, by_test, all_append, sum_upto_same, classes_total, MAX_EDGES, Dir, ArchName, Kind, Avoid, Edge, kind_of, kind_source, kind_target, source_of, target_of, is_external, edge_at, external_count, move_count, thread_of, slot_of, events_in, event_after, event_in_slot, after_below, source_after, TermSeen, is_place_name, place_name_short, MAX_INSTRS, Step, WritesCells, MakesOneAccess, IsArch, InOrder, branches, letters, location_name, number_in, Writing, WritesBack, name_in, Puts, ThreadCode, compiled, is_load_dir, is_store_dir, loads_in, visits, compiled_ordered, compiled_accesses, length-letters, location_new, is_formed, thread_short, IsTestName, LinkFits, links_of, CodeFits, code_lands, IsReadable, TermFits, got_map, image_of, written_by, event_step, thread_steps, cycle_steps, plain, is_named_location, last_term, last_terms, load_terms, position_first, letter_at, load_terms-count, sum_map, thread_steps_at, by_steps, steps-count, steps_few, HasPlaces, code_fits, lands_once, links_fit, links_single, IsThreadCode, each_code, all_read_terms, numbers_small, all_links, AreShort, IsSmall, text_short, got_is, term_most, counted_one, cut_open, writes_in, coherence_steps, coherence_test_of, texts_short, registers_short, formed_terms, ordered_few}
 use Rattle.relax_edges.specs.declared.kinds.Dir.TheVariants as dirs
 use Rattle.relax_edges.specs.declared.kinds.Com.TheVariants as coms
 use Rattle.relax_edges.specs.declared.kinds.Kind.TheVariants as kinds
