@@ -1,5 +1,4 @@
 pub mod ReadingLaws
-pub mod FenceWords
 pub mod KindSpellings
 pub mod EdgeReadings
 mod RelaxExamples
