@@ -1,6 +1,6 @@
 -- Elements of lists and options: those from a place on, and a property or a test of each element.
-use Rattle.std.proofs.Common.{◌≡◌, ℕ, ◌+◌, ◌-◌, Bool, true, List, [], ◌∷◌, ◌++◌, Some, length, length-drop, slice_get, take, drop, refl, sym, ◌∙◌, ap}
-use Rattle.std.specs.{List.list_all, List.AllByRecursion, List.flat_map}
+use Rattle.std.proofs.Common.{◌≡◌, ℕ, ◌+◌, ◌-◌, Bool, true, List, [], ◌∷◌, ◌++◌, Option, Some, None, length, length-drop, slice_get, take, drop, refl, sym, ◌∙◌, ap}
+use Rattle.std.specs.{List.list_all, List.AllByRecursion, List.flat_map, Option.option_or}
 use Rattle.std.proofs.{lemmas.Bool.and_parts, lemmas.Bool.and_from, Math.Seq.take-length, lemmas.List.drop_more, lemmas.Option.slice_get_within}
 use Rattle.std.proofs.{lemmas.Option.get_or_from_slice_get, lemmas.List.Concat.flat_map-append}
 
@@ -15,6 +15,11 @@ rest_from xs i = ap (λ n. take n (drop i xs)) (sym (length-drop i xs)) ∙ take
 -- the elements after the first, as code takes them
 pub rest-cons : {X : Type 0} (x : X) (xs : List X) → take (length (x ∷ xs) - 1) (drop 1 (x ∷ xs)) ≡ xs
 rest-cons x xs = rest_from (x ∷ xs) 1
+
+-- an option, or else nothing, is that option
+pub option_or-none : {X : Type 0} (o : Option X) → option_or o None ≡ o
+option_or-none None = refl
+option_or-none (Some x) = refl
 
 -- where each element passes a test, each passes a weaker one
 pub list_all-weaker : {X : Type 0} (p q : X → Bool) → ((x : X) → p x ≡ true → q x ≡ true) → (xs : List X) → list_all p xs ≡ true → list_all q xs ≡ true
