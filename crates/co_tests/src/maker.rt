@@ -21,6 +21,7 @@ use test_maker::{Refusal, all_of_arch};
 pub fn co_test<A: Arch>(cycle: &Cycle) -> Result<Test, Refusal>
     ensures made { MakesCoherenceTest A.puts (name_in A.writing.registers) cycle.now result }
     ensures printable { IfOk result (CanPrint A.puts A.REGISTERS) }
+    ensures located { IfErr result NamesLocation }
     ensures has_test { IfOk result (λ _. HasCoherenceTest A.puts (turned cycle.now)) }
 {
     let mut test = Test::new();
