@@ -13,7 +13,6 @@ use Rattle.arch_trait.proofs.{Rules.{holding, after_load, after_store}, Taking.{
 use Rattle.arch_trait.specs.{declared.link.Link.Link, Cells.access_count, Links.{branches, depends_on_load, is_addr, is_data}}
 use Rattle.arch_trait.specs.Taking.{Taken, address_in, address_of, with_address}
 use Rattle.arch_trait.specs.Laws.{IsTaken, HoldsPlaces, HasSource, Did, DidLoad, DidLink, is_at_place}
-use Rattle.arch_trait.specs.declared.link.Link.TheVariants as links
 
 -- what laws ask of code, but for its run
 pub record Asked : Type 0 where

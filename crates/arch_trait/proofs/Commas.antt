@@ -1,5 +1,5 @@
 -- The comma at which a text is cut, and the operands between commas.
-use Rattle.std.proofs.Common.{ℕ, ◌+◌, ◌-◌, ◌<◌, ◌≤◌, ◌≡◌, ◌==◌, refl, Bool, true, false, cond, List, [], ◌∷◌, Some, None, nat_lt, map, length, length-drop, take, drop, ◌∙◌, sym, ap, arith}
+use Rattle.std.proofs.Common.{ℕ, ◌+◌, ◌-◌, ◌≤◌, ◌≡◌, ◌==◌, refl, Bool, true, false, cond, List, [], ◌∷◌, Some, None, nat_lt, map, length, length-drop, take, drop, ◌∙◌, sym, ap, arith}
 use Rattle.std.proofs.{lemmas.Bool.{ltb-true, ltb-false, eqb-true}, Math.Seq.take-length, lemmas.List.Splits.{slice_split_first, slice_split_none}}
 use Rattle.std.proofs.lemmas.List.Sums.{fails_before_first}
 use Rattle.std.specs.List.{position, slice_split, onto_first}

@@ -1,5 +1,5 @@
 -- The walk over the accesses of a thread that appends their code.
-use Rattle.std.proofs.Common.{ℕ, ◌+◌, ◌*◌, ◌<◌, ◌≤◌, ◌≡◌, false, List, [], ◌∷◌, ◌++◌, Option, is_some, length, get_or, drop, drop-cons, add-one, length-append, append_assoc, ◌∙◌, arith}
+use Rattle.std.proofs.Common.{ℕ, ◌+◌, ◌*◌, ◌<◌, ◌≤◌, ◌≡◌, false, List, [], ◌∷◌, ◌++◌, Option, is_some, length, get_or, drop, drop-cons, add-one, length-append, append_assoc, arith}
 use Rattle.micro_ops.specs.declared.operation.Micro.{Micro}
 use Rattle.arch_trait.specs.declared.step.Step.{Step}
 use Rattle.arch_trait.specs.Threads.{Way, Puts, FitSteps, is_load_dir, shape_of, setting_out, next_filled, further, step_code, thread_code, thread_regs, thread_loads, put_before}

@@ -1,5 +1,5 @@
 -- Immediates and labels read back from their text.
-use Rattle.std.proofs.{Common.{ℕ, ◌≤◌, ◌≡◌, refl, Some, ◌∙◌, arith}, lemmas.Bool.le-leb}
+use Rattle.std.proofs.{Common.{ℕ, ◌≤◌, ◌≡◌, refl, Some, arith}, lemmas.Bool.le-leb}
 use Rattle.std.specs.Fmt.{decimal}
 use Rattle.text_parts.proofs.NumberLaws.{number_of-decimal}
 use Rattle.micro_ops.specs.declared.operation.Micro.TheVariants as ops

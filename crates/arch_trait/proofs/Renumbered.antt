@@ -5,7 +5,6 @@ use Rattle.micro_ops.specs.{declared.operation.Micro.Micro, Running.{runs, Ended
 use Rattle.arch_trait.proofs.RunsRenumbered.{init_at, outcome_at, runs_at}
 use Rattle.arch_trait.specs.{declared.step.Step.Step, Codes.MakesSteps, Links.link_control, Taking.initial_values, PlaceRenumbering.{step_at, renumbered}}
 use Rattle.arch_trait.specs.Threads.{ThreadCode, is_load_dir, loads_in, loads_after, left_after, thread_items, HoldNumbers}
-use Rattle.arch_trait.specs.declared.link.Link.TheVariants as links
 
 -- address registers with other numbers begin with the addresses of these
 initial_at : (f : ℕ → ℕ) (l : List (ℕ × ℕ)) → initial_values (map (λ link. (link.0, f link.1)) l) ≡ init_at f (initial_values l)

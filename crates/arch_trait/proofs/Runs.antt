@@ -1,5 +1,5 @@
 -- The run of a thread's code: each access is made in turn, on any numbers that its loads read.
-use Rattle.std.proofs.Common.{ℕ, ◌+◌, ◌-◌, ◌<◌, ◌≤◌, ◌≡◌, ◌⊎◌, refl, Bool, true, false, cond, List, [], ◌∷◌, ◌++◌, Option, Some, None, length, ◌∙◌, sym, ap, subst, append_assoc, append-nil, arith}
+use Rattle.std.proofs.Common.{ℕ, ◌+◌, ◌-◌, ◌<◌, ◌≤◌, ◌≡◌, refl, Bool, true, false, cond, List, [], ◌∷◌, ◌++◌, Option, Some, None, length, ◌∙◌, sym, ap, subst, append_assoc, append-nil, arith}
 use Rattle.std.proofs.lemmas.List.Sums.{sum_by-cons}
 use Rattle.list_laws.proofs.Cases.{by_test}
 use Rattle.relax_edges.specs.{declared.kinds.Dir.Dir, EdgeTable.mark_fits}

@@ -1,5 +1,5 @@
 -- Tables of names.
-use Rattle.std.proofs.Common.{ℕ, zero, suc, ◌+◌, ◌/◌, ◌%◌, ◌<◌, ◌≡◌, refl, Bool, true, nat_lt, nat_le, ◌==◌, List, [], ◌∷◌, ◌++◌, None, is_none, ◌&&◌, length, get_or, length-append, ◌∙◌, arith}
+use Rattle.std.proofs.Common.{ℕ, zero, suc, ◌+◌, ◌/◌, ◌%◌, ◌<◌, ◌≡◌, refl, Bool, true, nat_lt, nat_le, List, [], ◌∷◌, ◌++◌, None, is_none, ◌&&◌, length, get_or, length-append, arith}
 use Rattle.std.proofs.{lemmas.Bool.{and_from, and_parts, or_left, ltb-true}, lemmas.List.Folds.list_all-append}
 use Rattle.std.proofs.lemmas.List.FromFn.{map-range_with_len_more, length-map-range_with_len}
 use Rattle.std.specs.{List.{list_all, IsDistinct}, Str.bytes_eq}

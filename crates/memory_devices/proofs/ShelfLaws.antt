@@ -3,7 +3,7 @@ use Rattle.std.proofs.Common.{◌≡◌, ◌≤◌, ◌<◌, ℕ, ◌+◌, List,
 use Rattle.std.proofs.{lemmas.List.{take-append-drop, drop_all, drop-drop, get_or-set_same, length-take-le, take-append-le, take-take}, lemmas.Option.same_Some}
 use Rattle.std.specs.Prelude.{Result, OnErr}
 use Rattle.diy_io.specs.Count.{next_count, count_of}
-use Rattle.diy_io.specs.Shelf.{Idle, Reading, Writing, name_written, IsWriting, with_more, Opened, NotThere, Stopped, Gave, Created, AppendedPart}
+use Rattle.diy_io.specs.Shelf.{Idle, name_written, IsWriting, with_more, Opened, NotThere, Stopped, Gave, Created, AppendedPart}
 use Rattle.memory_devices.specs.{declared.mem_shelf.Work.Work, declared.mem_shelf.MemShelf.TheInside.Inside}
 use Rattle.memory_devices.specs.MemFiles.{MemFilesState, NamedFile, file_place, file_name_at, bytes_at, files_named}
 use Rattle.memory_devices.specs.MemShelf.{MemShelfState, mem_shelf_seen, mode_of, IsPlace, IsAt}

@@ -2,7 +2,7 @@
 use Rattle.std.proofs.{Common.{◌≡◌, ℕ, ◌^◌, ◌<◌, ◌≤◌, List, length, get_or, sym, ap, subst, ◌∙◌, arith}, lemmas.Bool.both_ways}
 use Rattle.std.proofs.lemmas.Slice.Eq.{bytes_eq-Decides}
 use Rattle.std.proofs.lemmas.Fmt.{digits_decimal, digits_value-decimal, decimal-digits_value, first_decimal, decimal_digit, decimal_nonempty, length-decimal-le}
-use Rattle.std.specs.{Prelude.{true, false, ◌&&◌, Option, Some, None, Result}, Char.{is_ascii, is_ascii_digit}, Fmt.decimal, List.list_all, Result.result_ok}
+use Rattle.std.specs.{Prelude.{true, false, Option, Some, None, Result}, Char.{is_ascii, is_ascii_digit}, Fmt.decimal, List.list_all, Result.result_ok}
 use Rattle.std.specs.{Str.{IsUtf8}, Str.Parse.{digits_value, ParsesUnsigned}}
 use Rattle.list_laws.proofs.{Digits.digits_model, Elements.list_all-weaker}
 use Rattle.text_parts.specs.NumberTexts.{number_of}

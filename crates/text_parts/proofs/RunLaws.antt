@@ -1,5 +1,5 @@
 -- The longest beginning of a text whose bytes all pass a test: how a walk finds it, and what it is for a text that is known.
-use Rattle.std.proofs.Common.{◌≡◌, ℕ, ◌+◌, ◌<◌, ◌≤◌, List, [], ◌∷◌, ◌++◌, length, get_or, take, drop, refl, ap, ◌∙◌, arith, add-one, append_assoc, append-nil, length-append}
+use Rattle.std.proofs.Common.{◌≡◌, ℕ, ◌+◌, ◌<◌, ◌≤◌, List, [], ◌∷◌, ◌++◌, length, get_or, take, drop, refl, ap, arith, add-one, append_assoc, append-nil, length-append}
 use Rattle.std.proofs.{lemmas.Bool.and_parts, Math.Seq.{drop-cons, drop-length, take-length}, lemmas.List.take_more}
 use Rattle.std.specs.{Prelude.{Bool, true, false, not}, List.list_all}
 use Rattle.list_laws.proofs.Cases.{by_test}
