@@ -48,7 +48,8 @@ pub use Rattle.edge_algebra.specs.Compose.{composed, unbroken}
 pub use Rattle.edge_algebra.specs.ComposingLaws.{composes_exactly}
 pub use Rattle.edge_algebra.specs.declared.errors.CycleError.{CycleError}
 pub use Rattle.edge_algebra.specs.declared.errors.CycleError.TheVariants.{TooLong}
-pub use Rattle.list_laws.proofs.Cases.{by_less, by_option, by_test, implied, same_index}
+pub use Rattle.list_laws.proofs.Cases.{by_less, by_option, by_test, implied}
+pub use Rattle.relax_edges.proofs.Ranks.{same_index}
 pub use Rattle.list_laws.proofs.Elements.{rest-cons}
 pub use Rattle.list_laws.proofs.Places.{before_first-no, position_or_len-no}
 pub use Rattle.list_laws.specs.Numbers.{upto}

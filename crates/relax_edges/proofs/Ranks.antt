@@ -190,7 +190,7 @@ unfolding rank_of edges_in_order compare_alike
 all_alike = refl
 
 -- answers of comparisons with one index are the same
-same_index : (r s : Ordering) → ordering_index r ≡ ordering_index s → r ≡ s
+pub same_index : (r s : Ordering) → ordering_index r ≡ ordering_index s → r ≡ s
 same_index Less Less e = refl
 same_index Equal Equal e = refl
 same_index Greater Greater e = refl
