@@ -1,4 +1,5 @@
 pub mod ReadingLaws
+pub mod FenceWords
 pub mod KindSpellings
 pub mod EdgeReadings
 mod RelaxExamples

@@ -107,30 +107,72 @@ fn riscv_fence(text: &[u8]) -> Option<FenceKind>
     Some(FenceKind::Fence { pred, succ })
 }
 
-/// The fence that a text names.
+#[tactic(auto, using(crate::proofs::FenceWords::fence_of_three))]
+fn fence_of_three(first: u8, second: u8, third: u8) -> Option<FenceKind>
+    ensures { result ≡ fence_named (first ∷ second ∷ third ∷ []) }
+{
+    match (first, second, third) {
+        (b'D', b'M', b'B') => Some(FenceKind::Dmb),
+        _ => None,
+    }
+}
+
+#[tactic(auto, using(crate::proofs::FenceWords::fence_of_four))]
+fn fence_of_four(first: u8, second: u8, third: u8, fourth: u8) -> Option<FenceKind>
+    ensures { result ≡ fence_named (first ∷ second ∷ third ∷ fourth ∷ []) }
+{
+    match (first, second, third, fourth) {
+        (b'S', b'y', b'n', b'c') => Some(FenceKind::Sync),
+        _ => None,
+    }
+}
+
+#[tactic(auto, using(crate::proofs::FenceWords::fence_of_five))]
+fn fence_of_five(first: u8, second: u8, third: u8, fourth: u8, fifth: u8) -> Option<FenceKind>
+    ensures { result ≡ fence_named (first ∷ second ∷ third ∷ fourth ∷ fifth ∷ []) }
+{
+    match (first, second, third, fourth, fifth) {
+        (b'E', b'i', b'e', b'i', b'o') => Some(FenceKind::Eieio),
+        (b'I', b'S', b'y', b'n', b'c') => Some(FenceKind::ISync),
+        _ => None,
+    }
+}
+
+#[tactic(auto, using(crate::proofs::FenceWords::fence_of_six))]
+fn fence_of_six(
+    first: u8,
+    second: u8,
+    third: u8,
+    fourth: u8,
+    fifth: u8,
+    sixth: u8,
+) -> Option<FenceKind>
+    ensures { result ≡ fence_named (first ∷ second ∷ third ∷ fourth ∷ fifth ∷ sixth ∷ []) }
+{
+    match (first, second, third, fourth, fifth, sixth) {
+        (b'M', b'F', b'e', b'n', b'c', b'e') => Some(FenceKind::MFence),
+        (b'L', b'w', b'S', b'y', b'n', b'c') => Some(FenceKind::LwSync),
+        (b'D', b'M', b'B', b'.', b'S', b'Y') => Some(FenceKind::DmbSy),
+        (b'D', b'M', b'B', b'.', b'L', b'D') => Some(FenceKind::DmbLd),
+        (b'D', b'M', b'B', b'.', b'S', b'T') => Some(FenceKind::DmbSt),
+        _ => None,
+    }
+}
+
+/// The fence that a text names. Few names have the same length, so the length is tested first.
 fn fence_from_word(text: &[u8]) -> Option<FenceKind>
     ensures { result ≡ fence_named text.now }
 {
-    if text == b"MFence".as_slice() {
-        Some(FenceKind::MFence)
-    } else if text == b"Sync".as_slice() {
-        Some(FenceKind::Sync)
-    } else if text == b"LwSync".as_slice() {
-        Some(FenceKind::LwSync)
-    } else if text == b"Eieio".as_slice() {
-        Some(FenceKind::Eieio)
-    } else if text == b"ISync".as_slice() {
-        Some(FenceKind::ISync)
-    } else if text == b"DMB.SY".as_slice() {
-        Some(FenceKind::DmbSy)
-    } else if text == b"DMB.LD".as_slice() {
-        Some(FenceKind::DmbLd)
-    } else if text == b"DMB.ST".as_slice() {
-        Some(FenceKind::DmbSt)
-    } else if text == b"DMB".as_slice() {
-        Some(FenceKind::Dmb)
-    } else {
-        riscv_fence(text)
+    match text {
+        [first, second, third] => fence_of_three(*first, *second, *third),
+        [first, second, third, fourth] => fence_of_four(*first, *second, *third, *fourth),
+        [first, second, third, fourth, fifth] => {
+            fence_of_five(*first, *second, *third, *fourth, *fifth)
+        }
+        [first, second, third, fourth, fifth, sixth] => {
+            fence_of_six(*first, *second, *third, *fourth, *fifth, *sixth)
+        }
+        _ => riscv_fence(text),
     }
 }
 
