@@ -1,8 +1,8 @@
 -- In the intended execution, without the pairs across one link, each step leads further from the target of that link, where a read
 -- of an observer comes right after the write that it reads.
-use Rattle.sc_and_interleavings.proofs.Vocabulary.{◌≡◌, ℕ, ◌+◌, ◌<◌, ◌≤◌, true, List, [], ◌∷◌, length, Option, Some, None, slice_get, refl, sym, ◌∙◌, ap, arith, ObsMode, Edge, source_of, is_diff, by_same, unrank_upto, IsResolved, edge_at, thread_of, slot_of, location_of, external_count, move_count, value_of, write_at, is_write, is_observed, WriteAt, Access, read, write, at_name, order_place, order_at, source_at, event_name, IsNumbering, cycle_accesses, intended, observed_locations, EventAt, LoadAt, by_origin, resolves, moves, intended_is_execution, place_is_value, Resolves, later_slot, write_event, WritesWithin, EachLinkCloses, PrecedesBut, IsWriteTo, ReadsFrom, CoherenceOrder, IsBefore, FromRead, StepBy, ByPo, ByRf, ByCo, ByFr, IsPathBy, thread_up}
+use Rattle.sc_and_interleavings.proofs.Vocabulary.{◌≡◌, ℕ, ◌+◌, ◌<◌, ◌≤◌, true, List, [], ◌∷◌, length, Option, Some, None, slice_get, refl, sym, ◌∙◌, ap, arith, ObsMode, Edge, source_of, is_diff, by_same, unrank_upto, IsResolved, after_below, edge_at, event_access, event_after, event_at_name, kind_of, thread_of, slot_of, location_of, external_count, move_count, value_of, write_at, is_write, is_observed, WriteAt, Access, read, write, at_name, order_place, order_at, source_at, event_name, IsNumbering, cycle_accesses, intended, observed_locations, EventAt, LoadAt, by_origin, resolves, moves, intended_is_execution, place_is_value, Resolves, later_slot, write_event, WritesWithin, EachLinkCloses, OthersAreKept, PrecedesBut, IsWriteTo, ReadsFrom, CoherenceOrder, IsBefore, FromRead, StepBy, ByPo, ByRf, ByCo, ByFr, IsPathBy, thread_up}
 use Rattle.sc_and_interleavings.proofs.{Places.{Held, held, place_in}, Distances.{distance, distance_beside, further_by_value, further_than_write}}
-use Rattle.sc_and_interleavings.proofs.Levels.{WriteOf}
+use Rattle.sc_and_interleavings.proofs.{Around.ordering_inside, Levels.WriteOf}
 use Rattle.relax_edges.specs.declared.kinds.Dir.TheVariants as dirs
 
 -- the rank of an access: twice the distance of its event, or one more than that of the write that an observer's read reads
@@ -30,6 +30,10 @@ writes_test es j h = rw h refl
 -- an event by the name of its access
 name_of_event : (es : List Edge) (number : ℕ → ℕ) (e : WriteAt) (a : Access) → (h : EventAt es number e a) → e ≡ event_name es h.event
 name_of_event es number e a h = λ i. record { thread = h.thread i; access = h.slot i }
+
+-- an event is known by its thread and its slot
+one_event : (es : List Edge) (i j : ℕ) → Resolves es → i < length es → j < length es → thread_of es i ≡ thread_of es j → slot_of es i ≡ slot_of es j → i ≡ j
+one_event es i j r l m t s = grind (arith, r.stands i l, r.stands j m)
 
 -- the facts that the steps need
 record Facts (es : List Edge) (mode : ObsMode) (number : ℕ → ℕ) (i : ℕ) : Type 0 where
@@ -252,3 +256,18 @@ each_link_closes es mode number i resolved numbering link e between path =
     } in
     let g = path_goes es mode number i e between e facts path in
     omega (arith, g.rises, one_rank es mode i e g.from g.to r g.first g.second)
+
+-- program order without the pairs across one link holds across each other edge that orders
+pub others_are_kept : OthersAreKept
+others_are_kept es mode number i resolved numbering link j other differs =
+    let r = resolves es resolved in
+    let s = r.stays j other.below (ordering_inside (kind_of (edge_at es j)) other.orders) in
+    record {
+      order = record {
+        first = (event_access es number j, event_at_name es mode number j r other.below);
+        second = (event_access es number (event_after es j), event_at_name es mode number (event_after es j) r (after_below es j other.below));
+        thread = sym s.0;
+        earlier = omega (arith, s.1);
+      };
+      beside = λ t at_or_before after. differs (one_event es j i r other.below link.below t (omega (arith, at_or_before, after, s.1)));
+    }

@@ -5,7 +5,7 @@ pub use Rattle.std.proofs.lemmas.List.Sums.{count_by-le-length, length-filter, s
 pub use Rattle.std.proofs.lemmas.Option.{slice_get_past, slice_get_within}
 pub use Rattle.std.specs.{List.count_by, List.filter, List.filter_map, List.find, List.list_all, Option.option_and_then}
 pub use Rattle.std.specs.Prelude.{if◌then◌else◌, nat_lt, unwrap_or, ◌⊎◌}
-pub use Rattle.accesses_force_cycles.proofs.Accesses.{EventAt, LoadAt, by_origin, observer_thread, thread_accesses}
+pub use Rattle.accesses_force_cycles.proofs.Accesses.{EventAt, LoadAt, by_origin, event_at_name, observer_thread, thread_accesses}
 pub use Rattle.accesses_force_cycles.proofs.{AllStand.access_of_visit, Bridge.moves, Bridge.resolves}
 pub use Rattle.accesses_force_cycles.proofs.IntendedExists.{intended_is_execution, last_of_order}
 pub use Rattle.accesses_force_cycles.proofs.IntendedOrders.{gives_writes, place_is_value, place_of_value}
@@ -46,8 +46,10 @@ pub use Rattle.relax_edges.specs.{declared.kinds.Sd.TheVariants.Diff, declared.k
 pub use Rattle.sc_and_interleavings.specs.Along.{IsAlong, values_in}
 pub use Rattle.sc_and_interleavings.specs.CoherenceLaws.{CandidatesAreScPerLocation, CoherenceIsScPerLocation, CycleTestsAreScPerLocation, WritesWithin}
 pub use Rattle.sc_and_interleavings.specs.InterleavingLaws.{InterleavingsMakeExecutions, SequentialIsCoherent, StandingIsNotSequential}
-pub use Rattle.sc_and_interleavings.specs.{LinkLaws.EachLinkCloses, LinkLaws.StandingIsOutcome, Links.PrecedesBut, Made.before, Made.made_by}
+pub use Rattle.sc_and_interleavings.specs.{LinkLaws.EachLinkCloses, LinkLaws.KeptOrdersForbid, LinkLaws.OthersAreKept, LinkLaws.StandingIsOutcome}
+pub use Rattle.sc_and_interleavings.specs.{Links.IsKept, Links.IsOrdering, Links.KeepsEach, Links.KeepsOthers, Links.PrecedesBut, Links.is_ordering}
+pub use Rattle.sc_and_interleavings.specs.{Made.before, Made.made_by}
 pub use Rattle.sc_and_interleavings.specs.Relations.{Co, CoherenceOrder, Fr, FromRead, IsAccessOf, IsBefore, IsPathOfSteps, IsReadOf, IsScPerLocation, IsWriteTo, Po, ProgramOrder, ReadsFrom, Rf, Step}
-pub use Rattle.sc_and_interleavings.specs.Sequential.{ByCo, ByFr, ByPo, ByRf, IsPathBy, IsSequential, Precedes, StepBy}
+pub use Rattle.sc_and_interleavings.specs.Sequential.{ByCo, ByFr, ByPo, ByRf, HasNoCycle, IsPathBy, IsSequential, Precedes, StepBy}
 pub use Rattle.sc_and_interleavings.specs.SequentialLaws.{AlongIsSequential, SequentialGoesAlong}
 unfoldable pub use Rattle.sc_and_interleavings.specs.Made.{all_reads, reads_from}

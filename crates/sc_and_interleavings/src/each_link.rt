@@ -1,11 +1,24 @@
-//! What each link of a cycle does, and what an execution in which all edges stand ends in.
+//! What each link of a cycle does alone, what all do together, and what an execution in which all edges stand ends in.
 
-ghost use Rattle.sc_and_interleavings.specs.LinkLaws.{EachLinkCloses, StandingIsOutcome};
+ghost use Rattle.sc_and_interleavings.specs.LinkLaws.{EachLinkCloses, KeptOrdersForbid, OthersAreKept, StandingIsOutcome};
 
 /// In the intended execution of a cycle's test, program order without the pairs across one internal
 /// edge to another location, with reads-from, coherence order and from-read, has no cycle.
 pub fn each_link_closes()
     ensures { EachLinkCloses }
+{}
+
+/// This order, program order without the pairs across one link, holds across each other edge of the
+/// cycle that is program order, a fence or a dependency.
+pub fn others_are_kept()
+    ensures { OthersAreKept }
+{}
+
+/// If all edges of a resolved cycle stand in a candidate execution, and a machine keeps an order across
+/// each edge that is program order, a fence or a dependency, then this order, reads-from, coherence
+/// order and from-read have a cycle.
+pub fn kept_orders_forbid()
+    ensures { KeptOrdersForbid }
 {}
 
 /// If a cycle's test has no observers, each coherent candidate execution of a program that makes its

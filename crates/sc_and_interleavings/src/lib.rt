@@ -1,4 +1,5 @@
-//! Coherence per location is SC per location; no interleaving of a program makes a cycle; and without any one link a cycle is broken.
+//! Coherence per location is SC per location; no interleaving of a program makes a cycle; orders that are kept forbid a cycle; and without
+//! any one link a cycle is broken.
 #![tactic(auto)]
 
 mod each_link;
@@ -6,7 +7,7 @@ mod interleavings;
 mod sc_per_location;
 mod sequential_executions;
 
-pub use each_link::{each_link_closes, standing_is_outcome};
+pub use each_link::{each_link_closes, kept_orders_forbid, others_are_kept, standing_is_outcome};
 pub use interleavings::{
     interleavings_make_executions, sequential_is_coherent, standing_is_not_sequential,
 };
