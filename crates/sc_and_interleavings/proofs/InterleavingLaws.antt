@@ -1,6 +1,6 @@
 -- The laws of this crate.
-use Rattle.sc_and_interleavings.proofs.Vocabulary.{◌<◌, List, length, arith, count_by-le-length, Edge, is_external, IsResolved, WriteAt, Execution, Program, IsCandidate, accesses_in, AllStand, WritesWithin, HasNoCycle, Precedes, IsKept, KeepsEach, KeptOrdersForbid, SequentialIsCoherent, StandingIsNotSequential}
-use Rattle.sc_and_interleavings.proofs.{Places.held, CoherenceLaws.candidates_are_sc_per_location, Sequential.sequential_per_location, Around.{all_stand_cycle, program_order_keeps}}
+use Rattle.sc_and_interleavings.proofs.Vocabulary.{◌<◌, List, length, arith, count_by-le-length, Edge, is_external, IsResolved, WriteAt, Execution, Program, IsCandidate, accesses_in, AllStand, WritesWithin, Lives, Precedes, IsKept, KeepsEach, KeptOrdersForbid, SequentialIsCoherent, StandingIsNotSequential}
+use Rattle.sc_and_interleavings.proofs.{Places.held, CoherenceLaws.candidates_are_sc_per_location, Sequential.sequential_per_location, Around.{all_stand_cycle, lives_without_cycle, program_order_keeps}}
 
 -- a sequentially consistent candidate is coherent per location
 pub sequential_is_coherent : SequentialIsCoherent
@@ -12,9 +12,9 @@ some_edge es r = omega (arith, r.threads, count_by-le-length is_external es)
 
 -- a relation that holds across each edge that orders forbids that all edges of a cycle stand
 pub kept_forbids : (es : List Edge) (kept : WriteAt → WriteAt → Type 0) (p : Program) (x : Execution) → IsResolved es → IsCandidate p x
-    → WritesWithin (accesses_in p x) p.places → KeepsEach es kept → AllStand es p x → HasNoCycle kept (accesses_in p x) x → ⊥
-kept_forbids es kept p x resolved candidate within keeps all none =
-    all_stand_cycle es kept p x (some_edge es resolved) (held (accesses_in p x) p.places x candidate.execution within) keeps all none
+    → WritesWithin (accesses_in p x) p.places → KeepsEach es kept → AllStand es p x → Lives kept (accesses_in p x) x → ⊥
+kept_forbids es kept p x resolved candidate within keeps all lives =
+    all_stand_cycle es kept p x (some_edge es resolved) (held (accesses_in p x) p.places x candidate.execution within) keeps all lives
 
 pub kept_orders_forbid : KeptOrdersForbid
 kept_orders_forbid es kept = kept_forbids es (IsKept kept)
@@ -22,4 +22,5 @@ kept_orders_forbid es kept = kept_forbids es (IsKept kept)
 -- program order does, so a candidate in which all edges of a cycle stand isn't sequentially consistent
 pub standing_is_not_sequential : StandingIsNotSequential
 standing_is_not_sequential es p x resolved candidate within all sequential =
-    kept_forbids es (Precedes (accesses_in p x)) p x resolved candidate within (program_order_keeps es p x all) all sequential
+    kept_forbids es (Precedes (accesses_in p x)) p x resolved candidate within (program_order_keeps es p x all) all
+    (lives_without_cycle (Precedes (accesses_in p x)) (accesses_in p x) x sequential)

@@ -47,7 +47,7 @@ pub use Rattle.sc_and_interleavings.specs.Along.{IsAlong, values_in}
 pub use Rattle.sc_and_interleavings.specs.CoherenceLaws.{CandidatesAreScPerLocation, CoherenceIsScPerLocation, CycleTestsAreScPerLocation, WritesWithin}
 pub use Rattle.sc_and_interleavings.specs.InterleavingLaws.{InterleavingsMakeExecutions, SequentialIsCoherent, StandingIsNotSequential}
 pub use Rattle.sc_and_interleavings.specs.{LinkLaws.EachLinkCloses, LinkLaws.KeptOrdersForbid, LinkLaws.OthersAreKept, LinkLaws.StandingIsOutcome}
-pub use Rattle.sc_and_interleavings.specs.{Links.IsKept, Links.IsOrdering, Links.KeepsEach, Links.KeepsOthers, Links.PrecedesBut, Links.is_ordering}
+pub use Rattle.sc_and_interleavings.specs.Links.{Cohere, GlobalStep, IsKept, IsOrdering, IsPathOf, KeepsEach, KeepsOthers, Kept, Lives, Overwrite, PrecedesBut, Read, is_ordering}
 pub use Rattle.sc_and_interleavings.specs.{Made.before, Made.made_by}
 pub use Rattle.sc_and_interleavings.specs.Relations.{Co, CoherenceOrder, Fr, FromRead, IsAccessOf, IsBefore, IsPathOfSteps, IsReadOf, IsScPerLocation, IsWriteTo, Po, ProgramOrder, ReadsFrom, Rf, Step}
 pub use Rattle.sc_and_interleavings.specs.Sequential.{ByCo, ByFr, ByPo, ByRf, HasNoCycle, IsPathBy, IsSequential, Precedes, StepBy}

@@ -7,7 +7,7 @@ use Rattle.program_meaning.specs.{Executions.Execution, Programs.{Program, IsCan
 use Rattle.program_meaning.specs.Intended.{IsNumbering, cycle_accesses, intended, observed_locations}
 use Rattle.accesses_force_cycles.specs.Joining.{IsOutcome, MakesAccesses}
 use Rattle.program_meaning.specs.{declared.WriteAt.WriteAt, Programs.accesses_in}
-use Rattle.sc_and_interleavings.specs.{CoherenceLaws.WritesWithin, Sequential.HasNoCycle, Links.{IsKept, PrecedesBut, KeepsEach, KeepsOthers}}
+use Rattle.sc_and_interleavings.specs.{CoherenceLaws.WritesWithin, Sequential.HasNoCycle, Links.{IsKept, KeepsEach, KeepsOthers, Lives, PrecedesBut}}
 
 -- an internal edge of a cycle to another location: a link that a machine might not keep
 pub record IsLink (es : List Edge) (i : ℕ) : Type 0 where
@@ -29,13 +29,13 @@ OthersAreKept =
     KeepsOthers es i (PrecedesBut (cycle_accesses es mode number) (event_name es i))
 
 -- Orders that are kept forbid the cycle. Let all edges of a resolved cycle stand in a candidate of any program whose writes are to the
--- program's locations, and let a relation, the order that a machine keeps within threads, hold across each edge that orders. Then this
--- relation, reads-from, coherence order and from-read have a cycle. A communication within a thread is a step of its own
+-- program's locations, and let a relation, the order that a machine keeps within threads, hold across each edge that orders. Then the
+-- execution doesn't live on the machine: this relation, reads-from between threads, coherence order and from-read have a cycle
 abbrev pub KeptOrdersForbid : Type 0
 KeptOrdersForbid =
     (es : List Edge) (kept : WriteAt → WriteAt → Bool) (p : Program) (x : Execution) →
     IsResolved es → IsCandidate p x → WritesWithin (accesses_in p x) p.places → KeepsEach es (IsKept kept) → AllStand es p x →
-    HasNoCycle (IsKept kept) (accesses_in p x) x → ⊥
+    Lives (IsKept kept) (accesses_in p x) x → ⊥
 
 -- if a cycle's test has no observers, a coherent candidate of a program that makes its accesses, in which all edges stand, is
 -- an outcome

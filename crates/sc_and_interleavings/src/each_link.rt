@@ -8,15 +8,15 @@ pub fn each_link_closes()
     ensures { EachLinkCloses }
 {}
 
-/// This order, program order without the pairs across one link, holds across each other edge of the
-/// cycle that is program order, a fence or a dependency.
+/// Program order without the pairs across one link holds across each other edge of the cycle that
+/// orders accesses within a thread: it leaves out the one link alone.
 pub fn others_are_kept()
     ensures { OthersAreKept }
 {}
 
-/// If all edges of a resolved cycle stand in a candidate execution, and a machine keeps an order across
-/// each edge that is program order, a fence or a dependency, then this order, reads-from, coherence
-/// order and from-read have a cycle.
+/// If all edges of a resolved cycle stand in a candidate execution, and a relation holds across each edge
+/// that orders (program order, a fence, a dependency, a read of the thread's own write), then this
+/// relation, reads-from between threads, coherence order and from-read have a cycle.
 pub fn kept_orders_forbid()
     ensures { KeptOrdersForbid }
 {}
