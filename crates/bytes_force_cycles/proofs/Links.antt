@@ -12,23 +12,34 @@ use Rattle.program_meaning.specs.Intended.{IsNumbering, cycle_accesses, intended
 use Rattle.accesses_force_cycles.proofs.{Bridge.resolves, IntendedReads.reads-count}
 use Rattle.accesses_force_cycles.proofs.Programs as programs
 use Rattle.accesses_force_cycles.specs.Joining.{MakesAccesses}
-use Rattle.sc_and_interleavings.specs.{Sequential.HasNoCycle, LinkLaws.IsLink, Links.PrecedesBut}
-use Rattle.sc_and_interleavings.proofs.{OneLink.each_link_closes, Outcomes.standing_is_outcome}
+use Rattle.sc_and_interleavings.specs.{Sequential.HasNoCycle, LinkLaws.IsLink, Links.{PrecedesBut, KeepsOthers}}
+use Rattle.sc_and_interleavings.proofs.{Around.lives_without_cycle, InterleavingLaws.kept_orders_forbid, OneLink.{each_link_closes, others_are_kept}, Outcomes.standing_is_outcome}
 use Rattle.tests_force_cycles.specs.{FinalStates.{final_state, IsAskedFor}, TestHeadline.{HasTest, IsRenumbered}, TestPrograms.test_program, TestOf.test_of}
 use Rattle.tests_force_cycles.proofs.{Headline.{renumbered_numbers, renumbered_program, tests_ask_law}, Making.{makes, makes_enough, intended_enough}}
 use Rattle.tests_force_cycles.proofs.{RegisterNames.registers_found, TestCodes.{cycle_codes, cycle_program, are_codes}}
-use Rattle.bytes_force_cycles.specs.{PrintedHeadline.BytesForce, Readings.{program_read, place_in_test, ReadingAsks}}
-use Rattle.bytes_force_cycles.specs.Links.{IsPrintedTest, LinkCloses, EachLinkMayBreak, ConditionDecides}
-use Rattle.bytes_force_cycles.proofs.{BackLaws.reads_back, Forcing.bytes_force, Readable.readable, PrintedSc.same_test}
+use Rattle.bytes_force_cycles.specs.Readings.{program_read, place_in_test, ReadingAsks}
+use Rattle.bytes_force_cycles.specs.Links.{AllBut, IsPrintedTest, LinkCloses, EachLinkMayBreak, LinksDecide, ConditionDecides}
+use Rattle.bytes_force_cycles.proofs.{BackLaws.reads_back, Forcing.bytes_force, NoInterleaving.{WritesInside, test_writes_within}, Readable.readable}
+use Rattle.bytes_force_cycles.proofs.PrintedSc.{same_test}
 use Rattle.bytes_force_cycles.proofs.Rereading.{reread_test, reread_renumbered, by_table, threads_numbered, number_of_location, intended_same}
 
--- the law on links for the program of a cycle's test, under any numbers of places
+-- what the printed text forces of the test that is read: all edges stand in each execution that it asks for, and the intended one is one
+record Forces (w : Writing) (es : List Edge) (mode : ObsMode) (test : TestRead) : Type 0 where
+  stand : (x : Execution) → ReadingAsks w test x → AllStand es (program_read test) x
+  exists : ReadingAsks w test (intended es mode (place_in_test test))
+
+-- an edge alone is without effect: without the pairs of program order across it there is no cycle, and the others are kept
+abbrev LeftOut : List Edge → ℕ → Program → Execution → Type 0
+LeftOut es i p x = LinkCloses es i p x × KeepsOthers es i (PrecedesBut (accesses_in p x) (event_name es i))
+
+-- the laws on links for the program of a cycle's test, under any numbers of places
 cycle_links : (a : Puts) (register_name : ℕ → List ℕ) (es : List Edge) (mode : ObsMode) (test : TestSeen) (number : ℕ → ℕ)
     (i : ℕ) → IsArch a → HasTest a es mode
-    → IsRenumbered (test_of a register_name es mode) test number → IsLink es i → LinkCloses es i (cycle_program a es mode number) (intended es mode number)
+    → IsRenumbered (test_of a register_name es mode) test number → IsLink es i → LeftOut es i (cycle_program a es mode number) (intended es mode number)
 cycle_links a register_name es mode test number i laws t e link =
-    subst (λ threads. HasNoCycle (PrecedesBut threads (event_name es i)) threads (intended es mode number)) (sym planned)
-    (each_link_closes es mode number i t.code.resolved n link)
+    subst
+    (λ threads. HasNoCycle (PrecedesBut threads (event_name es i)) threads (intended es mode number) × KeepsOthers es i (PrecedesBut threads (event_name es i)))
+    (sym planned) (each_link_closes es mode number i t.code.resolved n link, others_are_kept es mode number i t.code.resolved n link)
   where
     n : IsNumbering es number
     n = renumbered_numbers a register_name es mode test number t.code e
@@ -72,10 +83,10 @@ program_is arch w name es test r places = λ i. record { places = length r.table
 -- the laws for what is read back of a printed test
 read_links : (a : Puts) (arch : ArchName) (w : Writing) (name : List ℕ) (es : List Edge) (mode : ObsMode) (i : ℕ) → IsArch a → HasTest a es mode
     → (r : TestReadsBack arch w name (test_of a (name_in w.registers) es mode)) → IsLink es i
-    → LinkCloses es i (program_read (reread r.table name (test_of a (name_in w.registers) es mode)))
+    → LeftOut es i (program_read (reread r.table name (test_of a (name_in w.registers) es mode)))
     (intended es mode (place_in_test (reread r.table name (test_of a (name_in w.registers) es mode))))
 read_links a arch w name es mode i laws t r link =
-    subst (λ (z : Program × Execution). LinkCloses es i z.0 z.1) (λ j. (p j, same j))
+    subst (λ (z : Program × Execution). LeftOut es i z.0 z.1) (λ j. (p j, same j))
     (cycle_links a (name_in w.registers) es mode (reread_test r.table (test_of a (name_in w.registers) es mode)) number i laws t e link)
   where
     number : ℕ → ℕ
@@ -117,19 +128,57 @@ back_of a arch w name es mode test laws back cells one printed =
     reads_back a arch w name (test_of a (name_in w.registers) es mode) back cells
     (readable a arch w name es mode laws back cells one printed.named printed.has_test.code)
 
--- each internal edge to another location may alone be the culprit
+-- each internal edge to another location may be left out
+left_out : (a : Puts) (arch : ArchName) (w : Writing) (name : List ℕ) (es : List Edge) (mode : ObsMode) (test : TestRead) (i : ℕ) → IsArch a → WritesBack a w
+    → WritesCells a w → MakesOneAccess a → IsPrintedTest a arch w name es mode test → IsLink es i
+    → LeftOut es i (program_read test) (intended es mode (place_in_test test))
+left_out a arch w name es mode test i laws back cells one printed link =
+    let r = back_of a arch w name es mode test laws back cells one printed in
+    subst (λ (test : TestRead). LeftOut es i (program_read test) (intended es mode (place_in_test test)))
+    (same_test (reread r.table name (test_of a (name_in w.registers) es mode)) test (sym r.read ∙ printed.read))
+    (read_links a arch w name es mode i laws printed.has_test r link)
+
+-- each may alone be the culprit
 pub each_link_may_break : (a : Puts) (arch : ArchName)
     (w : Writing) → IsArch a → WritesBack a w → WritesCells a w → MakesOneAccess a → EachLinkMayBreak a arch w
 each_link_may_break a arch w laws back cells one name es mode test i printed link =
+    (left_out a arch w name es mode test i laws back cells one printed link).0
+
+-- the printed text forces the cycle
+forced_by : (a : Puts) (arch : ArchName) (w : Writing) (name : List ℕ) (es : List Edge) (mode : ObsMode) (test : TestRead) → IsArch a → WritesBack a w
+    → WritesCells a w → MakesOneAccess a → IsPrintedTest a arch w name es mode test → Forces w es mode test
+forced_by a arch w name es mode test laws back cells one printed =
+    let forced = bytes_force a arch w name es mode laws back printed.has_test (back_of a arch w name es mode test laws back cells one printed) in
+    subst (Forces w es mode) (same_test forced.test test (sym forced.reads ∙ printed.read)) (record { stand = forced.stand; exists = forced.exists })
+
+-- a candidate of what is read back writes to its places alone
+read_within : (a : Puts) (arch : ArchName) (w : Writing) (name : List ℕ) (es : List Edge) (mode : ObsMode) (test : TestRead) (x : Execution) → IsArch a → WritesBack a w
+    → WritesCells a w → MakesOneAccess a → IsPrintedTest a arch w name es mode test → WritesInside x (program_read test)
+read_within a arch w name es mode test x laws back cells one printed =
     let r = back_of a arch w name es mode test laws back cells one printed in
-    subst (λ (test : TestRead). LinkCloses es i (program_read test) (intended es mode (place_in_test test)))
+    subst (λ (test : TestRead). WritesInside x (program_read test))
     (same_test (reread r.table name (test_of a (name_in w.registers) es mode)) test (sym r.read ∙ printed.read))
-    (read_links a arch w name es mode i laws printed.has_test r link)
+    (subst (WritesInside x) (program_is arch w name es (test_of a (name_in w.registers) es mode) r refl)
+    (test_writes_within a (name_in w.registers) es mode (reread_test r.table (test_of a (name_in w.registers) es mode)) (by_table r.table (letters (move_count es)))
+    laws printed.has_test (reread_of a arch w name es mode laws printed.has_test r) x))
+
+-- the links decide
+pub links_decide : (a : Puts) (arch : ArchName) (w : Writing) → IsArch a → WritesBack a w → WritesCells a w → MakesOneAccess a → LinksDecide a arch w
+links_decide a arch w laws back cells one name es mode test printed =
+    let forced = forced_by a arch w name es mode test laws back cells one printed in
+    record {
+      suffice = λ kept x keeps shown.
+          kept_orders_forbid es kept (program_read test) x printed.has_test.code.resolved shown.asked.candidate
+          (read_within a arch w name es mode test x laws back cells one printed shown.asked.candidate) keeps (forced.stand x shown.asked) shown.lives;
+      needed = λ i link.
+          let out = left_out a arch w name es mode test i laws back cells one printed link in
+          record { others = out.1; shown = record { asked = forced.exists; lives = lives_without_cycle (AllBut es mode test i) _ _ out.0 } };
+    }
 
 -- without observers, a coherent candidate meets the condition exactly where all edges stand
 pub condition_decides : (a : Puts) (arch : ArchName) (w : Writing) → IsArch a → WritesBack a w → WritesCells a w → MakesOneAccess a → ConditionDecides a arch w
 condition_decides a arch w laws back cells one name es mode test x printed none candidate coherent = (
-  λ meets. stand (record { candidate = candidate; coherent = coherent; meets = meets }),
+  λ meets. (forced_by a arch w name es mode test laws back cells one printed).stand x (record { candidate = candidate; coherent = coherent; meets = meets }),
   λ all. met candidate coherent all,
 )
   where
@@ -138,14 +187,6 @@ condition_decides a arch w laws back cells one name es mode test x printed none 
 
     same : reread r.table name (test_of a (name_in w.registers) es mode) ≡ test
     same = same_test (reread r.table name (test_of a (name_in w.registers) es mode)) test (sym r.read ∙ printed.read)
-
-    forced : BytesForce arch w (test_text arch w name (test_of a (name_in w.registers) es mode)) es mode
-    forced = bytes_force a arch w name es mode laws back printed.has_test r
-
-    stand : ReadingAsks w test x → AllStand es (program_read test) x
-    stand asked =
-        let e : forced.test ≡ test = same_test forced.test test (sym forced.reads ∙ printed.read) in
-        subst (λ (test : TestRead). AllStand es (program_read test) x) e (forced.stand x (subst (λ (test : TestRead). ReadingAsks w test x) (sym e) asked))
 
     met : IsCandidate (program_read test) x → IsCoherentIn (program_read test) x → AllStand es (program_read test) x
         → Meets (final_state (program_read test) test.places (number_in w.registers) x) test.cond

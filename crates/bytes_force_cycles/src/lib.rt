@@ -6,5 +6,6 @@ mod sc_and_links;
 
 pub use printed_tests::{printed_tests_force, tests_readable};
 pub use sc_and_links::{
-    condition_decides, each_link_may_break, printed_are_sc_per_location, tests_are_sc_per_location,
+    condition_decides, each_link_may_break, links_decide, printed_are_sc_per_location,
+    tests_are_sc_per_location,
 };
