@@ -13,6 +13,9 @@ files() {
         echo "644 share/bash-completion/completions/$tool copy $top/share/completions/bash"
         echo "644 share/fish/vendor_completions.d/$tool.fish copy $top/share/completions/fish"
     done
+    for place in "$top"/share/lists/*; do
+        echo "644 share/diy-proved/lists/${place##*/} copy $place"
+    done
     echo "644 share/man/man7/diy-edges.7 copy $top/share/man/man7/diy-edges.7"
     echo "644 share/zsh/site-functions/_diy_proved copy $top/share/completions/zsh"
 }
