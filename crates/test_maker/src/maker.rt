@@ -33,11 +33,7 @@ pub fn make<A: Arch>(cycle: &Cycle, mode: ObsMode) -> Result<Test, MakeRefusal>
 }
 
 /// Makes `test` the test of the cycle, as `make` does. After a refusal nothing is known about it.
-pub fn make_into<A: Arch>(
-    cycle: &Cycle,
-    mode: ObsMode,
-    test: &mut Test,
-) -> Result<(), MakeRefusal>
+pub fn make_into<A: Arch>(cycle: &Cycle, mode: ObsMode, test: &mut Test) -> Result<(), MakeRefusal>
     ensures made { MakesSeenTest A.puts (name_in A.writing.registers) cycle.now mode (test_seen test.new) result }
     ensures printable { OnOk result (CanPrint A.puts A.REGISTERS test.new) }
     ensures has_test { OnOk result (HasTest A.puts (turned cycle.now) mode) }
@@ -54,10 +50,7 @@ pub fn make_into<A: Arch>(
 /// Makes `test` the test of a cycle without observers: that of the mode avoid, even if this mode refuses
 /// the cycle for a write that needs an observer. The cycle's edges are of the architecture. If a thread
 /// needs more registers than there are, it returns the first; then nothing is known about `test`.
-pub fn make_unobserved<A: Arch>(
-    resolved: &Resolved,
-    test: &mut Test,
-) -> Result<(), CrowdedThread>
+pub fn make_unobserved<A: Arch>(resolved: &Resolved, test: &mut Test) -> Result<(), CrowdedThread>
     requires { AreOfArch A.puts resolved.now }
     ensures made { MakesValued A.puts (name_in A.writing.registers) resolved.now Avoid (test_seen test.new) result }
     ensures printable { OnOk result (CanPrint A.puts A.REGISTERS test.new) }

@@ -1,5 +1,5 @@
 -- That `put_threads` makes the code of all threads, or refuses the first that needs too many registers.
-use Rattle.std.proofs.Common.{◌≡◌, ◌<◌, ◌+◌, ◌++◌, ◌∷◌, [], arith, sym, ◌∙◌, ap, length, map, Some, length-take, length-append, take, true, false, refl}
+use Rattle.std.proofs.Common.{◌≡◌, ◌<◌, ◌+◌, ◌++◌, ◌∷◌, [], arith, sym, ◌∙◌, ap, length, map, length-take, length-append, take, true, false, refl}
 use Rattle.std.proofs.{lemmas.List.length-map, lemmas.List.Sums.count_by-le-length}
 use Rattle.std.specs.Option.{option_map}
 use Rattle.relax_edges.specs.EdgeTable.{is_external}

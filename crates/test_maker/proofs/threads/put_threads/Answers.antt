@@ -1,5 +1,5 @@
 -- That `put_threads` makes the code of all threads, or refuses the first that needs too many registers.
-use Rattle.std.proofs.Common.{◌∙◌, ap, arith, map, refl, sym}
+use Rattle.std.proofs.Common.{◌∙◌, ap, arith, map, refl}
 use Rattle.std.specs.Option.{option_map}
 use Rattle.final_cond.specs.Conditions.{term_view}
 use Rattle.arch_trait.specs.{Codes.thread_code_of, Writing.name_in}
