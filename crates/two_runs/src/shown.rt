@@ -46,7 +46,7 @@ pub struct TwoRuns<A> {
 /// and `TooManyRegisters` (there are no observers among the threads). If none holds, it may be `NoMemory`.
 pub fn two_runs<A: Arch>(alloc: Global, cycle: &Cycle, name: &str) -> Result<TwoRuns<A>, WhyError>
     requires named { IsTestName name.now }
-    ensures shown { Shows A.puts A.writing name.now cycle.now result }
+    ensures { Shows A.puts A.writing name.now cycle.now result }
 {
     resolved_edges();
     all_of_arch::<A>(cycle.edges())?;
@@ -56,7 +56,7 @@ pub fn two_runs<A: Arch>(alloc: Global, cycle: &Cycle, name: &str) -> Result<Two
 fn runs_of_arch<A: Arch>(alloc: Global, cycle: &Cycle, name: &str) -> Result<TwoRuns<A>, WhyError>
     requires of_arch { (es : List Edge) → resolution_of cycle.now ≡ Ok es → AreOfArch A.puts es }
     requires named { IsTestName name.now }
-    ensures shown { ShowsResolution A.puts A.writing name.now (resolution_of cycle.now) result }
+    ensures { ShowsResolution A.puts A.writing name.now (resolution_of cycle.now) result }
 {
     match &resolve(cycle) {
         Err(error) => Err(WhyError::from(error)),
@@ -71,7 +71,7 @@ fn runs_of_resolved<A: Arch>(
 ) -> Result<TwoRuns<A>, WhyError>
     requires of_arch { AreOfArch A.puts resolved.now }
     requires named { IsTestName name.now }
-    ensures shown { ShowsResolved A.puts A.writing name.now resolved.now (observer_need resolved.now) result }
+    ensures { ShowsResolved A.puts A.writing name.now resolved.now (observer_need resolved.now) result }
 {
     match value(resolved, ObsMode::Avoid) {
         Ok(_) => Err(WhyError::NothingToShow),
@@ -88,7 +88,7 @@ fn runs_of_need<A: Arch>(
     requires of_arch { AreOfArch A.puts resolved.now }
     requires needs { observer_need resolved.now ≡ Some need }
     requires named { IsTestName name.now }
-    ensures shown { ShowsNeed A.puts A.writing name.now resolved.now need result }
+    ensures { ShowsNeed A.puts A.writing name.now resolved.now need result }
 {
     printed_undecided::<A>();
     let text = text_unobserved::<A>(alloc, resolved, name)?;

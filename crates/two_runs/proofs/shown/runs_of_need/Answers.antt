@@ -21,8 +21,8 @@ run_of-requires-2 g c =
     subst (λ (v : Valuation). (x : ℕ) → Some c.args.need.event ≡ Some x → x < length v.edges) (sym c.value_unobserved-valued.ensures)
     (λ event e. need_below c.args.resolved.now c.args.need event c.in_ok-text.ensures.1.resolved c.requires.needs e)
 
-pub returns-clause-shown : goal.returns-clause-shown
-returns-clause-shown g c =
+pub returns : goal.returns
+returns g c =
     let a = g.A.Arch.puts in
     let w = g.A.Arch.writing in
     let es = c.args.resolved.now in
