@@ -45,10 +45,10 @@ LIST
     give "$archive"
 }
 
-# Sets the number of the version: that of CHANGELOG.md, and the day, the time and the commit. Of two commits the later one has the later number,
-# and the release itself will have a later one still.
+# Sets the number of the version: that of the file VERSION, and the day, the time and the commit. Of two commits the later one has the later
+# number, and the version itself has one that is later still.
 read_number() {
-    number=$(sed -n 's/^## \([0-9][0-9.]*\).*/\1/p' "$top/CHANGELOG.md" 2>/dev/null | head -n 1)
+    number=$(cat "$top/VERSION" 2>/dev/null)
     number=${number:-0.1}~git$(date -u -d "@$second" +%Y%m%d.%H%M)${commit:+.$(printf %.8s "$commit")}${changed:+.changed}
 }
 
