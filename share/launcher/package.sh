@@ -26,8 +26,8 @@ package() {
     done <<LIST
 $(files)
 LIST
-    # (the list from which uninstall and a later ./diy install know the files and folders; the folders aren't in the archive, so that those of
-    # a prefix stay as they are)
+    # (the list from which uninstall and a later ./diy install know the files and folders; no folder is in the archive, so that those of a
+    # prefix stay as they are)
     list=$tree/libexec/diy-proved/installed
     : >"$list"
     (cd "$tree" && find . -type f | sed 's|^\./||' | LC_ALL=C sort) >"$room/names"
@@ -36,8 +36,8 @@ LIST
     find "$tree" -exec touch -h -d "@$second" {} + || no_package 'the files get no time'
 
     archive=diy-proved-$number-linux-x86-64.tar.gz
-    tar --format=ustar --owner=0 --group=0 --numeric-owner -C "$tree" -T "$room/names" -cf "$room/tar" && gzip -n -9 -c "$room/tar" >"$room/$archive" ||
-        no_package "$archive can't be written"
+    tar --format=ustar --owner=0 --group=0 --numeric-owner -C "$tree" -T "$room/names" -cf "$room/tar" &&
+        gzip -n -9 -c "$room/tar" >"$room/$archive" || no_package "$archive can't be written"
     give "$archive"
     command -v dpkg-deb >/dev/null 2>&1 || return 0
     archive=diy-proved_${number}_amd64.deb
@@ -52,7 +52,7 @@ read_number() {
     number=${number:-0.1}~git$(date -u -d "@$second" +%Y%m%d.%H%M)${commit:+.$(printf %.8s "$commit")}${changed:+.changed}
 }
 
-# Makes a Debian package. Its commands have the ending -proved, so that those of herdtools7 can be there too, and where these aren't the names
+# Makes a Debian package. Its commands have the ending -proved, so that those of herdtools7 can be there too; where these aren't, the names
 # without it are alternatives, which lead to them.
 debian() (
     set -e

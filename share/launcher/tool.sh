@@ -89,8 +89,8 @@ edges_among() {
     done
 }
 
-# Says which of the logs that msum7 has read have no test: no line that begins one (docs/LOGS.md). The input is looked at again only if it is
-# a file.
+# Says which of the logs that msum7 has read have no test: no line that begins one (docs/LOGS.md). The input is looked at again only if it
+# is a file.
 note_logs() {
     if [ $# = 0 ] && [ -f /dev/stdin ]; then set -- /dev/stdin; fi
     [ $# -gt 0 ] || return

@@ -1,5 +1,5 @@
-# ./diy try TOOL WORDS..: calls a tool by a program that isn't proved. `rt try` compiles it, with checks as it runs. It is kept by the sum of
-# its sources, so that the next call answers at once.
+# ./diy try TOOL WORDS..: calls a tool by a program that isn't proved. `rt try` compiles it, with checks as it runs. It is kept by the sum
+# of its sources, so that the next call answers at once.
 # (read by ../../diy)
 
 try_tool() {
@@ -33,14 +33,15 @@ sum_of_sources() {
 # is copied.
 compile() {
     echo 'diy: compiling the program, which takes a minute or two' >&2
-    room=$(mktemp -d) || exit 70
-    trap 'rm -rf -- "$room"' EXIT
+    copier='' room=$(mktemp -d) || exit 70
+    trap '[ -z "$copier" ] || kill "$copier" 2>/dev/null; rm -rf -- "$room"' EXIT
     mkfifo "$room/log" && mkdir -p "$kept" && [ -w "$kept" ] || fail 73 "$kept can't be written"
     { find "$room" -type f -perm -u=x -exec cp {} "$room/copy" \; ; } >"$room/log" &
     copier=$!
     watched /dev/null try_sum 2>"$room/said"
     kill "$copier" 2>/dev/null
     wait "$copier"
+    copier=''
     case $("$room/copy" norm7 -arch X86 -from SB 2>/dev/null) in
         'SB: '*) ;;
         *)
