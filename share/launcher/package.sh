@@ -63,6 +63,8 @@ debian() (
     # (dpkg knows the files, and zsh of Debian looks for completions elsewhere)
     rm "$usr/libexec/diy-proved/installed" "$usr/libexec/diy-proved/uninstall"
     mv "$usr/share/zsh/site-functions" "$usr/share/zsh/vendor-completions"
+    # shellcheck disable=SC2086
+    sed -i "1s/\$/$(printf ' %s-proved' $commands)/" "$usr/share/zsh/vendor-completions/_diy_proved"
     for tool in $commands; do
         mv "$usr/bin/$tool" "$usr/bin/$tool-proved"
         mv "$usr/share/man/man1/$tool.1" "$usr/share/man/man1/$tool-proved.1"
