@@ -72,7 +72,7 @@ read_commit() {
     said=$(git -C "$top" log -1 --date=short --format='%H %cd %ct' 2>/dev/null) || return 0
     commit=${said%% *} second=${said##* } day=${said#* }
     day=${day% *}
-    [ -z "$(git -C "$top" status --porcelain -- diy share crates crates.txt)" ] || changed=', with changes that are not committed'
+    [ -z "$(git -C "$top" status --porcelain -- diy share crates crates.txt docs README.md VERSION)" ] || changed=', with changes that are not committed'
 }
 
 # Says which commit the program was proved from, and by which kit: that of the build, or the one that is here where something else built it.

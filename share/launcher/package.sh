@@ -129,7 +129,7 @@ maintainer_script() {
                 ;;
         esac
     done
-    echo fi
+    echo 'fi'
 }
 
 # Prints what lintian is to pass over, with the reasons.

@@ -36,7 +36,7 @@ compile() {
     copier='' room=$(mktemp -d) || exit 70
     trap '[ -z "$copier" ] || kill "$copier" 2>/dev/null; rm -rf -- "$room"' EXIT
     mkfifo "$room/log" && mkdir -p "$kept" && [ -w "$kept" ] || fail 73 "$kept can't be written"
-    { find "$room" -type f -perm -u=x -exec cp {} "$room/copy" \; ; } >"$room/log" &
+    { find "$room" -type f -perm -u=x ! -name copy -exec cp {} "$room/copy" \; ; } >"$room/log" &
     copier=$!
     watched /dev/null try_sum 2>"$room/said"
     kill "$copier" 2>/dev/null
@@ -49,8 +49,9 @@ compile() {
             fail 70 "the program can't be compiled, or isn't found where rt runs it"
             ;;
     esac
-    # (what older sources made goes)
-    rm -f "$kept"/* && mv "$room/copy" "$program.new" && mv "$program.new" "$program" || fail 73 "$program can't be written"
+    mv "$room/copy" "$program.$$" && mv "$program.$$" "$program" || fail 73 "$program can't be written"
+    # (what other sources made goes)
+    find "$kept" -type f ! -name "${program##*/}*" -exec rm -f {} +
     rm -rf "$room"
     trap - EXIT
 }
