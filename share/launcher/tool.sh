@@ -9,10 +9,10 @@ call_tool() {
         version) print_version; exit ;;
     esac
     [ -t 2 ] && { true >&1; } 2>/dev/null || exec "$program" "$@"
-    exec 3>&1
-    said=$("$program" "$@" 2>&1 >&3 3>&-; status=$?; echo .; exit $status)
+    exec 9>&1
+    said=$("$program" "$@" 2>&1 >&9 9>&-; status=$?; echo .; exit $status)
     status=$?
-    exec 3>&-
+    exec 9>&-
     said=${said%.}
     printf %s "$said" >&2
     case $status:$1 in
@@ -89,18 +89,22 @@ edges_among() {
     done
 }
 
-# Says which of the logs that msum7 has read have no test: no line that begins one (docs/LOGS.md). The input is looked at again only if it
-# is a file.
+# Says which of the logs that msum7 has read have no test: no line that begins one (docs/LOGS.md). What is no file can't be read again.
 note_logs() {
-    if [ $# = 0 ] && [ -f /dev/stdin ]; then set -- /dev/stdin; fi
+    [ $# -gt 0 ] || set -- /dev/stdin
+    count=$#
+    for log in "$@"; do
+        shift
+        [ ! -f "$log" ] || set -- "$@" "$log"
+    done
     [ $# -gt 0 ] || return
     begin=$(printf '^[ \t]*Test[ \t]+[^ \t]+[ \t]+(Allowed|Forbidden|Required)[ \t]*\r?$')
     lacking=$(LC_ALL=C grep -aLE "$begin" -- "$@" 2>/dev/null)
     [ -n "$lacking" ] || return
-    case $#:$(printf '%s\n' "$lacking" | wc -l) in
+    case $count:$(printf '%s\n' "$lacking" | wc -l) in
         1:*) said='1 log, no test in it' ;;
-        "$#:$#") said="$# logs, no test in them" ;;
-        *) said="$# logs, no test in $(printf '%s\n' "$lacking" | sed '$!s/$/,/' | tr '\n' ' ')" ;;
+        "$count:$count") said="$count logs, no test in them" ;;
+        *) said="$count logs, no test in $(printf '%s\n' "$lacking" | sed '$!s/$/,/' | tr '\n' ' ')" ;;
     esac
     echo "note: ${said% } (a test begins with a line such as Test SB Allowed)" >&2
 }
