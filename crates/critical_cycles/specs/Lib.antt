@@ -1,0 +1,4 @@
+pub mod Critical
+pub mod CycleEdges
+pub mod TwoThreads
+pub mod CriticalLaws
