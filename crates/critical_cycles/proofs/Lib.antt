@@ -1,0 +1,9 @@
+pub mod Vocabulary
+pub mod Keys
+pub mod Ways
+pub mod Shorter
+pub mod Least
+pub mod Reached
+pub mod Back
+pub mod Short
+pub mod CriticalLaws
