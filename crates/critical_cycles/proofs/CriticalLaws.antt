@@ -1,9 +1,10 @@
 -- The laws of this crate.
 use Rattle.critical_cycles.specs.CriticalLaws.{CandidatesShowCycles, CriticalCyclesAreShort, CriticalCyclesHaveEvents, CriticalIsNotSequential, SequentialOrCritical, TwoThreadsShowSix}
-use Rattle.critical_cycles.proofs.Vocabulary.{held}
+use Rattle.critical_cycles.proofs.Vocabulary.{arith, held}
 use Rattle.critical_cycles.proofs.Back as back
 use Rattle.critical_cycles.proofs.Reached as reached
 use Rattle.critical_cycles.proofs.Short.{critical_is_short}
+use Rattle.critical_cycles.proofs.SixNamed.{one_of_six}
 
 pub sequential_or_critical : SequentialOrCritical
 sequential_or_critical threads places x h within coherent =
@@ -22,4 +23,5 @@ pub candidates_show_cycles : CandidatesShowCycles
 candidates_show_cycles = ?e
 
 pub two_threads_show_six : TwoThreadsShowSix
-two_threads_show_six = ?f
+two_threads_show_six threads places x h within two c =
+    let k = held threads places x h within in one_of_six threads x k c (omega (arith, two, (critical_is_short threads x k c).thread_count))

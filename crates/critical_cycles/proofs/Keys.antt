@@ -1,6 +1,6 @@
 -- The key of an access is twice its coherence place, and one more of a read. An arc leads to an access of a greater key at its location,
 -- an arc leads to each such access, and along a thread the key of a location doesn't fall.
-use Rattle.critical_cycles.proofs.Vocabulary.{◌≡◌, ℕ, ◌+◌, ◌<◌, ◌≤◌, Option, Some, None, List, inl, inr, sym, ap, subst, arith, ◌∙◌, Dir, by_less, WriteAt, Access, read, write, at_name, Execution, CanRead, MayFollow, IsCoherent, coherence_place, order_place, order_at, source_at, key, Held, place_in, read_before, writes_ordered, writes_same, CoherenceOrder, FromRead, IsReadOf, IsWriteTo, ReadsFrom, Precedes, IsArc, place_at, place_of_access}
+use Rattle.critical_cycles.proofs.Vocabulary.{◌≡◌, ℕ, ◌+◌, ◌<◌, ◌≤◌, Option, Some, None, List, inl, inr, sym, ap, subst, arith, ◌∙◌, Dir, by_less, WriteAt, Access, read, write, at_name, Execution, CanRead, MayFollow, IsCoherent, coherence_place, order_place, order_at, source_at, key, Held, place_in, read_before, writes_ordered, writes_same, CoherenceOrder, FromRead, IsReadOf, IsWriteTo, ReadsFrom, Precedes, IsArc, dir_at, dir_of_access, place_at, place_of_access}
 use Rattle.sc_and_interleavings.specs.Relations.{IsBefore}
 use Rattle.relax_edges.specs.declared.kinds.Dir.TheVariants as dirs
 
@@ -55,10 +55,14 @@ co_goes threads x place w v held h =
       rises = omega (arith, co_rises threads x place w v held h, write_key threads x place w a, write_key threads x place v b);
     }
 
+rf_writes : (threads : List (List Access)) (x : Execution) (w r : WriteAt) → Held threads x → (h : ReadsFrom threads x w r) → IsWriteTo threads h.place w
+rf_writes threads x w r held h =
+    (h.reads.0, subst (λ o. CanRead threads (read h.place h.reads.0) o) h.source (held.reads h.place h.reads.0 r h.reads.1))
+
 -- and to each read of it
 rf_goes : (threads : List (List Access)) (x : Execution) (w r : WriteAt) → Held threads x → ReadsFrom threads x w r → Goes threads x w r
 rf_goes threads x w r held h =
-    let a : IsWriteTo threads h.place w = (h.reads.0, subst (λ o. CanRead threads (read h.place h.reads.0) o) h.source (held.reads h.place h.reads.0 r h.reads.1)) in
+    let a = rf_writes threads x w r held h in
     record {
       first = (write h.place a.0, a.1);
       second = (read h.place h.reads.0, h.reads.1);
@@ -81,6 +85,21 @@ fr_goes threads x r w held h =
       places = cc (ap place_of_access h.reads.1, ap place_of_access b.0.1);
       rises = omega (arith, b.1, read_key threads x h.place r h.reads, write_key threads x h.place w b.0);
     }
+
+-- what the accesses of each relation do
+pub rf_dirs : (threads : List (List Access)) (x : Execution) (w r : WriteAt) → Held threads x → ReadsFrom threads x w r
+    → (dir_at threads w ≡ dirs.W) × (dir_at threads r ≡ dirs.R)
+rf_dirs threads x w r held h = (ap dir_of_access (rf_writes threads x w r held h).1, ap dir_of_access h.reads.1)
+
+pub co_dirs : (threads : List (List Access)) (x : Execution) (place : ℕ) (w v : WriteAt) → Held threads x → CoherenceOrder x place w v
+    → (dir_at threads w ≡ dirs.W) × (dir_at threads v ≡ dirs.W)
+co_dirs threads x place w v held h =
+    (ap dir_of_access (held.writes place h.earlier w h.first).1, ap dir_of_access (held.writes place h.later v h.second).1)
+
+pub fr_dirs : (threads : List (List Access)) (x : Execution) (r w : WriteAt) → Held threads x → FromRead threads x r w
+    → (dir_at threads r ≡ dirs.R) × (dir_at threads w ≡ dirs.W)
+fr_dirs threads x r w held h =
+    (ap dir_of_access h.reads.1, ap dir_of_access (before_rises threads x h.place (source_at threads x r) w held h.before).0.1)
 
 -- an arc without a middle write goes
 pub arc_goes : (threads : List (List Access)) (x : Execution) (e f : WriteAt) → Held threads x → IsArc threads x e None f → Goes threads x e f

@@ -6,4 +6,6 @@ pub mod Least
 pub mod Reached
 pub mod Back
 pub mod Short
+pub mod SixNamed
+pub mod Linked
 pub mod CriticalLaws

@@ -1,4 +1,5 @@
 pub mod Critical
 pub mod CycleEdges
 pub mod TwoThreads
+pub mod Links
 pub mod CriticalLaws
