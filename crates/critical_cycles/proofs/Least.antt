@@ -134,7 +134,7 @@ module _ (threads : List (List Access)) (x : Execution) (facts : Facts threads x
       → (place_at threads s.first ≢ place_at threads s.last → AllByRecursion (Apart threads s) (t ∷ vs) → G) → G
   against s us t [] h give go =
       apart s us t [] h give
-      (λ p. let g = goes threads x facts t.last s.first t.middle h.back.1 in
+      (λ p. let g = goes threads x facts.held t.last s.first t.middle h.back.1 in
       go (λ e. same_not (place_at threads s.last) (place_at threads t.last) (sym e ∙ sym g.places) p.places_differ) (p, tt))
   against {G} s us t (v ∷ vs) h give go =
       apart s us t (v ∷ vs) h give

@@ -8,4 +8,6 @@ pub mod Back
 pub mod Short
 pub mod SixNamed
 pub mod Linked
+pub mod Counted
+pub mod Resolved
 pub mod CriticalLaws

@@ -122,11 +122,11 @@ module _ (threads : List (List Access)) (x : Execution) (held : Held threads x) 
   arc_goes_on e f (Some w) h = (before_goes_on e w h.0, (rf_goes_on w f h.1, tt))
 
   related : (e f : WriteAt) (k : Kind) → kind_place k ≡ Diff → Precedes threads e f → AreRelated k threads x e f
-  related e f (kinds.Com kind reach) d p = cc d
-  related e f (kinds.Po sd from to) d p = p
-  related e f (kinds.Fenced fence sd from to) d p = p
-  related e f (kinds.Dep dep sd to) d p = p
-  related e f (kinds.Data sd) d p = p
+  related e f (kinds.Com _ _) d p = cc d
+  related e f (kinds.Po _ _ _) d p = p
+  related e f (kinds.Fenced _ _ _ _) d p = p
+  related e f (kinds.Dep _ _ _) d p = p
+  related e f (kinds.Data _) d p = p
 
   segment_goes_on : (edge : Edge) (s : Segment) → Moves threads s → FitsSegment threads edge s → GoesOn threads x (leaving edge s.first) s.last
   segment_goes_on edge s m fits = record {

@@ -76,7 +76,7 @@ module _ (threads : List (List Access)) (x : Execution) where
   -- an arc is a path
   by_arc : Facts threads x → (e f : WriteAt) → Arc threads x e f → Reaches threads x e f
   by_arc facts e f h =
-      let g = goes threads x facts e f h.0 h.1 in
+      let g = goes threads x facts.held e f h.0 h.1 in
       ByArcs (record { last = e; middle = h.0; others = []; end = f; way = (itself e g.first, h.1); ends = itself f g.second })
 
   -- a path back to its beginning makes a critical cycle

@@ -44,7 +44,7 @@ module _ (threads : List (List Access)) (x : Execution) (facts : Facts threads x
   -- no way goes back from one segment to itself
   pub not_alone : (s : Segment) → Closed threads x s [] → ⊥
   not_alone s h =
-      let g = goes threads x facts s.last s.first s.middle h.1 in
+      let g = goes threads x facts.held s.last s.first s.middle h.1 in
       omega (arith, g.rises, keeps threads x facts s.first s.last h.0 (sym g.places))
 
   pub turned : (s : Segment) (us : List Segment) (t : Segment) (vs : List Segment) → Around threads x s us t vs → Around threads x t vs s us
@@ -78,7 +78,7 @@ module _ (threads : List (List Access)) (x : Execution) (facts : Facts threads x
   lower s us t vs h same l =
       let p = within threads x s us t.first h.there in
       let r = leaving_by threads x t s.first s.last vs s.first h.back p
-      (λ f arc. let g = goes threads x facts t.last f t.middle arc in
+      (λ f arc. let g = goes threads x facts.held t.last f t.middle arc in
       arrives threads x s.last f facts.held
       (record { first = p.last; second = g.second; places = same ∙ g.places; rises = omega (arith, l, g.rises) })) in
       record { start = segment s.first s.last r.0; others = vs; closed = r.1; fewer = omega (arith, few r.0) }

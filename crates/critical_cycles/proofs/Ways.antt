@@ -82,9 +82,9 @@ module _ (threads : List (List Access)) (x : Execution) where
       (record { first = w.first; second = w.last; thread = w.thread; earlier = omega (arith, w.order, d) }) same)
 
   -- an access that an arc leads to is at the location where the arc begins, and has a greater key
-  pub goes : Facts threads x → (e f : WriteAt) (m : Option WriteAt) → IsArc threads x e m f → Goes threads x e f
-  goes facts e f None h = arc_goes threads x e f facts.held h
-  goes facts e f (Some w) h =
-      let g = arc_goes threads x e w facts.held (inr h.0) in
-      let k = arc_goes threads x w f facts.held (inl h.1) in
+  pub goes : Held threads x → (e f : WriteAt) (m : Option WriteAt) → IsArc threads x e m f → Goes threads x e f
+  goes held e f None h = arc_goes threads x e f held h
+  goes held e f (Some w) h =
+      let g = arc_goes threads x e w held (inr h.0) in
+      let k = arc_goes threads x w f held (inl h.1) in
       record { first = g.first; second = k.second; places = g.places ∙ k.places; rises = omega (arith, g.rises, k.rises) }
