@@ -2,7 +2,6 @@
 use Rattle.critical_cycles.proofs.Vocabulary.{List, [], ◌∷◌, Option, Some, None, inl, inr, WriteAt, Access, Execution, AllByRecursion, AreArcs, CriticalCycle, IsArc, IsBeforeWrite, Moves, Segment, ByCo, ByFr, ByPo, ByRf, IsPathBy, IsSequential, Precedes, StepBy}
 
 module _ (threads : List (List Access)) (x : Execution) where
-
   -- a path from an access to another
   abbrev Path : WriteAt → WriteAt → Type 0
   Path e f = (between : List WriteAt) × IsPathBy (Precedes threads) threads x e between f

@@ -30,8 +30,7 @@ passed_count p v (q ∷ l) z =
     (λ f. omega (arith, ap (length {A = ℕ}) (passed_no p v q l z f), sum_by-cons (λ e. cond (p e) 1 0) q.edge (map (λ q. q.edge) l), cond-false {A = ℕ} (p q.edge) 1 0 f, passed_count p v l z))
 
 module _ (threads : List (List Access)) (x : Execution) (p : Edge → Bool) (v : WriteAt → ℕ)
-  (keeps : (q : Leaving) (f : WriteAt) → GoesOn threads x q f → p q.edge ≡ false → v q.event ≡ v f) where
-
+    (keeps : (q : Leaving) (f : WriteAt) → GoesOn threads x q f → p q.edge ≡ false → v q.event ≡ v f) where
   -- the first of them is the value of the first event
   first_passed : (l : List Leaving) (z : WriteAt) → AllGoOn threads x l z → slice_get (passed p v l (v z)) 0 ≡ Some (v (begins l z))
   first_passed [] z h = refl
@@ -79,7 +78,6 @@ stays_inside : (edge : Edge) → reach_of edge ≡ Internal → is_external edge
 stays_inside edge h = rw h refl
 
 module _ (threads : List (List Access)) (link : Segment → Edge) where
-
   -- so the threads that are left are those of the segments and middle writes
   pub threads_passed : (s : Segment) (us : List Segment) (back : WriteAt) (z : ℕ) → AllByRecursion (Moves threads) (s ∷ us)
       → AllByRecursion (λ t. FitsSegment threads (link t) t) (s ∷ us)

@@ -126,12 +126,14 @@ by_dirs : (threads : List (List Access)) (x : Execution) (place : ℕ) (e f : Wr
     → at_name threads e ≡ Some (record { dir = c; place = place; value = u }) → at_name threads f ≡ Some (record { dir = d; place = place; value = v })
     → key threads x e (record { dir = c; place = place; value = u }) < key threads x f (record { dir = d; place = place; value = v }) → Arc threads x e f
 by_dirs threads x place e f dirs.W dirs.W u v held a b l = (None, inr (inl (place, writes_ordered threads x place e f held (u, a) (v, b) (omega (arith, l)))))
-by_dirs threads x place e f dirs.R dirs.W u v held a b l =
-    (None, inr (inr (record {
-      place = place;
-      reads = (u, a);
-      before = read_before threads x place u (source_at threads x e) f held (held.reads place u e a) (v, b) (omega (arith, l));
-    })))
+by_dirs threads x place e f dirs.R dirs.W u v held a b l = (
+  None,
+  inr (inr (record {
+    place = place;
+    reads = (u, a);
+    before = read_before threads x place u (source_at threads x e) f held (held.reads place u e a) (v, b) (omega (arith, l));
+  })),
+)
 by_dirs threads x place e f dirs.W dirs.R u v held a b l =
     let k = held.each place e (u, a) in
     let s = source_of threads x place f held (v, b) (omega (arith, l, place_in threads x place k.0 e held k.1)) in
@@ -140,12 +142,17 @@ by_dirs threads x place e f dirs.W dirs.R u v held a b l =
     (λ m. let q : s.source ≡ e = sym (writes_same threads x place e s.source held (u, a) s.writes (omega (arith, m, l, s.same))) in
     (None, inl (subst (λ w. ReadsFrom threads x w f) q s.reads)))
 by_dirs threads x place e f dirs.R dirs.R u v held a b l =
-    let s = source_of threads x place f held (v, b) (omega (arith, l)) in
-    (Some s.source, (inr (record {
-      place = place;
-      reads = (u, a);
-      before = read_before threads x place u (source_at threads x e) s.source held (held.reads place u e a) s.writes (omega (arith, l, s.same));
-    }), s.reads))
+    let s = source_of threads x place f held (v, b) (omega (arith, l)) in (
+      Some s.source,
+      (
+        inr (record {
+          place = place;
+          reads = (u, a);
+          before = read_before threads x place u (source_at threads x e) s.source held (held.reads place u e a) s.writes (omega (arith, l, s.same));
+        }),
+        s.reads,
+      ),
+    )
 
 -- where an access goes, an arc leads
 pub arrives : (threads : List (List Access)) (x : Execution) (e f : WriteAt) → Held threads x → Goes threads x e f → Arc threads x e f
@@ -168,9 +175,13 @@ pub stays : (threads : List (List Access)) (x : Execution) (e f : WriteAt) → I
     → key_at threads x e ≤ key_at threads x f
 stays threads x e f coherent p same =
     subst (λ d. key_at threads x d ≤ key_at threads x f) (sym from_is)
-    (omega (arith, ap (key_of threads x from) from_at, ap (key_of threads x f) b.1,
-    follows threads x from f a.0 b.0.dir b.0.place b.0.value
-    (coherent f.thread e.access f.access a.0 b.0 p.earlier from_at b.1 (cc (ap place_of_access a.1, ap place_of_access b.1, same)))))
+    (omega (
+      arith,
+      ap (key_of threads x from) from_at,
+      ap (key_of threads x f) b.1,
+      follows threads x from f a.0 b.0.dir b.0.place b.0.value
+          (coherent f.thread e.access f.access a.0 b.0 p.earlier from_at b.1 (cc (ap place_of_access a.1, ap place_of_access b.1, same))),
+    ))
   where
     a : Exists threads e
     a = p.first

@@ -1,7 +1,7 @@
 -- A closed way is critical, or there is a shorter one: each segment is tried against all others. So the shortest is a critical cycle.
 use Rattle.critical_cycles.proofs.Vocabulary.{◌≡◌, ◌≢◌, ℕ, zero, suc, ◌+◌, ◌≤◌, false, ◌==◌, List, [], ◌∷◌, ◌++◌, map, Option, Some, None, refl, sym, ◌∙◌, ap, subst, arith, append-nil, append_assoc, eq-eqb, eqb-true, by_same, by_less, by_test, AllByRecursion, flat_map, all_append, all_parts, WriteAt, Access, Execution, AreArcs, CriticalCycle, Moves, Segment, place_at, threads_of}
 use Rattle.std.specs.List.{IsDistinct}
-use Rattle.critical_cycles.proofs.Ways.{Facts, IsWithin, Way, goes, joined, size, size-append, within}
+use Rattle.critical_cycles.proofs.Ways.{Facts, IsWithin, Way, goes, joined, size, size-append}
 use Rattle.critical_cycles.proofs.Shorter.{Around, Closed, Shorter, middle_here, middle_there, middles, not_alone, one_place, one_thread, size_around, turned}
 
 -- each number of a list differs from each of another
@@ -67,7 +67,6 @@ same_not : (m n : ℕ) → m ≡ n → (m == n) ≡ false → ⊥
 same_not m n e f = cc (eq-eqb m n e)
 
 module _ (threads : List (List Access)) (x : Execution) (facts : Facts threads x) where
-
   -- a shorter way gives what is looked for
   abbrev Gives : ℕ → Type 0 → Type 0
   Gives n G = Shorter threads x n → G

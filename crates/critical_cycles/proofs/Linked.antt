@@ -1,10 +1,9 @@
 -- The edges and events of a critical cycle side by side: each edge goes on from its event to the next.
-use Rattle.critical_cycles.proofs.Vocabulary.{◌≡◌, ◌≢◌, ℕ, zero, suc, ◌+◌, ◌<◌, Bool, true, false, ◌&&◌, List, [], ◌∷◌, ◌++◌, length, map, Option, Some, None, slice_get, refl, sym, ◌∙◌, ap, subst, append-nil, inl, inr, AllByRecursion, flat_map, and_from, WriteAt, Access, Dir, Edge, Execution, Held, AreArcs, CoherenceOrder, FromRead, IsArc, IsBeforeWrite, Moves, Precedes, ReadsFrom, Segment, dir_at, place_at}
+use Rattle.critical_cycles.proofs.Vocabulary.{◌≡◌, false, List, [], ◌∷◌, ◌++◌, map, Option, Some, None, refl, sym, ◌∙◌, ap, subst, append-nil, inl, inr, AllByRecursion, flat_map, WriteAt, Access, Dir, Edge, Execution, Held, AreArcs, IsArc, IsBeforeWrite, Moves, Precedes, ReadsFrom, Segment, dir_at, place_at}
 use Rattle.relax_edges.specs.declared.kinds.Dir.TheVariants as dirs
 use Rattle.relax_edges.specs.declared.kinds.Kind.TheVariants as kinds
-use Rattle.relax_edges.specs.{declared.kinds.Kind.Kind, declared.kinds.Mark.TheVariants.Plain, declared.kinds.Sd.TheVariants.Diff, declared.kinds.Reach.Reach}
-use Rattle.relax_edges.specs.declared.kinds.Reach.TheVariants.{Internal, External}
-use Rattle.relax_edges.specs.EdgeTable.{is_diff, is_external, kind_of, kind_place, kind_reach, sd_of, source_mark, source_of, target_mark, target_of}
+use Rattle.relax_edges.specs.{declared.kinds.Kind.Kind, declared.kinds.Mark.TheVariants.Plain, declared.kinds.Sd.TheVariants.Diff}
+use Rattle.relax_edges.specs.EdgeTable.{is_diff, is_external, kind_of, kind_place, source_mark, target_mark}
 use Rattle.relax_edges.specs.NamedEdges.{rfe}
 use Rattle.std.proofs.lemmas.List.{map-append}
 use Rattle.program_meaning.specs.Standing.{AreAt}
@@ -58,7 +57,6 @@ begins_along threads link s [] back z = refl
 begins_along threads link s (t ∷ us) back z = refl
 
 module _ (threads : List (List Access)) (x : Execution) (held : Held threads x) where
-
   rf_goes_on : (e f : WriteAt) → ReadsFrom threads x e f → GoesOn threads x (leaving rfe e) f
   rf_goes_on e f h =
       let d = rf_dirs threads x e f held h in
@@ -160,18 +158,21 @@ module _ (threads : List (List Access)) (x : Execution) (held : Held threads x) 
   pub all_go_on : (link : Segment → Edge) (s : Segment) (us : List Segment) (back : WriteAt) → AllByRecursion (Moves threads) (s ∷ us)
       → AllByRecursion (λ t. FitsSegment threads (link t) t) (s ∷ us) → AreArcs threads x s us back → AllGoOn threads x (steps_along threads link s us back) back
   all_go_on link s [] back m fits h =
-      let arc = arc_steps (dir_at threads s.last) s.last s.middle (dir_at threads back) in
-      (subst (GoesOn threads x (leaving (link s) s.first))
-      (sym (begins_arc (dir_at threads s.last) (dir_at threads back) s.last s.middle [] back) ∙ ap (λ l. begins l back) (append-nil arc))
-      (segment_goes_on (link s) s m.0 fits.0), arc_goes_on s.last back s.middle h)
+      let arc = arc_steps (dir_at threads s.last) s.last s.middle (dir_at threads back) in (
+        subst (GoesOn threads x (leaving (link s) s.first))
+            (sym (begins_arc (dir_at threads s.last) (dir_at threads back) s.last s.middle [] back) ∙ ap (λ l. begins l back) (append-nil arc))
+            (segment_goes_on (link s) s m.0 fits.0),
+        arc_goes_on s.last back s.middle h,
+      )
   all_go_on link s (t ∷ us) back m fits h =
-      let rest = steps_along threads link t us back in
-      (subst (GoesOn threads x (leaving (link s) s.first)) (sym (begins_arc (dir_at threads s.last) (dir_at threads t.first) s.last s.middle rest back))
-      (segment_goes_on (link s) s m.0 fits.0),
-      go_on_append (arc_steps (dir_at threads s.last) s.last s.middle (dir_at threads t.first)) rest back
-      (subst (AllGoOn threads x (arc_steps (dir_at threads s.last) s.last s.middle (dir_at threads t.first))) (sym (begins_along threads link t us back back))
-      (arc_goes_on s.last t.first s.middle h.0))
-      (all_go_on link t us back m.1 fits.1 h.1))
+      let rest = steps_along threads link t us back in (
+        subst (GoesOn threads x (leaving (link s) s.first)) (sym (begins_arc (dir_at threads s.last) (dir_at threads t.first) s.last s.middle rest back))
+            (segment_goes_on (link s) s m.0 fits.0),
+        go_on_append (arc_steps (dir_at threads s.last) s.last s.middle (dir_at threads t.first)) rest back
+            (subst (AllGoOn threads x (arc_steps (dir_at threads s.last) s.last s.middle (dir_at threads t.first))) (sym (begins_along threads link t us back back))
+            (arc_goes_on s.last t.first s.middle h.0))
+            (all_go_on link t us back m.1 fits.1 h.1),
+      )
 
 -- the edges of the steps are those of the cycle
 arc_edges_are : (from to : Dir) (e : WriteAt) (m : Option WriteAt) → map (λ q. q.edge) (arc_steps from e m to) ≡ arc_edges from m to

@@ -1,9 +1,9 @@
 -- Paths of program order and arcs: each is program order, or a way with program order before and after it. One that leads back to its beginning
 -- makes a closed way. Whether there is one is decided by Warshall's algorithm over all accesses.
-use Rattle.critical_cycles.proofs.Vocabulary.{◌≡◌, ℕ, ◌+◌, ◌<◌, ◌≤◌, Bool, true, false, ◌==◌, ◌&&◌, ◌||◌, List, [], ◌∷◌, ◌++◌, Option, Some, None, inl, inr, ◌⊎◌, refl, sym, ◌∙◌, ap, subst, arith, nat_lt, and_parts, and_from, eqb-true, ltb-true, by_option, by_test, WriteAt, Access, at_name, Execution, comes, earlier_comes, key, lesser_comes, Precedes, StepBy, ByPo, ByRf, ByCo, ByFr, IsPathBy, IsSequential, CriticalCycle, Segment, place_of_access}
+use Rattle.critical_cycles.proofs.Vocabulary.{◌≡◌, Bool, true, false, ◌==◌, ◌&&◌, ◌||◌, List, [], ◌∷◌, ◌++◌, Option, Some, inl, inr, ◌⊎◌, refl, sym, ◌∙◌, ap, subst, arith, nat_lt, and_parts, and_from, eqb-true, ltb-true, by_option, by_test, WriteAt, Access, at_name, Execution, comes, earlier_comes, key, lesser_comes, Precedes, StepBy, ByPo, ByRf, ByCo, ByFr, IsPathBy, IsSequential, CriticalCycle, Segment, place_of_access}
 use Rattle.sc_and_interleavings.proofs.{Listed.{all_names, listed}, Sorting.In, Coming.comes_by, Coming.comes_first}
 use Rattle.critical_cycles.proofs.Keys.{Arc, Exists, Goes, arc_goes, arrives, key_is}
-use Rattle.critical_cycles.proofs.{Ways.{Facts, IsWithin, Way, goes, joined, leaving, segment, size, within}, Shorter.Closed, Least.critical}
+use Rattle.critical_cycles.proofs.{Ways.{Facts, IsWithin, Way, goes, joined, leaving, segment, size, within}, Least.critical}
 
 -- a way from an access, or from a later one of its thread, that ends at or before another in its thread
 pub record Around (threads : List (List Access)) (x : Execution) (e f : WriteAt) : Type 0 where
@@ -30,7 +30,6 @@ or_right : (a b : Bool) → b ≡ true → (a || b) ≡ true
 or_right a b h = grind arith
 
 module _ (threads : List (List Access)) (x : Execution) where
-
   -- program order, as something before or the same
   in_order : (e f : WriteAt) → Precedes threads e f → IsWithin threads e f
   in_order e f h = record { first = h.first; last = h.second; thread = h.thread; order = omega (arith, h.earlier) }
@@ -60,7 +59,7 @@ module _ (threads : List (List Access)) (x : Execution) where
         way = earlier e f k.last k.middle k.others k.end (in_order e f h) k.way;
         ends = k.ends;
       })
-  meets e f g (ByArcs h) (InThread k) = 
+  meets e f g (ByArcs h) (InThread k) =
       ByArcs (record { last = h.last; middle = h.middle; others = h.others; end = h.end; way = h.way; ends = after h.end f g h.ends (in_order f g k) })
   meets e f g (ByArcs h) (ByArcs k) =
       ByArcs (record {

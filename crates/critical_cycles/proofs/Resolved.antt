@@ -1,17 +1,16 @@
 -- The edges of a critical cycle are a resolved cycle, and its accesses are the events.
-use Rattle.critical_cycles.proofs.Vocabulary.{◌≡◌, ◌≢◌, ℕ, zero, suc, ◌+◌, ◌<◌, ◌≤◌, Bool, true, false, ◌==◌, ◌&&◌, List, [], ◌∷◌, ◌++◌, length, map, Option, Some, None, slice_get, refl, sym, ◌∙◌, ap, subst, arith, option_map, ◌↔◌, eq-eqb, and_parts, all_parts, cond, by_less, by_same, AllByRecursion, flat_map, WriteAt, Access, Dir, Edge, Execution, Held, AreArcs, CriticalCycle, Moves, Segment, dir_at, place_at, threads_of}
+use Rattle.critical_cycles.proofs.Vocabulary.{◌≡◌, ◌≢◌, ℕ, zero, suc, ◌+◌, ◌<◌, ◌≤◌, true, false, ◌==◌, ◌&&◌, List, [], ◌∷◌, ◌++◌, length, map, Option, Some, None, slice_get, refl, sym, ◌∙◌, ap, subst, arith, option_map, ◌↔◌, eq-eqb, and_parts, all_parts, cond, by_less, by_same, AllByRecursion, flat_map, WriteAt, Access, Dir, Edge, Execution, Held, AreArcs, CriticalCycle, Moves, Segment, dir_at, place_at, threads_of}
 use Rattle.std.specs.List.{count_by, IsDistinct}
 use Rattle.std.proofs.{Common.length-append, lemmas.Bool.ne_eqb, lemmas.List.Sums.sum_by-cons, lemmas.List.length-map, lemmas.Map.Keys.apart_from_distinct}
 use Rattle.std.proofs.lemmas.Option.{slice_get_within, get_or_from_slice_get, slice_get-map}
 use Rattle.list_laws.specs.Numbers.{upto}
 use Rattle.list_laws.proofs.{Counts.count_upto_less, Finds.any_upto_none, Prefixes.count_all}
-use Rattle.relax_edges.specs.{declared.TheConstants.MAX_EDGES, declared.kinds.Mark.TheVariants.Plain, declared.kinds.Mark.Mark, declared.kinds.Reach.TheVariants.Internal}
+use Rattle.relax_edges.specs.{declared.TheConstants.MAX_EDGES, declared.kinds.Mark.TheVariants.Plain, declared.kinds.Reach.TheVariants.Internal}
 use Rattle.relax_edges.specs.declared.kinds.Com.TheVariants.{Rf}
 use Rattle.relax_edges.specs.declared.edge.Edge.TheVariants as edges
-use Rattle.relax_edges.specs.EdgeTable.{is_diff, is_external, joins_to, same_dir, same_mark, source_mark, source_of, target_mark, target_of}
+use Rattle.relax_edges.specs.EdgeTable.{is_diff, is_external, joins_to, same_dir, source_mark, source_of, target_mark, target_of}
 use Rattle.relax_edges.specs.JoinedEdges.{is_joined}
 use Rattle.relax_edges.specs.declared.kinds.Dir.TheVariants as dirs
-use Rattle.edge_algebra_laws.specs.Composable.{IsCycle}
 use Rattle.cycle_events.specs.Resolution.{IsResolved, edge_at, ends_outside, event_after, external_count, is_coherence_only, location_of, move_count, moves_before, moves_in, thread_of}
 use Rattle.cycle_events.proofs.{Around.by_after, Arcs.thread_below, Arcs.location_cases, Rotations.edge_second, Rotations.thread_first, Threads.thread-zero, Threads.thread_end}
 use Rattle.sc_and_interleavings.proofs.Vocabulary.{moves}
@@ -59,7 +58,6 @@ joins : (e f : Edge) (d : Dir) → d ≡ target_of e → d ≡ source_of f → t
 joins e f d a b m n = rw (sym a, sym b, m, n) (rw (same_dir-refl d) refl)
 
 module _ (threads : List (List Access)) (x : Execution) where
-
   -- what an event goes on to: the next one, or what comes after the last
   record Next (l : List Leaving) (z : WriteAt) (i : ℕ) (q : Leaving) : Type 0 where
     next : WriteAt
@@ -145,7 +143,6 @@ spread_between e a b first some second out =
         (λ n. one_less k 0 (omega arith) first (λ h. n (sym h ∙ thread-zero es)))
 
 module _ (threads : List (List Access)) (x : Execution) (l : List Leaving) (z : WriteAt) (all : AllGoOn threads x l z) (round : begins l z ≡ z) where
-
   abbrev es : List Edge
   es = map (λ q. q.edge) l
 
@@ -179,8 +176,7 @@ module _ (threads : List (List Access)) (x : Execution) (l : List Leaving) (z : 
 
   -- two events are in one thread, or at one location, exactly when their values are in one place of a list of different ones
   module _ (v : WriteAt → ℕ) (vs : List ℕ) (distinct : IsDistinct ◌==◌ vs) (number : ℕ → ℕ)
-    (is_at : (i : ℕ) (q : Leaving) → slice_get l i ≡ Some q → slice_get vs (number i) ≡ Some (v q.event)) where
-
+      (is_at : (i : ℕ) (q : Leaving) → slice_get l i ≡ Some q → slice_get vs (number i) ≡ Some (v q.event)) where
     alike : (i j : ℕ) (e f : WriteAt) → slice_get events i ≡ Some e → slice_get events j ≡ Some f → (v e ≡ v f) ↔ (number i ≡ number j)
     alike i j e f h k =
         let q = image (λ q. q.event) l i e h in
@@ -226,7 +222,6 @@ arc_external dirs.R to (Some w) = omega arith
 arc_external dirs.W to (Some w) = omega arith
 
 module _ (threads : List (List Access)) (link : Segment → Edge) where
-
   some_edges : (s : Segment) (us : List Segment) (back : WriteAt) → 0 < length (edges_along threads link s us back)
   some_edges s [] back = omega arith
   some_edges s (t ∷ us) back = omega arith
@@ -245,7 +240,6 @@ record Linked (threads : List (List Access)) (x : Execution) (link : Segment →
   few : length (edges_along threads link s us s.first) ≤ MAX_EDGES
 
 module _ (threads : List (List Access)) (x : Execution) (held : Held threads x) (link : Segment → Edge) where
-
   -- where arcs lead, they began
   arc_places : (s : Segment) (us : List Segment) (back : WriteAt) → AreArcs threads x s us back
       → map (λ t. place_at threads t.last) (s ∷ us) ≡ map (λ t. place_at threads t.first) us ++ place_at threads back ∷ []

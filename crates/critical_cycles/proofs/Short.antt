@@ -1,5 +1,5 @@
 -- A critical cycle goes through at most as many threads as there are, and has at most twice as many edges.
-use Rattle.critical_cycles.proofs.Vocabulary.{◌≡◌, ℕ, ◌+◌, ◌<◌, ◌≤◌, Bool, true, ◌==◌, List, [], ◌∷◌, ◌++◌, length, Option, Some, None, slice_get, arith, inr, eqb-true, by_test, AllByRecursion, all_append, flat_map, list_any, WriteAt, Access, at_name, Dir, Edge, Execution, Held, AreArcs, CriticalCycle, IsArc, Moves, Segment, dir_at, threads_of}
+use Rattle.critical_cycles.proofs.Vocabulary.{◌≡◌, ℕ, ◌+◌, ◌<◌, ◌≤◌, true, ◌==◌, List, [], ◌∷◌, length, Option, Some, None, slice_get, arith, inr, eqb-true, by_test, AllByRecursion, all_append, flat_map, list_any, WriteAt, Access, Dir, Edge, Execution, Held, AreArcs, CriticalCycle, IsArc, Moves, Segment, dir_at, threads_of}
 use Rattle.std.proofs.{Common.length-append, lemmas.Map.Steps.length-le_from_distinct_below, lemmas.Option.slice_get_within}
 use Rattle.program_meaning.proofs.Names.{got_from_list}
 use Rattle.critical_cycles.proofs.Keys.{Exists, arc_goes}
@@ -16,7 +16,6 @@ any_below n q [] h t = cc
 any_below n q (p ∷ ps) h t = by_test (q == p) (λ e. omega (arith, h.0, eqb-true q p e)) (λ e. any_below n q ps h.1 (cc))
 
 module _ (threads : List (List Access)) (x : Execution) (held : Held threads x) where
-
   -- the threads of a segment and the middle write after it exist
   of_segment : (a b : WriteAt) (m : Option WriteAt) (f : WriteAt) → Moves threads (record { first = a; last = b; middle = m }) → IsArc threads x b m f
       → AllByRecursion (λ p. p < length threads) (threads_of (record { first = a; last = b; middle = m }))

@@ -1,8 +1,8 @@
 -- A closed way that isn't critical has a shorter one: where two of its segments are in one thread or at one location, or a middle write
 -- is in the thread of a segment or of another middle write.
-use Rattle.critical_cycles.proofs.Vocabulary.{◌≡◌, ℕ, ◌+◌, ◌<◌, ◌≤◌, List, [], ◌∷◌, ◌++◌, Option, Some, None, inl, inr, sym, ◌∙◌, ap, subst, arith, by_less, WriteAt, Access, Execution, ReadsFrom, IsArc, IsBeforeWrite, Segment, place_at}
+use Rattle.critical_cycles.proofs.Vocabulary.{◌≡◌, ℕ, ◌+◌, ◌<◌, ◌≤◌, List, [], ◌∷◌, ◌++◌, Some, None, inl, inr, sym, ◌∙◌, ap, subst, arith, by_less, WriteAt, Access, Execution, ReadsFrom, IsArc, IsBeforeWrite, Segment, place_at}
 use Rattle.critical_cycles.proofs.Keys.{Exists, Goes, key_at, arc_goes, arrives}
-use Rattle.critical_cycles.proofs.Ways.{Facts, IsWithin, Way, few, first_arc, goes, joined, keeps, leaving, leaving_by, more, segment, size, size-append, within}
+use Rattle.critical_cycles.proofs.Ways.{Facts, Way, few, first_arc, goes, joined, keeps, leaving, leaving_by, more, segment, size, size-append, within}
 
 -- a way back to its own beginning
 abbrev pub Closed : List (List Access) → Execution → Segment → List Segment → Type 0
@@ -32,7 +32,6 @@ record Middle (threads : List (List Access)) (x : Execution) (s : Segment) (w : 
   read : (f : WriteAt) → IsArc threads x s.last s.middle f → ReadsFrom threads x w f
 
 module _ (threads : List (List Access)) (x : Execution) (facts : Facts threads x) where
-
   middle_of : (s : Segment) (us : List Segment) (a w : WriteAt) → Way threads x s us a → s.middle ≡ Some w → Middle threads x s w
   middle_of s us a w h e =
       let parts : (f : WriteAt) → IsArc threads x s.last s.middle f → IsBeforeWrite threads x s.last w × ReadsFrom threads x w f =
@@ -141,8 +140,12 @@ module _ (threads : List (List Access)) (x : Execution) (facts : Facts threads x
       let m = middle_of s us s.first w h e in
       let p = within threads x s us s.first h in
       by_less w.access s.first.access
-      (λ l. absurd (omega (arith, m.rises.rises, keeps threads x facts w s.last
-      (record { first = m.exists; last = p.last; thread = same ∙ p.thread; order = omega (arith, p.order, l) }) (sym m.rises.places))))
+      (λ l. absurd (omega (
+        arith,
+        m.rises.rises,
+        keeps threads x facts w s.last
+            (record { first = m.exists; last = p.last; thread = same ∙ p.thread; order = omega (arith, p.order, l) }) (sym m.rises.places),
+      )))
       (λ g. record {
         start = segment s.first w None;
         others = us;

@@ -1,5 +1,5 @@
 -- With at most two threads, a critical cycle has two segments and no middle writes. Its edges are found by what its four accesses do.
-use Rattle.critical_cycles.proofs.Vocabulary.{◌≡◌, ◌+◌, ◌<◌, ◌≤◌, List, [], ◌∷◌, ◌++◌, length, Option, Some, None, refl, arith, inl, inr, WriteAt, Access, Dir, Execution, Held, CriticalCycle, IsArc, AreArcs, Segment, flat_map, dir_at, threads_of}
+use Rattle.critical_cycles.proofs.Vocabulary.{◌≡◌, ◌<◌, ◌≤◌, List, [], ◌∷◌, ◌++◌, length, Option, Some, None, refl, arith, inl, inr, WriteAt, Access, Dir, Execution, Held, CriticalCycle, IsArc, AreArcs, Segment, flat_map, dir_at, threads_of}
 use Rattle.std.proofs.Common.{length-append}
 use Rattle.relax_edges.specs.declared.kinds.Dir.TheVariants as dirs
 use Rattle.relax_edges.specs.NamedEdges.{pod, rfe, fre, wse}
@@ -33,7 +33,6 @@ by_dirs dirs.W dirs.R dirs.W dirs.R p q =
     record { number = 0; named = _; is_named = refl; rotation = record { prefix = fre ∷ []; back = _; from = refl; to = refl } }
 
 module _ (threads : List (List Access)) (x : Execution) (held : Held threads x) where
-
   two_segments : (a b c d : WriteAt) (m n : Option WriteAt)
       → length (flat_map threads_of (record { first = a; last = b; middle = m } ∷ record { first = c; last = d; middle = n } ∷ [])) ≤ 2
       → IsArc threads x b m c → IsArc threads x d n a

@@ -1,7 +1,7 @@
 -- Ways: segments and the arcs between them, where the two accesses of a segment may be one, or at one location. A way may begin with another
 -- segment that leads on to the same access, and ways that meet join.
-use Rattle.critical_cycles.proofs.Vocabulary.{◌≡◌, ℕ, ◌+◌, ◌<◌, ◌≤◌, List, [], ◌∷◌, ◌++◌, Option, Some, None, inl, inr, ◌∙◌, ap, arith, by_same, WriteAt, Access, Execution, IsCoherent, Held, Precedes, IsArc, Segment, place_at}
-use Rattle.critical_cycles.proofs.Keys.{Arc, Exists, Goes, key_at, arc_goes, arrives, stays}
+use Rattle.critical_cycles.proofs.Vocabulary.{◌≡◌, ℕ, ◌+◌, ◌≤◌, List, [], ◌∷◌, ◌++◌, Option, Some, None, inl, inr, ◌∙◌, ap, arith, by_same, WriteAt, Access, Execution, IsCoherent, Held, IsArc, Segment, place_at}
+use Rattle.critical_cycles.proofs.Keys.{Arc, Exists, Goes, key_at, arc_goes, stays}
 
 -- what is needed of an execution
 pub record Facts (threads : List (List Access)) (x : Execution) : Type 0 where
@@ -42,7 +42,6 @@ few None = omega arith
 few (Some w) = omega arith
 
 module _ (threads : List (List Access)) (x : Execution) where
-
   -- the first segment of a way
   pub within : (s : Segment) (us : List Segment) (a : WriteAt) → Way threads x s us a → IsWithin threads s.first s.last
   within s [] a h = h.0
