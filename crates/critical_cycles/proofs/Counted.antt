@@ -1,14 +1,12 @@
 -- Threads and locations along steps: how many edges before an event leave their thread, or their location, says which of the threads, or of the
 -- locations, is the event's.
-use Rattle.critical_cycles.proofs.Vocabulary.{◌≡◌, ℕ, zero, suc, ◌+◌, Bool, true, false, cond, List, [], ◌∷◌, ◌++◌, length, map, take, Option, Some, None, slice_get, refl, sym, ◌∙◌, ap, arith, by_test, append-nil, append_assoc, cond-true, cond-false, AllByRecursion, flat_map, WriteAt, Access, Dir, Edge, Execution, Moves, Segment, dir_at, place_at, threads_of}
-use Rattle.std.specs.List.{count_by}
-use Rattle.std.proofs.lemmas.List.Sums.{sum_by-cons}
+use Rattle.critical_cycles.proofs.Vocabulary.{append-nil, Bool, List, None, Option, Some, [], ap, append_assoc, arith, cond, false, inl, inr, length, length-append, map, not, refl, slice_get, subst, suc, sym, take, true, zero, ℕ, ◌&&◌, ◌++◌, ◌+◌, ◌-◌, ◌<◌, ◌==◌, ◌||◌, ◌∙◌, ◌∷◌, ◌≡◌, ◌≤◌, and_from, and_parts, cond-false, cond-true, eq-eqb, eqb-true, lt-ltb, ltb-true, ne_eqb, sum_by-cons, length-map, map-append, apart_from_distinct, get_or_from_slice_get, slice_get-map, slice_get_within, AllByRecursion, count_by, flat_map, list_any, option_map, nat_lt, ◌↔◌, ◌≢◌, ◌⊎◌, by_after, location_cases, several_locations, thread_below, passing, location_first, edge_second, thread_first, thread-zero, thread_end, by_less, by_option, by_same, by_test, all_append, all_parts, count_upto_less, distinct_push, any_upto_none, count_all, upto, Access, at_name, IsCoherent, MayFollow, coherence_place, order_at, order_place, source_at, CanRead, Execution, IsExecutionOf, AreAt, WriteAt, IsCandidate, IsCoherentIn, Program, accesses_in, visits_in, MAX_EDGES, Edge, Dir, Kind, Rf, Plain, Internal, Diff, is_joined, is_diff, is_external, joins_to, kind_of, kind_place, reach_of, same_dir, sd_of, source_mark, source_of, target_mark, target_of, fre, pod, rfe, wse, comes, earlier_comes, key, lesser_comes, Held, held, place_in, read_before, writes_ordered, writes_same, access_of_visit, moves, WritesWithin, CoherenceOrder, FromRead, IsBefore, IsReadOf, IsWriteTo, ReadsFrom, ByCo, ByFr, ByPo, ByRf, IsPathBy, IsSequential, Precedes, StepBy, AreArcs, CriticalCycle, IsArc, IsBeforeWrite, Moves, Segment, dir_at, dir_of_access, place_at, place_of_access, segments_of, threads_of, AreEvents, AreRelated, EdgeLeads, accesses_of_segment, arc_edges, critical_edges, critical_events, edge_to_write, edges_along, linked_edges, plain_edge, AreLinkedEvents, IsLink, IsPlainOrLink, LinkedCyclesHaveEvents}
+use Rattle.std.specs.List.{IsDistinct}
+use Rattle.cycle_events.specs.Resolution.{IsResolved, edge_at, ends_outside, event_after, external_count, is_coherence_only, location_of, move_count, moves_before, moves_in, thread_of}
 use Rattle.relax_edges.specs.declared.kinds.Dir.TheVariants as dirs
-use Rattle.relax_edges.specs.EdgeTable.{is_diff, is_external, reach_of}
-use Rattle.relax_edges.specs.declared.kinds.Reach.TheVariants.{Internal}
-use Rattle.sc_and_interleavings.proofs.Vocabulary.{moves}
-use Rattle.critical_cycles.specs.Links.{FitsSegment}
-use Rattle.critical_cycles.proofs.Linked.{AllGoOn, GoesOn, Leaving, arc_steps, begins, leaving, steps_along}
+use Rattle.relax_edges.specs.declared.kinds.Kind.TheVariants as kinds
+use Rattle.relax_edges.specs.declared.edge.Edge.TheVariants as edges
+use Rattle.critical_cycles.proofs.{Linked.{FitsSegment, GoesOn}, Steps.{AllNext, Leaving, arc_steps, begins, leaving, steps_along}}
 
 -- the values of the events whose edges pass a test, and a last value
 abbrev pub passed : (Edge → Bool) → (WriteAt → ℕ) → List Leaving → ℕ → List ℕ
@@ -32,7 +30,7 @@ passed_count p v (q ∷ l) z =
 module _ (threads : List (List Access)) (x : Execution) (p : Edge → Bool) (v : WriteAt → ℕ)
     (keeps : (q : Leaving) (f : WriteAt) → GoesOn threads x q f → p q.edge ≡ false → v q.event ≡ v f) where
   -- the first of them is the value of the first event
-  first_passed : (l : List Leaving) (z : WriteAt) → AllGoOn threads x l z → slice_get (passed p v l (v z)) 0 ≡ Some (v (begins l z))
+  first_passed : (l : List Leaving) (z : WriteAt) → AllNext (GoesOn threads x) l z → slice_get (passed p v l (v z)) 0 ≡ Some (v (begins l z))
   first_passed [] z h = refl
   first_passed (q ∷ l) z h =
       by_test (p q.edge)
@@ -40,7 +38,7 @@ module _ (threads : List (List Access)) (x : Execution) (p : Edge → Bool) (v :
       (λ f. ap (λ vs. slice_get vs 0) (passed_no p v q l (v z) f) ∙ first_passed l z h.1 ∙ ap Some (sym (keeps q (begins l z) h.0 f)))
 
   -- an event has the value whose number is that of the edges before it that pass
-  pub passed_at : (l : List Leaving) (z : WriteAt) (i : ℕ) (q : Leaving) → AllGoOn threads x l z → slice_get l i ≡ Some q
+  pub passed_at : (l : List Leaving) (z : WriteAt) (i : ℕ) (q : Leaving) → AllNext (GoesOn threads x) l z → slice_get l i ≡ Some q
       → slice_get (passed p v l (v z)) (count_by p (take i (map (λ q. q.edge) l))) ≡ Some (v q.event)
   passed_at [] z i q h g = cc g
   passed_at (r ∷ l) z zero q h g =

@@ -7,7 +7,9 @@ pub mod Reached
 pub mod Back
 pub mod Short
 pub mod SixNamed
+pub mod Steps
 pub mod Linked
 pub mod Counted
 pub mod Resolved
+pub mod Links
 pub mod CriticalLaws

@@ -1,30 +1,13 @@
 -- The edges of a critical cycle are a resolved cycle, and its accesses are the events.
-use Rattle.critical_cycles.proofs.Vocabulary.{◌≡◌, ◌≢◌, ℕ, zero, suc, ◌+◌, ◌<◌, ◌≤◌, true, false, ◌==◌, ◌&&◌, List, [], ◌∷◌, ◌++◌, length, map, Option, Some, None, slice_get, refl, sym, ◌∙◌, ap, subst, arith, option_map, ◌↔◌, eq-eqb, and_parts, all_parts, cond, by_less, by_same, AllByRecursion, flat_map, WriteAt, Access, Dir, Edge, Execution, Held, AreArcs, CriticalCycle, Moves, Segment, dir_at, place_at, threads_of}
-use Rattle.std.specs.List.{count_by, IsDistinct}
-use Rattle.std.proofs.{Common.length-append, lemmas.Bool.ne_eqb, lemmas.List.Sums.sum_by-cons, lemmas.List.length-map, lemmas.Map.Keys.apart_from_distinct}
-use Rattle.std.proofs.lemmas.Option.{slice_get_within, get_or_from_slice_get, slice_get-map}
-use Rattle.list_laws.specs.Numbers.{upto}
-use Rattle.list_laws.proofs.{Counts.count_upto_less, Finds.any_upto_none, Prefixes.count_all}
-use Rattle.relax_edges.specs.{declared.TheConstants.MAX_EDGES, declared.kinds.Mark.TheVariants.Plain, declared.kinds.Reach.TheVariants.Internal}
-use Rattle.relax_edges.specs.declared.kinds.Com.TheVariants.{Rf}
-use Rattle.relax_edges.specs.declared.edge.Edge.TheVariants as edges
-use Rattle.relax_edges.specs.EdgeTable.{is_diff, is_external, joins_to, same_dir, source_mark, source_of, target_mark, target_of}
-use Rattle.relax_edges.specs.JoinedEdges.{is_joined}
-use Rattle.relax_edges.specs.declared.kinds.Dir.TheVariants as dirs
+use Rattle.critical_cycles.proofs.Vocabulary.{append-nil, Bool, List, None, Option, Some, [], ap, append_assoc, arith, cond, false, inl, inr, length, length-append, map, not, refl, slice_get, subst, suc, sym, take, true, zero, ℕ, ◌&&◌, ◌++◌, ◌+◌, ◌-◌, ◌<◌, ◌==◌, ◌||◌, ◌∙◌, ◌∷◌, ◌≡◌, ◌≤◌, and_from, and_parts, cond-false, cond-true, eq-eqb, eqb-true, lt-ltb, ltb-true, ne_eqb, sum_by-cons, length-map, map-append, apart_from_distinct, get_or_from_slice_get, slice_get-map, slice_get_within, AllByRecursion, count_by, flat_map, list_any, option_map, nat_lt, ◌↔◌, ◌≢◌, ◌⊎◌, by_after, location_cases, several_locations, thread_below, passing, location_first, edge_second, thread_first, thread-zero, thread_end, by_less, by_option, by_same, by_test, all_append, all_parts, count_upto_less, distinct_push, any_upto_none, count_all, upto, Access, at_name, IsCoherent, MayFollow, coherence_place, order_at, order_place, source_at, CanRead, Execution, IsExecutionOf, AreAt, WriteAt, IsCandidate, IsCoherentIn, Program, accesses_in, visits_in, MAX_EDGES, Edge, Dir, Kind, Rf, Plain, Internal, Diff, is_joined, is_diff, is_external, joins_to, kind_of, kind_place, reach_of, same_dir, sd_of, source_mark, source_of, target_mark, target_of, fre, pod, rfe, wse, comes, earlier_comes, key, lesser_comes, Held, held, place_in, read_before, writes_ordered, writes_same, access_of_visit, moves, WritesWithin, CoherenceOrder, FromRead, IsBefore, IsReadOf, IsWriteTo, ReadsFrom, ByCo, ByFr, ByPo, ByRf, IsPathBy, IsSequential, Precedes, StepBy, AreArcs, CriticalCycle, IsArc, IsBeforeWrite, Moves, Segment, dir_at, dir_of_access, place_at, place_of_access, segments_of, threads_of, AreEvents, AreRelated, EdgeLeads, accesses_of_segment, arc_edges, critical_edges, critical_events, edge_to_write, edges_along, linked_edges, plain_edge, AreLinkedEvents, IsLink, IsPlainOrLink, LinkedCyclesHaveEvents}
+use Rattle.std.specs.List.{IsDistinct}
 use Rattle.cycle_events.specs.Resolution.{IsResolved, edge_at, ends_outside, event_after, external_count, is_coherence_only, location_of, move_count, moves_before, moves_in, thread_of}
-use Rattle.cycle_events.proofs.{Around.by_after, Arcs.thread_below, Arcs.location_cases, Rotations.edge_second, Rotations.thread_first, Threads.thread-zero, Threads.thread_end}
-use Rattle.sc_and_interleavings.proofs.Vocabulary.{moves}
-use Rattle.critical_cycles.specs.CycleEdges.{AreEvents, EdgeLeads, accesses_of_segment, arc_edges, critical_edges, critical_events, edges_along, linked_edges, plain_edge}
-use Rattle.critical_cycles.specs.Links.{FitsSegment}
-use Rattle.critical_cycles.proofs.{Keys.Exists, Ways.goes}
-use Rattle.critical_cycles.proofs.Linked.{AllGoOn, GoesOn, Leaving, all_go_on, begins, edges_are, events_are, leaving, steps_along}
+use Rattle.relax_edges.specs.declared.kinds.Dir.TheVariants as dirs
+use Rattle.relax_edges.specs.declared.kinds.Kind.TheVariants as kinds
+use Rattle.relax_edges.specs.declared.edge.Edge.TheVariants as edges
+use Rattle.critical_cycles.proofs.{Keys.Exists, Ways.goes, Linked.{FitsSegment, GoesOn, all_go_on}}
+use Rattle.critical_cycles.proofs.Steps.{AllNext, Leaving, begins, each_next, edge_is, edges_are, edges_in, events_are, events_in, image, leaving, next_at, step_below, steps_along}
 use Rattle.critical_cycles.proofs.Counted.{passed, passed_at, passed_count, threads_passed, places_passed}
-
--- an element of a map over a list, as an element of the list
-image : {X Y : Type 0} (f : X → Y) (xs : List X) (k : ℕ) (y : Y) → slice_get (map f xs) k ≡ Some y → (x : X) × (slice_get xs k ≡ Some x) × (f x ≡ y)
-image f [] k y h = cc h
-image f (x ∷ xs) zero y h = (x, refl, cc h)
-image f (x ∷ xs) (suc k) y h = image f xs k y h
 
 -- an element of the first of two lists is one of both
 got_left : {X : Type 0} (xs ys : List X) (k : ℕ) → k < length xs → slice_get (xs ++ ys) k ≡ slice_get xs k
@@ -58,27 +41,8 @@ joins : (e f : Edge) (d : Dir) → d ≡ target_of e → d ≡ source_of f → t
 joins e f d a b m n = rw (sym a, sym b, m, n) (rw (same_dir-refl d) refl)
 
 module _ (threads : List (List Access)) (x : Execution) where
-  -- what an event goes on to: the next one, or what comes after the last
-  record Next (l : List Leaving) (z : WriteAt) (i : ℕ) (q : Leaving) : Type 0 where
-    next : WriteAt
-    goes_on : GoesOn threads x q next
-    is_next : (r : Leaving) → slice_get l (suc i) ≡ Some r → next ≡ r.event
-    is_end : length l ≡ i + 1 → next ≡ z
-
-  next_at : (l : List Leaving) (z : WriteAt) (i : ℕ) (q : Leaving) → AllGoOn threads x l z → slice_get l i ≡ Some q → Next l z i q
-  next_at [] z i q h g = cc g
-  next_at (r ∷ []) z zero q h g =
-      let e : r ≡ q = cc g in
-      record { next = z; goes_on = subst (λ s. GoesOn threads x s z) e h.0; is_next = λ s k. cc k; is_end = λ _. refl }
-  next_at (r ∷ s ∷ l) z zero q h g =
-      let e : r ≡ q = cc g in
-      record { next = s.event; goes_on = subst (λ t. GoesOn threads x t s.event) e h.0; is_next = λ t k. (let e : s ≡ t = cc k in ap (λ u. u.event) e); is_end = λ k. absurd (omega (arith, k)) }
-  next_at (r ∷ l) z (suc i) q h g =
-      let n = next_at l z i q h.1 g in
-      record { next = n.next; goes_on = n.goes_on; is_next = n.is_next; is_end = λ k. n.is_end (omega (arith, k)) }
-
   -- steps that lead back to their beginning join in a circle
-  all_joined : (l : List Leaving) (z : WriteAt) (p : Leaving) → AllGoOn threads x l z → z ≡ p.event → dir_at threads p.event ≡ source_of p.edge
+  all_joined : (l : List Leaving) (z : WriteAt) (p : Leaving) → AllNext (GoesOn threads x) l z → z ≡ p.event → dir_at threads p.event ≡ source_of p.edge
       → source_mark p.edge ≡ Plain → is_joined (map (λ q. q.edge) l ++ p.edge ∷ []) ≡ true
   all_joined [] z p h e d m = refl
   all_joined (q ∷ []) z p h e d m =
@@ -142,37 +106,12 @@ spread_between e a b first some second out =
         (λ h. omega (arith, h, z, out, thread_first (e ∷ a) b m (omega arith), thread_end (e ∷ a))))
         (λ n. one_less k 0 (omega arith) first (λ h. n (sym h ∙ thread-zero es)))
 
-module _ (threads : List (List Access)) (x : Execution) (l : List Leaving) (z : WriteAt) (all : AllGoOn threads x l z) (round : begins l z ≡ z) where
+module _ (threads : List (List Access)) (x : Execution) (l : List Leaving) (z : WriteAt) (all : AllNext (GoesOn threads x) l z) (round : begins l z ≡ z) where
   abbrev es : List Edge
-  es = map (λ q. q.edge) l
+  es = edges_in l
 
   abbrev events : List WriteAt
-  events = map (λ q. q.event) l
-
-  edge_is : (i : ℕ) (q : Leaving) → slice_get l i ≡ Some q → edge_at es i ≡ q.edge
-  edge_is i q g = get_or_from_slice_get es i q.edge (edges.Com Rf Internal) (slice_get-map (λ q. q.edge) l i ∙ ap (option_map (λ q. q.edge)) g)
-
-  below : (i : ℕ) (q : Leaving) → slice_get l i ≡ Some q → i < length es
-  below i q g = omega (arith, slice_get_within l i q g, length-map l (λ q. q.edge))
-
-  -- each edge leads from its event to the next
-  each_edge : (i : ℕ) (e f : WriteAt) → slice_get events i ≡ Some e → slice_get events (event_after es i) ≡ Some f → EdgeLeads threads x (edge_at es i) e f
-  each_edge i e f h k =
-      let q = image (λ q. q.event) l i e h in
-      let r = image (λ q. q.event) l (event_after es i) f k in
-      let n = next_at threads x l z i q.0 all q.1 in
-      let to : n.next ≡ f =
-      by_after es i (below i q.0 q.1)
-      (λ b a. let s : i + 1 ≡ suc i = omega arith in n.is_next r.0 (ap (slice_get l) (sym (a ∙ s)) ∙ r.1) ∙ r.2)
-      (λ b a. n.is_end (omega (arith, b, length-map l (λ q. q.edge))) ∙ sym round ∙ first r.0 (ap (slice_get l) (sym a) ∙ r.1) ∙ r.2) in
-      subst (λ (t : Edge × WriteAt × WriteAt). EdgeLeads threads x t.0 t.1 t.2) (λ j. (sym (edge_is i q.0 q.1) j, q.2 j, to j)) n.goes_on.leads
-    where
-      first : (r : Leaving) → slice_get l 0 ≡ Some r → begins l z ≡ r.event
-      first r g = begins_first l g
-        where
-          begins_first : (l : List Leaving) → slice_get l 0 ≡ Some r → begins l z ≡ r.event
-          begins_first [] g = cc g
-          begins_first (q ∷ l) g = let e : q ≡ r = cc g in ap (λ u. u.event) e
+  events = events_in l
 
   -- two events are in one thread, or at one location, exactly when their values are in one place of a list of different ones
   module _ (v : WriteAt → ℕ) (vs : List ℕ) (distinct : IsDistinct ◌==◌ vs) (number : ℕ → ℕ)
@@ -190,7 +129,7 @@ module _ (threads : List (List Access)) (x : Execution) (l : List Leaving) (z : 
   unfolding thread_of
   threads_are ts resolved are i q g =
       let n : thread_of es i < length ts =
-      omega (arith, thread_below es i resolved (below i q g), passed_count is_external (λ e. e.thread) l z.thread, ap (length {A = ℕ}) are, length-append ts (z.thread ∷ [])) in
+      omega (arith, thread_below es i resolved (step_below l i q g), passed_count is_external (λ e. e.thread) l z.thread, ap (length {A = ℕ}) are, length-append ts (z.thread ∷ [])) in
       sym (got_left ts (z.thread ∷ []) (thread_of es i) n) ∙ ap (λ vs. slice_get vs (thread_of es i)) (sym are)
       ∙ passed_at threads x is_external (λ e. e.thread) (λ q f g. g.in_thread) l z i q all g
 
@@ -201,7 +140,7 @@ module _ (threads : List (List Access)) (x : Execution) (l : List Leaving) (z : 
       let at : slice_get (ps ++ place_at threads z ∷ []) (moves_before es i) ≡ Some (place_at threads q.event) =
       ap (λ vs. slice_get vs (moves_before es i)) (sym are) ∙ passed_at threads x is_diff (place_at threads) (λ q f g. g.at_place) l z i q all g in
       let count : length ps ≡ move_count es = omega (arith, passed_count is_diff (place_at threads) l (place_at threads z), ap (length {A = ℕ}) are, length-append ps (place_at threads z ∷ [])) in
-      location_cases es i (below i q g)
+      location_cases es i (step_below l i q g)
       (λ m e. ap (slice_get ps) e ∙ start ∙ sym (got_end ps (place_at threads z)) ∙ ap (slice_get (ps ++ place_at threads z ∷ [])) (count ∙ sym m) ∙ at)
       (λ m e. ap (slice_get ps) e ∙ sym (got_left ps (place_at threads z ∷ []) (moves_before es i) (omega (arith, m, count))) ∙ at)
 
@@ -295,8 +234,8 @@ module _ (threads : List (List Access)) (x : Execution) (held : Held threads x) 
         resolved = r;
         count = length-map l (λ q. q.event) ∙ sym (length-map l (λ q. q.edge));
         exist = λ i e h. (let q = image (λ q. q.event) l i e h in
-            subst (Exists threads) q.2 (next_at threads x l s.first i q.0 all q.1).goes_on.exists);
-        each_edge = each_edge threads x l s.first all refl;
+            subst (Exists threads) q.2 (next_at (GoesOn threads x) l s.first i q.0 all q.1).holds.exists);
+        each_edge = λ i e f h k. (each_next l (GoesOn threads x) s.first all refl i e f h k).leads;
         one_thread = alike threads x l s.first all refl (λ e. e.thread) ts c.threads_differ (thread_of (map (λ q. q.edge) l))
             (threads_are threads x l s.first all refl ts r (threads_passed threads link s (t ∷ us) s.first s.first.thread c.moving c.fits));
         one_place = alike threads x l s.first all refl (place_at threads) ps places (location_of (map (λ q. q.edge) l))
@@ -317,10 +256,12 @@ cycle_events threads x held link c fits few =
     (record { moving = c.segments; arcs = c.arcs; fits = fits; threads_differ = c.threads_differ; places_differ = c.places_differ; few = few })
 
 -- plain program order fits each segment
+pub plain_fits : (threads : List (List Access)) (s : Segment) → FitsSegment threads (plain_edge threads s) s
+plain_fits threads s = record { inside = refl; moves = refl; leaves = refl; enters = refl; leaves_plain = refl; enters_plain = refl }
+
 all_plain : (threads : List (List Access)) (us : List Segment) → AllByRecursion (λ t. FitsSegment threads (plain_edge threads t) t) us
 all_plain threads [] = tt
-all_plain threads (s ∷ us) =
-    (record { inside = refl; moves = refl; leaves = refl; enters = refl; leaves_plain = refl; enters_plain = refl }, all_plain threads us)
+all_plain threads (s ∷ us) = (plain_fits threads s, all_plain threads us)
 
 pub critical_events_are : (threads : List (List Access)) (x : Execution) → Held threads x → (c : CriticalCycle threads x) → length (critical_edges c) ≤ MAX_EDGES
     → AreEvents threads x (critical_edges c) (critical_events c)
