@@ -12,4 +12,6 @@ pub mod Linked
 pub mod Counted
 pub mod Resolved
 pub mod Links
+pub mod Parts
+pub mod Converse
 pub mod CriticalLaws

@@ -10,7 +10,7 @@ use Rattle.critical_cycles.proofs.Steps.{AllNext, Leaving, begins, each_next, ed
 use Rattle.critical_cycles.proofs.Counted.{passed, passed_at, passed_count, threads_passed, places_passed}
 
 -- an element of the first of two lists is one of both
-got_left : {X : Type 0} (xs ys : List X) (k : ℕ) → k < length xs → slice_get (xs ++ ys) k ≡ slice_get xs k
+pub got_left : {X : Type 0} (xs ys : List X) (k : ℕ) → k < length xs → slice_get (xs ++ ys) k ≡ slice_get xs k
 got_left [] ys k h = absurd (omega (arith, h))
 got_left (x ∷ xs) ys zero h = refl
 got_left (x ∷ xs) ys (suc k) h = got_left xs ys k (omega (arith, h))
@@ -180,7 +180,7 @@ record Linked (threads : List (List Access)) (x : Execution) (link : Segment →
 
 module _ (threads : List (List Access)) (x : Execution) (held : Held threads x) (link : Segment → Edge) where
   -- where arcs lead, they began
-  arc_places : (s : Segment) (us : List Segment) (back : WriteAt) → AreArcs threads x s us back
+  pub arc_places : (s : Segment) (us : List Segment) (back : WriteAt) → AreArcs threads x s us back
       → map (λ t. place_at threads t.last) (s ∷ us) ≡ map (λ t. place_at threads t.first) us ++ place_at threads back ∷ []
   arc_places s [] back h = ap (λ p. p ∷ []) (goes threads x held s.last back s.middle h).places
   arc_places s (t ∷ us) back h = cc ((goes threads x held s.last t.first s.middle h.0).places, arc_places t us back h.1)
@@ -259,7 +259,7 @@ cycle_events threads x held link c fits few =
 pub plain_fits : (threads : List (List Access)) (s : Segment) → FitsSegment threads (plain_edge threads s) s
 plain_fits threads s = record { inside = refl; moves = refl; leaves = refl; enters = refl; leaves_plain = refl; enters_plain = refl }
 
-all_plain : (threads : List (List Access)) (us : List Segment) → AllByRecursion (λ t. FitsSegment threads (plain_edge threads t) t) us
+pub all_plain : (threads : List (List Access)) (us : List Segment) → AllByRecursion (λ t. FitsSegment threads (plain_edge threads t) t) us
 all_plain threads [] = tt
 all_plain threads (s ∷ us) = (plain_fits threads s, all_plain threads us)
 

@@ -1,0 +1,44 @@
+-- The converse: accesses that show a cycle of `Pod**` edges and arcs make a critical cycle.
+-- Source: the names of edges in the diy part of the herdtools manual; own.
+use Rattle.std.specs.{Prelude.{ℕ, ◌≡◌, List, [], ◌∷◌}, List.flat_map}
+use Rattle.relax_edges.specs.{declared.kinds.Dir.Dir, declared.edge.Edge.Edge, NamedEdges.{pod, rfe, fre, wse}}
+use Rattle.program_meaning.specs.{declared.WriteAt.WriteAt, Accesses.Access, Executions.{Execution, IsExecutionOf}}
+use Rattle.sc_and_interleavings.specs.CoherenceLaws.{WritesWithin}
+use Rattle.critical_cycles.specs.{Critical.CriticalCycle, CycleEdges.{AreEvents, critical_edges, critical_events}}
+
+-- the arcs by their edges
+pub data Arc : Type 0 where
+  Rfe : Arc
+  Fre : Arc
+  Wse : Arc
+  FreRfe : Arc
+  WseRfe : Arc
+
+abbrev pub edges_of_arc : Arc → List Edge
+edges_of_arc Rfe = rfe ∷ []
+edges_of_arc Fre = fre ∷ []
+edges_of_arc Wse = wse ∷ []
+edges_of_arc FreRfe = fre ∷ rfe ∷ []
+edges_of_arc WseRfe = wse ∷ rfe ∷ []
+
+-- a part of a cycle: program order to another location, and the arc after it
+pub record Part : Type 0 where
+  pub from : Dir
+  pub to : Dir
+  pub arc : Arc
+
+abbrev pub edges_of_part : Part → List Edge
+edges_of_part part = pod part.from part.to ∷ edges_of_arc part.arc
+
+-- a critical cycle with these edges and these accesses
+pub record IsCriticalBy (threads : List (List Access)) (x : Execution) (es : List Edge) (accesses : List WriteAt) : Type 0 where
+  pub cycle : CriticalCycle threads x
+  pub edges : critical_edges cycle ≡ es
+  pub events : critical_events cycle ≡ accesses
+
+-- if accesses are the events of a resolved cycle that consists of such parts, they are those of a critical cycle with its edges
+abbrev pub PartsAreCritical : Type 0
+PartsAreCritical =
+    (threads : List (List Access)) (places : ℕ) (x : Execution) → IsExecutionOf threads places x → WritesWithin threads places →
+    (parts : List Part) (events : List WriteAt) → AreEvents threads x (flat_map edges_of_part parts) events →
+    IsCriticalBy threads x (flat_map edges_of_part parts) events
