@@ -1,6 +1,6 @@
 -- Accesses that are the events of a resolved cycle of parts make a critical cycle: the numbers of threads and locations that the cycle counts
 -- are different, so the threads and the locations are.
-use Rattle.critical_cycles.proofs.Vocabulary.{append-nil, Bool, List, None, Option, Some, [], ap, append_assoc, arith, cond, false, inl, inr, length, length-append, map, not, refl, slice_get, subst, suc, sym, take, true, zero, ℕ, ◌&&◌, ◌++◌, ◌+◌, ◌-◌, ◌<◌, ◌==◌, ◌||◌, ◌∙◌, ◌∷◌, ◌≡◌, ◌≤◌, and_from, and_parts, cond-false, cond-true, eq-eqb, eqb-true, lt-ltb, ltb-true, ne_eqb, sum_by-cons, length-map, map-append, IsDistinct-from_apart, apart_from_distinct, get_or_from_slice_get, slice_get-map, slice_get_within, AllByRecursion, count_by, flat_map, list_any, option_map, nat_lt, ◌↔◌, ◌≢◌, ◌⊎◌, by_after, location_cases, several_locations, thread_below, PassingEdge, passing, location_first, edge_second, thread_first, thread-zero, thread_end, by_less, by_option, by_same, by_test, all_append, all_parts, count_upto_less, distinct_push, any_upto_none, count_all, upto, Access, at_name, IsCoherent, MayFollow, coherence_place, order_at, order_place, source_at, CanRead, Execution, IsExecutionOf, AreAt, WriteAt, IsCandidate, IsCoherentIn, Program, accesses_in, visits_in, MAX_EDGES, Edge, Dir, Kind, Plain, Internal, Diff, is_joined, is_diff, is_external, joins_to, kind_of, kind_place, reach_of, same_dir, sd_of, source_mark, source_of, target_mark, target_of, fre, pod, rfe, wse, comes, earlier_comes, key, lesser_comes, Held, held, place_in, read_before, writes_ordered, writes_same, access_of_visit, moves, WritesWithin, CoherenceOrder, FromRead, IsBefore, IsReadOf, IsWriteTo, ReadsFrom, ByCo, ByFr, ByPo, ByRf, IsPathBy, IsSequential, Precedes, StepBy, AreArcs, CriticalCycle, IsArc, IsBeforeWrite, Moves, Segment, dir_at, dir_of_access, place_at, place_of_access, segments_of, threads_of, AreEvents, AreRelated, EdgeLeads, accesses_of_segment, arc_edges, critical_edges, critical_events, edge_to_write, edges_along, linked_edges, plain_edge, AreLinkedEvents, IsLink, IsPlainOrLink, LinkedCyclesHaveEvents, Arc, IsCriticalBy, Part, PartsAreCritical, edges_of_arc, edges_of_part}
+use Rattle.critical_cycles.proofs.Vocabulary.{append-nil, Bool, List, None, Option, Some, [], ap, append_assoc, arith, cond, false, inl, inr, length, length-append, map, not, refl, slice_get, subst, suc, sym, take, true, zero, ℕ, ◌&&◌, ◌++◌, ◌+◌, ◌-◌, ◌<◌, ◌==◌, ◌||◌, ◌∙◌, ◌∷◌, ◌≡◌, ◌≤◌, and_from, and_parts, cond-false, cond-true, eq-eqb, eqb-true, lt-ltb, ltb-true, ne_eqb, flat_map-append, sum_by-cons, length-map, map-append, IsDistinct-from_apart, apart_from_distinct, get_or_from_slice_get, slice_get-map, slice_get_within, AllByRecursion, count_by, flat_map, list_any, option_map, nat_lt, ◌↔◌, ◌≢◌, ◌⊎◌, by_after, location_cases, several_locations, thread_below, PassingEdge, passing, location_first, location_below, external_keeps, location-zero, location_wrapped, moves_end, coherence_alike, external_count-append, move_count-append, outside_after, renumbered, edge_second, thread_first, thread-zero, thread_end, turned_cycle, IsRotation, rotated, by_less, by_option, by_same, by_test, all_append, all_parts, count_upto_less, distinct_push, any_upto_none, count_all, count_exchanged, upto, Access, at_name, IsCoherent, MayFollow, coherence_place, order_at, order_place, source_at, CanRead, Execution, IsExecutionOf, AreAt, WriteAt, IsCandidate, IsCoherentIn, Program, accesses_in, visits_in, MAX_EDGES, Edge, Dir, Kind, Plain, Internal, Diff, is_joined, is_diff, is_external, joins_to, kind_of, kind_place, reach_of, same_dir, sd_of, source_mark, source_of, target_mark, target_of, fre, pod, rfe, wse, comes, earlier_comes, key, lesser_comes, Held, held, place_in, read_before, writes_ordered, writes_same, access_of_visit, moves, WritesWithin, CoherenceOrder, FromRead, IsBefore, IsReadOf, IsWriteTo, ReadsFrom, ByCo, ByFr, ByPo, ByRf, IsPathBy, IsSequential, Precedes, StepBy, AreArcs, CriticalCycle, IsArc, IsBeforeWrite, Moves, Segment, dir_at, dir_of_access, place_at, place_of_access, segments_of, threads_of, AreEvents, AreRelated, EdgeLeads, accesses_of_segment, arc_edges, critical_edges, critical_events, edge_to_write, edges_along, linked_edges, plain_edge, AreLinkedEvents, IsLink, IsPlainOrLink, LinkedCyclesHaveEvents, Arc, IsCriticalBy, ListedAreCritical, Part, edges_of_arc, edges_of_part}
 use Rattle.std.specs.List.{IsDistinct}
 use Rattle.std.proofs.Common.{get_or}
 use Rattle.cycle_events.specs.Resolution.{IsResolved, edge_at, event_after, external_count, location_of, move_count, moves_before, thread_of}
@@ -9,18 +9,18 @@ use Rattle.critical_cycles.proofs.Steps.{AllNext, Leaving, begins, edge_is, edge
 use Rattle.critical_cycles.proofs.Resolved.{all_plain, arc_places, got_left}
 
 -- edges and events, side by side
-zipped : List Edge → List WriteAt → List Leaving
+pub zipped : List Edge → List WriteAt → List Leaving
 zipped [] events = []
 zipped (edge ∷ es) [] = []
 zipped (edge ∷ es) (e ∷ events) = leaving edge e ∷ zipped es events
 
-zipped_edges : (es : List Edge) (events : List WriteAt) → length events ≡ length es → edges_in (zipped es events) ≡ es
+pub zipped_edges : (es : List Edge) (events : List WriteAt) → length events ≡ length es → edges_in (zipped es events) ≡ es
 unfolding zipped
 zipped_edges [] events h = refl
 zipped_edges (edge ∷ es) [] h = absurd (omega (arith, h))
 zipped_edges (edge ∷ es) (e ∷ events) h = ap (λ (u : List Edge). edge ∷ u) (zipped_edges es events (omega (arith, h)))
 
-zipped_events : (es : List Edge) (events : List WriteAt) → length events ≡ length es → events_in (zipped es events) ≡ events
+pub zipped_events : (es : List Edge) (events : List WriteAt) → length events ≡ length es → events_in (zipped es events) ≡ events
 unfolding zipped
 zipped_events [] [] h = refl
 zipped_events [] (e ∷ events) h = absurd (omega (arith, h))
@@ -55,7 +55,7 @@ all_from R (q ∷ l) z h = (h 0 q refl, all_from R l z (λ i r g. h (suc i) r g)
 got : {X Y : Type 0} (f : X → Y) (xs : List X) (i : ℕ) (x : X) → slice_get xs i ≡ Some x → slice_get (map f xs) i ≡ Some (f x)
 got f xs i x g = slice_get-map f xs i ∙ ap (option_map f) g
 
-element : {X : Type 0} (xs : List X) (i : ℕ) → i < length xs → (x : X) × (slice_get xs i ≡ Some x)
+pub element : {X : Type 0} (xs : List X) (i : ℕ) → i < length xs → (x : X) × (slice_get xs i ≡ Some x)
 element [] i h = absurd (omega (arith, h))
 element (x ∷ xs) zero h = (x, refl)
 element (x ∷ xs) (suc i) h = element xs i (omega (arith, h))
@@ -65,9 +65,8 @@ first_element [] z h = absurd (omega (arith, h))
 first_element (q ∷ l) z h = refl
 
 module _ (threads : List (List Access)) (x : Execution) where
-
   -- accesses that are events, as steps that lead back to their beginning
-  all_lead : (l : List Leaving) (z : WriteAt) → begins l z ≡ z → AreEvents threads x (edges_in l) (events_in l) → AllNext (Leads threads x) l z
+  pub all_lead : (l : List Leaving) (z : WriteAt) → begins l z ≡ z → AreEvents threads x (edges_in l) (events_in l) → AllNext (Leads threads x) l z
   all_lead l z round h =
       all_from (Leads threads x) l z (λ i q g.
       subst (λ d. EdgeLeads threads x d q.event (after l z i)) (edge_is l i q g)
@@ -91,13 +90,15 @@ module _ (threads : List (List Access)) (x : Execution) where
   at p v keeps l z all vs are k below =
       let w = passing p (edges_in l) k (omega (arith, below, passed_count p v l (v z), ap (length {A = ℕ}) are, length-append vs (v z ∷ []))) in
       let q = element l w.event (omega (arith, w.below, length-map l (λ q. q.edge))) in
+      let number : count_by p (take w.event (edges_in l)) ≡ k = w.counted in
+      let here : slice_get (vs ++ v z ∷ []) (count_by p (take w.event (edges_in l))) ≡ Some (v q.0.event) =
+      subst (λ u. slice_get u (count_by p (take w.event (edges_in l))) ≡ Some (v q.0.event)) are (passed_at threads x p v keeps l z w.event q.0 all q.1) in
       record {
         index = w.event;
         event = q.0.event;
         got_event = got (λ q. q.event) l w.event q.0 q.1;
-        number = w.counted;
-        got_value = sym (got_left vs (v z ∷ []) k below) ∙ ap (λ u. slice_get u k) (sym are) ∙ ap (slice_get (passed p v l (v z))) (sym w.counted)
-            ∙ passed_at threads x p v keeps l z w.event q.0 all q.1;
+        number = number;
+        got_value = sym (got_left vs (v z ∷ []) k below) ∙ subst (λ n. slice_get (vs ++ v z ∷ []) n ≡ Some (v q.0.event)) number here;
       }
 
   -- where events of one value have the same number of edges that pass before them, the values are different
@@ -113,8 +114,20 @@ module _ (threads : List (List Access)) (x : Execution) where
       let total : length vs ≡ count_by p (edges_in l) = omega (arith, passed_count p v l (v z), ap (length {A = ℕ}) are, length-append vs (v z ∷ [])) in
       ne_eqb (get_or vs i d) (get_or vs j d)
       (λ same.
-      omega (arith, less, a.number, b.number, one a.index b.index a.event b.event a.got_event b.got_event (omega (arith, a.number, less, below, total)) (omega (arith, b.number, below, total))
-      (sym (get_or_from_slice_get vs i (v a.event) d a.got_value) ∙ same ∙ get_or_from_slice_get vs j (v b.event) d b.got_value))))
+      omega (
+        arith,
+        less,
+        a.number,
+        b.number,
+        one a.index b.index a.event b.event a.got_event b.got_event (omega (arith, a.number, less, below, total)) (omega (arith, b.number, below, total))
+            (sym (get_or_from_slice_get vs i (v a.event) d a.got_value) ∙ same ∙ get_or_from_slice_get vs j (v b.event) d b.got_value),
+      )))
+
+-- a critical cycle with exactly these edges and accesses
+pub record IsExactly (threads : List (List Access)) (x : Execution) (es : List Edge) (accesses : List WriteAt) : Type 0 where
+  pub cycle : CriticalCycle threads x
+  pub edges : critical_edges cycle ≡ es
+  pub events : critical_events cycle ≡ accesses
 
 -- different numbers are different if the first comes last
 distinct_back : (ps : List ℕ) (q : ℕ) → IsDistinct ◌==◌ (q ∷ ps) → IsDistinct ◌==◌ (ps ++ q ∷ [])
@@ -127,7 +140,6 @@ distinct_back ps q d = distinct_push ◌==◌ ps q d.1 (swapped ps d.0)
 
 module _ (threads : List (List Access)) (x : Execution) (held : Held threads x) (s : Segment) (us : List Segment) (moving : AllByRecursion (Moves threads) (s ∷ us))
     (arcs : AreArcs threads x s us s.first) where
-
   abbrev steps : List Leaving
   steps = steps_along threads (plain_edge threads) s us s.first
 
@@ -150,7 +162,7 @@ module _ (threads : List (List Access)) (x : Execution) (held : Held threads x) 
       sym (location_first (edges_in steps) i m) ∙ (h.one_place i j e f a b).0 same ∙ location_first (edges_in steps) j n)
 
   -- the events are those of a critical cycle
-  critical_by : AreEvents threads x (edges_in steps) (events_in steps) → IsCriticalBy threads x (edges_along threads (plain_edge threads) s us s.first) (flat_map accesses_of_segment (s ∷ us))
+  critical_by : AreEvents threads x (edges_in steps) (events_in steps) → IsExactly threads x (edges_along threads (plain_edge threads) s us s.first) (flat_map accesses_of_segment (s ∷ us))
   critical_by h = record {
     cycle = record {
       start = s;
@@ -177,11 +189,12 @@ begins_twice : (l : List Leaving) (z : WriteAt) → begins l (begins l z) ≡ be
 begins_twice [] z = refl
 begins_twice (q ∷ l) z = refl
 
-pub parts_are_critical : PartsAreCritical
-parts_are_critical threads places x h within [] events shown = absurd (omega (arith, shown.resolved.composes.some))
-parts_are_critical threads places x h within (part ∷ parts) events shown =
-    subst (λ (u : List Edge × List WriteAt). IsCriticalBy threads x u.0 u.1) (λ j. (edges j, accesses j))
-    (critical_by threads x (held threads places x h within) r.start r.others r.moving (subst (AreArcs threads x r.start r.others) back r.arcs)
+pub parts_are_critical : (threads : List (List Access)) (x : Execution) → Held threads x → (parts : List Part) (events : List WriteAt)
+    → AreEvents threads x (flat_map edges_of_part parts) events → IsExactly threads x (flat_map edges_of_part parts) events
+parts_are_critical threads x held [] events shown = absurd (omega (arith, shown.resolved.composes.some))
+parts_are_critical threads x held (part ∷ parts) events shown =
+    subst (λ (u : List Edge × List WriteAt). IsExactly threads x u.0 u.1) (λ j. (edges j, accesses j))
+    (critical_by threads x held r.start r.others r.moving (subst (AreArcs threads x r.start r.others) back r.arcs)
     (subst (λ (u : List Edge × List WriteAt). AreEvents threads x u.0 u.1) (λ j. (there j, those j)) shown))
   where
     es : List Edge

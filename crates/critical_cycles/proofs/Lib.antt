@@ -14,4 +14,6 @@ pub mod Resolved
 pub mod Links
 pub mod Parts
 pub mod Converse
+pub mod Turned
+pub mod Cuts
 pub mod CriticalLaws

@@ -1,31 +1,44 @@
 -- Links fit the segments in which they stand.
-use Rattle.critical_cycles.proofs.Vocabulary.{append-nil, Bool, List, None, Option, Some, [], ap, append_assoc, arith, cond, false, inl, inr, length, length-append, map, not, refl, slice_get, subst, suc, sym, take, true, zero, ℕ, ◌&&◌, ◌++◌, ◌+◌, ◌-◌, ◌<◌, ◌==◌, ◌||◌, ◌∙◌, ◌∷◌, ◌≡◌, ◌≤◌, and_from, and_parts, cond-false, cond-true, eq-eqb, eqb-true, lt-ltb, ltb-true, ne_eqb, sum_by-cons, length-map, map-append, apart_from_distinct, get_or_from_slice_get, slice_get-map, slice_get_within, AllByRecursion, count_by, flat_map, list_any, option_map, nat_lt, ◌↔◌, ◌≢◌, ◌⊎◌, by_after, location_cases, several_locations, thread_below, passing, location_first, edge_second, thread_first, thread-zero, thread_end, by_less, by_option, by_same, by_test, all_append, all_parts, count_upto_less, distinct_push, any_upto_none, count_all, upto, Access, at_name, IsCoherent, MayFollow, coherence_place, order_at, order_place, source_at, CanRead, Execution, IsExecutionOf, AreAt, WriteAt, IsCandidate, IsCoherentIn, Program, accesses_in, visits_in, MAX_EDGES, Edge, Dir, Kind, Rf, Plain, Internal, Diff, is_joined, is_diff, is_external, joins_to, kind_of, kind_place, reach_of, same_dir, sd_of, source_mark, source_of, target_mark, target_of, fre, pod, rfe, wse, comes, earlier_comes, key, lesser_comes, Held, held, place_in, read_before, writes_ordered, writes_same, access_of_visit, moves, WritesWithin, CoherenceOrder, FromRead, IsBefore, IsReadOf, IsWriteTo, ReadsFrom, ByCo, ByFr, ByPo, ByRf, IsPathBy, IsSequential, Precedes, StepBy, AreArcs, CriticalCycle, IsArc, IsBeforeWrite, Moves, Segment, dir_at, dir_of_access, place_at, place_of_access, segments_of, threads_of, AreEvents, AreRelated, EdgeLeads, accesses_of_segment, arc_edges, critical_edges, critical_events, edge_to_write, edges_along, linked_edges, plain_edge, AreLinkedEvents, IsLink, IsPlainOrLink, LinkedCyclesHaveEvents}
+use Rattle.critical_cycles.proofs.Vocabulary.{append-nil, Bool, List, None, Option, Some, [], ap, append_assoc, arith, cond, false, inl, inr, length, length-append, map, not, refl, slice_get, subst, suc, sym, take, true, zero, ℕ, ◌&&◌, ◌++◌, ◌+◌, ◌-◌, ◌<◌, ◌==◌, ◌||◌, ◌∙◌, ◌∷◌, ◌≡◌, ◌≤◌, and_from, and_parts, cond-false, cond-true, eq-eqb, eqb-true, lt-ltb, ltb-true, ne_eqb, flat_map-append, sum_by-cons, length-map, map-append, IsDistinct-from_apart, apart_from_distinct, get_or_from_slice_get, slice_get-map, slice_get_within, AllByRecursion, count_by, flat_map, list_any, option_map, nat_lt, ◌↔◌, ◌≢◌, ◌⊎◌, by_after, location_cases, several_locations, thread_below, PassingEdge, passing, location_first, location_below, external_keeps, location-zero, location_wrapped, moves_end, coherence_alike, external_count-append, move_count-append, outside_after, renumbered, edge_second, thread_first, thread-zero, thread_end, turned_cycle, IsRotation, rotated, by_less, by_option, by_same, by_test, all_append, all_parts, count_upto_less, distinct_push, any_upto_none, count_all, count_exchanged, upto, Access, at_name, IsCoherent, MayFollow, coherence_place, order_at, order_place, source_at, CanRead, Execution, IsExecutionOf, AreAt, WriteAt, IsCandidate, IsCoherentIn, Program, accesses_in, visits_in, MAX_EDGES, Edge, Dir, Kind, Plain, Internal, Diff, is_joined, is_diff, is_external, joins_to, kind_of, kind_place, reach_of, same_dir, sd_of, source_mark, source_of, target_mark, target_of, fre, pod, rfe, wse, comes, earlier_comes, key, lesser_comes, Held, held, place_in, read_before, writes_ordered, writes_same, access_of_visit, moves, WritesWithin, CoherenceOrder, FromRead, IsBefore, IsReadOf, IsWriteTo, ReadsFrom, ByCo, ByFr, ByPo, ByRf, IsPathBy, IsSequential, Precedes, StepBy, AreArcs, CriticalCycle, IsArc, IsBeforeWrite, Moves, Segment, dir_at, dir_of_access, place_at, place_of_access, segments_of, threads_of, AreEvents, AreRelated, EdgeLeads, accesses_of_segment, arc_edges, critical_edges, critical_events, edge_to_write, edges_along, linked_edges, plain_edge, AreLinkedEvents, IsLink, IsPlainOrLink, LinkedCyclesHaveEvents, Arc, IsCriticalBy, ListedAreCritical, Part, edges_of_arc, edges_of_part}
 use Rattle.cycle_events.specs.Resolution.{edge_at, event_after}
 use Rattle.critical_cycles.proofs.Linked.{FitsSegment}
 use Rattle.critical_cycles.proofs.Steps.{AllNext, Leaving, all_next, arc_steps, each_next, edges_are, edges_in, events_are, events_in, leaving, steps_along}
 use Rattle.critical_cycles.proofs.Resolved.{cycle_events, plain_fits}
 use Rattle.relax_edges.specs.declared.kinds.Dir.TheVariants as dirs
+use Rattle.relax_edges.specs.{declared.kinds.Reach.Reach, declared.kinds.Reach.TheVariants.External, declared.kinds.Sd.Sd, declared.kinds.Sd.TheVariants.Same}
+use Rattle.program_meaning.specs.Standing.{Reaches}
 
 module _ (p : Program) (x : Execution) where
-
   abbrev threads : List (List Access)
   threads = accesses_in p x
 
-  link_fits : (edge : Edge) (s : Segment) → IsPlainOrLink p x edge s.first s.last → FitsSegment threads edge s
-  link_fits edge s (inl e) = subst (λ d. FitsSegment threads d s) (sym e) (plain_fits threads s)
-  link_fits edge s (inr h) = record {
-    inside = h.inside;
-    moves = h.moves;
-    leaves = ap dir_of_access (access_of_visit (visits_in p x) s.first h.source h.source_is) ∙ h.stands.joins.leaves;
-    enters = ap dir_of_access (access_of_visit (visits_in p x) s.last h.target h.target_is) ∙ h.stands.joins.enters;
-    leaves_plain = h.leaves_plain;
-    enters_plain = h.enters_plain;
-  }
+  stays_by : (r : Reach) (e f : WriteAt) → Reaches r e f → e.thread ≡ f.thread → r ≡ Internal
+  stays_by Internal e f h same = refl
+  stays_by External e f h same = absurd (h same)
 
-  all_fit : (link : Segment → Edge) (us : List Segment) → AllByRecursion (λ s. IsPlainOrLink p x (link s) s.first s.last) us
+  moves_by : (sd : Sd) (m n : ℕ) → AreAt sd m n → m ≢ n → sd ≡ Diff
+  moves_by Same m n h apart = absurd (apart h)
+  moves_by Diff m n h apart = refl
+
+  link_fits : (edge : Edge) (s : Segment) → Moves threads s → IsPlainOrLink p x edge s.first s.last → FitsSegment threads edge s
+  link_fits edge s m (inl e) = subst (λ d. FitsSegment threads d s) (sym e) (plain_fits threads s)
+  link_fits edge s m (inr h) =
+      let a : at_name threads s.first ≡ Some h.source.access = access_of_visit (visits_in p x) s.first h.source h.source_is in
+      let b : at_name threads s.last ≡ Some h.target.access = access_of_visit (visits_in p x) s.last h.target h.target_is in
+      record {
+        inside = stays_by (reach_of edge) s.first s.last h.stands.joins.reaches m.order.thread;
+        moves = moves_by (sd_of edge) h.source.access.place h.target.access.place h.stands.joins.places
+            (λ e. m.places (ap place_of_access a ∙ e ∙ sym (ap place_of_access b)));
+        leaves = ap dir_of_access a ∙ h.stands.joins.leaves;
+        enters = ap dir_of_access b ∙ h.stands.joins.enters;
+        leaves_plain = h.leaves_plain;
+        enters_plain = h.enters_plain;
+      }
+
+  all_fit : (link : Segment → Edge) (us : List Segment) → AllByRecursion (Moves threads) us → AllByRecursion (λ s. IsPlainOrLink p x (link s) s.first s.last) us
       → AllByRecursion (λ s. FitsSegment threads (link s) s) us
-  all_fit link [] h = tt
-  all_fit link (s ∷ us) h = (link_fits (link s) s h.0, all_fit link us h.1)
+  all_fit link [] m h = tt
+  all_fit link (s ∷ us) m h = (link_fits (link s) s m.0 h.0, all_fit link us m.1 h.1)
 
   -- an internal edge is plain or a link
   abbrev Inside : Leaving → WriteAt → Type 0
@@ -65,4 +78,4 @@ module _ (p : Program) (x : Execution) where
 pub linked_cycles_have_events : LinkedCyclesHaveEvents
 linked_cycles_have_events p x candidate within c link h few =
     all_linked p x link c.start c.others c.two h c.arcs
-    (cycle_events (accesses_in p x) x (held (accesses_in p x) p.places x candidate.execution within) link c (all_fit p x link (c.start ∷ c.others) h) few)
+    (cycle_events (accesses_in p x) x (held (accesses_in p x) p.places x candidate.execution within) link c (all_fit p x link (c.start ∷ c.others) c.segments h) few)

@@ -47,8 +47,7 @@ begins_arc from dirs.W e None l z = refl
 begins_arc from to e (Some w) l z = refl
 
 module _ (R : Leaving → WriteAt → Type 0) where
-
-  next_append : (k l : List Leaving) (z : WriteAt) → AllNext R k (begins l z) → AllNext R l z → AllNext R (k ++ l) z
+  pub next_append : (k l : List Leaving) (z : WriteAt) → AllNext R k (begins l z) → AllNext R l z → AllNext R (k ++ l) z
   next_append [] l z h i = i
   next_append (q ∷ []) l z h i = (h.0, i)
   next_append (q ∷ r ∷ k) l z h i = (h.0, next_append (r ∷ k) l z h.1 i)
@@ -58,17 +57,19 @@ module _ (R : Leaving → WriteAt → Type 0) where
       → ((e f : WriteAt) (m : Option WriteAt) → IsArc threads x e m f → AllNext R (arc_steps (dir_at threads e) e m (dir_at threads f)) f)
       → AllByRecursion (λ t. R (leaving (link t) t.first) t.last) (s ∷ us) → AreArcs threads x s us back → AllNext R (steps_along threads link s us back) back
   all_next threads x link s [] back arc h a =
-      let steps = arc_steps (dir_at threads s.last) s.last s.middle (dir_at threads back) in
-      (subst (R (leaving (link s) s.first))
-      (sym (begins_arc (dir_at threads s.last) (dir_at threads back) s.last s.middle [] back) ∙ ap (λ l. begins l back) (append-nil steps)) h.0,
-      arc s.last back s.middle a)
+      let steps = arc_steps (dir_at threads s.last) s.last s.middle (dir_at threads back) in (
+        subst (R (leaving (link s) s.first))
+            (sym (begins_arc (dir_at threads s.last) (dir_at threads back) s.last s.middle [] back) ∙ ap (λ l. begins l back) (append-nil steps)) h.0,
+        arc s.last back s.middle a,
+      )
   all_next threads x link s (t ∷ us) back arc h a =
       let steps = arc_steps (dir_at threads s.last) s.last s.middle (dir_at threads t.first) in
-      let rest = steps_along threads link t us back in
-      (subst (R (leaving (link s) s.first)) (sym (begins_arc (dir_at threads s.last) (dir_at threads t.first) s.last s.middle rest back)) h.0,
-      next_append steps rest back
-      (subst (AllNext R steps) (sym (begins_along threads link t us back back)) (arc s.last t.first s.middle a.0))
-      (all_next threads x link t us back arc h.1 a.1))
+      let rest = steps_along threads link t us back in (
+        subst (R (leaving (link s) s.first)) (sym (begins_arc (dir_at threads s.last) (dir_at threads t.first) s.last s.middle rest back)) h.0,
+        next_append steps rest back
+            (subst (AllNext R steps) (sym (begins_along threads link t us back back)) (arc s.last t.first s.middle a.0))
+            (all_next threads x link t us back arc h.1 a.1),
+      )
 
   -- what the event number i goes on to: the next one, or what comes after the last
   pub record Next (l : List Leaving) (z : WriteAt) (i : ℕ) (q : Leaving) : Type 0 where
@@ -103,7 +104,6 @@ begins_first [] z r g = cc g
 begins_first (q ∷ l) z r g = let e : q ≡ r = cc g in ap (λ u. u.event) e
 
 module _ (l : List Leaving) where
-
   abbrev pub edges_in : List Edge
   edges_in = map (λ q. q.edge) l
 

@@ -1,14 +1,18 @@
 -- The words and lemmas of other libraries, and the words of specs/, that the proofs of this crate use.
 pub use Rattle.std.proofs.Common.{append-nil, Bool, List, None, Option, Some, [], ap, append_assoc, arith, cond, false, inl, inr, length, length-append, map, not, refl, slice_get, subst, suc, sym, take, true, zero, ℕ, ◌&&◌, ◌++◌, ◌+◌, ◌-◌, ◌<◌, ◌==◌, ◌||◌, ◌∙◌, ◌∷◌, ◌≡◌, ◌≤◌}
 pub use Rattle.std.proofs.lemmas.Bool.{and_from, and_parts, cond-false, cond-true, eq-eqb, eqb-true, lt-ltb, ltb-true, ne_eqb}
-pub use Rattle.std.proofs.lemmas.{List.Sums.sum_by-cons, List.length-map, List.map-append, Map.Keys.IsDistinct-from_apart, Map.Keys.apart_from_distinct}
+pub use Rattle.std.proofs.lemmas.{List.Concat.flat_map-append, List.Sums.sum_by-cons, List.length-map, List.map-append, Map.Keys.IsDistinct-from_apart, Map.Keys.apart_from_distinct}
 pub use Rattle.std.proofs.lemmas.Option.{get_or_from_slice_get, slice_get-map, slice_get_within}
 pub use Rattle.std.specs.{List.AllByRecursion, List.count_by, List.flat_map, List.list_any, Option.option_map}
 pub use Rattle.std.specs.Prelude.{nat_lt, ◌↔◌, ◌≢◌, ◌⊎◌}
 pub use Rattle.cycle_events.proofs.{Around.by_after, Arcs.location_cases, Arcs.several_locations, Arcs.thread_below, EdgeCounts.PassingEdge, EdgeCounts.passing, Locations.location_first}
+pub use Rattle.cycle_events.proofs.{Arcs.location_below, Locations.external_keeps, Locations.location-zero, Locations.location_wrapped, Locations.moves_end}
+pub use Rattle.cycle_events.proofs.Rotations.{coherence_alike, external_count-append, move_count-append, outside_after, renumbered}
 pub use Rattle.cycle_events.proofs.{Rotations.edge_second, Rotations.thread_first, Threads.thread-zero, Threads.thread_end}
+pub use Rattle.edge_algebra_laws.proofs.Composing.{turned_cycle}
+pub use Rattle.edge_algebra_laws.specs.Rotation.{IsRotation, rotated}
 pub use Rattle.list_laws.proofs.{Cases.by_less, Cases.by_option, Cases.by_same, Cases.by_test, Elements.all_append, Elements.all_parts}
-pub use Rattle.list_laws.proofs.{Counts.count_upto_less, Distinct.distinct_push, Finds.any_upto_none, Prefixes.count_all}
+pub use Rattle.list_laws.proofs.{Counts.count_upto_less, Distinct.distinct_push, Finds.any_upto_none, Prefixes.count_all, Prefixes.count_exchanged}
 pub use Rattle.list_laws.specs.Numbers.{upto}
 pub use Rattle.program_meaning.specs.Accesses.{Access, at_name, read, write}
 pub use Rattle.program_meaning.specs.Coherence.{IsCoherent, MayFollow, coherence_place, order_at, order_place, source_at}
@@ -29,4 +33,4 @@ pub use Rattle.sc_and_interleavings.specs.Sequential.{ByCo, ByFr, ByPo, ByRf, Is
 pub use Rattle.critical_cycles.specs.Critical.{AreArcs, CriticalCycle, IsArc, IsBeforeWrite, Moves, Segment, dir_at, dir_of_access, place_at, place_of_access, segments_of, threads_of}
 pub use Rattle.critical_cycles.specs.CycleEdges.{AreEvents, AreRelated, EdgeLeads, accesses_of_segment, arc_edges, critical_edges, critical_events, edge_to_write, edges_along, linked_edges, plain_edge}
 pub use Rattle.critical_cycles.specs.Links.{AreLinkedEvents, IsLink, IsPlainOrLink, LinkedCyclesHaveEvents}
-pub use Rattle.critical_cycles.specs.Listed.{Arc, IsCriticalBy, Part, PartsAreCritical, edges_of_arc, edges_of_part}
+pub use Rattle.critical_cycles.specs.Listed.{Arc, IsCriticalBy, ListedAreCritical, Part, edges_of_arc, edges_of_part}

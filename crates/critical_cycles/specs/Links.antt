@@ -3,9 +3,8 @@
 -- their two, and accesses with marks. For these the cycle is shown with plain program order.
 -- Source: own.
 use Rattle.std.specs.{Prelude.{ℕ, ◌≡◌, ◌≤◌, ◌⊎◌, false, List, length, Some, slice_get}, List.AllByRecursion}
-use Rattle.relax_edges.specs.{declared.TheConstants.MAX_EDGES, declared.kinds.Sd.TheVariants.Diff}
-use Rattle.relax_edges.specs.{declared.kinds.Reach.TheVariants.Internal, declared.kinds.Mark.TheVariants.Plain, declared.edge.Edge.Edge}
-use Rattle.relax_edges.specs.EdgeTable.{reach_of, sd_of, source_mark, target_mark, is_external}
+use Rattle.relax_edges.specs.{declared.TheConstants.MAX_EDGES, declared.kinds.Mark.TheVariants.Plain, declared.edge.Edge.Edge}
+use Rattle.relax_edges.specs.EdgeTable.{source_mark, target_mark, is_external}
 use Rattle.relax_edges.specs.NamedEdges.{pod}
 use Rattle.cycle_events.specs.Resolution.{edge_at, event_after}
 use Rattle.program_meaning.specs.{declared.WriteAt.WriteAt, Accesses.{Visit, at_name}, Executions.Execution, Standing.Stands}
@@ -13,11 +12,8 @@ use Rattle.program_meaning.specs.Programs.{Program, IsCandidate, accesses_in, vi
 use Rattle.sc_and_interleavings.specs.CoherenceLaws.{WritesWithin}
 use Rattle.critical_cycles.specs.{Critical.{Segment, CriticalCycle, segments_of, dir_at}, CycleEdges.{AreEvents, critical_events, linked_edges}}
 
--- a link between two accesses: an internal edge to another location, without marks, that stands from the first to the second. So the
--- second is the next access of its thread
+-- a link between two accesses: an edge without marks that stands from the first to the second
 pub record IsLink (p : Program) (x : Execution) (edge : Edge) (e f : WriteAt) : Type 0 where
-  pub inside : reach_of edge ≡ Internal
-  pub moves : sd_of edge ≡ Diff
   pub leaves_plain : source_mark edge ≡ Plain
   pub enters_plain : target_mark edge ≡ Plain
   pub source : Visit
@@ -36,7 +32,8 @@ pub record AreLinkedEvents (p : Program) (x : Execution) (es : List Edge) (event
   pub links : (i : ℕ) (e f : WriteAt) → slice_get events i ≡ Some e → slice_get events (event_after es i) ≡ Some f →
       is_external (edge_at es i) ≡ false → IsPlainOrLink p x (edge_at es i) e f
 
--- for each choice of links in the segments of a critical cycle, its accesses are the events of the edges with these links
+-- for each choice of links in the segments of a critical cycle, its accesses are the events of the edges with these links. A link of a
+-- segment leads to the next access of the thread, since an internal edge that stands does
 abbrev pub LinkedCyclesHaveEvents : Type 0
 LinkedCyclesHaveEvents =
     (p : Program) (x : Execution) → IsCandidate p x → WritesWithin (accesses_in p x) p.places →
