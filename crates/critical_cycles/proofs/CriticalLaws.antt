@@ -17,10 +17,10 @@ pub critical_is_not_sequential : CriticalIsNotSequential
 critical_is_not_sequential threads x c sequential = back.critical_is_not_sequential threads x c sequential
 
 pub critical_cycles_are_short : CriticalCyclesAreShort
-critical_cycles_are_short threads places x c h within = critical_is_short threads x (held threads places x h within) c
+critical_cycles_are_short threads places x h within c = critical_is_short threads x (held threads places x h within) c
 
 pub critical_cycles_have_events : CriticalCyclesHaveEvents
-critical_cycles_have_events threads places x c h within few = critical_events_are threads x (held threads places x h within) c few
+critical_cycles_have_events threads places x h within c few = critical_events_are threads x (held threads places x h within) c few
 
 pub candidates_show_cycles : CandidatesShowCycles
 candidates_show_cycles p x few candidate within coherent =
@@ -39,5 +39,5 @@ candidates_show_cycles p x few candidate within coherent =
         })
 
 pub two_threads_show_six : TwoThreadsShowSix
-two_threads_show_six threads places x c h within two =
+two_threads_show_six threads places x h within two c =
     let k = held threads places x h within in one_of_six threads x k c (omega (arith, two, (critical_is_short threads x k c).thread_count))

@@ -26,15 +26,15 @@ pub record IsWithinThreads (threads : List (List Access)) (x : Execution) (c : C
 -- each critical cycle of an execution whose writes are to its locations is so short
 abbrev pub CriticalCyclesAreShort : Type 0
 CriticalCyclesAreShort =
-    (threads : List (List Access)) (places : ℕ) (x : Execution) (c : CriticalCycle threads x) →
-    IsExecutionOf threads places x → WritesWithin threads places →
+    (threads : List (List Access)) (places : ℕ) (x : Execution) →
+    IsExecutionOf threads places x → WritesWithin threads places → (c : CriticalCycle threads x) →
     IsWithinThreads threads x c
 
 -- the accesses of a critical cycle are the events of its edges, which are a resolved cycle, if a cycle may have as many edges
 abbrev pub CriticalCyclesHaveEvents : Type 0
 CriticalCyclesHaveEvents =
-    (threads : List (List Access)) (places : ℕ) (x : Execution) (c : CriticalCycle threads x) →
-    IsExecutionOf threads places x → WritesWithin threads places → length (critical_edges c) ≤ MAX_EDGES →
+    (threads : List (List Access)) (places : ℕ) (x : Execution) →
+    IsExecutionOf threads places x → WritesWithin threads places → (c : CriticalCycle threads x) → length (critical_edges c) ≤ MAX_EDGES →
     AreEvents threads x (critical_edges c) (critical_events c)
 
 -- an execution shows a critical cycle: its accesses are the events of its edges
@@ -53,6 +53,6 @@ CandidatesShowCycles =
 -- with at most two threads, the edges of a critical cycle are SB, MP, R, LB, S or 2+2W
 abbrev pub TwoThreadsShowSix : Type 0
 TwoThreadsShowSix =
-    (threads : List (List Access)) (places : ℕ) (x : Execution) (c : CriticalCycle threads x) →
-    IsExecutionOf threads places x → WritesWithin threads places → length threads ≤ 2 →
+    (threads : List (List Access)) (places : ℕ) (x : Execution) →
+    IsExecutionOf threads places x → WritesWithin threads places → length threads ≤ 2 → (c : CriticalCycle threads x) →
     IsOneOfSix (critical_edges c)
