@@ -1,11 +1,21 @@
--- Accesses that are the events of a resolved cycle of parts make a critical cycle: the numbers of threads and locations that the cycle counts
+-- Accesses that are the events of a resolved cycle of parts make a critical cycle: the numbers of threads and locations that the cycle
+-- counts
 -- are different, so the threads and the locations are.
-use Rattle.critical_cycles.proofs.Vocabulary.{append-nil, Bool, List, None, Option, Some, [], ap, append_assoc, arith, cond, false, inl, inr, length, length-append, map, not, refl, slice_get, subst, suc, sym, take, true, zero, ℕ, ◌&&◌, ◌++◌, ◌+◌, ◌-◌, ◌<◌, ◌==◌, ◌||◌, ◌∙◌, ◌∷◌, ◌≡◌, ◌≤◌, and_from, and_parts, cond-false, cond-true, eq-eqb, eqb-true, lt-ltb, ltb-true, ne_eqb, flat_map-append, sum_by-cons, length-map, map-append, IsDistinct-from_apart, apart_from_distinct, get_or_from_slice_get, slice_get-map, slice_get_within, AllByRecursion, count_by, flat_map, list_any, option_map, nat_lt, ◌↔◌, ◌≢◌, ◌⊎◌, by_after, location_cases, several_locations, thread_below, PassingEdge, passing, location_first, location_below, external_keeps, location-zero, location_wrapped, moves_end, coherence_alike, external_count-append, move_count-append, outside_after, renumbered, edge_second, thread_first, thread-zero, thread_end, turned_cycle, IsRotation, rotated, by_less, by_option, by_same, by_test, all_append, all_parts, count_upto_less, distinct_push, any_upto_none, count_all, count_exchanged, upto, Access, at_name, IsCoherent, MayFollow, coherence_place, order_at, order_place, source_at, CanRead, Execution, IsExecutionOf, AreAt, WriteAt, IsCandidate, IsCoherentIn, Program, accesses_in, visits_in, MAX_EDGES, Edge, Dir, Kind, Plain, Internal, Diff, is_joined, is_diff, is_external, joins_to, kind_of, kind_place, reach_of, same_dir, sd_of, source_mark, source_of, target_mark, target_of, fre, pod, rfe, wse, comes, earlier_comes, key, lesser_comes, Held, held, place_in, read_before, writes_ordered, writes_same, access_of_visit, moves, WritesWithin, CoherenceOrder, FromRead, IsBefore, IsReadOf, IsWriteTo, ReadsFrom, ByCo, ByFr, ByPo, ByRf, IsPathBy, IsSequential, Precedes, StepBy, AreArcs, CriticalCycle, IsArc, IsBeforeWrite, Moves, Segment, dir_at, dir_of_access, place_at, place_of_access, segments_of, threads_of, AreEvents, AreRelated, EdgeLeads, accesses_of_segment, arc_edges, critical_edges, critical_events, edge_to_write, edges_along, linked_edges, plain_edge, AreLinkedEvents, IsLink, IsPlainOrLink, LinkedCyclesHaveEvents, Arc, IsCriticalBy, ListedAreCritical, Part, edges_of_arc, edges_of_part}
+use Rattle.critical_cycles.proofs.Vocabulary.{Bool, List, Some, [], ap, arith, false, length, length-append, map, refl, slice_get, subst}
+use Rattle.critical_cycles.proofs.Vocabulary.{suc, sym, take, zero, ℕ, ◌++◌, ◌+◌, ◌<◌, ◌==◌, ◌∙◌, ◌∷◌, ◌≡◌, eq-eqb, ne_eqb, length-map}
+use Rattle.critical_cycles.proofs.Vocabulary.{IsDistinct-from_apart, get_or_from_slice_get, slice_get-map, slice_get_within, AllByRecursion}
+use Rattle.critical_cycles.proofs.Vocabulary.{count_by, flat_map, option_map, by_after, several_locations, passing, location_first}
+use Rattle.critical_cycles.proofs.Vocabulary.{distinct_push, Access, Execution, WriteAt, Edge, is_diff, is_external, Held, held, AreArcs}
+use Rattle.critical_cycles.proofs.Vocabulary.{CriticalCycle, Moves, Segment, place_at, threads_of, AreEvents, EdgeLeads}
+use Rattle.critical_cycles.proofs.Vocabulary.{accesses_of_segment, critical_edges, critical_events, edges_along, plain_edge, Part}
+use Rattle.critical_cycles.proofs.Vocabulary.{edges_of_part}
 use Rattle.std.specs.List.{IsDistinct}
 use Rattle.std.proofs.Common.{get_or}
-use Rattle.cycle_events.specs.Resolution.{IsResolved, edge_at, event_after, external_count, location_of, move_count, moves_before, thread_of}
-use Rattle.critical_cycles.proofs.{Linked.{GoesOn, all_go_on}, Parts.{Along, Leads, along}, Counted.{passed, passed_at, passed_count, places_passed, threads_passed}}
-use Rattle.critical_cycles.proofs.Steps.{AllNext, Leaving, begins, edge_is, edges_are, edges_in, events_are, events_in, leaving, step_below, steps_along}
+use Rattle.cycle_events.specs.Resolution.{moves_before, thread_of}
+use Rattle.critical_cycles.proofs.{Linked.{GoesOn, all_go_on}, Parts.{Along, Leads, along}}
+use Rattle.critical_cycles.proofs.{Counted.{passed, passed_at, passed_count, places_passed, threads_passed}}
+use Rattle.critical_cycles.proofs.Steps.{AllNext, Leaving, begins, edge_is, edges_are, edges_in, events_are, events_in, leaving, step_below}
+use Rattle.critical_cycles.proofs.Steps.{steps_along}
 use Rattle.critical_cycles.proofs.Resolved.{all_plain, arc_places, got_left}
 
 -- edges and events, side by side
@@ -47,7 +57,8 @@ after_end (q ∷ []) z zero h = refl
 after_end (q ∷ s ∷ l) z zero h = absurd (omega (arith, h))
 after_end (q ∷ l) z (suc i) h = after_end l z i (omega (arith, h))
 
-all_from : (R : Leaving → WriteAt → Type 0) (l : List Leaving) (z : WriteAt) → ((i : ℕ) (q : Leaving) → slice_get l i ≡ Some q → R q (after l z i)) → AllNext R l z
+all_from : (R : Leaving → WriteAt → Type 0) (l : List Leaving) (z : WriteAt)
+    → ((i : ℕ) (q : Leaving) → slice_get l i ≡ Some q → R q (after l z i)) → AllNext R l z
 unfolding after
 all_from R [] z h = tt
 all_from R (q ∷ l) z h = (h 0 q refl, all_from R l z (λ i r g. h (suc i) r g))
@@ -66,7 +77,8 @@ first_element (q ∷ l) z h = refl
 
 module _ (threads : List (List Access)) (x : Execution) where
   -- accesses that are events, as steps that lead back to their beginning
-  pub all_lead : (l : List Leaving) (z : WriteAt) → begins l z ≡ z → AreEvents threads x (edges_in l) (events_in l) → AllNext (Leads threads x) l z
+  pub all_lead : (l : List Leaving) (z : WriteAt) → begins l z ≡ z → AreEvents threads x (edges_in l) (events_in l)
+      → AllNext (Leads threads x) l z
   all_lead l z round h =
       all_from (Leads threads x) l z (λ i q g.
       subst (λ d. EdgeLeads threads x d q.event (after l z i)) (edge_is l i q g)
@@ -75,7 +87,8 @@ module _ (threads : List (List Access)) (x : Execution) where
       (λ b a. let s : i + 1 ≡ suc i = omega arith in
       let r = element l (suc i) (omega (arith, b, length-map l (λ q. q.edge))) in
       ap (slice_get (events_in l)) (a ∙ s) ∙ got (λ q. q.event) l (suc i) r.0 r.1 ∙ ap Some (sym (after_next l z i r.0 r.1)))
-      (λ b a. ap (slice_get (events_in l)) a ∙ first_element l z (omega (arith, slice_get_within l i q g)) ∙ ap Some (round ∙ sym (after_end l z i (omega (arith, b, length-map l (λ q. q.edge)))))))))
+      (λ b a. ap (slice_get (events_in l)) a ∙ first_element l z (omega (arith, slice_get_within l i q g)) ∙ ap Some
+      (round ∙ sym (after_end l z i (omega (arith, b, length-map l (λ q. q.edge)))))))))
 
   -- the value of number k, of those that are passed
   record At (l : List Leaving) (p : Edge → Bool) (v : WriteAt → ℕ) (vs : List ℕ) (k : ℕ) : Type 0 where
@@ -85,33 +98,48 @@ module _ (threads : List (List Access)) (x : Execution) where
     number : count_by p (take index (edges_in l)) ≡ k
     got_value : slice_get vs k ≡ Some (v event)
 
-  at : (p : Edge → Bool) (v : WriteAt → ℕ) → ((q : Leaving) (f : WriteAt) → GoesOn threads x q f → p q.edge ≡ false → v q.event ≡ v f) → (l : List Leaving) (z : WriteAt)
+  at : (p : Edge → Bool) (v : WriteAt → ℕ) → ((q : Leaving) (f : WriteAt) → GoesOn threads x q f → p q.edge ≡ false → v q.event ≡ v f)
+      → (l : List Leaving) (z : WriteAt)
       → AllNext (GoesOn threads x) l z → (vs : List ℕ) → passed p v l (v z) ≡ vs ++ v z ∷ [] → (k : ℕ) → k < length vs → At l p v vs k
   at p v keeps l z all vs are k below =
-      let w = passing p (edges_in l) k (omega (arith, below, passed_count p v l (v z), ap (length {A = ℕ}) are, length-append vs (v z ∷ []))) in
+      let w = passing p (edges_in l) k (omega (
+        arith,
+        below,
+        passed_count p v l (v z),
+        ap (length {A = ℕ}) are,
+        length-append vs
+            (v z ∷ []),
+      )) in
       let q = element l w.event (omega (arith, w.below, length-map l (λ q. q.edge))) in
       let number : count_by p (take w.event (edges_in l)) ≡ k = w.counted in
       let here : slice_get (vs ++ v z ∷ []) (count_by p (take w.event (edges_in l))) ≡ Some (v q.0.event) =
-      subst (λ u. slice_get u (count_by p (take w.event (edges_in l))) ≡ Some (v q.0.event)) are (passed_at threads x p v keeps l z w.event q.0 all q.1) in
+      subst (λ u. slice_get u (count_by p (take w.event (edges_in l))) ≡ Some (v q.0.event)) are
+      (passed_at threads x p v keeps l z w.event q.0 all q.1) in
       record {
         index = w.event;
         event = q.0.event;
         got_event = got (λ q. q.event) l w.event q.0 q.1;
         number = number;
-        got_value = sym (got_left vs (v z ∷ []) k below) ∙ subst (λ n. slice_get (vs ++ v z ∷ []) n ≡ Some (v q.0.event)) number here;
+        got_value =
+            subst (λ o. o ≡ Some (v q.0.event)) (got_left vs (v z ∷ []) k below)
+            (subst (λ n. slice_get (vs ++ v z ∷ []) n ≡ Some (v q.0.event)) number here);
       }
 
   -- where events of one value have the same number of edges that pass before them, the values are different
-  distinct_values : (p : Edge → Bool) (v : WriteAt → ℕ) → ((q : Leaving) (f : WriteAt) → GoesOn threads x q f → p q.edge ≡ false → v q.event ≡ v f) → (l : List Leaving) (z : WriteAt)
+  distinct_values : (p : Edge → Bool) (v : WriteAt → ℕ)
+      → ((q : Leaving) (f : WriteAt) → GoesOn threads x q f → p q.edge ≡ false → v q.event ≡ v f) → (l : List Leaving) (z : WriteAt)
       → AllNext (GoesOn threads x) l z → (vs : List ℕ) → passed p v l (v z) ≡ vs ++ v z ∷ []
-      → ((i j : ℕ) (e f : WriteAt) → slice_get (events_in l) i ≡ Some e → slice_get (events_in l) j ≡ Some f → count_by p (take i (edges_in l)) < count_by p (edges_in l)
-      → count_by p (take j (edges_in l)) < count_by p (edges_in l) → v e ≡ v f → count_by p (take i (edges_in l)) ≡ count_by p (take j (edges_in l)))
+      → ((i j : ℕ) (e f : WriteAt) → slice_get (events_in l) i ≡ Some e → slice_get (events_in l) j ≡ Some f
+      → count_by p (take i (edges_in l)) < count_by p (edges_in l)
+      → count_by p (take j (edges_in l)) < count_by p (edges_in l) → v e ≡ v f
+      → count_by p (take i (edges_in l)) ≡ count_by p (take j (edges_in l)))
       → IsDistinct ◌==◌ vs
   distinct_values p v keeps l z all vs are one =
       IsDistinct-from_apart ◌==◌ vs (λ i j d less below.
       let a = at p v keeps l z all vs are i (omega (arith, less, below)) in
       let b = at p v keeps l z all vs are j below in
-      let total : length vs ≡ count_by p (edges_in l) = omega (arith, passed_count p v l (v z), ap (length {A = ℕ}) are, length-append vs (v z ∷ [])) in
+      let total : length vs ≡ count_by p (edges_in l) =
+      omega (arith, passed_count p v l (v z), ap (length {A = ℕ}) are, length-append vs (v z ∷ [])) in
       ne_eqb (get_or vs i d) (get_or vs j d)
       (λ same.
       omega (
@@ -119,7 +147,8 @@ module _ (threads : List (List Access)) (x : Execution) where
         less,
         a.number,
         b.number,
-        one a.index b.index a.event b.event a.got_event b.got_event (omega (arith, a.number, less, below, total)) (omega (arith, b.number, below, total))
+        one a.index b.index a.event b.event a.got_event b.got_event (omega (arith, a.number, less, below, total))
+            (omega (arith, b.number, below, total))
             (sym (get_or_from_slice_get vs i (v a.event) d a.got_value) ∙ same ∙ get_or_from_slice_get vs j (v b.event) d b.got_value),
       )))
 
@@ -138,7 +167,8 @@ distinct_back ps q d = distinct_push ◌==◌ ps q d.1 (swapped ps d.0)
     swapped [] h = tt
     swapped (p ∷ ps) h = (ne_eqb p q (λ e. cc (h.0, eq-eqb q p (sym e))), swapped ps h.1)
 
-module _ (threads : List (List Access)) (x : Execution) (held : Held threads x) (s : Segment) (us : List Segment) (moving : AllByRecursion (Moves threads) (s ∷ us))
+module _ (threads : List (List Access)) (x : Execution) (held : Held threads x) (s : Segment) (us : List Segment)
+    (moving : AllByRecursion (Moves threads) (s ∷ us))
     (arcs : AreArcs threads x s us s.first) where
   abbrev steps : List Leaving
   steps = steps_along threads (plain_edge threads) s us s.first
@@ -156,13 +186,15 @@ module _ (threads : List (List Access)) (x : Execution) (held : Held threads x) 
   places_differ : AreEvents threads x (edges_in steps) (events_in steps) → IsDistinct ◌==◌ (map (λ t. place_at threads t.first) (s ∷ us))
   unfolding moves_before
   places_differ h =
-      distinct_values threads x is_diff (place_at threads) (λ q f g. g.at_place) steps s.first all (map (λ t. place_at threads t.first) (s ∷ us))
+      distinct_values threads x is_diff (place_at threads) (λ q f g. g.at_place) steps s.first all
+      (map (λ t. place_at threads t.first) (s ∷ us))
       (places_passed threads (plain_edge threads) s us s.first (place_at threads s.first) (all_plain threads (s ∷ us)))
       (λ i j e f a b m n same.
       sym (location_first (edges_in steps) i m) ∙ (h.one_place i j e f a b).0 same ∙ location_first (edges_in steps) j n)
 
   -- the events are those of a critical cycle
-  critical_by : AreEvents threads x (edges_in steps) (events_in steps) → IsExactly threads x (edges_along threads (plain_edge threads) s us s.first) (flat_map accesses_of_segment (s ∷ us))
+  critical_by : AreEvents threads x (edges_in steps) (events_in steps)
+      → IsExactly threads x (edges_along threads (plain_edge threads) s us s.first) (flat_map accesses_of_segment (s ∷ us))
   critical_by h = record {
     cycle = record {
       start = s;
@@ -171,7 +203,8 @@ module _ (threads : List (List Access)) (x : Execution) (held : Held threads x) 
         arith,
         several_locations (edges_in steps) h.resolved,
         passed_count is_diff (place_at threads) steps (place_at threads s.first),
-        ap (length {A = ℕ}) (places_passed threads (plain_edge threads) s us s.first (place_at threads s.first) (all_plain threads (s ∷ us))),
+        ap (length {A =
+            ℕ}) (places_passed threads (plain_edge threads) s us s.first (place_at threads s.first) (all_plain threads (s ∷ us))),
         length-append (map (λ t. place_at threads t.first) (s ∷ us)) (place_at threads s.first ∷ []),
         length-map us (λ t. place_at threads t.first),
       );
@@ -209,7 +242,8 @@ parts_are_critical threads x held (part ∷ parts) events shown =
     r : Along threads x l z
     r = along threads x part parts l z (zipped_edges es events shown.count)
         (all_lead threads x l z (begins_twice l (record { thread = 0; access = 0 }))
-        (subst (λ (u : List Edge × List WriteAt). AreEvents threads x u.0 u.1) (λ j. (sym (zipped_edges es events shown.count) j, sym (zipped_events es events shown.count) j)) shown))
+        (subst (λ (u : List Edge × List WriteAt). AreEvents threads x u.0 u.1)
+        (λ j. (sym (zipped_edges es events shown.count) j, sym (zipped_events es events shown.count) j)) shown))
 
     back : z ≡ r.start.first
     back = sym (begins_twice l (record { thread = 0; access = 0 })) ∙ r.begin

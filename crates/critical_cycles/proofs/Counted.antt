@@ -1,11 +1,12 @@
--- Threads and locations along steps: how many edges before an event leave their thread, or their location, says which of the threads, or of the
+-- Threads and locations along steps: how many edges before an event leave their thread, or their location, says which of the threads, or of
+-- the
 -- locations, is the event's.
-use Rattle.critical_cycles.proofs.Vocabulary.{append-nil, Bool, List, None, Option, Some, [], ap, append_assoc, arith, cond, false, inl, inr, length, length-append, map, not, refl, slice_get, subst, suc, sym, take, true, zero, ℕ, ◌&&◌, ◌++◌, ◌+◌, ◌-◌, ◌<◌, ◌==◌, ◌||◌, ◌∙◌, ◌∷◌, ◌≡◌, ◌≤◌, and_from, and_parts, cond-false, cond-true, eq-eqb, eqb-true, lt-ltb, ltb-true, ne_eqb, sum_by-cons, length-map, map-append, apart_from_distinct, get_or_from_slice_get, slice_get-map, slice_get_within, AllByRecursion, count_by, flat_map, list_any, option_map, nat_lt, ◌↔◌, ◌≢◌, ◌⊎◌, by_after, location_cases, several_locations, thread_below, passing, location_first, edge_second, thread_first, thread-zero, thread_end, by_less, by_option, by_same, by_test, all_append, all_parts, count_upto_less, distinct_push, any_upto_none, count_all, upto, Access, at_name, IsCoherent, MayFollow, coherence_place, order_at, order_place, source_at, CanRead, Execution, IsExecutionOf, AreAt, WriteAt, IsCandidate, IsCoherentIn, Program, accesses_in, visits_in, MAX_EDGES, Edge, Dir, Kind, Rf, Plain, Internal, Diff, is_joined, is_diff, is_external, joins_to, kind_of, kind_place, reach_of, same_dir, sd_of, source_mark, source_of, target_mark, target_of, fre, pod, rfe, wse, comes, earlier_comes, key, lesser_comes, Held, held, place_in, read_before, writes_ordered, writes_same, access_of_visit, moves, WritesWithin, CoherenceOrder, FromRead, IsBefore, IsReadOf, IsWriteTo, ReadsFrom, ByCo, ByFr, ByPo, ByRf, IsPathBy, IsSequential, Precedes, StepBy, AreArcs, CriticalCycle, IsArc, IsBeforeWrite, Moves, Segment, dir_at, dir_of_access, place_at, place_of_access, segments_of, threads_of, AreEvents, AreRelated, EdgeLeads, accesses_of_segment, arc_edges, critical_edges, critical_events, edge_to_write, edges_along, linked_edges, plain_edge, AreLinkedEvents, IsLink, IsPlainOrLink, LinkedCyclesHaveEvents}
-use Rattle.std.specs.List.{IsDistinct}
-use Rattle.cycle_events.specs.Resolution.{IsResolved, edge_at, ends_outside, event_after, external_count, is_coherence_only, location_of, move_count, moves_before, moves_in, thread_of}
+use Rattle.critical_cycles.proofs.Vocabulary.{append-nil, Bool, List, None, Option, Some, [], ap, append_assoc, arith, cond, false, length}
+use Rattle.critical_cycles.proofs.Vocabulary.{map, refl, slice_get, suc, sym, take, true, zero, ℕ, ◌++◌, ◌+◌, ◌∙◌, ◌∷◌, ◌≡◌, cond-false}
+use Rattle.critical_cycles.proofs.Vocabulary.{cond-true, sum_by-cons, AllByRecursion, count_by, flat_map, by_test, Access, Execution}
+use Rattle.critical_cycles.proofs.Vocabulary.{WriteAt, Edge, Dir, Internal, is_diff, is_external, reach_of, moves, Moves, Segment, dir_at}
+use Rattle.critical_cycles.proofs.Vocabulary.{place_at, threads_of}
 use Rattle.relax_edges.specs.declared.kinds.Dir.TheVariants as dirs
-use Rattle.relax_edges.specs.declared.kinds.Kind.TheVariants as kinds
-use Rattle.relax_edges.specs.declared.edge.Edge.TheVariants as edges
 use Rattle.critical_cycles.proofs.{Linked.{FitsSegment, GoesOn}, Steps.{AllNext, Leaving, arc_steps, begins, leaving, steps_along}}
 
 -- the values of the events whose edges pass a test, and a last value
@@ -13,24 +14,40 @@ abbrev pub passed : (Edge → Bool) → (WriteAt → ℕ) → List Leaving → �
 passed p v [] z = z ∷ []
 passed p v (q ∷ l) z = cond (p q.edge) (v q.event ∷ passed p v l z) (passed p v l z)
 
-pub passed_yes : (p : Edge → Bool) (v : WriteAt → ℕ) (q : Leaving) (l : List Leaving) (z : ℕ) → p q.edge ≡ true → passed p v (q ∷ l) z ≡ v q.event ∷ passed p v l z
+pub passed_yes : (p : Edge → Bool) (v : WriteAt → ℕ) (q : Leaving) (l : List Leaving) (z : ℕ) → p q.edge ≡ true
+    → passed p v (q ∷ l) z ≡ v q.event ∷ passed p v l z
 passed_yes p v q l z t = cond-true {A = List ℕ} (p q.edge) (v q.event ∷ passed p v l z) (passed p v l z) t
 
-pub passed_no : (p : Edge → Bool) (v : WriteAt → ℕ) (q : Leaving) (l : List Leaving) (z : ℕ) → p q.edge ≡ false → passed p v (q ∷ l) z ≡ passed p v l z
+pub passed_no : (p : Edge → Bool) (v : WriteAt → ℕ) (q : Leaving) (l : List Leaving) (z : ℕ) → p q.edge ≡ false
+    → passed p v (q ∷ l) z ≡ passed p v l z
 passed_no p v q l z t = cond-false {A = List ℕ} (p q.edge) (v q.event ∷ passed p v l z) (passed p v l z) t
 
 -- there are as many as edges that pass, and one more
-pub passed_count : (p : Edge → Bool) (v : WriteAt → ℕ) (l : List Leaving) (z : ℕ) → length (passed p v l z) ≡ count_by p (map (λ q. q.edge) l) + 1
+pub passed_count : (p : Edge → Bool) (v : WriteAt → ℕ) (l : List Leaving) (z : ℕ)
+    → length (passed p v l z) ≡ count_by p (map (λ q. q.edge) l) + 1
 passed_count p v [] z = refl
 passed_count p v (q ∷ l) z =
     by_test (p q.edge)
-    (λ t. omega (arith, ap (length {A = ℕ}) (passed_yes p v q l z t), sum_by-cons (λ e. cond (p e) 1 0) q.edge (map (λ q. q.edge) l), cond-true {A = ℕ} (p q.edge) 1 0 t, passed_count p v l z))
-    (λ f. omega (arith, ap (length {A = ℕ}) (passed_no p v q l z f), sum_by-cons (λ e. cond (p e) 1 0) q.edge (map (λ q. q.edge) l), cond-false {A = ℕ} (p q.edge) 1 0 f, passed_count p v l z))
+    (λ t. omega (
+      arith,
+      ap (length {A = ℕ}) (passed_yes p v q l z t),
+      sum_by-cons (λ e. cond (p e) 1 0) q.edge (map (λ q. q.edge) l),
+      cond-true {A = ℕ} (p q.edge) 1 0 t,
+      passed_count p v l z,
+    ))
+    (λ f. omega (
+      arith,
+      ap (length {A = ℕ}) (passed_no p v q l z f),
+      sum_by-cons (λ e. cond (p e) 1 0) q.edge (map (λ q. q.edge) l),
+      cond-false {A = ℕ} (p q.edge) 1 0 f,
+      passed_count p v l z,
+    ))
 
 module _ (threads : List (List Access)) (x : Execution) (p : Edge → Bool) (v : WriteAt → ℕ)
     (keeps : (q : Leaving) (f : WriteAt) → GoesOn threads x q f → p q.edge ≡ false → v q.event ≡ v f) where
   -- the first of them is the value of the first event
-  first_passed : (l : List Leaving) (z : WriteAt) → AllNext (GoesOn threads x) l z → slice_get (passed p v l (v z)) 0 ≡ Some (v (begins l z))
+  first_passed : (l : List Leaving) (z : WriteAt) → AllNext (GoesOn threads x) l z
+      → slice_get (passed p v l (v z)) 0 ≡ Some (v (begins l z))
   first_passed [] z h = refl
   first_passed (q ∷ l) z h =
       by_test (p q.edge)
@@ -47,11 +64,13 @@ module _ (threads : List (List Access)) (x : Execution) (p : Edge → Bool) (v :
       by_test (p r.edge)
       (λ t. let n : count_by p (take (suc i) (map (λ q. q.edge) (r ∷ l))) ≡ suc (count_by p (take i (map (λ q. q.edge) l))) =
       omega (arith, sum_by-cons (λ e. cond (p e) 1 0) r.edge (take i (map (λ q. q.edge) l)), cond-true {A = ℕ} (p r.edge) 1 0 t) in
-      ap (slice_get (passed p v (r ∷ l) (v z))) n ∙ ap (λ vs. slice_get vs (suc (count_by p (take i (map (λ q. q.edge) l))))) (passed_yes p v r l (v z) t)
+      ap (slice_get (passed p v (r ∷ l) (v z))) n
+      ∙ ap (λ vs. slice_get vs (suc (count_by p (take i (map (λ q. q.edge) l))))) (passed_yes p v r l (v z) t)
       ∙ passed_at l z i q h.1 g)
       (λ f. let n : count_by p (take (suc i) (map (λ q. q.edge) (r ∷ l))) ≡ count_by p (take i (map (λ q. q.edge) l)) =
       omega (arith, sum_by-cons (λ e. cond (p e) 1 0) r.edge (take i (map (λ q. q.edge) l)), cond-false {A = ℕ} (p r.edge) 1 0 f) in
-      ap (slice_get (passed p v (r ∷ l) (v z))) n ∙ ap (λ vs. slice_get vs (count_by p (take i (map (λ q. q.edge) l)))) (passed_no p v r l (v z) f)
+      ap (slice_get (passed p v (r ∷ l) (v z))) n
+      ∙ ap (λ vs. slice_get vs (count_by p (take i (map (λ q. q.edge) l)))) (passed_no p v r l (v z) f)
       ∙ passed_at l z i q h.1 g)
 
 -- of the steps of an arc, each leaves its thread, and none its location
@@ -88,14 +107,16 @@ module _ (threads : List (List Access)) (link : Segment → Edge) where
       ∙ ap (λ ts. ts ++ z ∷ []) (sym (append-nil (threads_of s)))
   threads_passed s (t ∷ us) back z m fits =
       let rest = steps_along threads link t us back in
-      passed_no is_external (λ e. e.thread) (leaving (link s) s.first) (arc_steps (dir_at threads s.last) s.last s.middle (dir_at threads t.first) ++ rest) z
+      passed_no is_external (λ e. e.thread) (leaving (link s) s.first)
+      (arc_steps (dir_at threads s.last) s.last s.middle (dir_at threads t.first) ++ rest) z
       (stays_inside (link s) fits.0.inside)
       ∙ arc_threads (dir_at threads s.last) (dir_at threads t.first) s.first s.last s.middle rest z m.0.order.thread
       ∙ ap (λ ts. threads_of s ++ ts) (threads_passed t us back z m.1 fits.1)
       ∙ sym (append_assoc (threads_of s) (flat_map threads_of (t ∷ us)) (z ∷ []))
 
   -- and the locations those where segments begin
-  pub places_passed : (s : Segment) (us : List Segment) (back : WriteAt) (z : ℕ) → AllByRecursion (λ t. FitsSegment threads (link t) t) (s ∷ us)
+  pub places_passed : (s : Segment) (us : List Segment) (back : WriteAt) (z : ℕ)
+      → AllByRecursion (λ t. FitsSegment threads (link t) t) (s ∷ us)
       → passed is_diff (place_at threads) (steps_along threads link s us back) z ≡ map (λ t. place_at threads t.first) (s ∷ us) ++ z ∷ []
   places_passed s [] back z fits =
       let arc = arc_steps (dir_at threads s.last) s.last s.middle (dir_at threads back) in
@@ -105,7 +126,9 @@ module _ (threads : List (List Access)) (link : Segment → Edge) where
       ∙ arc_places (place_at threads) (dir_at threads s.last) (dir_at threads back) s.last s.middle [] z)
   places_passed s (t ∷ us) back z fits =
       let rest = steps_along threads link t us back in
-      passed_yes is_diff (place_at threads) (leaving (link s) s.first) (arc_steps (dir_at threads s.last) s.last s.middle (dir_at threads t.first) ++ rest) z
+      passed_yes is_diff (place_at threads) (leaving (link s) s.first)
+      (arc_steps (dir_at threads s.last) s.last s.middle (dir_at threads t.first) ++ rest) z
       (moves (link s) fits.0.moves)
       ∙ ap (λ l. place_at threads s.first ∷ l)
-      (arc_places (place_at threads) (dir_at threads s.last) (dir_at threads t.first) s.last s.middle rest z ∙ places_passed t us back z fits.1)
+      (arc_places (place_at threads) (dir_at threads s.last) (dir_at threads t.first) s.last s.middle rest z
+      ∙ places_passed t us back z fits.1)

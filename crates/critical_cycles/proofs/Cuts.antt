@@ -1,8 +1,12 @@
 -- Where a cycle of parts can be cut: between two parts, or in an arc of two edges.
-use Rattle.critical_cycles.proofs.Vocabulary.{append-nil, Bool, List, None, Option, Some, [], ap, append_assoc, arith, cond, false, inl, inr, length, length-append, map, not, refl, slice_get, subst, suc, sym, take, true, zero, ℕ, ◌&&◌, ◌++◌, ◌+◌, ◌-◌, ◌<◌, ◌==◌, ◌||◌, ◌∙◌, ◌∷◌, ◌≡◌, ◌≤◌, and_from, and_parts, cond-false, cond-true, eq-eqb, eqb-true, lt-ltb, ltb-true, ne_eqb, flat_map-append, sum_by-cons, length-map, map-append, IsDistinct-from_apart, apart_from_distinct, get_or_from_slice_get, slice_get-map, slice_get_within, AllByRecursion, count_by, flat_map, list_any, option_map, nat_lt, ◌↔◌, ◌≢◌, ◌⊎◌, by_after, location_cases, several_locations, thread_below, PassingEdge, passing, location_first, location_below, external_keeps, location-zero, location_wrapped, moves_end, coherence_alike, external_count-append, move_count-append, outside_after, renumbered, edge_second, thread_first, thread-zero, thread_end, turned_cycle, IsRotation, rotated, by_less, by_option, by_same, by_test, all_append, all_parts, count_upto_less, distinct_push, any_upto_none, count_all, count_exchanged, upto, Access, at_name, IsCoherent, MayFollow, coherence_place, order_at, order_place, source_at, CanRead, Execution, IsExecutionOf, AreAt, WriteAt, IsCandidate, IsCoherentIn, Program, accesses_in, visits_in, MAX_EDGES, Edge, Dir, Kind, Plain, Internal, Diff, is_joined, is_diff, is_external, joins_to, kind_of, kind_place, reach_of, same_dir, sd_of, source_mark, source_of, target_mark, target_of, fre, pod, rfe, wse, comes, earlier_comes, key, lesser_comes, Held, held, place_in, read_before, writes_ordered, writes_same, access_of_visit, moves, WritesWithin, CoherenceOrder, FromRead, IsBefore, IsReadOf, IsWriteTo, ReadsFrom, ByCo, ByFr, ByPo, ByRf, IsPathBy, IsSequential, Precedes, StepBy, AreArcs, CriticalCycle, IsArc, IsBeforeWrite, Moves, Segment, dir_at, dir_of_access, place_at, place_of_access, segments_of, threads_of, AreEvents, AreRelated, EdgeLeads, accesses_of_segment, arc_edges, critical_edges, critical_events, edge_to_write, edges_along, linked_edges, plain_edge, AreLinkedEvents, IsLink, IsPlainOrLink, LinkedCyclesHaveEvents, Arc, IsCriticalBy, ListedAreCritical, Part, edges_of_arc, edges_of_part}
+use Rattle.critical_cycles.proofs.Vocabulary.{append-nil, List, [], ap, append_assoc, arith, false, inl, inr, length, refl, subst, sym}
+use Rattle.critical_cycles.proofs.Vocabulary.{◌++◌, ◌∙◌, ◌∷◌, ◌≡◌, flat_map-append, map-append, flat_map, ◌⊎◌, outside_after, Access}
+use Rattle.critical_cycles.proofs.Vocabulary.{Execution, WriteAt, Edge, Dir, fre, pod, rfe, wse, Held, held, AreEvents, Arc, IsCriticalBy}
+use Rattle.critical_cycles.proofs.Vocabulary.{ListedAreCritical, Part, edges_of_arc, edges_of_part}
 use Rattle.cycle_events.specs.Resolution.{ends_outside}
 use Rattle.critical_cycles.specs.Listed.{Fre, FreRfe, Rfe, Wse, WseRfe}
-use Rattle.critical_cycles.proofs.{Converse.{IsExactly, parts_are_critical, zipped, zipped_edges, zipped_events}, Steps.{Leaving, edges_in, events_in, leaving}, Turned.turned}
+use Rattle.critical_cycles.proofs.{Converse.{parts_are_critical, zipped, zipped_edges, zipped_events}, Steps.{edges_in, events_in, leaving}}
+use Rattle.critical_cycles.proofs.{Turned.turned}
 
 abbrev flat : List Part → List Edge
 flat parts = flat_map edges_of_part parts
@@ -29,7 +33,8 @@ put_first part prefix back (AfterPod before from to p) =
     (ap (λ (u : List Edge). edges_of_part part ++ u) p ∙ sym (append_assoc (edges_of_part part) before (pod from to ∷ [])))
 put_first part prefix back (InArc first second other e a p b) =
     InArc (part ∷ first) second other e a
-    (ap (λ (u : List Edge). edges_of_part part ++ u) p ∙ sym (append_assoc (edges_of_part part) (flat first) (pod other.from other.to ∷ e ∷ []))) b
+    (ap (λ (u : List Edge). edges_of_part part ++ u) p ∙ sym (append_assoc (edges_of_part part) (flat first)
+    (pod other.from other.to ∷ e ∷ []))) b
 
 cut : (parts : List Part) (prefix back : List Edge) → flat parts ≡ prefix ++ back → Cut prefix back
 cut parts [] back h = Between [] parts refl (sym h)
@@ -40,20 +45,24 @@ cut (part ∷ parts) (d ∷ e ∷ prefix) back h = by_shape (arc_shape part.arc)
     by_shape : ((e : Edge) × (edges_of_arc part.arc ≡ e ∷ [])) ⊎ ((e : Edge) × (edges_of_arc part.arc ≡ e ∷ rfe ∷ []))
         → ((prefix back : List Edge) → flat parts ≡ prefix ++ back → Cut prefix back) → Cut (d ∷ e ∷ prefix) back
     by_shape (inl a) later =
-        let h2 : pod part.from part.to ∷ a.0 ∷ flat parts ≡ d ∷ e ∷ (prefix ++ back) = sym (ap (λ (u : List Edge). pod part.from part.to ∷ (u ++ flat parts)) a.1) ∙ h in
+        let h2 : pod part.from part.to ∷ a.0 ∷ flat parts ≡ d ∷ e ∷ (prefix ++ back) =
+        sym (ap (λ (u : List Edge). pod part.from part.to ∷ (u ++ flat parts)) a.1) ∙ h in
         let p : edges_of_part part ++ prefix ≡ d ∷ e ∷ prefix = ap (λ (u : List Edge). pod part.from part.to ∷ (u ++ prefix)) a.1 ∙ cc h2 in
         subst (λ (u : List Edge). Cut u back) p (put_first part prefix back (later prefix back (cc h2)))
     by_shape (inr a) later = by_prefix prefix (sym (ap (λ (u : List Edge). pod part.from part.to ∷ (u ++ flat parts)) a.1) ∙ h)
       where
-        by_prefix : (prefix : List Edge) → pod part.from part.to ∷ a.0 ∷ rfe ∷ flat parts ≡ d ∷ e ∷ (prefix ++ back) → Cut (d ∷ e ∷ prefix) back
+        by_prefix : (prefix : List Edge) → pod part.from part.to ∷ a.0 ∷ rfe ∷ flat parts ≡ d ∷ e ∷ (prefix ++ back)
+            → Cut (d ∷ e ∷ prefix) back
         by_prefix [] h2 = InArc [] parts part a.0 a.1 (cc h2) (cc h2)
         by_prefix (f ∷ prefix) h2 =
-            let p : edges_of_part part ++ prefix ≡ d ∷ e ∷ f ∷ prefix = ap (λ (u : List Edge). pod part.from part.to ∷ (u ++ prefix)) a.1 ∙ cc h2 in
+            let p : edges_of_part part ++ prefix ≡ d ∷ e ∷ f ∷ prefix =
+            ap (λ (u : List Edge). pod part.from part.to ∷ (u ++ prefix)) a.1 ∙ cc h2 in
             subst (λ (u : List Edge). Cut u back) p (put_first part prefix back (later prefix back (cc h2)))
 
 module _ (threads : List (List Access)) (x : Execution) (held : Held threads x) where
   -- the whole cycle, from its first edge on
-  from_first : (parts : List Part) (es : List Edge) (events : List WriteAt) → es ≡ flat parts → AreEvents threads x es events → IsCriticalBy threads x es events
+  from_first : (parts : List Part) (es : List Edge) (events : List WriteAt) → es ≡ flat parts → AreEvents threads x es events
+      → IsCriticalBy threads x es events
   from_first parts es events e shown =
       let r = parts_are_critical threads x held parts events (subst (λ (u : List Edge). AreEvents threads x u events) e shown) in
       record {
@@ -64,7 +73,8 @@ module _ (threads : List (List Access)) (x : Execution) (held : Held threads x) 
       }
 
   -- from its second edge on, if the first is the second of an arc
-  from_second : (parts : List Part) (rest : List Edge) (events : List WriteAt) → rest ++ rfe ∷ [] ≡ flat parts → AreEvents threads x (rfe ∷ rest) events
+  from_second : (parts : List Part) (rest : List Edge) (events : List WriteAt) → rest ++ rfe ∷ [] ≡ flat parts
+      → AreEvents threads x (rfe ∷ rest) events
       → IsCriticalBy threads x (rfe ∷ rest) events
   from_second parts rest [] e shown = absurd (omega (arith, shown.count))
   from_second parts rest (d ∷ events) e shown =
@@ -74,12 +84,16 @@ module _ (threads : List (List Access)) (x : Execution) (held : Held threads x) 
       let these : events_in l ≡ events = zipped_events rest events n in
       let t = turned threads x (leaving rfe d) l refl
       (subst (λ (u : List Edge × List WriteAt). AreEvents threads x u.0 u.1) (λ j. (rfe ∷ sym those j, d ∷ sym these j)) shown) in
-      let fs : edges_in (l ++ leaving rfe d ∷ []) ≡ flat parts = map-append (λ q. q.edge) l (leaving rfe d ∷ []) ∙ ap (λ (u : List Edge). u ++ rfe ∷ []) those ∙ e in
-      let gs : events_in (l ++ leaving rfe d ∷ []) ≡ events ++ d ∷ [] = map-append (λ q. q.event) l (leaving rfe d ∷ []) ∙ ap (λ (u : List WriteAt). u ++ d ∷ []) these in
-      let r = parts_are_critical threads x held parts (events ++ d ∷ []) (subst (λ (u : List Edge × List WriteAt). AreEvents threads x u.0 u.1) (λ j. (fs j, gs j)) t) in
+      let fs : edges_in (l ++ leaving rfe d ∷ []) ≡ flat parts =
+      map-append (λ q. q.edge) l (leaving rfe d ∷ []) ∙ ap (λ (u : List Edge). u ++ rfe ∷ []) those ∙ e in
+      let gs : events_in (l ++ leaving rfe d ∷ []) ≡ events ++ d ∷ [] =
+      map-append (λ q. q.event) l (leaving rfe d ∷ []) ∙ ap (λ (u : List WriteAt). u ++ d ∷ []) these in
+      let r = parts_are_critical threads x held parts (events ++ d ∷ [])
+      (subst (λ (u : List Edge × List WriteAt). AreEvents threads x u.0 u.1) (λ j. (fs j, gs j)) t) in
       record { cycle = r.cycle; number = 1; edges = r.edges ∙ sym e; events = r.events }
 
-  by_cut : (prefix back : List Edge) (events : List WriteAt) → Cut prefix back → AreEvents threads x (back ++ prefix) events → IsCriticalBy threads x (back ++ prefix) events
+  by_cut : (prefix back : List Edge) (events : List WriteAt) → Cut prefix back → AreEvents threads x (back ++ prefix) events
+      → IsCriticalBy threads x (back ++ prefix) events
   by_cut prefix back events (Between first second p b) shown =
       from_first (second ++ first) (back ++ prefix) events (cc (p, b, flat_map-append edges_of_part second first)) shown
   by_cut prefix back events (AfterPod before from to p) shown =
@@ -93,13 +107,15 @@ module _ (threads : List (List Access)) (x : Execution) (held : Held threads x) 
       let part_is : flat (part ∷ []) ≡ pod part.from part.to ∷ e ∷ rfe ∷ [] = ap (λ (u : List Edge). pod part.from part.to ∷ (u ++ [])) a in
       let whole : rest ++ rfe ∷ [] ≡ flat (second ++ (first ++ part ∷ [])) =
       append_assoc (flat second) prefix (rfe ∷ []) ∙ ap (λ (u : List Edge). flat second ++ (u ++ rfe ∷ [])) p
-      ∙ ap (λ (u : List Edge). flat second ++ u) (append_assoc (flat first) (pod part.from part.to ∷ e ∷ []) (rfe ∷ []) ∙ ap (λ (u : List Edge). flat first ++ u) (sym part_is)
+      ∙ ap (λ (u : List Edge). flat second ++ u) (append_assoc (flat first) (pod part.from part.to ∷ e ∷ []) (rfe ∷ []) ∙ ap
+      (λ (u : List Edge). flat first ++ u) (sym part_is)
       ∙ sym (flat_map-append edges_of_part first (part ∷ [])))
       ∙ sym (flat_map-append edges_of_part second (first ++ part ∷ [])) in
       subst (λ (u : List Edge). IsCriticalBy threads x u events) (sym es)
       (from_second (second ++ (first ++ part ∷ [])) rest events whole (subst (λ (u : List Edge). AreEvents threads x u events) es shown))
 
 pub listed_are_critical : ListedAreCritical
-listed_are_critical threads places x h within parts es events r shown =
+listed_are_critical threads places x parts es events h within r shown =
     subst (λ (u : List Edge). IsCriticalBy threads x u events) (sym r.to)
-    (by_cut threads x (held threads places x h within) r.prefix r.back events (cut parts r.prefix r.back r.from) (subst (λ (u : List Edge). AreEvents threads x u events) r.to shown))
+    (by_cut threads x (held threads places x h within) r.prefix r.back events (cut parts r.prefix r.back r.from)
+    (subst (λ (u : List Edge). AreEvents threads x u events) r.to shown))

@@ -1,11 +1,13 @@
 -- The edges of a critical cycle lead from each of its accesses to the next.
-use Rattle.critical_cycles.proofs.Vocabulary.{append-nil, Bool, List, None, Option, Some, [], ap, append_assoc, arith, cond, false, inl, inr, length, length-append, map, not, refl, slice_get, subst, suc, sym, take, true, zero, ℕ, ◌&&◌, ◌++◌, ◌+◌, ◌-◌, ◌<◌, ◌==◌, ◌||◌, ◌∙◌, ◌∷◌, ◌≡◌, ◌≤◌, and_from, and_parts, cond-false, cond-true, eq-eqb, eqb-true, lt-ltb, ltb-true, ne_eqb, sum_by-cons, length-map, map-append, apart_from_distinct, get_or_from_slice_get, slice_get-map, slice_get_within, AllByRecursion, count_by, flat_map, list_any, option_map, nat_lt, ◌↔◌, ◌≢◌, ◌⊎◌, by_after, location_cases, several_locations, thread_below, passing, location_first, edge_second, thread_first, thread-zero, thread_end, by_less, by_option, by_same, by_test, all_append, all_parts, count_upto_less, distinct_push, any_upto_none, count_all, upto, Access, at_name, IsCoherent, MayFollow, coherence_place, order_at, order_place, source_at, CanRead, Execution, IsExecutionOf, AreAt, WriteAt, IsCandidate, IsCoherentIn, Program, accesses_in, visits_in, MAX_EDGES, Edge, Dir, Kind, Rf, Plain, Internal, Diff, is_joined, is_diff, is_external, joins_to, kind_of, kind_place, reach_of, same_dir, sd_of, source_mark, source_of, target_mark, target_of, fre, pod, rfe, wse, comes, earlier_comes, key, lesser_comes, Held, held, place_in, read_before, writes_ordered, writes_same, access_of_visit, moves, WritesWithin, CoherenceOrder, FromRead, IsBefore, IsReadOf, IsWriteTo, ReadsFrom, ByCo, ByFr, ByPo, ByRf, IsPathBy, IsSequential, Precedes, StepBy, AreArcs, CriticalCycle, IsArc, IsBeforeWrite, Moves, Segment, dir_at, dir_of_access, place_at, place_of_access, segments_of, threads_of, AreEvents, AreRelated, EdgeLeads, accesses_of_segment, arc_edges, critical_edges, critical_events, edge_to_write, edges_along, linked_edges, plain_edge, AreLinkedEvents, IsLink, IsPlainOrLink, LinkedCyclesHaveEvents}
-use Rattle.std.specs.List.{IsDistinct}
-use Rattle.cycle_events.specs.Resolution.{IsResolved, edge_at, ends_outside, event_after, external_count, is_coherence_only, location_of, move_count, moves_before, moves_in, thread_of}
+use Rattle.critical_cycles.proofs.Vocabulary.{List, None, Option, Some, [], false, inl, inr, refl, subst, sym, ◌∷◌, ◌≡◌, AllByRecursion}
+use Rattle.critical_cycles.proofs.Vocabulary.{Access, Execution, AreAt, WriteAt, Edge, Dir, Kind, Plain, Internal, Diff, is_diff}
+use Rattle.critical_cycles.proofs.Vocabulary.{is_external, kind_of, kind_place, reach_of, sd_of, source_mark, source_of, target_mark}
+use Rattle.critical_cycles.proofs.Vocabulary.{target_of, rfe, Held, moves, ReadsFrom, Precedes, AreArcs, IsArc, IsBeforeWrite, Moves}
+use Rattle.critical_cycles.proofs.Vocabulary.{Segment, dir_at, place_at, AreRelated, EdgeLeads, edge_to_write}
 use Rattle.relax_edges.specs.declared.kinds.Dir.TheVariants as dirs
 use Rattle.relax_edges.specs.declared.kinds.Kind.TheVariants as kinds
-use Rattle.relax_edges.specs.declared.edge.Edge.TheVariants as edges
-use Rattle.critical_cycles.proofs.{Keys.{Exists, arc_goes, co_dirs, fr_dirs, rf_dirs}, Steps.{AllNext, Leaving, all_next, arc_steps, leaving, steps_along}}
+use Rattle.critical_cycles.proofs.{Keys.{Exists, arc_goes, co_dirs, fr_dirs, rf_dirs}}
+use Rattle.critical_cycles.proofs.{Steps.{AllNext, Leaving, all_next, arc_steps, leaving, steps_along}}
 
 -- an edge fits a segment: it stays in its thread, leads to another location, has no marks, and its accesses do what those of the
 -- segment do
@@ -72,7 +74,8 @@ module _ (threads : List (List Access)) (x : Execution) (held : Held threads x) 
             at_place = λ n. g.places;
           }
 
-  arc_goes_on : (e f : WriteAt) (m : Option WriteAt) → IsArc threads x e m f → AllNext (GoesOn threads x) (arc_steps (dir_at threads e) e m (dir_at threads f)) f
+  arc_goes_on : (e f : WriteAt) (m : Option WriteAt) → IsArc threads x e m f
+      → AllNext (GoesOn threads x) (arc_steps (dir_at threads e) e m (dir_at threads f)) f
   arc_goes_on e f None (inl h) = by_dir (dir_at threads f) refl
     where
       by_dir : (d : Dir) → dir_at threads f ≡ d → AllNext (GoesOn threads x) (arc_steps (dir_at threads e) e None d) f
@@ -96,7 +99,8 @@ module _ (threads : List (List Access)) (x : Execution) (held : Held threads x) 
   related e f (kinds.Dep _ _ _) d p = p
   related e f (kinds.Data _) d p = p
 
-  segment_goes_on : (edge : Edge) (s : Segment) → Moves threads s → FitsSegment threads edge s → GoesOn threads x (leaving edge s.first) s.last
+  segment_goes_on : (edge : Edge) (s : Segment) → Moves threads s → FitsSegment threads edge s
+      → GoesOn threads x (leaving edge s.first) s.last
   segment_goes_on edge s m fits = record {
     exists = m.order.first;
     leads = record {
@@ -111,7 +115,8 @@ module _ (threads : List (List Access)) (x : Execution) (held : Held threads x) 
     at_place = λ n. cc (n, moves edge fits.moves);
   }
 
-  all_segments : (link : Segment → Edge) (us : List Segment) → AllByRecursion (Moves threads) us → AllByRecursion (λ t. FitsSegment threads (link t) t) us
+  all_segments : (link : Segment → Edge) (us : List Segment) → AllByRecursion (Moves threads) us
+      → AllByRecursion (λ t. FitsSegment threads (link t) t) us
       → AllByRecursion (λ t. GoesOn threads x (leaving (link t) t.first) t.last) us
   all_segments link [] m fits = tt
   all_segments link (s ∷ us) m fits = (segment_goes_on (link s) s m.0 fits.0, all_segments link us m.1 fits.1)

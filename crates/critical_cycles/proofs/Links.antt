@@ -1,11 +1,17 @@
 -- Links fit the segments in which they stand.
-use Rattle.critical_cycles.proofs.Vocabulary.{append-nil, Bool, List, None, Option, Some, [], ap, append_assoc, arith, cond, false, inl, inr, length, length-append, map, not, refl, slice_get, subst, suc, sym, take, true, zero, ℕ, ◌&&◌, ◌++◌, ◌+◌, ◌-◌, ◌<◌, ◌==◌, ◌||◌, ◌∙◌, ◌∷◌, ◌≡◌, ◌≤◌, and_from, and_parts, cond-false, cond-true, eq-eqb, eqb-true, lt-ltb, ltb-true, ne_eqb, flat_map-append, sum_by-cons, length-map, map-append, IsDistinct-from_apart, apart_from_distinct, get_or_from_slice_get, slice_get-map, slice_get_within, AllByRecursion, count_by, flat_map, list_any, option_map, nat_lt, ◌↔◌, ◌≢◌, ◌⊎◌, by_after, location_cases, several_locations, thread_below, PassingEdge, passing, location_first, location_below, external_keeps, location-zero, location_wrapped, moves_end, coherence_alike, external_count-append, move_count-append, outside_after, renumbered, edge_second, thread_first, thread-zero, thread_end, turned_cycle, IsRotation, rotated, by_less, by_option, by_same, by_test, all_append, all_parts, count_upto_less, distinct_push, any_upto_none, count_all, count_exchanged, upto, Access, at_name, IsCoherent, MayFollow, coherence_place, order_at, order_place, source_at, CanRead, Execution, IsExecutionOf, AreAt, WriteAt, IsCandidate, IsCoherentIn, Program, accesses_in, visits_in, MAX_EDGES, Edge, Dir, Kind, Plain, Internal, Diff, is_joined, is_diff, is_external, joins_to, kind_of, kind_place, reach_of, same_dir, sd_of, source_mark, source_of, target_mark, target_of, fre, pod, rfe, wse, comes, earlier_comes, key, lesser_comes, Held, held, place_in, read_before, writes_ordered, writes_same, access_of_visit, moves, WritesWithin, CoherenceOrder, FromRead, IsBefore, IsReadOf, IsWriteTo, ReadsFrom, ByCo, ByFr, ByPo, ByRf, IsPathBy, IsSequential, Precedes, StepBy, AreArcs, CriticalCycle, IsArc, IsBeforeWrite, Moves, Segment, dir_at, dir_of_access, place_at, place_of_access, segments_of, threads_of, AreEvents, AreRelated, EdgeLeads, accesses_of_segment, arc_edges, critical_edges, critical_events, edge_to_write, edges_along, linked_edges, plain_edge, AreLinkedEvents, IsLink, IsPlainOrLink, LinkedCyclesHaveEvents, Arc, IsCriticalBy, ListedAreCritical, Part, edges_of_arc, edges_of_part}
+use Rattle.critical_cycles.proofs.Vocabulary.{List, None, Option, Some, [], ap, arith, false, inl, inr, length, refl, slice_get, subst, sym}
+use Rattle.critical_cycles.proofs.Vocabulary.{ℕ, ◌<◌, ◌∙◌, ◌∷◌, ◌≡◌, AllByRecursion, flat_map, ◌≢◌, Access, at_name, Execution, AreAt}
+use Rattle.critical_cycles.proofs.Vocabulary.{WriteAt, Program, accesses_in, visits_in, Edge, Dir, Internal, Diff, is_external, reach_of}
+use Rattle.critical_cycles.proofs.Vocabulary.{sd_of, held, access_of_visit, AreArcs, Moves, Segment, dir_at, dir_of_access, place_of_access}
+use Rattle.critical_cycles.proofs.Vocabulary.{AreEvents, accesses_of_segment, edges_along, AreLinkedEvents, IsPlainOrLink}
+use Rattle.critical_cycles.proofs.Vocabulary.{LinkedCyclesHaveEvents}
 use Rattle.cycle_events.specs.Resolution.{edge_at, event_after}
 use Rattle.critical_cycles.proofs.Linked.{FitsSegment}
-use Rattle.critical_cycles.proofs.Steps.{AllNext, Leaving, all_next, arc_steps, each_next, edges_are, edges_in, events_are, events_in, leaving, steps_along}
+use Rattle.critical_cycles.proofs.Steps.{AllNext, Leaving, all_next, arc_steps, each_next, edges_are, events_are, leaving, steps_along}
 use Rattle.critical_cycles.proofs.Resolved.{cycle_events, plain_fits}
 use Rattle.relax_edges.specs.declared.kinds.Dir.TheVariants as dirs
-use Rattle.relax_edges.specs.{declared.kinds.Reach.Reach, declared.kinds.Reach.TheVariants.External, declared.kinds.Sd.Sd, declared.kinds.Sd.TheVariants.Same}
+use Rattle.relax_edges.specs.{declared.kinds.Reach.Reach, declared.kinds.Reach.TheVariants.External, declared.kinds.Sd.Sd}
+use Rattle.relax_edges.specs.{declared.kinds.Sd.TheVariants.Same}
 use Rattle.program_meaning.specs.Standing.{Reaches}
 
 module _ (p : Program) (x : Execution) where
@@ -35,7 +41,8 @@ module _ (p : Program) (x : Execution) where
         enters_plain = h.enters_plain;
       }
 
-  all_fit : (link : Segment → Edge) (us : List Segment) → AllByRecursion (Moves threads) us → AllByRecursion (λ s. IsPlainOrLink p x (link s) s.first s.last) us
+  all_fit : (link : Segment → Edge) (us : List Segment) → AllByRecursion (Moves threads) us
+      → AllByRecursion (λ s. IsPlainOrLink p x (link s) s.first s.last) us
       → AllByRecursion (λ s. FitsSegment threads (link s) s) us
   all_fit link [] m h = tt
   all_fit link (s ∷ us) m h = (link_fits (link s) s m.0 h.0, all_fit link us m.1 h.1)
@@ -57,19 +64,24 @@ module _ (p : Program) (x : Execution) where
   all_inside link (s ∷ us) h = (λ _. h.0, all_inside link us h.1)
 
   -- of all edges, where they lead back to the beginning
-  each_inside : (link : Segment → Edge) (s t : Segment) (us : List Segment) → AllByRecursion (λ s. IsPlainOrLink p x (link s) s.first s.last) (s ∷ t ∷ us)
+  each_inside : (link : Segment → Edge) (s t : Segment) (us : List Segment)
+      → AllByRecursion (λ s. IsPlainOrLink p x (link s) s.first s.last) (s ∷ t ∷ us)
       → AreArcs threads x s (t ∷ us) s.first → (i : ℕ) (e f : WriteAt) → slice_get (flat_map accesses_of_segment (s ∷ t ∷ us)) i ≡ Some e
       → slice_get (flat_map accesses_of_segment (s ∷ t ∷ us)) (event_after (edges_along threads link s (t ∷ us) s.first) i) ≡ Some f
-      → is_external (edge_at (edges_along threads link s (t ∷ us) s.first) i) ≡ false → IsPlainOrLink p x (edge_at (edges_along threads link s (t ∷ us) s.first) i) e f
+      → is_external (edge_at (edges_along threads link s (t ∷ us) s.first) i) ≡ false
+      → IsPlainOrLink p x (edge_at (edges_along threads link s (t ∷ us) s.first) i) e f
   each_inside link s t us h a =
       let l = steps_along threads link s (t ∷ us) s.first in
-      subst (λ (u : List Edge × List WriteAt). (i : ℕ) (e f : WriteAt) → slice_get u.1 i ≡ Some e → slice_get u.1 (event_after u.0 i) ≡ Some f
+      subst (λ (u : List Edge × List WriteAt). (i : ℕ) (e f : WriteAt) → slice_get u.1 i ≡ Some e → slice_get u.1
+      (event_after u.0 i) ≡ Some f
       → is_external (edge_at u.0 i) ≡ false → IsPlainOrLink p x (edge_at u.0 i) e f)
       (λ j. (edges_are threads link s (t ∷ us) s.first j, events_are threads link s (t ∷ us) s.first j))
       (each_next l Inside s.first
-      (all_next Inside threads x link s (t ∷ us) s.first (λ e f m _. arc_outside (dir_at threads e) (dir_at threads f) e f m) (all_inside link (s ∷ t ∷ us) h) a) refl)
+      (all_next Inside threads x link s (t ∷ us) s.first (λ e f m _. arc_outside (dir_at threads e) (dir_at threads f) e f m)
+      (all_inside link (s ∷ t ∷ us) h) a) refl)
 
-  all_linked : (link : Segment → Edge) (s : Segment) (us : List Segment) → 0 < length us → AllByRecursion (λ s. IsPlainOrLink p x (link s) s.first s.last) (s ∷ us)
+  all_linked : (link : Segment → Edge) (s : Segment) (us : List Segment) → 0 < length us
+      → AllByRecursion (λ s. IsPlainOrLink p x (link s) s.first s.last) (s ∷ us)
       → AreArcs threads x s us s.first → AreEvents threads x (edges_along threads link s us s.first) (flat_map accesses_of_segment (s ∷ us))
       → AreLinkedEvents p x (edges_along threads link s us s.first) (flat_map accesses_of_segment (s ∷ us))
   all_linked link s [] two h a shown = absurd (omega (arith, two))
@@ -78,4 +90,5 @@ module _ (p : Program) (x : Execution) where
 pub linked_cycles_have_events : LinkedCyclesHaveEvents
 linked_cycles_have_events p x candidate within c link h few =
     all_linked p x link c.start c.others c.two h c.arcs
-    (cycle_events (accesses_in p x) x (held (accesses_in p x) p.places x candidate.execution within) link c (all_fit p x link (c.start ∷ c.others) c.segments h) few)
+    (cycle_events (accesses_in p x) x (held (accesses_in p x) p.places x candidate.execution within) link c
+    (all_fit p x link (c.start ∷ c.others) c.segments h) few)

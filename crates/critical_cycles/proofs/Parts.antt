@@ -1,6 +1,8 @@
 -- A list of steps that consists of parts is that of segments and arcs.
-use Rattle.critical_cycles.proofs.Vocabulary.{append-nil, Bool, List, None, Option, Some, [], ap, append_assoc, arith, cond, false, inl, inr, length, length-append, map, not, refl, slice_get, subst, suc, sym, take, true, zero, ℕ, ◌&&◌, ◌++◌, ◌+◌, ◌-◌, ◌<◌, ◌==◌, ◌||◌, ◌∙◌, ◌∷◌, ◌≡◌, ◌≤◌, and_from, and_parts, cond-false, cond-true, eq-eqb, eqb-true, lt-ltb, ltb-true, ne_eqb, flat_map-append, sum_by-cons, length-map, map-append, IsDistinct-from_apart, apart_from_distinct, get_or_from_slice_get, slice_get-map, slice_get_within, AllByRecursion, count_by, flat_map, list_any, option_map, nat_lt, ◌↔◌, ◌≢◌, ◌⊎◌, by_after, location_cases, several_locations, thread_below, PassingEdge, passing, location_first, location_below, external_keeps, location-zero, location_wrapped, moves_end, coherence_alike, external_count-append, move_count-append, outside_after, renumbered, edge_second, thread_first, thread-zero, thread_end, turned_cycle, IsRotation, rotated, by_less, by_option, by_same, by_test, all_append, all_parts, count_upto_less, distinct_push, any_upto_none, count_all, count_exchanged, upto, Access, at_name, IsCoherent, MayFollow, coherence_place, order_at, order_place, source_at, CanRead, Execution, IsExecutionOf, AreAt, WriteAt, IsCandidate, IsCoherentIn, Program, accesses_in, visits_in, MAX_EDGES, Edge, Dir, Kind, Plain, Internal, Diff, is_joined, is_diff, is_external, joins_to, kind_of, kind_place, reach_of, same_dir, sd_of, source_mark, source_of, target_mark, target_of, fre, pod, rfe, wse, comes, earlier_comes, key, lesser_comes, Held, held, place_in, read_before, writes_ordered, writes_same, access_of_visit, moves, WritesWithin, CoherenceOrder, FromRead, IsBefore, IsReadOf, IsWriteTo, ReadsFrom, ByCo, ByFr, ByPo, ByRf, IsPathBy, IsSequential, Precedes, StepBy, AreArcs, CriticalCycle, IsArc, IsBeforeWrite, Moves, Segment, dir_at, dir_of_access, place_at, place_of_access, segments_of, threads_of, AreEvents, AreRelated, EdgeLeads, accesses_of_segment, arc_edges, critical_edges, critical_events, edge_to_write, edges_along, linked_edges, plain_edge, AreLinkedEvents, IsLink, IsPlainOrLink, LinkedCyclesHaveEvents, Arc, IsCriticalBy, ListedAreCritical, Part, edges_of_arc, edges_of_part}
-use Rattle.relax_edges.specs.declared.kinds.Dir.TheVariants as dirs
+use Rattle.critical_cycles.proofs.Vocabulary.{append-nil, List, None, Option, Some, [], ap, inl, inr, map, refl, subst, sym, ◌++◌, ◌∙◌, ◌∷◌}
+use Rattle.critical_cycles.proofs.Vocabulary.{◌≡◌, AllByRecursion, flat_map, Access, Execution, WriteAt, Edge, Dir, fre, pod, rfe, wse}
+use Rattle.critical_cycles.proofs.Vocabulary.{AreArcs, IsArc, Moves, Segment, dir_at, EdgeLeads, accesses_of_segment, arc_edges}
+use Rattle.critical_cycles.proofs.Vocabulary.{edge_to_write, edges_along, plain_edge, Arc, Part, edges_of_arc, edges_of_part}
 use Rattle.critical_cycles.specs.Listed.{Fre, FreRfe, Rfe, Wse, WseRfe}
 use Rattle.critical_cycles.proofs.Steps.{AllNext, Leaving, begins}
 
@@ -11,7 +13,8 @@ pub record Piece (threads : List (List Access)) (x : Execution) (l : List Leavin
   pub begin : begins l z ≡ segment.first
   pub moving : Moves threads segment
   pub arc : IsArc threads x segment.last segment.middle (begins others z)
-  pub edges : plain_edge threads segment ∷ (arc_edges (dir_at threads segment.last) segment.middle (dir_at threads (begins others z)) ++ map (λ q. q.edge) others)
+  pub edges : plain_edge threads segment
+      ∷ (arc_edges (dir_at threads segment.last) segment.middle (dir_at threads (begins others z)) ++ map (λ q. q.edge) others)
       ≡ map (λ q. q.edge) l
   pub events : accesses_of_segment segment ++ map (λ q. q.event) others ≡ map (λ q. q.event) l
   pub rest : map (λ q. q.edge) others ≡ es
@@ -26,13 +29,16 @@ module _ (threads : List (List Access)) (x : Execution) where
   by_edge edge q f e h = subst (λ d. EdgeLeads threads x d q.event f) e h
 
   -- the segment of a step by `Pod**`
-  moves_by : (a b : Dir) (q : Leaving) (f : WriteAt) (m : Option WriteAt) → q.edge ≡ pod a b → Leads q f → Moves threads (record { first = q.event; last = f; middle = m })
+  moves_by : (a b : Dir) (q : Leaving) (f : WriteAt) (m : Option WriteAt) → q.edge ≡ pod a b → Leads q f
+      → Moves threads (record { first = q.event; last = f; middle = m })
   moves_by a b q f m e h = let k = by_edge (pod a b) q f e h in record { order = k.related; places = k.places }
 
-  plain_is : (a b : Dir) (q : Leaving) (f : WriteAt) → q.edge ≡ pod a b → Leads q f → pod (dir_at threads q.event) (dir_at threads f) ≡ q.edge
+  plain_is : (a b : Dir) (q : Leaving) (f : WriteAt) → q.edge ≡ pod a b → Leads q f
+      → pod (dir_at threads q.event) (dir_at threads f) ≡ q.edge
   plain_is a b q f e h = let k = by_edge (pod a b) q f e h in cc (e, k.leaves, k.enters)
 
-  pub piece : (a b : Dir) (arc : Arc) (l : List Leaving) (z : WriteAt) (es : List Edge) → map (λ q. q.edge) l ≡ pod a b ∷ (edges_of_arc arc ++ es) → AllNext Leads l z
+  pub piece : (a b : Dir) (arc : Arc) (l : List Leaving) (z : WriteAt) (es : List Edge)
+      → map (λ q. q.edge) l ≡ pod a b ∷ (edges_of_arc arc ++ es) → AllNext Leads l z
       → Piece threads x l z es
   piece a b arc [] z es e h = cc e
   piece a b Rfe (q ∷ []) z es e h = cc e
@@ -46,7 +52,8 @@ module _ (threads : List (List Access)) (x : Execution) where
       let d : q.edge ≡ pod a b = cc e in
       let f : r.edge ≡ rfe = cc e in
       let k = by_edge rfe r (begins l z) f h.1.0 in
-      let g : arc_edges (dir_at threads r.event) None (dir_at threads (begins l z)) ≡ rfe ∷ [] = ap (arc_edges (dir_at threads r.event) None) k.enters in
+      let g : arc_edges (dir_at threads r.event) None (dir_at threads (begins l z)) ≡ rfe ∷ [] =
+      ap (arc_edges (dir_at threads r.event) None) k.enters in
       record {
         segment = record { first = q.event; last = r.event; middle = None };
         others = l;
@@ -137,15 +144,18 @@ module _ (threads : List (List Access)) (x : Execution) where
     pub edges : edges_along threads (plain_edge threads) start others z ≡ map (λ q. q.edge) l
     pub events : flat_map accesses_of_segment (start ∷ others) ≡ map (λ q. q.event) l
 
-  pub along : (part : Part) (parts : List Part) (l : List Leaving) (z : WriteAt) → map (λ q. q.edge) l ≡ flat_map edges_of_part (part ∷ parts) → AllNext Leads l z
+  pub along : (part : Part) (parts : List Part) (l : List Leaving) (z : WriteAt)
+      → map (λ q. q.edge) l ≡ flat_map edges_of_part (part ∷ parts) → AllNext Leads l z
       → Along l z
   along part [] l z e h = last (piece part.from part.to part.arc l z [] e h)
     where
       last : Piece threads x l z [] → Along l z
       last p = by_others p.others p.rest p.arc p.edges p.events
         where
-          by_others : (others : List Leaving) → map (λ q. q.edge) others ≡ [] → IsArc threads x p.segment.last p.segment.middle (begins others z)
-              → plain_edge threads p.segment ∷ (arc_edges (dir_at threads p.segment.last) p.segment.middle (dir_at threads (begins others z)) ++ map (λ q. q.edge) others)
+          by_others : (others : List Leaving) → map (λ q. q.edge) others ≡ []
+              → IsArc threads x p.segment.last p.segment.middle (begins others z)
+              → plain_edge threads p.segment
+              ∷ (arc_edges (dir_at threads p.segment.last) p.segment.middle (dir_at threads (begins others z)) ++ map (λ q. q.edge) others)
               ≡ map (λ q. q.edge) l
               → accesses_of_segment p.segment ++ map (λ q. q.event) others ≡ map (λ q. q.event) l → Along l z
           by_others (q ∷ others) none a f g = cc none
@@ -155,7 +165,9 @@ module _ (threads : List (List Access)) (x : Execution) where
             begin = p.begin;
             moving = (p.moving, tt);
             arcs = a;
-            edges = ap (λ (u : List Edge). plain_edge threads p.segment ∷ u) (sym (append-nil (arc_edges (dir_at threads p.segment.last) p.segment.middle (dir_at threads z)))) ∙ f;
+            edges =
+                ap (λ (u : List Edge). plain_edge threads p.segment ∷ u)
+                (sym (append-nil (arc_edges (dir_at threads p.segment.last) p.segment.middle (dir_at threads z)))) ∙ f;
             events = g;
           }
   along part (next ∷ parts) l z e h =

@@ -1,12 +1,22 @@
 -- The edges of a critical cycle are a resolved cycle, and its accesses are the events.
-use Rattle.critical_cycles.proofs.Vocabulary.{append-nil, Bool, List, None, Option, Some, [], ap, append_assoc, arith, cond, false, inl, inr, length, length-append, map, not, refl, slice_get, subst, suc, sym, take, true, zero, ℕ, ◌&&◌, ◌++◌, ◌+◌, ◌-◌, ◌<◌, ◌==◌, ◌||◌, ◌∙◌, ◌∷◌, ◌≡◌, ◌≤◌, and_from, and_parts, cond-false, cond-true, eq-eqb, eqb-true, lt-ltb, ltb-true, ne_eqb, sum_by-cons, length-map, map-append, apart_from_distinct, get_or_from_slice_get, slice_get-map, slice_get_within, AllByRecursion, count_by, flat_map, list_any, option_map, nat_lt, ◌↔◌, ◌≢◌, ◌⊎◌, by_after, location_cases, several_locations, thread_below, passing, location_first, edge_second, thread_first, thread-zero, thread_end, by_less, by_option, by_same, by_test, all_append, all_parts, count_upto_less, distinct_push, any_upto_none, count_all, upto, Access, at_name, IsCoherent, MayFollow, coherence_place, order_at, order_place, source_at, CanRead, Execution, IsExecutionOf, AreAt, WriteAt, IsCandidate, IsCoherentIn, Program, accesses_in, visits_in, MAX_EDGES, Edge, Dir, Kind, Rf, Plain, Internal, Diff, is_joined, is_diff, is_external, joins_to, kind_of, kind_place, reach_of, same_dir, sd_of, source_mark, source_of, target_mark, target_of, fre, pod, rfe, wse, comes, earlier_comes, key, lesser_comes, Held, held, place_in, read_before, writes_ordered, writes_same, access_of_visit, moves, WritesWithin, CoherenceOrder, FromRead, IsBefore, IsReadOf, IsWriteTo, ReadsFrom, ByCo, ByFr, ByPo, ByRf, IsPathBy, IsSequential, Precedes, StepBy, AreArcs, CriticalCycle, IsArc, IsBeforeWrite, Moves, Segment, dir_at, dir_of_access, place_at, place_of_access, segments_of, threads_of, AreEvents, AreRelated, EdgeLeads, accesses_of_segment, arc_edges, critical_edges, critical_events, edge_to_write, edges_along, linked_edges, plain_edge, AreLinkedEvents, IsLink, IsPlainOrLink, LinkedCyclesHaveEvents}
+use Rattle.critical_cycles.proofs.Vocabulary.{List, None, Option, Some, [], ap, arith, cond, false, length, length-append, map, refl}
+use Rattle.critical_cycles.proofs.Vocabulary.{slice_get, subst, suc, sym, true, zero, ℕ, ◌&&◌, ◌++◌, ◌+◌, ◌<◌, ◌==◌, ◌∙◌, ◌∷◌, ◌≡◌, ◌≤◌}
+use Rattle.critical_cycles.proofs.Vocabulary.{and_parts, eq-eqb, ne_eqb, sum_by-cons, length-map, apart_from_distinct}
+use Rattle.critical_cycles.proofs.Vocabulary.{get_or_from_slice_get, slice_get_within, AllByRecursion, count_by, flat_map, ◌↔◌, ◌≢◌}
+use Rattle.critical_cycles.proofs.Vocabulary.{location_cases, thread_below, edge_second, thread_first, thread-zero, thread_end, by_less}
+use Rattle.critical_cycles.proofs.Vocabulary.{by_same, all_parts, count_upto_less, any_upto_none, count_all, upto, Access, Execution}
+use Rattle.critical_cycles.proofs.Vocabulary.{WriteAt, MAX_EDGES, Edge, Dir, Rf, Plain, Internal, is_joined, is_diff, is_external, joins_to}
+use Rattle.critical_cycles.proofs.Vocabulary.{same_dir, source_mark, source_of, target_mark, target_of, Held, held, moves, AreArcs}
+use Rattle.critical_cycles.proofs.Vocabulary.{CriticalCycle, Moves, Segment, dir_at, place_at, threads_of, AreEvents, accesses_of_segment}
+use Rattle.critical_cycles.proofs.Vocabulary.{arc_edges, critical_edges, critical_events, edges_along, linked_edges, plain_edge}
 use Rattle.std.specs.List.{IsDistinct}
-use Rattle.cycle_events.specs.Resolution.{IsResolved, edge_at, ends_outside, event_after, external_count, is_coherence_only, location_of, move_count, moves_before, moves_in, thread_of}
+use Rattle.cycle_events.specs.Resolution.{IsResolved, edge_at, ends_outside, external_count, is_coherence_only, location_of, move_count}
+use Rattle.cycle_events.specs.Resolution.{moves_before, moves_in, thread_of}
 use Rattle.relax_edges.specs.declared.kinds.Dir.TheVariants as dirs
-use Rattle.relax_edges.specs.declared.kinds.Kind.TheVariants as kinds
 use Rattle.relax_edges.specs.declared.edge.Edge.TheVariants as edges
 use Rattle.critical_cycles.proofs.{Keys.Exists, Ways.goes, Linked.{FitsSegment, GoesOn, all_go_on}}
-use Rattle.critical_cycles.proofs.Steps.{AllNext, Leaving, begins, each_next, edge_is, edges_are, edges_in, events_are, events_in, image, leaving, next_at, step_below, steps_along}
+use Rattle.critical_cycles.proofs.Steps.{AllNext, Leaving, begins, each_next, edges_are, edges_in, events_are, events_in, image, leaving}
+use Rattle.critical_cycles.proofs.Steps.{next_at, step_below, steps_along}
 use Rattle.critical_cycles.proofs.Counted.{passed, passed_at, passed_count, threads_passed, places_passed}
 
 -- an element of the first of two lists is one of both
@@ -42,7 +52,8 @@ joins e f d a b m n = rw (sym a, sym b, m, n) (rw (same_dir-refl d) refl)
 
 module _ (threads : List (List Access)) (x : Execution) where
   -- steps that lead back to their beginning join in a circle
-  all_joined : (l : List Leaving) (z : WriteAt) (p : Leaving) → AllNext (GoesOn threads x) l z → z ≡ p.event → dir_at threads p.event ≡ source_of p.edge
+  all_joined : (l : List Leaving) (z : WriteAt) (p : Leaving) → AllNext (GoesOn threads x) l z → z ≡ p.event
+      → dir_at threads p.event ≡ source_of p.edge
       → source_mark p.edge ≡ Plain → is_joined (map (λ q. q.edge) l ++ p.edge ∷ []) ≡ true
   all_joined [] z p h e d m = refl
   all_joined (q ∷ []) z p h e d m =
@@ -70,16 +81,19 @@ outside_arc from to (Some w) = refl
 outside_along : (threads : List (List Access)) (link : Segment → Edge) (s : Segment) (us : List Segment) (back : WriteAt)
     → ends_outside (edges_along threads link s us back) ≡ true
 outside_along threads link s [] back =
-    outside_on (link s ∷ []) (arc_edges (dir_at threads s.last) s.middle (dir_at threads back)) (outside_arc (dir_at threads s.last) (dir_at threads back) s.middle)
+    outside_on (link s ∷ []) (arc_edges (dir_at threads s.last) s.middle (dir_at threads back))
+    (outside_arc (dir_at threads s.last) (dir_at threads back) s.middle)
 outside_along threads link s (t ∷ us) back =
-    outside_on (link s ∷ arc_edges (dir_at threads s.last) s.middle (dir_at threads t.first)) (edges_along threads link t us back) (outside_along threads link t us back)
+    outside_on (link s ∷ arc_edges (dir_at threads s.last) s.middle (dir_at threads t.first)) (edges_along threads link t us back)
+    (outside_along threads link t us back)
 
 -- where an edge to another location stands on both sides of an external edge, not all of them are in one thread
 spread_between : (e : Edge) (a b : List Edge) → is_diff e ≡ true → 0 < length b → is_diff (edge_at b 0) ≡ true → 0 < external_count (e ∷ a)
     → is_coherence_only (e ∷ a ++ b) ≡ false
 unfolding is_coherence_only moves_in
 spread_between e a b first some second out =
-    any_upto_none (λ k. count_by (λ i. is_diff (edge_at es i) && (thread_of es i == k)) (upto (length es)) == move_count es) (external_count es)
+    any_upto_none (λ k. count_by (λ i. is_diff (edge_at es i) && (thread_of es i == k)) (upto (length es)) == move_count es)
+    (external_count es)
     (λ k _. ne_eqb (count_by (λ i. is_diff (edge_at es i) && (thread_of es i == k)) (upto (length es))) (move_count es)
     (λ same. let few = fewer k in omega (arith, few, same)))
   where
@@ -106,7 +120,8 @@ spread_between e a b first some second out =
         (λ h. omega (arith, h, z, out, thread_first (e ∷ a) b m (omega arith), thread_end (e ∷ a))))
         (λ n. one_less k 0 (omega arith) first (λ h. n (sym h ∙ thread-zero es)))
 
-module _ (threads : List (List Access)) (x : Execution) (l : List Leaving) (z : WriteAt) (all : AllNext (GoesOn threads x) l z) (round : begins l z ≡ z) where
+module _ (threads : List (List Access)) (x : Execution) (l : List Leaving) (z : WriteAt) (all : AllNext (GoesOn threads x) l z)
+    (round : begins l z ≡ z) where
   abbrev es : List Edge
   es = edges_in l
 
@@ -121,27 +136,48 @@ module _ (threads : List (List Access)) (x : Execution) (l : List Leaving) (z : 
         let q = image (λ q. q.event) l i e h in
         let r = image (λ q. q.event) l j f k in
         let a : slice_get vs (number i) ≡ Some (v e) = is_at i q.0 q.1 ∙ ap (λ u. Some (v u)) q.2 in
-        let b : slice_get vs (number j) ≡ Some (v f) = is_at j r.0 r.1 ∙ ap (λ u. Some (v u)) r.2 in
-        (λ same. at_one_place vs (number i) (number j) (v e) distinct a (b ∙ ap Some (sym same)), λ same. (let c : Some (v e) ≡ Some (v f) = sym a ∙ ap (slice_get vs) same ∙ b in cc c))
+        let b : slice_get vs (number j) ≡ Some (v f) = is_at j r.0 r.1 ∙ ap (λ u. Some (v u)) r.2 in (
+          λ same. at_one_place vs (number i) (number j) (v e) distinct a (b ∙ ap Some (sym same)),
+          λ same.
+              (let c : Some (v e) ≡ Some (v f) = sym a ∙ ap (slice_get vs) same ∙ b in cc c),
+        )
 
-  threads_are : (ts : List ℕ) → IsResolved es → passed is_external (λ e. e.thread) l z.thread ≡ ts ++ z.thread ∷ [] → (i : ℕ) (q : Leaving) → slice_get l i ≡ Some q
+  threads_are : (ts : List ℕ) → IsResolved es → passed is_external (λ e. e.thread) l z.thread ≡ ts ++ z.thread ∷ [] → (i : ℕ) (q : Leaving)
+      → slice_get l i ≡ Some q
       → slice_get ts (thread_of es i) ≡ Some q.event.thread
   unfolding thread_of
   threads_are ts resolved are i q g =
       let n : thread_of es i < length ts =
-      omega (arith, thread_below es i resolved (step_below l i q g), passed_count is_external (λ e. e.thread) l z.thread, ap (length {A = ℕ}) are, length-append ts (z.thread ∷ [])) in
+      omega (
+        arith,
+        thread_below es i resolved (step_below l i q g),
+        passed_count is_external (λ e. e.thread) l z.thread,
+        ap (length {A =
+            ℕ}) are,
+        length-append ts (z.thread ∷ []),
+      ) in
       sym (got_left ts (z.thread ∷ []) (thread_of es i) n) ∙ ap (λ vs. slice_get vs (thread_of es i)) (sym are)
       ∙ passed_at threads x is_external (λ e. e.thread) (λ q f g. g.in_thread) l z i q all g
 
-  places_are : (ps : List ℕ) → passed is_diff (place_at threads) l (place_at threads z) ≡ ps ++ place_at threads z ∷ [] → slice_get ps 0 ≡ Some (place_at threads z)
+  places_are : (ps : List ℕ) → passed is_diff (place_at threads) l (place_at threads z) ≡ ps ++ place_at threads z ∷ []
+      → slice_get ps 0 ≡ Some (place_at threads z)
       → (i : ℕ) (q : Leaving) → slice_get l i ≡ Some q → slice_get ps (location_of es i) ≡ Some (place_at threads q.event)
   unfolding moves_before
   places_are ps are start i q g =
       let at : slice_get (ps ++ place_at threads z ∷ []) (moves_before es i) ≡ Some (place_at threads q.event) =
-      ap (λ vs. slice_get vs (moves_before es i)) (sym are) ∙ passed_at threads x is_diff (place_at threads) (λ q f g. g.at_place) l z i q all g in
-      let count : length ps ≡ move_count es = omega (arith, passed_count is_diff (place_at threads) l (place_at threads z), ap (length {A = ℕ}) are, length-append ps (place_at threads z ∷ [])) in
+      ap (λ vs. slice_get vs (moves_before es i)) (sym are)
+      ∙ passed_at threads x is_diff (place_at threads) (λ q f g. g.at_place) l z i q all g in
+      let count : length ps ≡ move_count es =
+      omega (
+        arith,
+        passed_count is_diff (place_at threads) l (place_at threads z),
+        ap (length {A =
+            ℕ}) are,
+        length-append ps (place_at threads z ∷ []),
+      ) in
       location_cases es i (step_below l i q g)
-      (λ m e. ap (slice_get ps) e ∙ start ∙ sym (got_end ps (place_at threads z)) ∙ ap (slice_get (ps ++ place_at threads z ∷ [])) (count ∙ sym m) ∙ at)
+      (λ m e. ap (slice_get ps) e ∙ start ∙ sym (got_end ps (place_at threads z)) ∙ ap (slice_get (ps ++ place_at threads z ∷ []))
+      (count ∙ sym m) ∙ at)
       (λ m e. ap (slice_get ps) e ∙ sym (got_left ps (place_at threads z ∷ []) (moves_before es i) (omega (arith, m, count))) ∙ at)
 
 -- different numbers are different if the last comes first
@@ -165,7 +201,8 @@ module _ (threads : List (List Access)) (link : Segment → Edge) where
   some_edges s [] back = omega arith
   some_edges s (t ∷ us) back = omega arith
 
-  first_moves : (s : Segment) (us : List Segment) (back : WriteAt) → FitsSegment threads (link s) s → is_diff (edge_at (edges_along threads link s us back) 0) ≡ true
+  first_moves : (s : Segment) (us : List Segment) (back : WriteAt) → FitsSegment threads (link s) s
+      → is_diff (edge_at (edges_along threads link s us back) 0) ≡ true
   first_moves s [] back fits = moves (link s) fits.moves
   first_moves s (t ∷ us) back fits = moves (link s) fits.moves
 
@@ -186,12 +223,15 @@ module _ (threads : List (List Access)) (x : Execution) (held : Held threads x) 
   arc_places s (t ∷ us) back h = cc ((goes threads x held s.last t.first s.middle h.0).places, arc_places t us back h.1)
 
   -- the edges make a resolved cycle
-  resolved : (s t : Segment) (us : List Segment) → Linked threads x link s (t ∷ us) → IsResolved (map (λ q. q.edge) (steps_along threads link s (t ∷ us) s.first))
+  resolved : (s t : Segment) (us : List Segment) → Linked threads x link s (t ∷ us)
+      → IsResolved (map (λ q. q.edge) (steps_along threads link s (t ∷ us) s.first))
   resolved s t us c = record {
     composes = record {
       some = omega arith;
       few = omega (arith, c.few, ap (length {A = Edge}) (edges_are threads link s (t ∷ us) s.first));
-      closed = all_joined threads x l s.first (leaving (link s) s.first) (all_go_on threads x held link s (t ∷ us) s.first c.moving c.fits c.arcs) refl c.fits.0.leaves c.fits.0.leaves_plain;
+      closed =
+          all_joined threads x l s.first (leaving (link s) s.first) (all_go_on threads x held link s
+          (t ∷ us) s.first c.moving c.fits c.arcs) refl c.fits.0.leaves c.fits.0.leaves_plain;
     };
     outside = ap ends_outside (edges_are threads link s (t ∷ us) s.first) ∙ outside_along threads link s (t ∷ us) s.first;
     threads =
@@ -205,9 +245,15 @@ module _ (threads : List (List Access)) (x : Execution) (held : Held threads x) 
         );
     spread =
         ap is_coherence_only (edges_are threads link s (t ∷ us) s.first)
-        ∙ spread_between (link s) arc (edges_along threads link t us s.first) (moves (link s) c.fits.0.moves) (some_edges threads link t us s.first)
+        ∙ spread_between (link s) arc (edges_along threads link t us s.first) (moves (link s) c.fits.0.moves)
+        (some_edges threads link t us s.first)
         (first_moves threads link t us s.first c.fits.1.0)
-        (omega (arith, arc_external (dir_at threads s.last) (dir_at threads t.first) s.middle, sum_by-cons (λ e. cond (is_external e) 1 0) (link s) arc));
+        (omega (
+          arith,
+          arc_external (dir_at threads s.last) (dir_at threads t.first) s.middle,
+          sum_by-cons (λ e. cond (is_external e) 1 0)
+              (link s) arc,
+        ));
   }
     where
       l : List Leaving
@@ -239,7 +285,8 @@ module _ (threads : List (List Access)) (x : Execution) (held : Held threads x) 
         one_thread = alike threads x l s.first all refl (λ e. e.thread) ts c.threads_differ (thread_of (map (λ q. q.edge) l))
             (threads_are threads x l s.first all refl ts r (threads_passed threads link s (t ∷ us) s.first s.first.thread c.moving c.fits));
         one_place = alike threads x l s.first all refl (place_at threads) ps places (location_of (map (λ q. q.edge) l))
-            (places_are threads x l s.first all refl ps (places_passed threads link s (t ∷ us) s.first (place_at threads s.first) c.fits) refl);
+            (places_are threads x l s.first all refl ps (places_passed threads link s (t ∷ us) s.first
+            (place_at threads s.first) c.fits) refl);
       })
 
   linked_events : (s : Segment) (us : List Segment) → 0 < length us → Linked threads x link s us
@@ -253,7 +300,14 @@ pub cycle_events : (threads : List (List Access)) (x : Execution) → Held threa
     → AreEvents threads x (linked_edges link c) (critical_events c)
 cycle_events threads x held link c fits few =
     linked_events threads x held link c.start c.others c.two
-    (record { moving = c.segments; arcs = c.arcs; fits = fits; threads_differ = c.threads_differ; places_differ = c.places_differ; few = few })
+    (record {
+      moving = c.segments;
+      arcs = c.arcs;
+      fits = fits;
+      threads_differ = c.threads_differ;
+      places_differ = c.places_differ;
+      few = few;
+    })
 
 -- plain program order fits each segment
 pub plain_fits : (threads : List (List Access)) (s : Segment) → FitsSegment threads (plain_edge threads s) s
@@ -263,6 +317,7 @@ pub all_plain : (threads : List (List Access)) (us : List Segment) → AllByRecu
 all_plain threads [] = tt
 all_plain threads (s ∷ us) = (plain_fits threads s, all_plain threads us)
 
-pub critical_events_are : (threads : List (List Access)) (x : Execution) → Held threads x → (c : CriticalCycle threads x) → length (critical_edges c) ≤ MAX_EDGES
+pub critical_events_are : (threads : List (List Access)) (x : Execution) → Held threads x → (c : CriticalCycle threads x)
+    → length (critical_edges c) ≤ MAX_EDGES
     → AreEvents threads x (critical_edges c) (critical_events c)
 critical_events_are threads x held c few = cycle_events threads x held (plain_edge threads) c (all_plain threads (c.start ∷ c.others)) few

@@ -1,9 +1,11 @@
 -- The edges and events of a cycle side by side, and what holds of each edge with its event and the next one.
-use Rattle.critical_cycles.proofs.Vocabulary.{append-nil, Bool, List, None, Option, Some, [], ap, append_assoc, arith, cond, false, inl, inr, length, length-append, map, not, refl, slice_get, subst, suc, sym, take, true, zero, ℕ, ◌&&◌, ◌++◌, ◌+◌, ◌-◌, ◌<◌, ◌==◌, ◌||◌, ◌∙◌, ◌∷◌, ◌≡◌, ◌≤◌, and_from, and_parts, cond-false, cond-true, eq-eqb, eqb-true, lt-ltb, ltb-true, ne_eqb, sum_by-cons, length-map, map-append, apart_from_distinct, get_or_from_slice_get, slice_get-map, slice_get_within, AllByRecursion, count_by, flat_map, list_any, option_map, nat_lt, ◌↔◌, ◌≢◌, ◌⊎◌, by_after, location_cases, several_locations, thread_below, passing, location_first, edge_second, thread_first, thread-zero, thread_end, by_less, by_option, by_same, by_test, all_append, all_parts, count_upto_less, distinct_push, any_upto_none, count_all, upto, Access, at_name, IsCoherent, MayFollow, coherence_place, order_at, order_place, source_at, CanRead, Execution, IsExecutionOf, AreAt, WriteAt, IsCandidate, IsCoherentIn, Program, accesses_in, visits_in, MAX_EDGES, Edge, Dir, Kind, Rf, Plain, Internal, Diff, is_joined, is_diff, is_external, joins_to, kind_of, kind_place, reach_of, same_dir, sd_of, source_mark, source_of, target_mark, target_of, fre, pod, rfe, wse, comes, earlier_comes, key, lesser_comes, Held, held, place_in, read_before, writes_ordered, writes_same, access_of_visit, moves, WritesWithin, CoherenceOrder, FromRead, IsBefore, IsReadOf, IsWriteTo, ReadsFrom, ByCo, ByFr, ByPo, ByRf, IsPathBy, IsSequential, Precedes, StepBy, AreArcs, CriticalCycle, IsArc, IsBeforeWrite, Moves, Segment, dir_at, dir_of_access, place_at, place_of_access, segments_of, threads_of, AreEvents, AreRelated, EdgeLeads, accesses_of_segment, arc_edges, critical_edges, critical_events, edge_to_write, edges_along, linked_edges, plain_edge, AreLinkedEvents, IsLink, IsPlainOrLink, LinkedCyclesHaveEvents}
-use Rattle.std.specs.List.{IsDistinct}
-use Rattle.cycle_events.specs.Resolution.{IsResolved, edge_at, ends_outside, event_after, external_count, is_coherence_only, location_of, move_count, moves_before, moves_in, thread_of}
+use Rattle.critical_cycles.proofs.Vocabulary.{append-nil, List, None, Option, Some, [], ap, arith, length, map, refl, slice_get, subst, suc}
+use Rattle.critical_cycles.proofs.Vocabulary.{sym, zero, ℕ, ◌++◌, ◌+◌, ◌<◌, ◌∙◌, ◌∷◌, ◌≡◌, length-map, map-append, get_or_from_slice_get}
+use Rattle.critical_cycles.proofs.Vocabulary.{slice_get-map, slice_get_within, AllByRecursion, flat_map, option_map, by_after, Access}
+use Rattle.critical_cycles.proofs.Vocabulary.{Execution, WriteAt, Edge, Dir, Rf, Internal, rfe, AreArcs, IsArc, Segment, dir_at}
+use Rattle.critical_cycles.proofs.Vocabulary.{accesses_of_segment, arc_edges, edge_to_write, edges_along}
+use Rattle.cycle_events.specs.Resolution.{edge_at, event_after}
 use Rattle.relax_edges.specs.declared.kinds.Dir.TheVariants as dirs
-use Rattle.relax_edges.specs.declared.kinds.Kind.TheVariants as kinds
 use Rattle.relax_edges.specs.declared.edge.Edge.TheVariants as edges
 
 -- an edge with the event that it leaves
@@ -33,7 +35,8 @@ arc_steps from e (Some w) to = leaving (edge_to_write from) e ∷ leaving rfe w 
 abbrev pub steps_along : List (List Access) → (Segment → Edge) → Segment → List Segment → WriteAt → List Leaving
 steps_along threads link s [] back = leaving (link s) s.first ∷ arc_steps (dir_at threads s.last) s.last s.middle (dir_at threads back)
 steps_along threads link s (t ∷ us) back =
-    leaving (link s) s.first ∷ (arc_steps (dir_at threads s.last) s.last s.middle (dir_at threads t.first) ++ steps_along threads link t us back)
+    leaving (link s) s.first ∷ (arc_steps (dir_at threads s.last) s.last s.middle
+    (dir_at threads t.first) ++ steps_along threads link t us back)
 
 -- a way of steps begins with the first access of its segment
 pub begins_along : (threads : List (List Access)) (link : Segment → Edge) (s : Segment) (us : List Segment) (back z : WriteAt)
@@ -55,17 +58,20 @@ module _ (R : Leaving → WriteAt → Type 0) where
   -- what holds of the edges of segments and of arcs holds of all
   pub all_next : (threads : List (List Access)) (x : Execution) (link : Segment → Edge) (s : Segment) (us : List Segment) (back : WriteAt)
       → ((e f : WriteAt) (m : Option WriteAt) → IsArc threads x e m f → AllNext R (arc_steps (dir_at threads e) e m (dir_at threads f)) f)
-      → AllByRecursion (λ t. R (leaving (link t) t.first) t.last) (s ∷ us) → AreArcs threads x s us back → AllNext R (steps_along threads link s us back) back
+      → AllByRecursion (λ t. R (leaving (link t) t.first) t.last) (s ∷ us) → AreArcs threads x s us back
+      → AllNext R (steps_along threads link s us back) back
   all_next threads x link s [] back arc h a =
       let steps = arc_steps (dir_at threads s.last) s.last s.middle (dir_at threads back) in (
         subst (R (leaving (link s) s.first))
-            (sym (begins_arc (dir_at threads s.last) (dir_at threads back) s.last s.middle [] back) ∙ ap (λ l. begins l back) (append-nil steps)) h.0,
+            (sym (begins_arc (dir_at threads s.last) (dir_at threads back) s.last s.middle [] back) ∙ ap (λ l. begins l back)
+            (append-nil steps)) h.0,
         arc s.last back s.middle a,
       )
   all_next threads x link s (t ∷ us) back arc h a =
       let steps = arc_steps (dir_at threads s.last) s.last s.middle (dir_at threads t.first) in
       let rest = steps_along threads link t us back in (
-        subst (R (leaving (link s) s.first)) (sym (begins_arc (dir_at threads s.last) (dir_at threads t.first) s.last s.middle rest back)) h.0,
+        subst (R (leaving (link s) s.first)) (sym (begins_arc (dir_at threads s.last)
+            (dir_at threads t.first) s.last s.middle rest back)) h.0,
         next_append steps rest back
             (subst (AllNext R steps) (sym (begins_along threads link t us back back)) (arc s.last t.first s.middle a.0))
             (all_next threads x link t us back arc h.1 a.1),
@@ -91,10 +97,17 @@ module _ (R : Leaving → WriteAt → Type 0) where
         is_end = λ k. absurd (omega (arith, k));
       }
   next_at (r ∷ l) z (suc i) q h g =
-      let n = next_at l z i q h.1 g in record { next = n.next; holds = n.holds; is_next = n.is_next; is_end = λ k. n.is_end (omega (arith, k)) }
+      let n = next_at l z i q h.1 g in record {
+        next = n.next;
+        holds = n.holds;
+        is_next = n.is_next;
+        is_end = λ k. n.is_end
+            (omega (arith, k));
+      }
 
 -- an element of a map over a list, as an element of the list
-pub image : {X Y : Type 0} (f : X → Y) (xs : List X) (k : ℕ) (y : Y) → slice_get (map f xs) k ≡ Some y → (x : X) × (slice_get xs k ≡ Some x) × (f x ≡ y)
+pub image : {X Y : Type 0} (f : X → Y) (xs : List X) (k : ℕ) (y : Y) → slice_get (map f xs) k ≡ Some y
+    → (x : X) × (slice_get xs k ≡ Some x) × (f x ≡ y)
 image f [] k y h = cc h
 image f (x ∷ xs) zero y h = (x, refl, cc h)
 image f (x ∷ xs) (suc k) y h = image f xs k y h
@@ -111,13 +124,15 @@ module _ (l : List Leaving) where
   events_in = map (λ q. q.event) l
 
   pub edge_is : (i : ℕ) (q : Leaving) → slice_get l i ≡ Some q → edge_at edges_in i ≡ q.edge
-  edge_is i q g = get_or_from_slice_get edges_in i q.edge (edges.Com Rf Internal) (slice_get-map (λ q. q.edge) l i ∙ ap (option_map (λ q. q.edge)) g)
+  edge_is i q g =
+      get_or_from_slice_get edges_in i q.edge (edges.Com Rf Internal) (slice_get-map (λ q. q.edge) l i ∙ ap (option_map (λ q. q.edge)) g)
 
   pub step_below : (i : ℕ) (q : Leaving) → slice_get l i ≡ Some q → i < length edges_in
   step_below i q g = omega (arith, slice_get_within l i q g, length-map l (λ q. q.edge))
 
   -- where the steps lead back to their beginning, it holds of each edge with its event and the one after it
-  pub each_next : (R : Leaving → WriteAt → Type 0) (z : WriteAt) → AllNext R l z → begins l z ≡ z → (i : ℕ) (e f : WriteAt) → slice_get events_in i ≡ Some e
+  pub each_next : (R : Leaving → WriteAt → Type 0) (z : WriteAt) → AllNext R l z → begins l z ≡ z → (i : ℕ) (e f : WriteAt)
+      → slice_get events_in i ≡ Some e
       → slice_get events_in (event_after edges_in i) ≡ Some f → R (leaving (edge_at edges_in i) e) f
   each_next R z all round i e f h k =
       let q = image (λ q. q.event) l i e h in
@@ -126,7 +141,8 @@ module _ (l : List Leaving) where
       let to : n.next ≡ f =
       by_after edges_in i (step_below i q.0 q.1)
       (λ b a. let s : i + 1 ≡ suc i = omega arith in n.is_next r.0 (ap (slice_get l) (sym (a ∙ s)) ∙ r.1) ∙ r.2)
-      (λ b a. n.is_end (omega (arith, b, length-map l (λ q. q.edge))) ∙ sym round ∙ begins_first l z r.0 (ap (slice_get l) (sym a) ∙ r.1) ∙ r.2) in
+      (λ b a. n.is_end (omega (arith, b, length-map l (λ q. q.edge))) ∙ sym round ∙ begins_first l z r.0 (ap (slice_get l) (sym a) ∙ r.1)
+      ∙ r.2) in
       subst (λ (t : Edge × WriteAt × WriteAt). R (leaving t.0 t.1) t.2) (λ j. (sym (edge_is i q.0 q.1) j, q.2 j, to j)) n.holds
 
 -- the edges of the steps are those of the cycle
@@ -140,7 +156,8 @@ pub edges_are : (threads : List (List Access)) (link : Segment → Edge) (s : Se
 edges_are threads link s [] back = ap (λ l. link s ∷ l) (arc_edges_are (dir_at threads s.last) (dir_at threads back) s.last s.middle)
 edges_are threads link s (t ∷ us) back =
     ap (λ l. link s ∷ l)
-    (map-append (λ q. q.edge) (arc_steps (dir_at threads s.last) s.last s.middle (dir_at threads t.first)) (steps_along threads link t us back)
+    (map-append (λ q. q.edge) (arc_steps (dir_at threads s.last) s.last s.middle (dir_at threads t.first))
+    (steps_along threads link t us back)
     ∙ cc (arc_edges_are (dir_at threads s.last) (dir_at threads t.first) s.last s.middle, edges_are threads link t us back))
 
 -- and the events are its accesses
@@ -155,5 +172,6 @@ pub events_are : (threads : List (List Access)) (link : Segment → Edge) (s : S
 events_are threads link s [] back =
     arc_events_are (dir_at threads s.last) (dir_at threads back) s.first s.last s.middle ∙ sym (append-nil (accesses_of_segment s))
 events_are threads link s (t ∷ us) back =
-    ap (λ l. s.first ∷ l) (map-append (λ q. q.event) (arc_steps (dir_at threads s.last) s.last s.middle (dir_at threads t.first)) (steps_along threads link t us back))
+    ap (λ l. s.first ∷ l) (map-append (λ q. q.event) (arc_steps (dir_at threads s.last) s.last s.middle (dir_at threads t.first))
+    (steps_along threads link t us back))
     ∙ cc (arc_events_are (dir_at threads s.last) (dir_at threads t.first) s.first s.last s.middle, events_are threads link t us back)

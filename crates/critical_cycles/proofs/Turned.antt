@@ -1,13 +1,20 @@
--- Events from the second one on and round to the first: if the first edge is external, they are the events of the edges from the second one on.
-use Rattle.critical_cycles.proofs.Vocabulary.{append-nil, Bool, List, None, Option, Some, [], ap, append_assoc, arith, cond, false, inl, inr, length, length-append, map, not, refl, slice_get, subst, suc, sym, take, true, zero, ℕ, ◌&&◌, ◌++◌, ◌+◌, ◌-◌, ◌<◌, ◌==◌, ◌||◌, ◌∙◌, ◌∷◌, ◌≡◌, ◌≤◌, and_from, and_parts, cond-false, cond-true, eq-eqb, eqb-true, lt-ltb, ltb-true, ne_eqb, flat_map-append, sum_by-cons, length-map, map-append, IsDistinct-from_apart, apart_from_distinct, get_or_from_slice_get, slice_get-map, slice_get_within, AllByRecursion, count_by, flat_map, list_any, option_map, nat_lt, ◌↔◌, ◌≢◌, ◌⊎◌, by_after, location_cases, several_locations, thread_below, PassingEdge, passing, location_first, location_below, external_keeps, location-zero, location_wrapped, moves_end, coherence_alike, external_count-append, move_count-append, outside_after, renumbered, edge_second, thread_first, thread-zero, thread_end, turned_cycle, IsRotation, rotated, by_less, by_option, by_same, by_test, all_append, all_parts, count_upto_less, distinct_push, any_upto_none, count_all, count_exchanged, upto, Access, at_name, IsCoherent, MayFollow, coherence_place, order_at, order_place, source_at, CanRead, Execution, IsExecutionOf, AreAt, WriteAt, IsCandidate, IsCoherentIn, Program, accesses_in, visits_in, MAX_EDGES, Edge, Dir, Kind, Plain, Internal, Diff, is_joined, is_diff, is_external, joins_to, kind_of, kind_place, reach_of, same_dir, sd_of, source_mark, source_of, target_mark, target_of, fre, pod, rfe, wse, comes, earlier_comes, key, lesser_comes, Held, held, place_in, read_before, writes_ordered, writes_same, access_of_visit, moves, WritesWithin, CoherenceOrder, FromRead, IsBefore, IsReadOf, IsWriteTo, ReadsFrom, ByCo, ByFr, ByPo, ByRf, IsPathBy, IsSequential, Precedes, StepBy, AreArcs, CriticalCycle, IsArc, IsBeforeWrite, Moves, Segment, dir_at, dir_of_access, place_at, place_of_access, segments_of, threads_of, AreEvents, AreRelated, EdgeLeads, accesses_of_segment, arc_edges, critical_edges, critical_events, edge_to_write, edges_along, linked_edges, plain_edge, AreLinkedEvents, IsLink, IsPlainOrLink, LinkedCyclesHaveEvents, Arc, IsCriticalBy, ListedAreCritical, Part, edges_of_arc, edges_of_part}
+-- Events from the second one on and round to the first: if the first edge is external, they are the events of the edges from the second one
+-- on.
+use Rattle.critical_cycles.proofs.Vocabulary.{List, Some, [], ap, arith, cond, inl, inr, length, length-append, refl, slice_get, subst, suc}
+use Rattle.critical_cycles.proofs.Vocabulary.{sym, true, zero, ℕ, ◌++◌, ◌+◌, ◌<◌, ◌∙◌, ◌∷◌, ◌≡◌, cond-false, cond-true, sum_by-cons}
+use Rattle.critical_cycles.proofs.Vocabulary.{length-map, map-append, slice_get_within, ◌↔◌, ◌⊎◌, thread_below, location_below}
+use Rattle.critical_cycles.proofs.Vocabulary.{external_keeps, location-zero, coherence_alike, external_count-append, move_count-append}
+use Rattle.critical_cycles.proofs.Vocabulary.{outside_after, renumbered, thread-zero, turned_cycle, count_exchanged, Access, Execution}
+use Rattle.critical_cycles.proofs.Vocabulary.{WriteAt, Edge, is_diff, is_external, place_at, AreEvents}
 use Rattle.std.proofs.Math.Nat.{mod-eq_of_lt, mod_self}
 use Rattle.std.specs.Prelude.{◌%◌}
-use Rattle.cycle_events.specs.Resolution.{IsResolved, edge_at, ends_outside, event_after, external_count, is_coherence_only, location_of, move_count, moves_before, thread_of}
-use Rattle.critical_cycles.proofs.Steps.{AllNext, Leaving, begins, each_next, edges_in, events_in, image, leaving, next_append, step_below}
+use Rattle.cycle_events.specs.Resolution.{IsResolved, ends_outside, external_count, location_of, move_count, thread_of}
+use Rattle.critical_cycles.proofs.Steps.{AllNext, Leaving, begins, each_next, edges_in, events_in, next_append}
 use Rattle.critical_cycles.proofs.{Converse.all_lead, Parts.Leads}
 
 -- an element of a list with one more at the end
-got_either : {X G : Type 0} (xs : List X) (y : X) (i : ℕ) (x : X) → slice_get (xs ++ y ∷ []) i ≡ Some x → (slice_get xs i ≡ Some x → G) → (i ≡ length xs → y ≡ x → G) → G
+got_either : {X G : Type 0} (xs : List X) (y : X) (i : ℕ) (x : X) → slice_get (xs ++ y ∷ []) i ≡ Some x → (slice_get xs i ≡ Some x → G)
+    → (i ≡ length xs → y ≡ x → G) → G
 got_either [] y zero x h f g = g refl (cc h)
 got_either [] y (suc i) x h f g = cc h
 got_either (z ∷ xs) y zero x h f g = f h
@@ -32,7 +39,13 @@ module _ (threads : List (List Access)) (x : Execution) (q : Leaving) (l : List 
     composes = turned_cycle (q.edge ∷ []) (edges_in l) shown.resolved.composes;
     outside = outside;
     threads = omega (arith, shown.resolved.threads, count_exchanged is_external (q.edge ∷ []) (edges_in l));
-    spread = sym (coherence_alike es (edges_in l ++ q.edge ∷ []) (record { prefix = q.edge ∷ []; back = edges_in l; from = refl; to = refl }) shown.resolved.outside outside)
+    spread =
+        sym (coherence_alike es (edges_in l ++ q.edge ∷ []) (record {
+          prefix = q.edge ∷ [];
+          back = edges_in l;
+          from = refl;
+          to = refl;
+        }) shown.resolved.outside outside)
         ∙ shown.resolved.spread;
   })
 
@@ -48,12 +61,19 @@ module _ (threads : List (List Access)) (x : Execution) (q : Leaving) (l : List 
   one_external = omega (arith, sum_by-cons (λ e. cond (is_external e) 1 0) q.edge [], cond-true {A = ℕ} (is_external q.edge) 1 0 external)
 
   none_moves : move_count (q.edge ∷ []) ≡ 0
-  none_moves = omega (arith, sum_by-cons (λ e. cond (is_diff e) 1 0) q.edge [], cond-false {A = ℕ} (is_diff q.edge) 1 0 (external_keeps q.edge external))
+  none_moves =
+      omega (
+        arith,
+        sum_by-cons (λ e. cond (is_diff e) 1 0) q.edge [],
+        cond-false {A =
+            ℕ} (is_diff q.edge) 1 0 (external_keeps q.edge external),
+      )
 
   -- one of the events after the first
   was_after : (i : ℕ) (e : WriteAt) → slice_get (events_in l) i ≡ Some e → Was i e
   was_after i e g =
-      let b : i < length (edges_in l) = omega (arith, slice_get_within (events_in l) i e g, length-map l (λ q. q.event), length-map l (λ q. q.edge)) in
+      let b : i < length (edges_in l) =
+      omega (arith, slice_get_within (events_in l) i e g, length-map l (λ q. q.event), length-map l (λ q. q.edge)) in
       let r = renumbered (q.edge ∷ []) (edges_in l) i outside b in
       let n : suc i ≡ length (q.edge ∷ []) + i = omega arith in
       let m : location_of fs i < move_count es =
@@ -68,7 +88,9 @@ module _ (threads : List (List Access)) (x : Execution) (q : Leaving) (l : List 
         original = suc i;
         got = g;
         below = omega (arith, b);
-        place = sym (ap (location_of es) n ∙ r.location ∙ ap (λ u. (move_count (q.edge ∷ []) + location_of u i) % move_count es) (sym edges_turned) ∙ ap (λ u. u % move_count es) z ∙ mod-eq_of_lt m);
+        place =
+            sym (ap (location_of es) n ∙ r.location ∙ ap (λ u. (move_count (q.edge ∷ []) + location_of u i) % move_count es)
+            (sym edges_turned) ∙ ap (λ u. u % move_count es) z ∙ mod-eq_of_lt m);
         thread = inl (omega (arith, ap (thread_of es) n, r.thread, ap (λ u. thread_of u i) edges_turned, one_external));
       }
 
@@ -84,7 +106,8 @@ module _ (threads : List (List Access)) (x : Execution) (q : Leaving) (l : List 
         got = ap Some same;
         below = omega arith;
         place = ap (λ u. location_of u i) edges_turned ∙ ap (location_of (edges_in l ++ q.edge ∷ [])) n ∙ r.location
-            ∙ ap (λ u. u % move_count (edges_in l ++ q.edge ∷ [])) m ∙ mod_self (move_count (edges_in l ++ q.edge ∷ [])) ∙ sym (location-zero es);
+            ∙ ap (λ u. u % move_count (edges_in l ++ q.edge ∷ [])) m ∙ mod_self (move_count (edges_in l ++ q.edge ∷ []))
+            ∙ sym (location-zero es);
         thread = inr (
           refl,
           omega (
@@ -101,7 +124,8 @@ module _ (threads : List (List Access)) (x : Execution) (q : Leaving) (l : List 
 
   was : (i : ℕ) (e : WriteAt) → slice_get (events_in (l ++ q ∷ [])) i ≡ Some e → Was i e
   was i e h =
-      got_either (events_in l) q.event i e (ap (λ (u : List WriteAt). slice_get u i) (sym (map-append (λ q. q.event) l (q ∷ []))) ∙ h) (was_after i e) (was_first i e)
+      got_either (events_in l) q.event i e (ap (λ (u : List WriteAt). slice_get u i) (sym (map-append (λ q. q.event) l (q ∷ []))) ∙ h)
+      (was_after i e) (was_first i e)
 
   one_thread : (i j : ℕ) (e f : WriteAt) → Was i e → Was j f → (e.thread ≡ f.thread) ↔ (thread_of fs i ≡ thread_of fs j)
   one_thread i j e f a b = by_both a.thread b.thread
@@ -123,7 +147,8 @@ module _ (threads : List (List Access)) (x : Execution) (q : Leaving) (l : List 
       )
       by_both (inr p) (inr r) = (λ s. omega (arith, p.1, r.1), λ s. one.1 (ap (thread_of es) (p.0 ∙ sym r.0)))
 
-  one_place : (i j : ℕ) (e f : WriteAt) → Was i e → Was j f → (place_at threads e ≡ place_at threads f) ↔ (location_of fs i ≡ location_of fs j)
+  one_place : (i j : ℕ) (e f : WriteAt) → Was i e → Was j f
+      → (place_at threads e ≡ place_at threads f) ↔ (location_of fs i ≡ location_of fs j)
   one_place i j e f a b =
       let one = shown.one_place a.original b.original e f a.got b.got in
       (λ s. a.place ∙ one.0 s ∙ sym b.place, λ s. one.1 (sym a.place ∙ s ∙ b.place))

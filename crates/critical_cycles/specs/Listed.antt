@@ -7,7 +7,7 @@ use Rattle.program_meaning.specs.{declared.WriteAt.WriteAt, Accesses.Access, Exe
 use Rattle.sc_and_interleavings.specs.CoherenceLaws.{WritesWithin}
 use Rattle.critical_cycles.specs.{Critical.CriticalCycle, CycleEdges.{AreEvents, critical_edges, critical_events}}
 
--- the arcs by their edges
+-- the five kinds of arcs, named by their edges
 pub data Arc : Type 0 where
   Rfe : Arc
   Fre : Arc
@@ -15,6 +15,7 @@ pub data Arc : Type 0 where
   FreRfe : Arc
   WseRfe : Arc
 
+-- the edges of an arc, in order
 abbrev pub edges_of_arc : Arc → List Edge
 edges_of_arc Rfe = rfe ∷ []
 edges_of_arc Fre = fre ∷ []
@@ -28,20 +29,21 @@ pub record Part : Type 0 where
   pub to : Dir
   pub arc : Arc
 
+-- the edges of a part, in order
 abbrev pub edges_of_part : Part → List Edge
 edges_of_part part = pod part.from part.to ∷ edges_of_arc part.arc
 
--- a critical cycle with these edges and accesses, from one of them on and round to it
+-- a critical cycle with these edges and accesses, from one of them on and round to it again
 pub record IsCriticalBy (threads : List (List Access)) (x : Execution) (es : List Edge) (accesses : List WriteAt) : Type 0 where
   pub cycle : CriticalCycle threads x
   pub number : ℕ
   pub edges : critical_edges cycle ≡ rotated number es
   pub events : critical_events cycle ≡ rotated number accesses
 
--- if accesses are the events of a resolved cycle that consists of such parts, from one of its edges on, they are those of a critical
--- cycle with its edges
+-- if accesses are the events of a resolved cycle that is a rotation of such parts, they are those of a critical cycle with its edges
 abbrev pub ListedAreCritical : Type 0
 ListedAreCritical =
-    (threads : List (List Access)) (places : ℕ) (x : Execution) → IsExecutionOf threads places x → WritesWithin threads places →
-    (parts : List Part) (es : List Edge) (events : List WriteAt) → IsRotation (flat_map edges_of_part parts) es →
-    AreEvents threads x es events → IsCriticalBy threads x es events
+    (threads : List (List Access)) (places : ℕ) (x : Execution) (parts : List Part) (es : List Edge) (events : List WriteAt) →
+    IsExecutionOf threads places x → WritesWithin threads places →
+    IsRotation (flat_map edges_of_part parts) es → AreEvents threads x es events →
+    IsCriticalBy threads x es events

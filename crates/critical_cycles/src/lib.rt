@@ -1,4 +1,5 @@
-//! An execution that is coherent per location is sequentially consistent, or it has a critical cycle, whose accesses are the events of a cycle of edges.
+//! An execution that is coherent per location is sequentially consistent, or it has a critical cycle, whose accesses are the
+//! events of a cycle of edges.
 #![tactic(auto)]
 
 mod critical;

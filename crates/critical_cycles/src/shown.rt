@@ -1,6 +1,7 @@
 //! Critical cycles as cycles of edges: the accesses are the events, and with two threads there are six.
 
-ghost use Rattle.critical_cycles.specs.{CriticalLaws.{CandidatesShowCycles, CriticalCyclesHaveEvents, TwoThreadsShowSix}, Links.LinkedCyclesHaveEvents};
+ghost use Rattle.critical_cycles.specs.CriticalLaws.{CandidatesShowCycles, CriticalCyclesHaveEvents, TwoThreadsShowSix};
+ghost use Rattle.critical_cycles.specs.Links.{LinkedCyclesHaveEvents};
 
 /// The accesses of a critical cycle are the events of its edges: `Pod**` for each segment, and external
 /// communications for each arc.
