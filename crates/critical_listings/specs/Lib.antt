@@ -1,0 +1,3 @@
+pub mod Relaxes
+pub mod Accepted
+pub mod Listed
