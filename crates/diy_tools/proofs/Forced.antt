@@ -39,11 +39,12 @@ use Rattle.run_status.specs.{declared.status.Status.Status, declared.status.Stat
 use Rattle.diy_tools.specs.{WhyAnswers.{AnswersRuns, AnswersWhy, WritesRuns}}
 use Rattle.diy_tools.specs.{ArchMachines.{Machine, machine_of}, PrintAnswers.AnswersEdges}
 use Rattle.diy_tools.specs.{CoherenceAnswers.{AnswersCoherence, incoherence_refused, incoherent_text}, TestAnswers.{asked_text, test_name}}
-use Rattle.diy_tools.specs.{CrossAnswers.AnswersCross, ListAnswers.{AnswersList, plan_asked}, Answers.{Answers, AnswersAsked}}
+use Rattle.diy_tools.specs.{CrossAnswers.{AnswersCross, cycles_asked, crossed_text}, ListAnswers.{AnswersList, plan_asked}, Answers.{Answers, AnswersAsked}}
 use Rattle.diy_tools.specs.{Devices.{Devices, DevicesSeen, devices}, ExecutionAnswers.{AnswersRun, AnswersExecution, AnswersCoherenceExecution}}
 use Rattle.diy_tools.specs.{Headline.{Headline, HeadlineAsked, PrintsIntended, PrintsIncoherent}, Refused.{refused_list, refused_of, refused_composing}}
 use Rattle.test_maker.specs.declared.refusal.Refusal.TheVariants as refusals
 use Rattle.two_runs.specs.{IntendedRuns.intended_by, CoherenceRuns.incoherent_by}
+use Rattle.tests_to_files_laws.proofs.OwnFiles.{different_have_own_files, listed_are_different, crossed_are_different}
 use Rattle.tests_to_files.specs.{Plans.{IsPlanned, planned_text}, WantedLaws.wanted_has_test}
 use Rattle.co_tests.specs.{CoRefusals.{coherence_refusal_of, coherence_text}, Incoherence.BytesShowIncoherence}
 use Rattle.co_tests.proofs.{Accepted.accepted_has_test as accepted_has_loop, Printed.printed_show}
@@ -224,10 +225,18 @@ asked_force words status old new h = of_asked (asked_of words) refl h
         (wanted_has_test (machine_of asked.arch).puts asked.mode asked.threads asked.accesses cycle planned.taken)
 
     of_list : (asked : ListTask) → AnswersList asked status old.shelf new.shelf old.out new.out → HeadlineAsked (Ok (AsksList asked)) status old new
-    of_list asked h = record { lists = h; forces = each_forces asked }
+    of_list asked h = record {
+      lists = h;
+      forces = each_forces asked;
+      own_files = λ given cycles all few.
+          different_have_own_files asked.folder (planned_text (plan_asked asked)) cycles (listed_are_different _ _ _ _ given cycles all) few;
+    }
 
     of_cross : (asked : CrossTask) → AnswersCross asked status old.shelf new.shelf old.out new.out → HeadlineAsked (Ok (AsksCross asked)) status old new
     of_cross asked h = record {
+      own_files =
+          different_have_own_files asked.folder (crossed_text asked) (cycles_asked asked)
+          (crossed_are_different (machine_of asked.arch).puts asked.mode asked.places);
       crosses = h;
       forces = λ cycle kept.
           let has : IsCrossed (machine_of asked.arch).puts asked.mode asked.places cycle = (crosses_all (machine_of asked.arch).puts asked.mode asked.places).each cycle kept in

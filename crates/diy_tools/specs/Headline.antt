@@ -2,13 +2,14 @@
 -- cycles, each once, in order, and choices of relaxations write such tests of their cycles; two executions that no condition distinguishes
 -- show why a cycle needs an observer; and a coherence test shows incoherence.
 -- Source: own.
-use Rattle.std.specs.Prelude.{◌≡◌, ◌⊎◌, ℕ, List, Result, Ok, None}
+use Rattle.std.specs.Prelude.{◌≡◌, ◌≤◌, ◌⊎◌, ℕ, List, length, Result, Ok, Option, None}
 use Rattle.relax_edges.specs.declared.{edge.Edge.Edge, kinds.ObsMode.ObsMode}
 use Rattle.cycle_events.specs.Resolution.{turned}
 use Rattle.diy_io.specs.{Shelf.ShelfSeen, Wrote.SinkSeen}
 use Rattle.diy_words.specs.declared.usage.Usage.{Usage}
 use Rattle.diy_words.specs.Requests.{Task, ListTask, AsksTest, AsksWhy, AsksCoherence, AsksList, CrossTask, AsksCross, AsksExecution, AsksCoherenceExecution, AsksLines, asked_of}
-use Rattle.tests_to_files.specs.Plans.{IsPlanned, planned_text}
+use Rattle.tests_to_files.specs.{ListedFiles.last_number, Plans.{IsPlanned, planned_text}}
+use Rattle.tests_to_files_laws.specs.OwnFiles.{HaveOwnFiles}
 use Rattle.bytes_force_cycles.specs.PrintedHeadline.{BytesForce}
 use Rattle.co_tests.specs.Incoherence.{BytesShowIncoherence}
 use Rattle.two_runs.specs.{IntendedRuns.intended_by, CoherenceRuns.incoherent_by}
@@ -17,7 +18,7 @@ use Rattle.diy_tools.specs.{Devices.Devices, Devices.DevicesSeen, Devices.device
 use Rattle.diy_tools.specs.{PrintAnswers.Prints, TestAnswers.asked_text, TestAnswers.test_name, WhyAnswers.WritesRuns, WhyAnswers.why_unshown}
 use Rattle.diy_tools.specs.{CoherenceAnswers.coherence_refused, CoherenceAnswers.incoherent_text, CrossAnswers.AnswersCross}
 use Rattle.diy_tools.specs.{CrossAnswers.cycles_asked, CrossAnswers.crossed_text, ListAnswers.AnswersList, ListAnswers.AnswersListed, ListAnswers.plan_asked, ExecutionAnswers.PrintsRun}
-use Rattle.cycle_enum_laws.specs.Listing.{IsOneOf}
+use Rattle.cycle_enum_laws.specs.Listing.{IsOneOf, AreAllListed}
 
 -- a text is printed, or a prefix of it if standard output fails, and the bytes of the text force a cycle
 pub record PrintsForcing (m : Machine) (text : List ℕ) (cycle : List Edge) (mode : ObsMode) (status : Status) (old new : SinkSeen) : Type 0 where
@@ -47,17 +48,22 @@ pub record ListsLines (asked : ListTask) (status : Status) (old new : SinkSeen) 
   pub forces : (cycle : List Edge) → IsPlanned (plan_asked asked) cycle →
       BytesForce (machine_of asked.arch).puts.name (machine_of asked.arch).writing (planned_text (plan_asked asked) cycle) (turned cycle) asked.mode
 
--- the tests of a listing are written as asked for, and the bytes of the text of each listed cycle force that cycle
+-- the tests of a listing are written as asked for, and the bytes of the text of each listed cycle force that cycle; and the listed cycles, as
+-- many as can be counted, have files of their own: no two tests have one file, so each file holds the text of its own test
 pub record ListsForcing (asked : ListTask) (status : Status) (old new : ShelfSeen) (before after : SinkSeen) : Type 0 where
   pub lists : AnswersList asked status old new before after
   pub forces : (cycle : List Edge) → IsPlanned (plan_asked asked) cycle →
       BytesForce (machine_of asked.arch).puts.name (machine_of asked.arch).writing (planned_text (plan_asked asked) cycle) (turned cycle) asked.mode
+  pub own_files : (given : Option (List Edge)) (cycles : List (List Edge)) → AreAllListed (IsPlanned (plan_asked asked)) given cycles → length cycles ≤ last_number →
+      HaveOwnFiles asked.folder (planned_text (plan_asked asked)) cycles
 
--- the tests of the choices' cycles are written as asked for, or there is no memory, and the bytes of the text of each force its cycle
+-- the tests of the choices' cycles are written as asked for, or there is no memory, and the bytes of the text of each force its cycle; and
+-- the choices' cycles, as many as can be counted, have files of their own
 pub record CrossesForcing (asked : CrossTask) (status : Status) (old new : ShelfSeen) (before after : SinkSeen) : Type 0 where
   pub crosses : AnswersCross asked status old new before after
   pub forces : (cycle : List Edge) → IsOneOf (cycles_asked asked) cycle →
       BytesForce (machine_of asked.arch).puts.name (machine_of asked.arch).writing (crossed_text asked cycle) (turned cycle) asked.mode
+  pub own_files : length (cycles_asked asked) ≤ last_number → HaveOwnFiles asked.folder (crossed_text asked) (cycles_asked asked)
 
 -- If the arguments ask for the test of edges that nothing refuses, it is printed, and forces the cycle that they make. If they ask why the
 -- mode avoid refuses edges, and nothing refuses to show that, there is no memory, or two executions of the test without observers are

@@ -31,7 +31,7 @@ use std::alloc::Global;
 /// that can run out of memory does (`Complete`); no other tool returns `NoMemory`; and each status has the one
 /// cause that `Causes` gives. No file of the shelf may be open, and none is open afterwards. The line of the
 /// status is written to `err`; if this fails, the status stays the same.
-#[tactic(auto, using(run_status::proofs::Reported::takes_line, crate::proofs::Forced::answers_force))]
+#[tactic(auto, using(run_status::proofs::Reported::takes_line))]
 pub fn run<I: Source, O: Sink, E: Sink, H: Shelf>(
     alloc: Global,
     words: &Words,
