@@ -1,16 +1,20 @@
 -- The claim of the tools: for every accepted cycle the printed test forces the cycle; a listing writes such tests of exactly the listed
 -- cycles, each once, in order, and choices of relaxations write such tests of their cycles; two executions that no condition distinguishes
--- show why a cycle needs an observer; and a coherence test shows incoherence.
+-- show why a cycle needs an observer; a coherence test shows incoherence; and the orders that are printed as sufficient against an outcome
+-- are.
 -- Source: own.
-use Rattle.std.specs.Prelude.{◌≡◌, ◌≤◌, ◌⊎◌, ℕ, List, length, Result, Ok, Option, None}
+use Rattle.std.specs.{Prelude.{◌≡◌, ◌≤◌, ◌⊎◌, ◌↔◌, ℕ, List, length, Result, Ok, Option, None}, List.Contains}
 use Rattle.relax_edges.specs.declared.{edge.Edge.Edge, kinds.ObsMode.ObsMode}
 use Rattle.cycle_events.specs.Resolution.{turned}
 use Rattle.diy_io.specs.{Shelf.ShelfSeen, Wrote.SinkSeen}
 use Rattle.diy_words.specs.declared.usage.Usage.{Usage}
-use Rattle.diy_words.specs.Requests.{Task, ListTask, AsksTest, AsksWhy, AsksCoherence, AsksList, CrossTask, AsksCross, AsksExecution, AsksCoherenceExecution, AsksLines, asked_of}
+use Rattle.diy_words.specs.Requests.{Task, ListTask, AsksTest, AsksWhy, AsksCoherence, AsksList, CrossTask, AsksCross, AsksExecution, AsksCoherenceExecution, AsksNeeds, AsksLines, asked_of}
 use Rattle.tests_to_files.specs.{ListedFiles.last_number, Plans.{IsPlanned, planned_text}}
 use Rattle.tests_to_files_laws.specs.OwnFiles.{HaveOwnFiles}
-use Rattle.bytes_force_cycles.specs.PrintedHeadline.{BytesForce}
+use Rattle.bytes_force_cycles.specs.{Links.LinksDecideIn, PrintedHeadline.BytesForce}
+use Rattle.litmus_text.specs.TestReading.{TestRead, test_read}
+use Rattle.sc_and_interleavings.specs.Links.{IsOrdering}
+use Rattle.needed_links.specs.Needs.{needs_text, ordering_edges}
 use Rattle.co_tests.specs.Incoherence.{BytesShowIncoherence}
 use Rattle.two_runs.specs.{IntendedRuns.intended_by, CoherenceRuns.incoherent_by}
 use Rattle.run_status.specs.declared.status.{Status.Status, Status.TheVariants.NoMemory}
@@ -42,6 +46,13 @@ pub record PrintsIncoherent (m : Machine) (text : List ℕ) (cycle : List Edge) 
   pub prints : PrintsRun m text (incoherent_by cycle) status old new
   pub shows : BytesShowIncoherence m.puts.name m.writing text (turned cycle)
 
+-- what suffices against the outcome of a test is printed. Its lines are those of exactly the edges that order, of which the links of the
+-- test's text, as it is read, say that they suffice and which of them are needed
+pub record PrintsNeeds (m : Machine) (text name : List ℕ) (cycle : List Edge) (mode : ObsMode) (status : Status) (old new : SinkSeen) : Type 0 where
+  pub prints : Prints (needs_text name (turned cycle)) status old new
+  pub lists : (i : ℕ) → Contains (ordering_edges (turned cycle)) i ↔ IsOrdering (turned cycle) i
+  pub decide : (test : TestRead) → test_read m.puts.name m.writing text ≡ Ok test → LinksDecideIn m.writing (turned cycle) mode test
+
 -- the lines of a listing are written as asked for, and the bytes of the text of each listed cycle force that cycle
 pub record ListsLines (asked : ListTask) (status : Status) (old new : SinkSeen) : Type 0 where
   pub lists : AnswersListed asked status old new
@@ -69,9 +80,10 @@ pub record CrossesForcing (asked : CrossTask) (status : Status) (old new : Shelf
 -- mode avoid refuses edges, and nothing refuses to show that, there is no memory, or two executions of the test without observers are
 -- written that no condition distinguishes, though all edges stand in the first and one doesn't in the second. If they ask for the
 -- coherence test of edges that nothing refuses, it is printed, and shows incoherence. If they ask for the execution of either test instead,
--- there is no memory, or that execution is printed, and the bytes of the test force the cycle or show incoherence. If they ask for the
--- lines of a listing, these are written, and the tests of its cycles force them. If they ask for the tests of a listing or of choices,
--- these are written, or for choices there is no memory, and each test forces its cycle.
+-- there is no memory, or that execution is printed, and the bytes of the test force the cycle or show incoherence. If they ask what
+-- suffices against the outcome of a test, it is printed, and suffices as the law on links says. If they ask for the lines of a listing,
+-- these are written, and the tests of its cycles force them. If they ask for the tests of a listing or of choices, these are written, or for
+-- choices there is no memory, and each test forces its cycle.
 abbrev pub HeadlineAsked : Result Task Usage → Status → Devices → Devices → Type 0
 HeadlineAsked (Ok (AsksTest asked)) status old new =
     refused_of (machine_of asked.arch).puts asked.mode asked.edges ≡ None →
@@ -89,6 +101,9 @@ HeadlineAsked (Ok (AsksExecution asked)) status old new =
 HeadlineAsked (Ok (AsksCoherenceExecution asked)) status old new =
     coherence_refused asked ≡ None →
     (status ≡ NoMemory) ⊎ PrintsIncoherent (machine_of asked.arch) (incoherent_text asked) asked.edges status old.out new.out
+HeadlineAsked (Ok (AsksNeeds asked)) status old new =
+    refused_of (machine_of asked.arch).puts asked.mode asked.edges ≡ None →
+    PrintsNeeds (machine_of asked.arch) (asked_text asked) (test_name asked.name asked.edges) asked.edges asked.mode status old.out new.out
 HeadlineAsked (Ok (AsksLines asked)) status old new = ListsLines asked status old.out new.out
 HeadlineAsked (Ok (AsksList asked)) status old new = ListsForcing asked status old.shelf new.shelf old.out new.out
 HeadlineAsked (Ok (AsksCross asked)) status old new = CrossesForcing asked status old.shelf new.shelf old.out new.out

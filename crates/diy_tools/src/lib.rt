@@ -11,6 +11,7 @@ mod families;
 mod listing;
 mod machines;
 mod naming;
+mod needs;
 mod sums;
 mod testing;
 mod tools;
