@@ -18,7 +18,7 @@ use litmus_text::Test;
 use needed_links::write_needs;
 use relax_edges::{ArchName, ObsMode};
 use run_status::{Device, Status};
-use test_maker::make_into;
+use test_maker::{Refusal, make_into};
 
 /// Prints what suffices against the outcome of the test of the requested cycle.
 #[tactic(auto, using(crate::proofs::Needing::needed_on))]
@@ -54,7 +54,7 @@ fn print_accepted<A: Arch, O: Sink>(cycle: &Cycle, mode: ObsMode, name: &str, ou
 {
     let mut test = Test::new();
     match make_into::<A>(cycle, mode, &mut test) {
-        Err(refusal) => Status::Refused(refusal),
+        Err(refusal) => Status::Refused(Refusal::from(refusal)),
         Ok(()) => print_needs(cycle, name, out),
     }
 }
