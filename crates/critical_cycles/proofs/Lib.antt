@@ -16,4 +16,5 @@ pub mod Parts
 pub mod Converse
 pub mod Turned
 pub mod Cuts
+pub mod Standing
 pub mod CriticalLaws

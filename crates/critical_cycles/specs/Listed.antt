@@ -1,9 +1,14 @@
 -- The converse: accesses that show a cycle of `Pod**` edges and arcs make a critical cycle.
 -- Source: the names of edges in the diy part of the herdtools manual; own.
-use Rattle.std.specs.{Prelude.{ℕ, ◌≡◌, List, [], ◌∷◌}, List.flat_map}
-use Rattle.relax_edges.specs.{declared.kinds.Dir.Dir, declared.edge.Edge.Edge, NamedEdges.{pod, rfe, fre, wse}}
+use Rattle.std.specs.{Prelude.{ℕ, ◌≡◌, List, [], ◌∷◌, length, map}, List.flat_map}
+use Rattle.relax_edges.specs.{declared.kinds.Dir.Dir, declared.kinds.ObsMode.ObsMode, declared.edge.Edge.Edge}
+use Rattle.relax_edges.specs.{NamedEdges.{pod, rfe, fre, wse}}
+use Rattle.list_laws.specs.Numbers.{upto}
 use Rattle.edge_algebra_laws.specs.Rotation.{IsRotation, rotated}
-use Rattle.program_meaning.specs.{declared.WriteAt.WriteAt, Accesses.Access, Executions.{Execution, IsExecutionOf}}
+use Rattle.cycle_events.specs.Resolution.{IsResolved}
+use Rattle.program_meaning.specs.{declared.WriteAt.WriteAt, Accesses.Access, Executions.{Execution, IsExecutionOf}, Intended.IsNumbering}
+use Rattle.program_meaning.specs.{Programs.{Program, IsCandidate, accesses_in}, Standing.{AllStand, event_name}}
+use Rattle.accesses_force_cycles.specs.Joining.{MakesAccesses}
 use Rattle.sc_and_interleavings.specs.CoherenceLaws.{WritesWithin}
 use Rattle.critical_cycles.specs.{Critical.CriticalCycle, CycleEdges.{AreEvents, critical_edges, critical_events}}
 
@@ -47,3 +52,12 @@ ListedAreCritical =
     IsExecutionOf threads places x → WritesWithin threads places →
     IsRotation (flat_map edges_of_part parts) es → AreEvents threads x es events →
     IsCriticalBy threads x es events
+
+-- so the events of a cycle's test are those of a critical cycle in each candidate of a program that makes the test's accesses, if all
+-- edges stand
+abbrev pub StandingIsCritical : Type 0
+StandingIsCritical =
+    (es : List Edge) (mode : ObsMode) (number : ℕ → ℕ) (p : Program) (x : Execution) (parts : List Part) →
+    IsResolved es → IsRotation (flat_map edges_of_part parts) es →
+    IsNumbering es number → MakesAccesses es mode number p x → IsCandidate p x → AllStand es p x →
+    IsCriticalBy (accesses_in p x) x es (map (event_name es) (upto (length es)))
