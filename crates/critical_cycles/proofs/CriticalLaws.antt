@@ -1,5 +1,6 @@
 -- The laws of this crate.
-use Rattle.critical_cycles.specs.CriticalLaws.{CandidatesShowCycles, CriticalCyclesAreShort, CriticalCyclesHaveEvents, CriticalIsNotSequential, SequentialOrCritical, ShowsCycle, TwoThreadsShowSix}
+use Rattle.critical_cycles.specs.CriticalLaws.{CandidatesShowCycles, CriticalCyclesAreShort, CriticalCyclesHaveEvents}
+use Rattle.critical_cycles.specs.CriticalLaws.{CriticalIsNotSequential, SequentialOrCritical, ShowsCycle, TwoThreadsShowSix}
 use Rattle.critical_cycles.proofs.Vocabulary.{◌⊎◌, List, inl, inr, arith, Access, accesses_in, IsSequential, CriticalCycle, held}
 use Rattle.program_meaning.proofs.Runs.{accesses-count}
 use Rattle.critical_cycles.proofs.Back as back
@@ -22,7 +23,8 @@ pub critical_cycles_have_events : CriticalCyclesHaveEvents
 critical_cycles_have_events threads places x h within c few = critical_events_are threads x (held threads places x h within) c few
 
 pub candidates_show_cycles : CandidatesShowCycles
-candidates_show_cycles p x few candidate within coherent = shown (sequential_or_critical threads p.places x candidate.execution within coherent)
+candidates_show_cycles p x few candidate within coherent =
+    shown (sequential_or_critical threads p.places x candidate.execution within coherent)
   where
     threads : List (List Access)
     threads = accesses_in p x

@@ -7,7 +7,14 @@ pub mod Reached
 pub mod Back
 pub mod Short
 pub mod SixNamed
+pub mod Steps
 pub mod Linked
 pub mod Counted
 pub mod Resolved
+pub mod Links
+pub mod Parts
+pub mod Converse
+pub mod Turned
+pub mod Cuts
+pub mod Standing
 pub mod CriticalLaws

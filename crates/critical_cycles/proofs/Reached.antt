@@ -1,9 +1,14 @@
--- Paths of program order and arcs: each is program order, or a way with program order before and after it. One that leads back to its beginning
+-- Paths of program order and arcs: each is program order, or a way with program order before and after it. One that leads back to its
+-- beginning
 -- makes a closed way. Whether there is one is decided by Warshall's algorithm over all accesses.
-use Rattle.critical_cycles.proofs.Vocabulary.{◌≡◌, ℕ, ◌+◌, ◌<◌, ◌≤◌, Bool, true, false, ◌==◌, ◌&&◌, ◌||◌, List, [], ◌∷◌, ◌++◌, Option, Some, None, inl, inr, ◌⊎◌, refl, sym, ◌∙◌, ap, subst, arith, nat_lt, and_parts, and_from, eqb-true, ltb-true, by_option, by_test, WriteAt, Access, at_name, Execution, comes, earlier_comes, key, lesser_comes, Precedes, StepBy, ByPo, ByRf, ByCo, ByFr, IsPathBy, IsSequential, CriticalCycle, Segment, place_of_access}
+use Rattle.critical_cycles.proofs.Vocabulary.{◌≡◌, Bool, true, false, ◌==◌, ◌&&◌, ◌||◌, List, [], ◌∷◌, ◌++◌, Option, Some, inl, inr, ◌⊎◌}
+use Rattle.critical_cycles.proofs.Vocabulary.{refl, sym, ◌∙◌, ap, subst, arith, nat_lt, and_parts, and_from, eqb-true, ltb-true, by_option}
+use Rattle.critical_cycles.proofs.Vocabulary.{by_test, WriteAt, Access, at_name, Execution, comes, earlier_comes, key, lesser_comes}
+use Rattle.critical_cycles.proofs.Vocabulary.{Precedes, StepBy, ByPo, ByRf, ByCo, ByFr, IsPathBy, IsSequential, CriticalCycle, Segment}
+use Rattle.critical_cycles.proofs.Vocabulary.{place_of_access}
 use Rattle.sc_and_interleavings.proofs.{Listed.{all_names, listed}, Sorting.In, Coming.comes_by, Coming.comes_first}
 use Rattle.critical_cycles.proofs.Keys.{Arc, Exists, Goes, arc_goes, arrives, key_is}
-use Rattle.critical_cycles.proofs.{Ways.{Facts, IsWithin, Way, goes, joined, leaving, segment, size, within}, Shorter.Closed, Least.critical}
+use Rattle.critical_cycles.proofs.{Ways.{Facts, IsWithin, Way, goes, joined, leaving, segment, size, within}, Least.critical}
 
 -- a way from an access, or from a later one of its thread, that ends at or before another in its thread
 pub record Around (threads : List (List Access)) (x : Execution) (e f : WriteAt) : Type 0 where
@@ -30,7 +35,6 @@ or_right : (a b : Bool) → b ≡ true → (a || b) ≡ true
 or_right a b h = grind arith
 
 module _ (threads : List (List Access)) (x : Execution) where
-
   -- program order, as something before or the same
   in_order : (e f : WriteAt) → Precedes threads e f → IsWithin threads e f
   in_order e f h = record { first = h.first; last = h.second; thread = h.thread; order = omega (arith, h.earlier) }
@@ -42,10 +46,12 @@ module _ (threads : List (List Access)) (x : Execution) where
   itself e h = record { first = h; last = h; thread = refl; order = omega arith }
 
   -- a way may begin earlier in its thread
-  earlier : (e f last : WriteAt) (middle : Option WriteAt) (us : List Segment) (a : WriteAt) → IsWithin threads e f → Way threads x (segment f last middle) us a
+  earlier : (e f last : WriteAt) (middle : Option WriteAt) (us : List Segment) (a : WriteAt) → IsWithin threads e f
+      → Way threads x (segment f last middle) us a
       → Way threads x (segment e last middle) us a
   earlier e f last middle us a h w =
-      leaving threads x (segment f last middle) (segment e last middle) us a w (after e f last h (within threads x (segment f last middle) us a w)) (λ g arc. arc)
+      leaving threads x (segment f last middle) (segment e last middle) us a w
+      (after e f last h (within threads x (segment f last middle) us a w)) (λ g arc. arc)
 
   -- paths that meet join
   meets : (e f g : WriteAt) → Reaches threads x e f → Reaches threads x f g → Reaches threads x e g
@@ -60,8 +66,16 @@ module _ (threads : List (List Access)) (x : Execution) where
         way = earlier e f k.last k.middle k.others k.end (in_order e f h) k.way;
         ends = k.ends;
       })
-  meets e f g (ByArcs h) (InThread k) = 
-      ByArcs (record { last = h.last; middle = h.middle; others = h.others; end = h.end; way = h.way; ends = after h.end f g h.ends (in_order f g k) })
+  meets e f g (ByArcs h) (InThread k) =
+      ByArcs (record {
+        last = h.last;
+        middle = h.middle;
+        others = h.others;
+        end = h.end;
+        way = h.way;
+        ends = after h.end f g h.ends
+            (in_order f g k);
+      })
   meets e f g (ByArcs h) (ByArcs k) =
       ByArcs (record {
         last = h.last;
@@ -90,9 +104,15 @@ module _ (threads : List (List Access)) (x : Execution) where
   comes_first_reaches : Facts threads x → (e f : WriteAt) (a b : Access) → at_name threads e ≡ Some a → at_name threads f ≡ Some b
       → comes_first threads x e a f b ≡ true → Reaches threads x e f
   comes_first_reaches facts e f a b p q t =
-      by_either ((e.thread == f.thread) && nat_lt e.access f.access) ((a.place == b.place) && nat_lt (key threads x e a) (key threads x f b)) t
+      by_either ((e.thread == f.thread) && nat_lt e.access f.access) ((a.place == b.place) && nat_lt (key threads x e a)
+      (key threads x f b)) t
       (λ h. let c = and_parts (e.thread == f.thread) (nat_lt e.access f.access) h in
-      InThread (record { first = (a, p); second = (b, q); thread = eqb-true e.thread f.thread c.0; earlier = ltb-true e.access f.access c.1 }))
+      InThread (record {
+        first = (a, p);
+        second = (b, q);
+        thread = eqb-true e.thread f.thread c.0;
+        earlier = ltb-true e.access f.access c.1;
+      }))
       (λ h. let c = and_parts (a.place == b.place) (nat_lt (key threads x e a) (key threads x f b)) h in
       by_arc facts e f
       (arrives threads x e f facts.held
@@ -109,11 +129,13 @@ module _ (threads : List (List Access)) (x : Execution) where
       (λ p. let n : false ≡ true = sym (ap (λ o. comes_by threads x e o f (at_name threads f)) p) ∙ t in cc n)
       (λ a p. by_option (at_name threads f)
       (λ q. let n : false ≡ true = sym (cc (p, q)) ∙ t in cc n)
-      (λ b q. comes_first_reaches facts e f a b p q (sym (ap (λ o. comes_by threads x e o f (at_name threads f)) p ∙ ap (λ o. comes_by threads x e (Some a) f o) q) ∙ t)))
+      (λ b q. comes_first_reaches facts e f a b p q (sym (ap (λ o. comes_by threads x e o f (at_name threads f)) p ∙ ap
+      (λ o. comes_by threads x e (Some a) f o) q) ∙ t)))
 
   goes_comes : (e f : WriteAt) → Goes threads x e f → comes threads x e f ≡ true
   goes_comes e f g =
-      lesser_comes threads x e f g.first.0 g.second.0 g.first.1 g.second.1 (sym (ap place_of_access g.first.1) ∙ g.places ∙ ap place_of_access g.second.1)
+      lesser_comes threads x e f g.first.0 g.second.0 g.first.1 g.second.1
+      (sym (ap place_of_access g.first.1) ∙ g.places ∙ ap place_of_access g.second.1)
       (omega (arith, g.rises, key_is threads x e g.first.0 g.first.1, key_is threads x f g.second.0 g.second.1))
 
   -- a step is from an access to one that it has to come before
@@ -124,11 +146,21 @@ module _ (threads : List (List Access)) (x : Execution) where
 
   steps : Facts threads x → (e f : WriteAt) → StepBy (Precedes threads) threads x e f → Steps e f
   steps facts e f (ByPo h) =
-      record { first = h.first; second = h.second; before = earlier_comes threads x e f h.first.0 h.second.0 h.first.1 h.second.1 h.thread h.earlier }
-  steps facts e f (ByRf h) = let g = arc_goes threads x e f facts.held (inl h) in record { first = g.first; second = g.second; before = goes_comes e f g }
+      record {
+        first = h.first;
+        second = h.second;
+        before = earlier_comes threads x e f h.first.0 h.second.0 h.first.1 h.second.1 h.thread h.earlier;
+      }
+  steps facts e f (ByRf h) =
+      let g = arc_goes threads x e f facts.held (inl h) in record { first = g.first; second = g.second; before = goes_comes e f g }
   steps facts e f (ByCo place h) =
-      let g = arc_goes threads x e f facts.held (inr (inl (place, h))) in record { first = g.first; second = g.second; before = goes_comes e f g }
-  steps facts e f (ByFr h) = let g = arc_goes threads x e f facts.held (inr (inr h)) in record { first = g.first; second = g.second; before = goes_comes e f g }
+      let g = arc_goes threads x e f facts.held (inr (inl (place, h))) in record {
+        first = g.first;
+        second = g.second;
+        before = goes_comes e f g;
+      }
+  steps facts e f (ByFr h) =
+      let g = arc_goes threads x e f facts.held (inr (inr h)) in record { first = g.first; second = g.second; before = goes_comes e f g }
 
   -- whether an access reaches another by way of these
   reach : List WriteAt → WriteAt → WriteAt → Bool
@@ -173,12 +205,15 @@ module _ (threads : List (List Access)) (x : Execution) where
       (s.first, reach_more (all_names threads) e g f (listed threads g s.second.0 s.second.1) s.before r.1)
 
   -- one of these reaches itself, or none does
-  around : (ns : List WriteAt) → ((e : WriteAt) → In e ns → reach (all_names threads) e e ≡ false) ⊎ ((e : WriteAt) × (reach (all_names threads) e e ≡ true))
+  abbrev NoneOrOne : List WriteAt → Type 0
+  NoneOrOne ns =
+      ((e : WriteAt) → In e ns → reach (all_names threads) e e ≡ false) ⊎ ((e : WriteAt) × (reach (all_names threads) e e ≡ true))
+
+  around : (ns : List WriteAt) → NoneOrOne ns
   around [] = inl (λ e i. absurd i)
   around (n ∷ ns) = by_test (reach (all_names threads) n n) (λ t. inr (n, t)) (λ f. others f (around ns))
     where
-      others : reach (all_names threads) n n ≡ false → ((e : WriteAt) → In e ns → reach (all_names threads) e e ≡ false) ⊎ ((e : WriteAt) × (reach (all_names threads) e e ≡ true))
-          → ((e : WriteAt) → In e (n ∷ ns) → reach (all_names threads) e e ≡ false) ⊎ ((e : WriteAt) × (reach (all_names threads) e e ≡ true))
+      others : reach (all_names threads) n n ≡ false → NoneOrOne ns → NoneOrOne (n ∷ ns)
       others f (inr r) = inr r
       others f (inl none) = inl none_here
         where
@@ -190,8 +225,7 @@ module _ (threads : List (List Access)) (x : Execution) where
   pub sequential_or_critical : Facts threads x → IsSequential threads x ⊎ CriticalCycle threads x
   sequential_or_critical facts = decided (around (all_names threads))
     where
-      decided : ((e : WriteAt) → In e (all_names threads) → reach (all_names threads) e e ≡ false) ⊎ ((e : WriteAt) × (reach (all_names threads) e e ≡ true))
-          → IsSequential threads x ⊎ CriticalCycle threads x
+      decided : NoneOrOne (all_names threads) → IsSequential threads x ⊎ CriticalCycle threads x
       decided (inr r) = inr (closed facts r.0 (reaches facts (all_names threads) r.0 r.0 r.1))
       decided (inl none) = inl (λ e between p.
           let r = found facts e between e p in

@@ -1,34 +1,26 @@
 -- The edges of a critical cycle are a resolved cycle, and its accesses are the events.
-use Rattle.critical_cycles.proofs.Vocabulary.{◌≡◌, ◌≢◌, ℕ, zero, suc, ◌+◌, ◌<◌, ◌≤◌, Bool, true, false, ◌==◌, ◌&&◌, List, [], ◌∷◌, ◌++◌, length, map, Option, Some, None, slice_get, refl, sym, ◌∙◌, ap, subst, arith, option_map, ◌↔◌, eq-eqb, and_parts, all_parts, cond, by_less, by_same, AllByRecursion, flat_map, WriteAt, Access, Dir, Edge, Execution, Held, AreArcs, CriticalCycle, Moves, Segment, dir_at, place_at, threads_of}
-use Rattle.std.specs.List.{count_by, IsDistinct}
-use Rattle.std.proofs.{Common.length-append, lemmas.Bool.ne_eqb, lemmas.List.Sums.sum_by-cons, lemmas.List.length-map, lemmas.Map.Keys.apart_from_distinct}
-use Rattle.std.proofs.lemmas.Option.{slice_get_within, get_or_from_slice_get, slice_get-map}
-use Rattle.list_laws.specs.Numbers.{upto}
-use Rattle.list_laws.proofs.{Counts.count_upto_less, Finds.any_upto_none, Prefixes.count_all}
-use Rattle.relax_edges.specs.{declared.TheConstants.MAX_EDGES, declared.kinds.Mark.TheVariants.Plain, declared.kinds.Mark.Mark, declared.kinds.Reach.TheVariants.Internal}
-use Rattle.relax_edges.specs.declared.kinds.Com.TheVariants.{Rf}
-use Rattle.relax_edges.specs.declared.edge.Edge.TheVariants as edges
-use Rattle.relax_edges.specs.EdgeTable.{is_diff, is_external, joins_to, same_dir, same_mark, source_mark, source_of, target_mark, target_of}
-use Rattle.relax_edges.specs.JoinedEdges.{is_joined}
+use Rattle.critical_cycles.proofs.Vocabulary.{List, None, Option, Some, [], ap, arith, cond, false, length, length-append, map, refl}
+use Rattle.critical_cycles.proofs.Vocabulary.{slice_get, subst, suc, sym, true, zero, ℕ, ◌&&◌, ◌++◌, ◌+◌, ◌<◌, ◌==◌, ◌∙◌, ◌∷◌, ◌≡◌, ◌≤◌}
+use Rattle.critical_cycles.proofs.Vocabulary.{and_parts, eq-eqb, ne_eqb, sum_by-cons, length-map, apart_from_distinct}
+use Rattle.critical_cycles.proofs.Vocabulary.{get_or_from_slice_get, slice_get_within, AllByRecursion, count_by, flat_map, ◌↔◌, ◌≢◌}
+use Rattle.critical_cycles.proofs.Vocabulary.{location_cases, thread_below, edge_second, thread_first, thread-zero, thread_end, by_less}
+use Rattle.critical_cycles.proofs.Vocabulary.{by_same, all_parts, count_upto_less, any_upto_none, count_all, upto, Access, Execution}
+use Rattle.critical_cycles.proofs.Vocabulary.{WriteAt, MAX_EDGES, Edge, Dir, Rf, Plain, Internal, is_joined, is_diff, is_external, joins_to}
+use Rattle.critical_cycles.proofs.Vocabulary.{same_dir, source_mark, source_of, target_mark, target_of, Held, held, moves, AreArcs}
+use Rattle.critical_cycles.proofs.Vocabulary.{CriticalCycle, Moves, Segment, dir_at, place_at, threads_of, AreEvents, accesses_of_segment}
+use Rattle.critical_cycles.proofs.Vocabulary.{arc_edges, critical_edges, critical_events, edges_along, linked_edges, plain_edge}
+use Rattle.std.specs.List.{IsDistinct}
+use Rattle.cycle_events.specs.Resolution.{IsResolved, edge_at, ends_outside, external_count, is_coherence_only, location_of, move_count}
+use Rattle.cycle_events.specs.Resolution.{moves_before, moves_in, thread_of}
 use Rattle.relax_edges.specs.declared.kinds.Dir.TheVariants as dirs
-use Rattle.edge_algebra_laws.specs.Composable.{IsCycle}
-use Rattle.cycle_events.specs.Resolution.{IsResolved, edge_at, ends_outside, event_after, external_count, is_coherence_only, location_of, move_count, moves_before, moves_in, thread_of}
-use Rattle.cycle_events.proofs.{Around.by_after, Arcs.thread_below, Arcs.location_cases, Rotations.edge_second, Rotations.thread_first, Threads.thread-zero, Threads.thread_end}
-use Rattle.sc_and_interleavings.proofs.Vocabulary.{moves}
-use Rattle.critical_cycles.specs.CycleEdges.{AreEvents, EdgeLeads, accesses_of_segment, arc_edges, critical_edges, critical_events, edges_along, linked_edges, plain_edge}
-use Rattle.critical_cycles.specs.Links.{FitsSegment}
-use Rattle.critical_cycles.proofs.{Keys.Exists, Ways.goes}
-use Rattle.critical_cycles.proofs.Linked.{AllGoOn, GoesOn, Leaving, all_go_on, begins, edges_are, events_are, leaving, steps_along}
+use Rattle.relax_edges.specs.declared.edge.Edge.TheVariants as edges
+use Rattle.critical_cycles.proofs.{Keys.Exists, Ways.goes, Linked.{FitsSegment, GoesOn, all_go_on}}
+use Rattle.critical_cycles.proofs.Steps.{AllNext, Leaving, begins, each_next, edges_are, edges_in, events_are, events_in, image, leaving}
+use Rattle.critical_cycles.proofs.Steps.{next_at, step_below, steps_along}
 use Rattle.critical_cycles.proofs.Counted.{passed, passed_at, passed_count, threads_passed, places_passed}
 
--- an element of a map over a list, as an element of the list
-image : {X Y : Type 0} (f : X → Y) (xs : List X) (k : ℕ) (y : Y) → slice_get (map f xs) k ≡ Some y → (x : X) × (slice_get xs k ≡ Some x) × (f x ≡ y)
-image f [] k y h = cc h
-image f (x ∷ xs) zero y h = (x, refl, cc h)
-image f (x ∷ xs) (suc k) y h = image f xs k y h
-
 -- an element of the first of two lists is one of both
-got_left : {X : Type 0} (xs ys : List X) (k : ℕ) → k < length xs → slice_get (xs ++ ys) k ≡ slice_get xs k
+pub got_left : {X : Type 0} (xs ys : List X) (k : ℕ) → k < length xs → slice_get (xs ++ ys) k ≡ slice_get xs k
 got_left [] ys k h = absurd (omega (arith, h))
 got_left (x ∷ xs) ys zero h = refl
 got_left (x ∷ xs) ys (suc k) h = got_left xs ys k (omega (arith, h))
@@ -59,28 +51,9 @@ joins : (e f : Edge) (d : Dir) → d ≡ target_of e → d ≡ source_of f → t
 joins e f d a b m n = rw (sym a, sym b, m, n) (rw (same_dir-refl d) refl)
 
 module _ (threads : List (List Access)) (x : Execution) where
-
-  -- what an event goes on to: the next one, or what comes after the last
-  record Next (l : List Leaving) (z : WriteAt) (i : ℕ) (q : Leaving) : Type 0 where
-    next : WriteAt
-    goes_on : GoesOn threads x q next
-    is_next : (r : Leaving) → slice_get l (suc i) ≡ Some r → next ≡ r.event
-    is_end : length l ≡ i + 1 → next ≡ z
-
-  next_at : (l : List Leaving) (z : WriteAt) (i : ℕ) (q : Leaving) → AllGoOn threads x l z → slice_get l i ≡ Some q → Next l z i q
-  next_at [] z i q h g = cc g
-  next_at (r ∷ []) z zero q h g =
-      let e : r ≡ q = cc g in
-      record { next = z; goes_on = subst (λ s. GoesOn threads x s z) e h.0; is_next = λ s k. cc k; is_end = λ _. refl }
-  next_at (r ∷ s ∷ l) z zero q h g =
-      let e : r ≡ q = cc g in
-      record { next = s.event; goes_on = subst (λ t. GoesOn threads x t s.event) e h.0; is_next = λ t k. (let e : s ≡ t = cc k in ap (λ u. u.event) e); is_end = λ k. absurd (omega (arith, k)) }
-  next_at (r ∷ l) z (suc i) q h g =
-      let n = next_at l z i q h.1 g in
-      record { next = n.next; goes_on = n.goes_on; is_next = n.is_next; is_end = λ k. n.is_end (omega (arith, k)) }
-
   -- steps that lead back to their beginning join in a circle
-  all_joined : (l : List Leaving) (z : WriteAt) (p : Leaving) → AllGoOn threads x l z → z ≡ p.event → dir_at threads p.event ≡ source_of p.edge
+  all_joined : (l : List Leaving) (z : WriteAt) (p : Leaving) → AllNext (GoesOn threads x) l z → z ≡ p.event
+      → dir_at threads p.event ≡ source_of p.edge
       → source_mark p.edge ≡ Plain → is_joined (map (λ q. q.edge) l ++ p.edge ∷ []) ≡ true
   all_joined [] z p h e d m = refl
   all_joined (q ∷ []) z p h e d m =
@@ -108,16 +81,19 @@ outside_arc from to (Some w) = refl
 outside_along : (threads : List (List Access)) (link : Segment → Edge) (s : Segment) (us : List Segment) (back : WriteAt)
     → ends_outside (edges_along threads link s us back) ≡ true
 outside_along threads link s [] back =
-    outside_on (link s ∷ []) (arc_edges (dir_at threads s.last) s.middle (dir_at threads back)) (outside_arc (dir_at threads s.last) (dir_at threads back) s.middle)
+    outside_on (link s ∷ []) (arc_edges (dir_at threads s.last) s.middle (dir_at threads back))
+    (outside_arc (dir_at threads s.last) (dir_at threads back) s.middle)
 outside_along threads link s (t ∷ us) back =
-    outside_on (link s ∷ arc_edges (dir_at threads s.last) s.middle (dir_at threads t.first)) (edges_along threads link t us back) (outside_along threads link t us back)
+    outside_on (link s ∷ arc_edges (dir_at threads s.last) s.middle (dir_at threads t.first)) (edges_along threads link t us back)
+    (outside_along threads link t us back)
 
 -- where an edge to another location stands on both sides of an external edge, not all of them are in one thread
 spread_between : (e : Edge) (a b : List Edge) → is_diff e ≡ true → 0 < length b → is_diff (edge_at b 0) ≡ true → 0 < external_count (e ∷ a)
     → is_coherence_only (e ∷ a ++ b) ≡ false
 unfolding is_coherence_only moves_in
 spread_between e a b first some second out =
-    any_upto_none (λ k. count_by (λ i. is_diff (edge_at es i) && (thread_of es i == k)) (upto (length es)) == move_count es) (external_count es)
+    any_upto_none (λ k. count_by (λ i. is_diff (edge_at es i) && (thread_of es i == k)) (upto (length es)) == move_count es)
+    (external_count es)
     (λ k _. ne_eqb (count_by (λ i. is_diff (edge_at es i) && (thread_of es i == k)) (upto (length es))) (move_count es)
     (λ same. let few = fewer k in omega (arith, few, same)))
   where
@@ -144,69 +120,64 @@ spread_between e a b first some second out =
         (λ h. omega (arith, h, z, out, thread_first (e ∷ a) b m (omega arith), thread_end (e ∷ a))))
         (λ n. one_less k 0 (omega arith) first (λ h. n (sym h ∙ thread-zero es)))
 
-module _ (threads : List (List Access)) (x : Execution) (l : List Leaving) (z : WriteAt) (all : AllGoOn threads x l z) (round : begins l z ≡ z) where
-
+module _ (threads : List (List Access)) (x : Execution) (l : List Leaving) (z : WriteAt) (all : AllNext (GoesOn threads x) l z)
+    (round : begins l z ≡ z) where
   abbrev es : List Edge
-  es = map (λ q. q.edge) l
+  es = edges_in l
 
   abbrev events : List WriteAt
-  events = map (λ q. q.event) l
-
-  edge_is : (i : ℕ) (q : Leaving) → slice_get l i ≡ Some q → edge_at es i ≡ q.edge
-  edge_is i q g = get_or_from_slice_get es i q.edge (edges.Com Rf Internal) (slice_get-map (λ q. q.edge) l i ∙ ap (option_map (λ q. q.edge)) g)
-
-  below : (i : ℕ) (q : Leaving) → slice_get l i ≡ Some q → i < length es
-  below i q g = omega (arith, slice_get_within l i q g, length-map l (λ q. q.edge))
-
-  -- each edge leads from its event to the next
-  each_edge : (i : ℕ) (e f : WriteAt) → slice_get events i ≡ Some e → slice_get events (event_after es i) ≡ Some f → EdgeLeads threads x (edge_at es i) e f
-  each_edge i e f h k =
-      let q = image (λ q. q.event) l i e h in
-      let r = image (λ q. q.event) l (event_after es i) f k in
-      let n = next_at threads x l z i q.0 all q.1 in
-      let to : n.next ≡ f =
-      by_after es i (below i q.0 q.1)
-      (λ b a. let s : i + 1 ≡ suc i = omega arith in n.is_next r.0 (ap (slice_get l) (sym (a ∙ s)) ∙ r.1) ∙ r.2)
-      (λ b a. n.is_end (omega (arith, b, length-map l (λ q. q.edge))) ∙ sym round ∙ first r.0 (ap (slice_get l) (sym a) ∙ r.1) ∙ r.2) in
-      subst (λ (t : Edge × WriteAt × WriteAt). EdgeLeads threads x t.0 t.1 t.2) (λ j. (sym (edge_is i q.0 q.1) j, q.2 j, to j)) n.goes_on.leads
-    where
-      first : (r : Leaving) → slice_get l 0 ≡ Some r → begins l z ≡ r.event
-      first r g = begins_first l g
-        where
-          begins_first : (l : List Leaving) → slice_get l 0 ≡ Some r → begins l z ≡ r.event
-          begins_first [] g = cc g
-          begins_first (q ∷ l) g = let e : q ≡ r = cc g in ap (λ u. u.event) e
+  events = events_in l
 
   -- two events are in one thread, or at one location, exactly when their values are in one place of a list of different ones
   module _ (v : WriteAt → ℕ) (vs : List ℕ) (distinct : IsDistinct ◌==◌ vs) (number : ℕ → ℕ)
-    (is_at : (i : ℕ) (q : Leaving) → slice_get l i ≡ Some q → slice_get vs (number i) ≡ Some (v q.event)) where
-
+      (is_at : (i : ℕ) (q : Leaving) → slice_get l i ≡ Some q → slice_get vs (number i) ≡ Some (v q.event)) where
     alike : (i j : ℕ) (e f : WriteAt) → slice_get events i ≡ Some e → slice_get events j ≡ Some f → (v e ≡ v f) ↔ (number i ≡ number j)
     alike i j e f h k =
         let q = image (λ q. q.event) l i e h in
         let r = image (λ q. q.event) l j f k in
         let a : slice_get vs (number i) ≡ Some (v e) = is_at i q.0 q.1 ∙ ap (λ u. Some (v u)) q.2 in
-        let b : slice_get vs (number j) ≡ Some (v f) = is_at j r.0 r.1 ∙ ap (λ u. Some (v u)) r.2 in
-        (λ same. at_one_place vs (number i) (number j) (v e) distinct a (b ∙ ap Some (sym same)), λ same. (let c : Some (v e) ≡ Some (v f) = sym a ∙ ap (slice_get vs) same ∙ b in cc c))
+        let b : slice_get vs (number j) ≡ Some (v f) = is_at j r.0 r.1 ∙ ap (λ u. Some (v u)) r.2 in (
+          λ same. at_one_place vs (number i) (number j) (v e) distinct a (b ∙ ap Some (sym same)),
+          λ same.
+              (let c : Some (v e) ≡ Some (v f) = sym a ∙ ap (slice_get vs) same ∙ b in cc c),
+        )
 
-  threads_are : (ts : List ℕ) → IsResolved es → passed is_external (λ e. e.thread) l z.thread ≡ ts ++ z.thread ∷ [] → (i : ℕ) (q : Leaving) → slice_get l i ≡ Some q
+  threads_are : (ts : List ℕ) → IsResolved es → passed is_external (λ e. e.thread) l z.thread ≡ ts ++ z.thread ∷ [] → (i : ℕ) (q : Leaving)
+      → slice_get l i ≡ Some q
       → slice_get ts (thread_of es i) ≡ Some q.event.thread
   unfolding thread_of
   threads_are ts resolved are i q g =
       let n : thread_of es i < length ts =
-      omega (arith, thread_below es i resolved (below i q g), passed_count is_external (λ e. e.thread) l z.thread, ap (length {A = ℕ}) are, length-append ts (z.thread ∷ [])) in
+      omega (
+        arith,
+        thread_below es i resolved (step_below l i q g),
+        passed_count is_external (λ e. e.thread) l z.thread,
+        ap (length {A =
+            ℕ}) are,
+        length-append ts (z.thread ∷ []),
+      ) in
       sym (got_left ts (z.thread ∷ []) (thread_of es i) n) ∙ ap (λ vs. slice_get vs (thread_of es i)) (sym are)
       ∙ passed_at threads x is_external (λ e. e.thread) (λ q f g. g.in_thread) l z i q all g
 
-  places_are : (ps : List ℕ) → passed is_diff (place_at threads) l (place_at threads z) ≡ ps ++ place_at threads z ∷ [] → slice_get ps 0 ≡ Some (place_at threads z)
+  places_are : (ps : List ℕ) → passed is_diff (place_at threads) l (place_at threads z) ≡ ps ++ place_at threads z ∷ []
+      → slice_get ps 0 ≡ Some (place_at threads z)
       → (i : ℕ) (q : Leaving) → slice_get l i ≡ Some q → slice_get ps (location_of es i) ≡ Some (place_at threads q.event)
   unfolding moves_before
   places_are ps are start i q g =
       let at : slice_get (ps ++ place_at threads z ∷ []) (moves_before es i) ≡ Some (place_at threads q.event) =
-      ap (λ vs. slice_get vs (moves_before es i)) (sym are) ∙ passed_at threads x is_diff (place_at threads) (λ q f g. g.at_place) l z i q all g in
-      let count : length ps ≡ move_count es = omega (arith, passed_count is_diff (place_at threads) l (place_at threads z), ap (length {A = ℕ}) are, length-append ps (place_at threads z ∷ [])) in
-      location_cases es i (below i q g)
-      (λ m e. ap (slice_get ps) e ∙ start ∙ sym (got_end ps (place_at threads z)) ∙ ap (slice_get (ps ++ place_at threads z ∷ [])) (count ∙ sym m) ∙ at)
+      ap (λ vs. slice_get vs (moves_before es i)) (sym are)
+      ∙ passed_at threads x is_diff (place_at threads) (λ q f g. g.at_place) l z i q all g in
+      let count : length ps ≡ move_count es =
+      omega (
+        arith,
+        passed_count is_diff (place_at threads) l (place_at threads z),
+        ap (length {A =
+            ℕ}) are,
+        length-append ps (place_at threads z ∷ []),
+      ) in
+      location_cases es i (step_below l i q g)
+      (λ m e. ap (slice_get ps) e ∙ start ∙ sym (got_end ps (place_at threads z)) ∙ ap (slice_get (ps ++ place_at threads z ∷ []))
+      (count ∙ sym m) ∙ at)
       (λ m e. ap (slice_get ps) e ∙ sym (got_left ps (place_at threads z ∷ []) (moves_before es i) (omega (arith, m, count))) ∙ at)
 
 -- different numbers are different if the last comes first
@@ -226,12 +197,12 @@ arc_external dirs.R to (Some w) = omega arith
 arc_external dirs.W to (Some w) = omega arith
 
 module _ (threads : List (List Access)) (link : Segment → Edge) where
-
   some_edges : (s : Segment) (us : List Segment) (back : WriteAt) → 0 < length (edges_along threads link s us back)
   some_edges s [] back = omega arith
   some_edges s (t ∷ us) back = omega arith
 
-  first_moves : (s : Segment) (us : List Segment) (back : WriteAt) → FitsSegment threads (link s) s → is_diff (edge_at (edges_along threads link s us back) 0) ≡ true
+  first_moves : (s : Segment) (us : List Segment) (back : WriteAt) → FitsSegment threads (link s) s
+      → is_diff (edge_at (edges_along threads link s us back) 0) ≡ true
   first_moves s [] back fits = moves (link s) fits.moves
   first_moves s (t ∷ us) back fits = moves (link s) fits.moves
 
@@ -245,20 +216,22 @@ record Linked (threads : List (List Access)) (x : Execution) (link : Segment →
   few : length (edges_along threads link s us s.first) ≤ MAX_EDGES
 
 module _ (threads : List (List Access)) (x : Execution) (held : Held threads x) (link : Segment → Edge) where
-
   -- where arcs lead, they began
-  arc_places : (s : Segment) (us : List Segment) (back : WriteAt) → AreArcs threads x s us back
+  pub arc_places : (s : Segment) (us : List Segment) (back : WriteAt) → AreArcs threads x s us back
       → map (λ t. place_at threads t.last) (s ∷ us) ≡ map (λ t. place_at threads t.first) us ++ place_at threads back ∷ []
   arc_places s [] back h = ap (λ p. p ∷ []) (goes threads x held s.last back s.middle h).places
   arc_places s (t ∷ us) back h = cc ((goes threads x held s.last t.first s.middle h.0).places, arc_places t us back h.1)
 
   -- the edges make a resolved cycle
-  resolved : (s t : Segment) (us : List Segment) → Linked threads x link s (t ∷ us) → IsResolved (map (λ q. q.edge) (steps_along threads link s (t ∷ us) s.first))
+  resolved : (s t : Segment) (us : List Segment) → Linked threads x link s (t ∷ us)
+      → IsResolved (map (λ q. q.edge) (steps_along threads link s (t ∷ us) s.first))
   resolved s t us c = record {
     composes = record {
       some = omega arith;
       few = omega (arith, c.few, ap (length {A = Edge}) (edges_are threads link s (t ∷ us) s.first));
-      closed = all_joined threads x l s.first (leaving (link s) s.first) (all_go_on threads x held link s (t ∷ us) s.first c.moving c.fits c.arcs) refl c.fits.0.leaves c.fits.0.leaves_plain;
+      closed =
+          all_joined threads x l s.first (leaving (link s) s.first) (all_go_on threads x held link s
+          (t ∷ us) s.first c.moving c.fits c.arcs) refl c.fits.0.leaves c.fits.0.leaves_plain;
     };
     outside = ap ends_outside (edges_are threads link s (t ∷ us) s.first) ∙ outside_along threads link s (t ∷ us) s.first;
     threads =
@@ -272,9 +245,15 @@ module _ (threads : List (List Access)) (x : Execution) (held : Held threads x) 
         );
     spread =
         ap is_coherence_only (edges_are threads link s (t ∷ us) s.first)
-        ∙ spread_between (link s) arc (edges_along threads link t us s.first) (moves (link s) c.fits.0.moves) (some_edges threads link t us s.first)
+        ∙ spread_between (link s) arc (edges_along threads link t us s.first) (moves (link s) c.fits.0.moves)
+        (some_edges threads link t us s.first)
         (first_moves threads link t us s.first c.fits.1.0)
-        (omega (arith, arc_external (dir_at threads s.last) (dir_at threads t.first) s.middle, sum_by-cons (λ e. cond (is_external e) 1 0) (link s) arc));
+        (omega (
+          arith,
+          arc_external (dir_at threads s.last) (dir_at threads t.first) s.middle,
+          sum_by-cons (λ e. cond (is_external e) 1 0)
+              (link s) arc,
+        ));
   }
     where
       l : List Leaving
@@ -301,12 +280,13 @@ module _ (threads : List (List Access)) (x : Execution) (held : Held threads x) 
         resolved = r;
         count = length-map l (λ q. q.event) ∙ sym (length-map l (λ q. q.edge));
         exist = λ i e h. (let q = image (λ q. q.event) l i e h in
-            subst (Exists threads) q.2 (next_at threads x l s.first i q.0 all q.1).goes_on.exists);
-        each_edge = each_edge threads x l s.first all refl;
+            subst (Exists threads) q.2 (next_at (GoesOn threads x) l s.first i q.0 all q.1).holds.exists);
+        each_edge = λ i e f h k. (each_next l (GoesOn threads x) s.first all refl i e f h k).leads;
         one_thread = alike threads x l s.first all refl (λ e. e.thread) ts c.threads_differ (thread_of (map (λ q. q.edge) l))
             (threads_are threads x l s.first all refl ts r (threads_passed threads link s (t ∷ us) s.first s.first.thread c.moving c.fits));
         one_place = alike threads x l s.first all refl (place_at threads) ps places (location_of (map (λ q. q.edge) l))
-            (places_are threads x l s.first all refl ps (places_passed threads link s (t ∷ us) s.first (place_at threads s.first) c.fits) refl);
+            (places_are threads x l s.first all refl ps (places_passed threads link s (t ∷ us) s.first
+            (place_at threads s.first) c.fits) refl);
       })
 
   linked_events : (s : Segment) (us : List Segment) → 0 < length us → Linked threads x link s us
@@ -320,14 +300,24 @@ pub cycle_events : (threads : List (List Access)) (x : Execution) → Held threa
     → AreEvents threads x (linked_edges link c) (critical_events c)
 cycle_events threads x held link c fits few =
     linked_events threads x held link c.start c.others c.two
-    (record { moving = c.segments; arcs = c.arcs; fits = fits; threads_differ = c.threads_differ; places_differ = c.places_differ; few = few })
+    (record {
+      moving = c.segments;
+      arcs = c.arcs;
+      fits = fits;
+      threads_differ = c.threads_differ;
+      places_differ = c.places_differ;
+      few = few;
+    })
 
 -- plain program order fits each segment
-all_plain : (threads : List (List Access)) (us : List Segment) → AllByRecursion (λ t. FitsSegment threads (plain_edge threads t) t) us
-all_plain threads [] = tt
-all_plain threads (s ∷ us) =
-    (record { inside = refl; moves = refl; leaves = refl; enters = refl; leaves_plain = refl; enters_plain = refl }, all_plain threads us)
+pub plain_fits : (threads : List (List Access)) (s : Segment) → FitsSegment threads (plain_edge threads s) s
+plain_fits threads s = record { inside = refl; moves = refl; leaves = refl; enters = refl; leaves_plain = refl; enters_plain = refl }
 
-pub critical_events_are : (threads : List (List Access)) (x : Execution) → Held threads x → (c : CriticalCycle threads x) → length (critical_edges c) ≤ MAX_EDGES
+pub all_plain : (threads : List (List Access)) (us : List Segment) → AllByRecursion (λ t. FitsSegment threads (plain_edge threads t) t) us
+all_plain threads [] = tt
+all_plain threads (s ∷ us) = (plain_fits threads s, all_plain threads us)
+
+pub critical_events_are : (threads : List (List Access)) (x : Execution) → Held threads x → (c : CriticalCycle threads x)
+    → length (critical_edges c) ≤ MAX_EDGES
     → AreEvents threads x (critical_edges c) (critical_events c)
 critical_events_are threads x held c few = cycle_events threads x held (plain_edge threads) c (all_plain threads (c.start ∷ c.others)) few

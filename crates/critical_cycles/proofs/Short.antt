@@ -1,5 +1,8 @@
 -- A critical cycle goes through at most as many threads as there are, and has at most twice as many edges.
-use Rattle.critical_cycles.proofs.Vocabulary.{◌≡◌, ℕ, ◌+◌, ◌<◌, ◌≤◌, Bool, true, ◌==◌, List, [], ◌∷◌, ◌++◌, length, Option, Some, None, slice_get, arith, inr, eqb-true, by_test, AllByRecursion, all_append, flat_map, list_any, WriteAt, Access, at_name, Dir, Edge, Execution, Held, AreArcs, CriticalCycle, IsArc, Moves, Segment, dir_at, threads_of}
+use Rattle.critical_cycles.proofs.Vocabulary.{◌≡◌, ℕ, ◌+◌, ◌<◌, ◌≤◌, true, ◌==◌, List, [], ◌∷◌, length, Option, Some, None, slice_get}
+use Rattle.critical_cycles.proofs.Vocabulary.{arith, inr, eqb-true, by_test, AllByRecursion, all_append, flat_map, list_any, WriteAt}
+use Rattle.critical_cycles.proofs.Vocabulary.{Access, Dir, Edge, Execution, Held, AreArcs, CriticalCycle, IsArc, Moves, Segment, dir_at}
+use Rattle.critical_cycles.proofs.Vocabulary.{threads_of}
 use Rattle.std.proofs.{Common.length-append, lemmas.Map.Steps.length-le_from_distinct_below, lemmas.Option.slice_get_within}
 use Rattle.program_meaning.proofs.Names.{got_from_list}
 use Rattle.critical_cycles.proofs.Keys.{Exists, arc_goes}
@@ -16,9 +19,9 @@ any_below n q [] h t = cc
 any_below n q (p ∷ ps) h t = by_test (q == p) (λ e. omega (arith, h.0, eqb-true q p e)) (λ e. any_below n q ps h.1 (cc))
 
 module _ (threads : List (List Access)) (x : Execution) (held : Held threads x) where
-
   -- the threads of a segment and the middle write after it exist
-  of_segment : (a b : WriteAt) (m : Option WriteAt) (f : WriteAt) → Moves threads (record { first = a; last = b; middle = m }) → IsArc threads x b m f
+  of_segment : (a b : WriteAt) (m : Option WriteAt) (f : WriteAt) → Moves threads (record { first = a; last = b; middle = m })
+      → IsArc threads x b m f
       → AllByRecursion (λ p. p < length threads) (threads_of (record { first = a; last = b; middle = m }))
   of_segment a b None f m h = (thread_exists threads a m.order.first, tt)
   of_segment a b (Some w) f m h =
@@ -34,10 +37,13 @@ module _ (threads : List (List Access)) (x : Execution) (held : Held threads x) 
   pub thread_count : (c : CriticalCycle threads x) → length (flat_map threads_of (c.start ∷ c.others)) ≤ length threads
   thread_count c =
       length-le_from_distinct_below (flat_map threads_of (c.start ∷ c.others)) (length threads) c.threads_differ
-      (λ q t. any_below (length threads) q (flat_map threads_of (c.start ∷ c.others)) (all_below c.start c.others c.start.first c.segments c.arcs) t)
+      (λ q t. any_below (length threads) q (flat_map threads_of (c.start ∷ c.others))
+      (all_below c.start c.others c.start.first c.segments c.arcs) t)
 
 -- a segment with the arc after it has at most two edges for each of its threads
-arc_count : (from to : Dir) (a b : WriteAt) (m : Option WriteAt) → 1 + length (arc_edges from m to) ≤ length (threads_of (record { first = a; last = b; middle = m })) + length (threads_of (record { first = a; last = b; middle = m }))
+arc_count : (from to : Dir) (a b : WriteAt) (m : Option WriteAt)
+    → 1 + length (arc_edges from m to)
+    ≤ length (threads_of (record { first = a; last = b; middle = m })) + length (threads_of (record { first = a; last = b; middle = m }))
 arc_count from dirs.R a b None = omega arith
 arc_count from dirs.W a b None = omega arith
 arc_count from to a b (Some w) = omega arith
@@ -55,7 +61,8 @@ edge_count threads link s (t ∷ us) a =
       edge_count threads link t us a,
     )
 
-pub critical_is_short : (threads : List (List Access)) (x : Execution) → Held threads x → (c : CriticalCycle threads x) → IsWithinThreads threads x c
+pub critical_is_short : (threads : List (List Access)) (x : Execution) → Held threads x → (c : CriticalCycle threads x)
+    → IsWithinThreads threads x c
 critical_is_short threads x held c =
     record {
       thread_count = thread_count threads x held c;

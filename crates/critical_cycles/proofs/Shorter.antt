@@ -1,8 +1,10 @@
 -- A closed way that isn't critical has a shorter one: where two of its segments are in one thread or at one location, or a middle write
 -- is in the thread of a segment or of another middle write.
-use Rattle.critical_cycles.proofs.Vocabulary.{◌≡◌, ℕ, ◌+◌, ◌<◌, ◌≤◌, List, [], ◌∷◌, ◌++◌, Option, Some, None, inl, inr, sym, ◌∙◌, ap, subst, arith, by_less, WriteAt, Access, Execution, ReadsFrom, IsArc, IsBeforeWrite, Segment, place_at}
+use Rattle.critical_cycles.proofs.Vocabulary.{◌≡◌, ℕ, ◌+◌, ◌<◌, ◌≤◌, List, [], ◌∷◌, ◌++◌, Some, None, inl, inr, sym, ◌∙◌, ap, subst, arith}
+use Rattle.critical_cycles.proofs.Vocabulary.{by_less, WriteAt, Access, Execution, ReadsFrom, IsArc, IsBeforeWrite, Segment, place_at}
 use Rattle.critical_cycles.proofs.Keys.{Exists, Goes, key_at, arc_goes, arrives}
-use Rattle.critical_cycles.proofs.Ways.{Facts, IsWithin, Way, few, first_arc, goes, joined, keeps, leaving, leaving_by, more, segment, size, size-append, within}
+use Rattle.critical_cycles.proofs.Ways.{Facts, Way, few, first_arc, goes, joined, keeps, leaving, leaving_by, more, segment, size}
+use Rattle.critical_cycles.proofs.Ways.{size-append, within}
 
 -- a way back to its own beginning
 abbrev pub Closed : List (List Access) → Execution → Segment → List Segment → Type 0
@@ -16,7 +18,8 @@ pub record Shorter (threads : List (List Access)) (x : Execution) (n : ℕ) : Ty
   pub fewer : size (start ∷ others) < n
 
 -- a closed way that is cut at two of its segments
-pub record Around (threads : List (List Access)) (x : Execution) (s : Segment) (us : List Segment) (t : Segment) (vs : List Segment) : Type 0 where
+pub record Around (threads : List (List Access)) (x : Execution) (s : Segment) (us : List Segment) (t : Segment)
+    (vs : List Segment) : Type 0 where
   pub there : Way threads x s us t.first
   pub back : Way threads x t vs s.first
 
@@ -32,7 +35,6 @@ record Middle (threads : List (List Access)) (x : Execution) (s : Segment) (w : 
   read : (f : WriteAt) → IsArc threads x s.last s.middle f → ReadsFrom threads x w f
 
 module _ (threads : List (List Access)) (x : Execution) (facts : Facts threads x) where
-
   middle_of : (s : Segment) (us : List Segment) (a w : WriteAt) → Way threads x s us a → s.middle ≡ Some w → Middle threads x s w
   middle_of s us a w h e =
       let parts : (f : WriteAt) → IsArc threads x s.last s.middle f → IsBeforeWrite threads x s.last w × ReadsFrom threads x w f =
@@ -51,7 +53,8 @@ module _ (threads : List (List Access)) (x : Execution) (facts : Facts threads x
   turned s us t vs h = record { there = h.back; back = h.there }
 
   -- two segments of one thread: from the first access of one to the last of the other
-  pub one_thread : (s : Segment) (us : List Segment) (t : Segment) (vs : List Segment) → Around threads x s us t vs → s.first.thread ≡ t.first.thread
+  pub one_thread : (s : Segment) (us : List Segment) (t : Segment) (vs : List Segment) → Around threads x s us t vs
+      → s.first.thread ≡ t.first.thread
       → Shorter threads x (size_around s us t vs)
   one_thread s us t vs h same =
       let p = within threads x s us t.first h.there in
@@ -61,7 +64,8 @@ module _ (threads : List (List Access)) (x : Execution) (facts : Facts threads x
         start = segment t.first s.last s.middle;
         others = us;
         closed = leaving threads x s (segment t.first s.last s.middle) us t.first h.there
-            (record { first = q.first; last = p.last; thread = sym same ∙ p.thread; order = omega (arith, p.order, q.order, l) }) (λ f arc. arc);
+            (record { first = q.first; last = p.last; thread = sym same ∙ p.thread; order = omega (arith, p.order, q.order, l) })
+            (λ f arc. arc);
         fewer = omega arith;
       })
       (λ g. record {
@@ -73,7 +77,8 @@ module _ (threads : List (List Access)) (x : Execution) (facts : Facts threads x
       })
 
   -- two arcs of one location: from the access of the lesser key where the other leads
-  lower : (s : Segment) (us : List Segment) (t : Segment) (vs : List Segment) → Around threads x s us t vs → place_at threads s.last ≡ place_at threads t.last
+  lower : (s : Segment) (us : List Segment) (t : Segment) (vs : List Segment) → Around threads x s us t vs
+      → place_at threads s.last ≡ place_at threads t.last
       → key_at threads x s.last ≤ key_at threads x t.last → Shorter threads x (size_around s us t vs)
   lower s us t vs h same l =
       let p = within threads x s us t.first h.there in
@@ -83,7 +88,8 @@ module _ (threads : List (List Access)) (x : Execution) (facts : Facts threads x
       (record { first = p.last; second = g.second; places = same ∙ g.places; rises = omega (arith, l, g.rises) })) in
       record { start = segment s.first s.last r.0; others = vs; closed = r.1; fewer = omega (arith, few r.0) }
 
-  pub one_place : (s : Segment) (us : List Segment) (t : Segment) (vs : List Segment) → Around threads x s us t vs → place_at threads s.last ≡ place_at threads t.last
+  pub one_place : (s : Segment) (us : List Segment) (t : Segment) (vs : List Segment) → Around threads x s us t vs
+      → place_at threads s.last ≡ place_at threads t.last
       → Shorter threads x (size_around s us t vs)
   one_place s us t vs h same =
       by_less (key_at threads x s.last) (key_at threads x t.last)
@@ -94,7 +100,8 @@ module _ (threads : List (List Access)) (x : Execution) (facts : Facts threads x
       swapped r = record { start = r.start; others = r.others; closed = r.closed; fewer = omega (arith, r.fewer) }
 
   -- a middle write in the thread of another segment: on to the end of that segment, or from its beginning
-  pub middle_there : (s : Segment) (us : List Segment) (t : Segment) (vs : List Segment) (w : WriteAt) → Around threads x s us t vs → s.middle ≡ Some w
+  pub middle_there : (s : Segment) (us : List Segment) (t : Segment) (vs : List Segment) (w : WriteAt) → Around threads x s us t vs
+      → s.middle ≡ Some w
       → w.thread ≡ t.first.thread → Shorter threads x (size_around s us t vs)
   middle_there s us t vs w h e same =
       let m = middle_of s us t.first w h.there e in
@@ -105,7 +112,8 @@ module _ (threads : List (List Access)) (x : Execution) (facts : Facts threads x
         start = segment t.first w None;
         others = us;
         closed = leaving threads x s (segment t.first w None) us t.first h.there
-            (record { first = q.first; last = m.exists; thread = sym same; order = omega (arith, q.order, l) }) (λ f arc. inl (m.read f arc));
+            (record { first = q.first; last = m.exists; thread = sym same; order = omega (arith, q.order, l) })
+            (λ f arc. inl (m.read f arc));
         fewer = omega arith;
       })
       (λ g. record {
@@ -119,7 +127,8 @@ module _ (threads : List (List Access)) (x : Execution) (facts : Facts threads x
       })
 
   -- two middle writes in one thread: a segment from one to the other
-  pub middles : (s : Segment) (us : List Segment) (t : Segment) (vs : List Segment) (w v : WriteAt) → Around threads x s us t vs → s.middle ≡ Some w → t.middle ≡ Some v
+  pub middles : (s : Segment) (us : List Segment) (t : Segment) (vs : List Segment) (w v : WriteAt) → Around threads x s us t vs
+      → s.middle ≡ Some w → t.middle ≡ Some v
       → w.thread ≡ v.thread → w.access ≤ v.access → Shorter threads x (size_around s us t vs)
   middles s us t vs w v h d e same l =
       let m = middle_of s us t.first w h.there d in
@@ -141,8 +150,12 @@ module _ (threads : List (List Access)) (x : Execution) (facts : Facts threads x
       let m = middle_of s us s.first w h e in
       let p = within threads x s us s.first h in
       by_less w.access s.first.access
-      (λ l. absurd (omega (arith, m.rises.rises, keeps threads x facts w s.last
-      (record { first = m.exists; last = p.last; thread = same ∙ p.thread; order = omega (arith, p.order, l) }) (sym m.rises.places))))
+      (λ l. absurd (omega (
+        arith,
+        m.rises.rises,
+        keeps threads x facts w s.last
+            (record { first = m.exists; last = p.last; thread = same ∙ p.thread; order = omega (arith, p.order, l) }) (sym m.rises.places),
+      )))
       (λ g. record {
         start = segment s.first w None;
         others = us;

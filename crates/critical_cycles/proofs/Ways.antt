@@ -1,7 +1,9 @@
--- Ways: segments and the arcs between them, where the two accesses of a segment may be one, or at one location. A way may begin with another
+-- Ways: segments and the arcs between them, where the two accesses of a segment may be one, or at one location. A way may begin with
+-- another
 -- segment that leads on to the same access, and ways that meet join.
-use Rattle.critical_cycles.proofs.Vocabulary.{◌≡◌, ℕ, ◌+◌, ◌<◌, ◌≤◌, List, [], ◌∷◌, ◌++◌, Option, Some, None, inl, inr, ◌∙◌, ap, arith, by_same, WriteAt, Access, Execution, IsCoherent, Held, Precedes, IsArc, Segment, place_at}
-use Rattle.critical_cycles.proofs.Keys.{Arc, Exists, Goes, key_at, arc_goes, arrives, stays}
+use Rattle.critical_cycles.proofs.Vocabulary.{◌≡◌, ℕ, ◌+◌, ◌≤◌, List, [], ◌∷◌, ◌++◌, Option, Some, None, inl, inr, ◌∙◌, ap, arith, by_same}
+use Rattle.critical_cycles.proofs.Vocabulary.{WriteAt, Access, Execution, IsCoherent, Held, IsArc, Segment, place_at}
+use Rattle.critical_cycles.proofs.Keys.{Arc, Exists, Goes, key_at, arc_goes, stays}
 
 -- what is needed of an execution
 pub record Facts (threads : List (List Access)) (x : Execution) : Type 0 where
@@ -42,7 +44,6 @@ few None = omega arith
 few (Some w) = omega arith
 
 module _ (threads : List (List Access)) (x : Execution) where
-
   -- the first segment of a way
   pub within : (s : Segment) (us : List Segment) (a : WriteAt) → Way threads x s us a → IsWithin threads s.first s.last
   within s [] a h = h.0
@@ -60,19 +61,22 @@ module _ (threads : List (List Access)) (x : Execution) where
   leaving s t (u ∷ us) a h w on = (w, on u.first h.1, h.2)
 
   -- and with some arc to it
-  pub leaving_by : (s : Segment) (first last : WriteAt) (us : List Segment) (a : WriteAt) → Way threads x s us a → IsWithin threads first last
+  pub leaving_by : (s : Segment) (first last : WriteAt) (us : List Segment) (a : WriteAt) → Way threads x s us a
+      → IsWithin threads first last
       → ((f : WriteAt) → IsArc threads x s.last s.middle f → Arc threads x last f)
       → (m : Option WriteAt) × Way threads x (segment first last m) us a
   leaving_by s first last [] a h w on = let r = on a h.1 in (r.0, (w, r.1))
   leaving_by s first last (u ∷ us) a h w on = let r = on u.first h.1 in (r.0, (w, r.1, h.2))
 
   -- ways that meet join
-  pub joined : (t s : Segment) (us vs : List Segment) (a : WriteAt) → Way threads x t us s.first → Way threads x s vs a → Way threads x t (us ++ s ∷ vs) a
+  pub joined : (t s : Segment) (us vs : List Segment) (a : WriteAt) → Way threads x t us s.first → Way threads x s vs a
+      → Way threads x t (us ++ s ∷ vs) a
   joined t s [] vs a h k = (h.0, h.1, k)
   joined t s (u ∷ us) vs a h k = (h.0, h.1, joined u s us vs a h.2 k)
 
   -- along a thread, the key of a location doesn't fall
-  pub keeps : Facts threads x → (e f : WriteAt) → IsWithin threads e f → place_at threads e ≡ place_at threads f → key_at threads x e ≤ key_at threads x f
+  pub keeps : Facts threads x → (e f : WriteAt) → IsWithin threads e f → place_at threads e ≡ place_at threads f
+      → key_at threads x e ≤ key_at threads x f
   keeps facts e f w same =
       by_same e.access f.access
       (λ s. let thread : e.thread ≡ f.thread = w.thread in

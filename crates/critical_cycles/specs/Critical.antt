@@ -2,7 +2,8 @@
 -- segments, each of two accesses of a thread at two locations, and along arcs between them, each of communications at one location.
 -- Source: Shasha and Snir, 'Efficient and Correct Execution of Parallel Programs that Share Memory', 1988, for conflicts between
 -- accesses; with the relations of an execution as in Alglave, Maranget and Tautschnig, 'Herding Cats', 2014.
-use Rattle.std.specs.{Prelude.{ℕ, ◌≢◌, ◌<◌, ◌==◌, ◌⊎◌, List, [], ◌∷◌, length, map, Option, Some, None}, List.{flat_map, IsDistinct, AllByRecursion}}
+use Rattle.std.specs.Prelude.{ℕ, ◌≢◌, ◌<◌, ◌==◌, ◌⊎◌, List, [], ◌∷◌, length, map, Option, Some, None}
+use Rattle.std.specs.List.{flat_map, IsDistinct, AllByRecursion}
 use Rattle.relax_edges.specs.declared.kinds.Dir.{Dir}
 use Rattle.relax_edges.specs.declared.kinds.Dir.TheVariants as dirs
 use Rattle.program_meaning.specs.{declared.WriteAt.WriteAt, Accesses.{Access, at_name}, Executions.Execution}
@@ -61,7 +62,7 @@ threads_of s = s.first.thread ∷ thread_of_middle s.middle
     thread_of_middle (Some w) = w.thread ∷ []
 
 -- a critical cycle: two segments or more, and arcs that lead from each to the next and back to the first. All segments and middle
--- writes are in different threads, and all arcs at different locations
+-- writes are in different threads. All arcs are at different locations; that of an arc is where the segment before it ends
 pub record CriticalCycle (threads : List (List Access)) (x : Execution) : Type 0 where
   pub start : Segment
   pub others : List Segment

@@ -1,7 +1,8 @@
 -- The edges of a critical cycle, and its accesses as the events of a cycle of edges.
 -- Source: the names of edges in the diy part of the herdtools manual; own.
 use Rattle.std.specs.{Prelude.{ℕ, ◌≡◌, ◌↔◌, List, [], ◌∷◌, ◌++◌, length, Option, Some, None, slice_get}, List.flat_map}
-use Rattle.relax_edges.specs.{declared.kinds.Dir.Dir, declared.kinds.Kind.Kind, declared.edge.Edge.Edge, EdgeTable.{source_of, target_of, sd_of, kind_of}}
+use Rattle.relax_edges.specs.{declared.kinds.Dir.Dir, declared.kinds.Kind.Kind, declared.edge.Edge.Edge}
+use Rattle.relax_edges.specs.EdgeTable.{source_of, target_of, sd_of, kind_of}
 use Rattle.relax_edges.specs.NamedEdges.{pod, rfe, fre, wse}
 use Rattle.relax_edges.specs.declared.kinds.Dir.TheVariants as dirs
 use Rattle.relax_edges.specs.declared.kinds.Com.TheVariants as coms
@@ -20,7 +21,8 @@ abbrev pub edge_to_write : Dir → Edge
 edge_to_write dirs.R = fre
 edge_to_write dirs.W = wse
 
--- the edges of an arc, by what the accesses at its ends do: reads-from into a read, else that to a write; two with a middle write
+-- the edges of an arc, by what the accesses at its ends do: into a read, reads-from; into a write, as above; and with a middle write,
+-- one edge to it and then reads-from
 abbrev pub arc_edges : Dir → Option WriteAt → Dir → List Edge
 arc_edges from None dirs.R = rfe ∷ []
 arc_edges from None dirs.W = edge_to_write from ∷ []
@@ -77,6 +79,9 @@ pub record AreEvents (threads : List (List Access)) (x : Execution) (es : List E
   pub resolved : IsResolved es
   pub count : length events ≡ length es
   pub exist : (i : ℕ) (e : WriteAt) → slice_get events i ≡ Some e → (access : Access) × (at_name threads e ≡ Some access)
-  pub each_edge : (i : ℕ) (e f : WriteAt) → slice_get events i ≡ Some e → slice_get events (event_after es i) ≡ Some f → EdgeLeads threads x (edge_at es i) e f
-  pub one_thread : (i j : ℕ) (e f : WriteAt) → slice_get events i ≡ Some e → slice_get events j ≡ Some f → (e.thread ≡ f.thread) ↔ (thread_of es i ≡ thread_of es j)
-  pub one_place : (i j : ℕ) (e f : WriteAt) → slice_get events i ≡ Some e → slice_get events j ≡ Some f → (place_at threads e ≡ place_at threads f) ↔ (location_of es i ≡ location_of es j)
+  pub each_edge : (i : ℕ) (e f : WriteAt) → slice_get events i ≡ Some e → slice_get events (event_after es i) ≡ Some f
+      → EdgeLeads threads x (edge_at es i) e f
+  pub one_thread : (i j : ℕ) (e f : WriteAt) → slice_get events i ≡ Some e → slice_get events j ≡ Some f
+      → (e.thread ≡ f.thread) ↔ (thread_of es i ≡ thread_of es j)
+  pub one_place : (i j : ℕ) (e f : WriteAt) → slice_get events i ≡ Some e → slice_get events j ≡ Some f
+      → (place_at threads e ≡ place_at threads f) ↔ (location_of es i ≡ location_of es j)

@@ -1,11 +1,18 @@
 //! Critical cycles as cycles of edges: the accesses are the events, and with two threads there are six.
 
 ghost use Rattle.critical_cycles.specs.CriticalLaws.{CandidatesShowCycles, CriticalCyclesHaveEvents, TwoThreadsShowSix};
+ghost use Rattle.critical_cycles.specs.Links.{LinkedCyclesHaveEvents};
 
 /// The accesses of a critical cycle are the events of its edges: `Pod**` for each segment, and external
 /// communications for each arc.
 pub fn critical_cycles_have_events()
     ensures { CriticalCyclesHaveEvents }
+{}
+
+/// With any choice of links between neighbours in place of `Pod**`, the accesses of a critical cycle are the
+/// events of these edges.
+pub fn linked_cycles_have_events()
+    ensures { LinkedCyclesHaveEvents }
 {}
 
 /// Each coherent candidate execution of a program, whose writes are to the program's locations, is
