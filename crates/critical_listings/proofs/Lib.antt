@@ -12,3 +12,4 @@ pub mod Small
 pub mod Listing
 pub mod SixListed
 pub mod Rooms
+pub mod Converse

@@ -56,7 +56,8 @@ two_relaxes = refl
 long_relaxes : list_all (λ r. nat_le 2 (length r)) critical_relaxes ≡ true
 long_relaxes = refl
 
-long_relax : (r : List Edge) → IsOneOf critical_relaxes r → 2 ≤ length r
+-- each relaxation has two edges or more
+pub long_relax : (r : List Edge) → IsOneOf critical_relaxes r → 2 ≤ length r
 long_relax r o = leb-true 2 (length r) (one_of_passes (λ u. nat_le 2 (length u)) critical_relaxes r long_relaxes o)
 
 no_other : (parts : List (List Edge)) → AllByRecursion (IsOneOf critical_relaxes) parts → 0 < length (concatenated parts) → length (concatenated parts) ≤ 4 → is_no_other (concatenated parts) ≡ true

@@ -88,10 +88,10 @@ six_planned plan allows u o =
     let t = one_of_all IsTurned six_cycles u turned_six o in
     planned_turned plan 2 t.from t.edges u allows t.chain t.resolved t.short t.few t.rotation t.normal
 
--- a cycle with a test has a resolution
-record HasResolution (u : List Edge) : Type 0 where
-  threads : 2 ≤ external_count u
-  spread : is_coherence_only (turned u) ≡ false
+-- a cycle that resolves has two threads, of which none makes all moves
+pub record HasResolution (u : List Edge) : Type 0 where
+  pub threads : 2 ≤ external_count u
+  pub spread : is_coherence_only (turned u) ≡ false
 
 has_resolution : (u : List Edge) (fs : List Edge) → resolution_of u ≡ Ok fs → HasResolution u
 has_resolution u fs e =
@@ -101,7 +101,8 @@ has_resolution u fs e =
     (λ t. grind (arith, t, f, e))
     (λ s. record { threads = ltb-false (external_count u) 2 f; spread = s }))
 
-tested_resolves : (a : Puts) (u : List Edge) (mode : ObsMode) → refusal_of a u mode ≡ None → HasResolution u
+-- and so has one that has a test
+pub tested_resolves : (a : Puts) (u : List Edge) (mode : ObsMode) → refusal_of a u mode ≡ None → HasResolution u
 tested_resolves a u mode h =
     by_resolution (resolution_of u) refl (neither (foreign_edge a.name u) (resolved_refusal a (resolution_of u) mode) h).1
   where

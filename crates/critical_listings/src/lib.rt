@@ -7,6 +7,8 @@ mod relaxations;
 mod two_threads;
 
 pub use architectures::architectures_have_room;
-pub use listings::{cycles_are_listed, cycles_have_tests, listings_show_all};
+pub use listings::{
+    cycles_are_listed, cycles_have_tests, listed_cycles_are_critical, listings_show_all,
+};
 pub use relaxations::{cycles_are_made, text_is_read};
 pub use two_threads::{two_threads_list_six, two_threads_show};

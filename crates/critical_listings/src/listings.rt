@@ -1,6 +1,6 @@
 //! The listings that have a test of every critical cycle, and what follows for all programs.
 
-ghost use Rattle.critical_listings.specs.{Accepted.{CyclesHaveTests}, Listed.{CyclesAreListed, ListingsShowAll}};
+ghost use Rattle.critical_listings.specs.{Accepted.{CyclesHaveTests}, Converse.{ListedCyclesAreCritical}, Listed.{CyclesAreListed, ListingsShowAll}};
 
 /// On an architecture with room for two accesses a thread, the edges of each critical cycle have a test,
 /// whatever the mode.
@@ -19,4 +19,10 @@ pub fn cycles_are_listed()
 #[tactic(auto, using(crate::proofs::Listing::listings_show_all))]
 pub fn listings_show_all()
     ensures { ListingsShowAll }
+{}
+
+/// And each cycle that such a listing has is critical: wherever accesses are its events, they are those of a
+/// critical cycle with its edges.
+pub fn listed_cycles_are_critical()
+    ensures { ListedCyclesAreCritical }
 {}
