@@ -8,7 +8,8 @@ files() {
     echo "644 libexec/diy-proved/version version"
     echo "755 libexec/diy-proved/edges copy $top/share/completions/edges"
     echo "644 libexec/diy-proved/help/kinds copy $top/share/help/kinds"
-    for file in gallery page.css page.js; do
+    echo "755 libexec/diy-proved/gallery/gallery copy $top/share/gallery/gallery"
+    for file in page.css page.js; do
         echo "644 libexec/diy-proved/gallery/$file copy $top/share/gallery/$file"
     done
     for tool in $commands; do
