@@ -23,8 +23,8 @@
             card.article.hidden = !isShown;
             count += isShown;
         }
-        const all = cards.length === 1 ? "1 test" : `${cards.length} tests`;
-        status.textContent = count === cards.length ? all : `${count} of ${all}`;
+        const all = cards.length === 1 ? "1 test" : `${cards.length.toLocaleString("en")} tests`;
+        status.textContent = count === cards.length ? all : `${count.toLocaleString("en")} of ${all}`;
         for (const button of buttons) button.setAttribute("aria-pressed", String(chosen[button.dataset.k] === button.dataset.v));
     };
 
