@@ -1,7 +1,7 @@
 # Calls a tool: its help, its version, or the program. If standard error is a terminal, a further line there says what to do about an error,
 # or which logs have no test. (read by ../../diy, and by the commands that ./diy install makes)
-# Set before it is called: program; gallery, the script of the page; help, the folder of the help; pages, the folder of the documentation; and
-# the function print_version.
+# Set before it is called: program; gallery, the script of the page; help, the folder of the help; pages, the folder of the documentation;
+# and the function print_version.
 
 call_tool() {
     find_request "$@"
@@ -28,7 +28,10 @@ call_tool() {
 # Runs the script that makes the page, over the program.
 call_gallery() {
     shift
-    python3 -c 'import sys; sys.exit(sys.version_info < (3, 8))' 2>/dev/null || { echo 'diy-gallery: needs the command python3, version 3.8 or later' >&2; exit 69; }
+    python3 -c 'import sys; sys.exit(sys.version_info < (3, 8))' 2>/dev/null || {
+        echo 'diy-gallery: needs the command python3, version 3.8 or later' >&2
+        exit 69
+    }
     exec python3 "$gallery" "$program" "$(print_version)" "$@"
 }
 
