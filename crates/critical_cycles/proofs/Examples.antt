@@ -47,14 +47,23 @@ buffered-critical = record {
   others = record { first = name 1 0; last = name 1 1; middle = None } ∷ [];
   two = omega arith;
   segments = (
-    record { order = record { first = (write 0 1, refl); second = (read 1 0, refl); thread = refl; earlier = omega arith };
-    places = λ e. cc e },
-    (record { order = record { first = (write 1 1, refl); second = (read 0 0, refl); thread = refl; earlier = omega arith };
-    places = λ e. cc e }, tt),
+    record {
+      order = record { first = (write 0 1, refl); second = (read 1 0, refl); thread = refl; earlier = omega arith };
+      places = λ e. cc e;
+    },
+    (
+      record {
+        order = record { first = (write 1 1, refl); second = (read 0 0, refl); thread = refl; earlier = omega arith };
+        places = λ e. cc e;
+      },
+      tt,
+    ),
   );
-  arcs =
-      (inr (inr (record { place = 1; reads = (0, refl); before = (1, refl) })), inr
-      (inr (record { place = 0; reads = (0, refl); before = (1, refl) })));
+  arcs = (
+    inr (inr (record { place = 1; reads = (0, refl); before = (1, refl) })),
+    inr
+        (inr (record { place = 0; reads = (0, refl); before = (1, refl) })),
+  );
   threads_differ = ((refl, tt), (tt, tt));
   places_differ = ((refl, tt), (tt, tt));
 }
@@ -89,10 +98,17 @@ read_apart-critical = record {
   others = record { first = name 3 0; last = name 3 1; middle = Some (name 0 0) } ∷ [];
   two = omega arith;
   segments = (
-    record { order = record { first = (read 0 1, refl); second = (read 1 0, refl); thread = refl; earlier = omega arith };
-    places = λ e. cc e },
-    (record { order = record { first = (read 1 1, refl); second = (read 0 0, refl); thread = refl; earlier = omega arith };
-    places = λ e. cc e }, tt),
+    record {
+      order = record { first = (read 0 1, refl); second = (read 1 0, refl); thread = refl; earlier = omega arith };
+      places = λ e. cc e;
+    },
+    (
+      record {
+        order = record { first = (read 1 1, refl); second = (read 0 0, refl); thread = refl; earlier = omega arith };
+        places = λ e. cc e;
+      },
+      tt,
+    ),
   );
   arcs = (
     (inr (record { place = 1; reads = (0, refl); before = (1, refl) }), record { place = 1; reads = (1, refl); source = refl }),
