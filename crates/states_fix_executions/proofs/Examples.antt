@@ -1,5 +1,5 @@
 -- States of small programs, each with its verdict, computed.
-use Rattle.states_fix_executions.proofs.Vocabulary.{◌≡◌, ℕ, List, [], ◌∷◌, Option, Some, None, refl, Program, Thread, verdict_of, verdict_looked, rebuilt, FinalState, Impossible, Incoherent, Relaxed, Sequential, Verdict}
+use Rattle.states_fix_executions.proofs.Vocabulary.{◌≡◌, ℕ, List, [], ◌∷◌, Some, None, refl, Program, Thread, verdict_of, verdict_looked, rebuilt, FinalState, Impossible, Incoherent, Relaxed, Sequential, Verdict}
 use Rattle.program_meaning.specs.Deciding.{are_distinct, are_reads}
 use Rattle.micro_ops.specs.declared.operation.Micro.{Micro}
 use Rattle.micro_ops.specs.declared.operation.Micro.TheVariants as ops

@@ -7,4 +7,5 @@ pub mod Endings
 pub mod VerdictLaws
 pub mod Rebuilding
 pub mod Cycles
+pub mod Interleaved
 mod Examples

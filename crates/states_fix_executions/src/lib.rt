@@ -10,4 +10,6 @@ pub use cycle_states::{cycles_are_decided, cycles_are_rebuilt, starred_is_relaxe
 pub use fixed::{
     execution_is_fixed, looking_decides, only_the_rebuilt, reads_are_fixed, rebuilt_decides,
 };
-pub use verdicts::{one_verdict, sequential_is_decided, verdict_is_exact};
+pub use verdicts::{
+    one_verdict, sequential_is_decided, sequential_is_interleaved, verdict_is_exact,
+};
