@@ -17,7 +17,8 @@ abbrev asked_loads : List Access → List ℕ
 asked_loads planned = map (λ access. access.value) (filter is_read planned)
 
 -- what ends in the starred state reads as asked
-reads_asked : (es : List Edge) (mode : ObsMode) (number : ℕ → ℕ) (x : Execution) → values_in x ≡ (starred es mode number).loads → ReadsAsAsked es mode number x
+reads_asked : (es : List Edge) (mode : ObsMode) (number : ℕ → ℕ) (x : Execution) → values_in x ≡ (starred es mode number).loads
+    → ReadsAsAsked es mode number x
 reads_asked es mode number x h k planned reads t g =
     let e : Some (values_read reads) ≡ Some (asked_loads planned) =
     sym (got_map (λ (reads : List (ℕ × Option WriteAt)). map (λ r. r.0) reads) x.reads k reads g) ∙ ap (λ (l : List (List ℕ)). slice_get l k) h
@@ -25,7 +26,8 @@ reads_asked es mode number x h k planned reads t g =
     cc e
 
 -- and back
-asked_reads : (es : List Edge) (mode : ObsMode) (number : ℕ → ℕ) (x : Execution) → length x.reads ≡ length (cycle_accesses es mode number) → ReadsAsAsked es mode number x
+asked_reads : (es : List Edge) (mode : ObsMode) (number : ℕ → ℕ) (x : Execution) → length x.reads ≡ length (cycle_accesses es mode number)
+    → ReadsAsAsked es mode number x
     → values_in x ≡ (starred es mode number).loads
 asked_reads es mode number x n h =
     same_below (values_in x) (map asked_loads (cycle_accesses es mode number)) (length (cycle_accesses es mode number))
@@ -38,13 +40,15 @@ asked_reads es mode number x n h =
     ∙ sym (got_map asked_loads (cycle_accesses es mode number) k t.element t.got))
 
 -- a location that has a last value to end with is asked to end with it
-asked_yes : (es : List Edge) (mode : ObsMode) (location : ℕ) → is_observed es mode location ≡ false → 2 ≤ write_count es location → asked_end es mode location ≡ Some (write_count es location)
+asked_yes : (es : List Edge) (mode : ObsMode) (location : ℕ) → is_observed es mode location ≡ false → 2 ≤ write_count es location
+    → asked_end es mode location ≡ Some (write_count es location)
 asked_yes es mode location o w =
     ap (λ b. cond b (Some (write_count es location)) None)
     (and_from (not (is_observed es mode location)) (nat_le 2 (write_count es location)) (ap not o) (le-leb 2 (write_count es location) w))
 
 -- what ends in the starred state ends as asked
-ends_asked : (es : List Edge) (mode : ObsMode) (number : ℕ → ℕ) (p : Program) (x : Execution) → IsNumbering es number → p.places ≡ move_count es
+ends_asked : (es : List Edge) (mode : ObsMode) (number : ℕ → ℕ) (p : Program) (x : Execution) → IsNumbering es number
+    → p.places ≡ move_count es
     → EndsIn p (starred es mode number) x → EndsAsAsked es mode number p x
 ends_asked es mode number p x n c h location l o w =
     subst (λ e. EndsWith e (final_value (accesses_in p x) x (number location)))
@@ -55,8 +59,10 @@ not_true : {a : Bool} → not a ≡ true → a ≡ false
 not_true {a} h = grind arith
 
 -- and back
-asked_ends : (es : List Edge) (mode : ObsMode) (number : ℕ → ℕ) (p : Program) (x : Execution) (place : ℕ) → IsNumbering es number → p.places ≡ move_count es
-    → EndsAsAsked es mode number p x → place < p.places → EndsWith ((starred es mode number).ends place) (final_value (accesses_in p x) x place)
+asked_ends : (es : List Edge) (mode : ObsMode) (number : ℕ → ℕ) (p : Program) (x : Execution) (place : ℕ) → IsNumbering es number
+    → p.places ≡ move_count es
+    → EndsAsAsked es mode number p x → place < p.places
+    → EndsWith ((starred es mode number).ends place) (final_value (accesses_in p x) x place)
 asked_ends es mode number p x place n c h l =
     by_test (not (is_observed es mode location) && nat_le 2 (write_count es location))
     (λ t. let q = and_parts (not (is_observed es mode location)) (nat_le 2 (write_count es location)) t in
@@ -107,8 +113,10 @@ starred_is_relaxed es mode number p resolved served n test = (
     asked = an_outcome_law es mode number p resolved n test.intended_makes test.intended_ends
 
 -- a write of a program that makes the accesses of a cycle's test is the write that was planned
-write_planned : (es : List Edge) (mode : ObsMode) (number : ℕ → ℕ) (p : Program) (x : Execution) (w : WriteAt) (place value : ℕ) → MakesAccesses es mode number p x
-    → IsCandidate p x → at_name (accesses_in p x) w ≡ Some (write place value) → at_name (cycle_accesses es mode number) w ≡ Some (write place value)
+write_planned : (es : List Edge) (mode : ObsMode) (number : ℕ → ℕ) (p : Program) (x : Execution) (w : WriteAt) (place value : ℕ)
+    → MakesAccesses es mode number p x
+    → IsCandidate p x → at_name (accesses_in p x) w ≡ Some (write place value)
+    → at_name (cycle_accesses es mode number) w ≡ Some (write place value)
 write_planned es mode number p x w place value makes candidate h =
     ap (λ o. got_from o w.access) t.got ∙ plan.got ∙ ap Some same
   where
@@ -135,11 +143,13 @@ write_planned es mode number p x w place value makes candidate h =
 
 -- so it is an event that writes
 event_of : (es : List Edge) (mode : ObsMode) (number : ℕ → ℕ) (p : Program) (x : Execution) (w : WriteAt) (place value : ℕ) → Resolves es
-    → MakesAccesses es mode number p x → IsCandidate p x → at_name (accesses_in p x) w ≡ Some (write place value) → WriteEvent es number w place value
+    → MakesAccesses es mode number p x → IsCandidate p x → at_name (accesses_in p x) w ≡ Some (write place value)
+    → WriteEvent es number w place value
 event_of es mode number p x w place value r makes candidate h = write_event es mode number w place value r (write_planned es mode number p x w place value makes candidate h)
 
 -- writes of one location with the same number are one
-same_event : (es : List Edge) (number : ℕ → ℕ) (w v : WriteAt) (place m n : ℕ) → Resolves es → IsNumbering es number → (a : WriteEvent es number w place m)
+same_event : (es : List Edge) (number : ℕ → ℕ) (w v : WriteAt) (place m n : ℕ) → Resolves es → IsNumbering es number
+    → (a : WriteEvent es number w place m)
     → (b : WriteEvent es number v place n) → a.rank ≡ b.rank → w ≡ v
 same_event es number w v place m n r numbering a b k =
     let s : a.spot ≡ b.spot = numbering.injective a.spot b.spot a.below b.below (a.place_is ∙ sym b.place_is) in
@@ -168,8 +178,10 @@ two_of_three (suc a) zero (suc c) l m n = inr (inr (omega (arith, l, n)))
 two_of_three (suc a) (suc b) c l m n = inl (omega (arith, l, m))
 
 -- a state that gives the final values of the locations with two writes settles the order of each
-settled : (es : List Edge) (mode : ObsMode) (number : ℕ → ℕ) (p : Program) (s : FinalState) (x : Execution) (place : ℕ) → Resolves es → IsNumbering es number
-    → MakesAccesses es mode number p x → IsCandidate p x → SettlesCycle es number s → place < p.places → IsSettled (accesses_in p x) place (s.ends place)
+settled : (es : List Edge) (mode : ObsMode) (number : ℕ → ℕ) (p : Program) (s : FinalState) (x : Execution) (place : ℕ) → Resolves es
+    → IsNumbering es number
+    → MakesAccesses es mode number p x → IsCandidate p x → SettlesCycle es number s → place < p.places
+    → IsSettled (accesses_in p x) place (s.ends place)
 settled es mode number p s x place r n makes candidate settles l =
     by_less (write_count es m.spot) 2
     (λ few. inl (λ w v a b.

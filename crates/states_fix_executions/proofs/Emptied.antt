@@ -64,7 +64,8 @@ abbrev Least : {X : Type 0} → (X → X → Type 0) → List X → X → Type 0
 Least {X} Leads xs m = (x : X) → IsIn x xs → Leads x m → ⊥
 
 -- it can't be that a list with an element has no least one
-some_least : {X : Type 0} (before : X → X → Bool) (Is : X → Type 0) (Leads : X → X → Type 0) (f : X) (fs : List X) → NeverBack before Is Leads
+some_least : {X : Type 0} (before : X → X → Bool) (Is : X → Type 0) (Leads : X → X → Type 0) (f : X) (fs : List X)
+    → NeverBack before Is Leads
     → ((m : X) → IsIn m (f ∷ fs) → Least Leads (f ∷ fs) m → ⊥) → ⊥
 some_least {X} before Is Leads f [] h none = none f (inl refl) (λ e i r. alone e i r)
   where
@@ -82,7 +83,8 @@ some_least {X} before Is Leads f (g ∷ fs) h none =
     by_first e (inr s) a b = b s
 
 -- so one is free
-some_free : {X : Type 0} (before : X → X → Bool) (Is : X → Type 0) (Leads : X → X → Type 0) (f : X) (fs : List X) → NeverBack before Is Leads
+some_free : {X : Type 0} (before : X → X → Bool) (Is : X → Type 0) (Leads : X → X → Type 0) (f : X) (fs : List X)
+    → NeverBack before Is Leads
     → ((x : X) → IsIn x (f ∷ fs) → Is x) → position_from (is_free before (f ∷ fs)) 0 (f ∷ fs) ≡ None → ⊥
 some_free before Is Leads f fs h is e =
     some_least before Is Leads f fs h (λ m i least.
@@ -90,7 +92,8 @@ some_free before Is Leads f fs h is e =
     (all_from_in (λ y. not (before y m)) (f ∷ fs) (λ y j. not_from (before y m) (λ t. least y j (h.leads y m (is y j) (is m i) t)))))
 
 -- and all are taken away
-pub empties_all : {X : Type 0} (before : X → X → Bool) (Is : X → Type 0) (Leads : X → X → Type 0) (n : ℕ) (left : List X) → NeverBack before Is Leads
+pub empties_all : {X : Type 0} (before : X → X → Bool) (Is : X → Type 0) (Leads : X → X → Type 0) (n : ℕ) (left : List X)
+    → NeverBack before Is Leads
     → ((x : X) → IsIn x left → Is x) → length left ≡ n → empties before n left ≡ true
 empties_all before Is Leads zero left h is l = eq-eqb (length left) 0 l
 empties_all before Is Leads (suc n) [] h is l = absurd (omega (arith, l))

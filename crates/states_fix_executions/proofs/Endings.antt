@@ -24,7 +24,8 @@ can_read_from threads a None h = eq-eqb a.value 0 h
 can_read_from threads a (Some w) h = writes_value_from a.place a.value (at_name threads w) h
 
 -- what an access can read is listed
-sources_in : (threads : List (List Access)) (a : Access) (value : ℕ) (o : Option WriteAt) → value ≡ a.value → CanRead threads a o → IsIn (value, o) (sources threads a)
+sources_in : (threads : List (List Access)) (a : Access) (value : ℕ) (o : Option WriteAt) → value ≡ a.value → CanRead threads a o
+    → IsIn (value, o) (sources threads a)
 sources_in threads a value o v h =
     subst (λ n. IsIn {X = ℕ × Option WriteAt} (n, o) (sources threads a)) (sym v)
     (in_map (λ source. (a.value, source)) o (filter (can_read threads a) (None ∷ map Some (names_of threads)))
@@ -45,7 +46,8 @@ reads_in threads (a ∷ accesses) (r ∷ reads) h =
     (in_map (λ chosen. r ∷ chosen) reads (choices (map (sources threads) accesses)) (reads_in threads accesses reads h.2))
 
 -- each execution of threads is listed
-pub execution_in : (threads : List (List Access)) (places : ℕ) (x : Execution) → IsExecutionOf threads places x → IsIn x (executions threads places)
+pub execution_in : (threads : List (List Access)) (places : ℕ) (x : Execution) → IsExecutionOf threads places x
+    → IsIn x (executions threads places)
 execution_in threads places x h =
     in_flat_map (λ reads. map (λ orders. record { reads = reads; orders = orders }) (choices (map (location_orders threads) (upto places)))) x.reads x
     (choices (map (thread_reads threads) threads))
@@ -104,7 +106,8 @@ ends_in_from p s x h =
     test place = ends_with (s.ends place) (final_value (accesses_in p x) x place)
 
 -- the runs of threads in an execution are those on the values that are read
-runs_same : (threads : List Thread) (reads : List (List (ℕ × Option WriteAt))) → runs_on threads (map (λ reads. map (λ r. r.0) reads) reads) ≡ runs_of threads reads
+runs_same : (threads : List Thread) (reads : List (List (ℕ × Option WriteAt)))
+    → runs_on threads (map (λ reads. map (λ r. r.0) reads) reads) ≡ runs_of threads reads
 runs_same [] reads = refl
 runs_same (thread ∷ threads) [] = ap (λ l. run_of thread [] ∷ l) (runs_same threads [])
 runs_same (thread ∷ threads) (first ∷ reads) = ap (λ l. run_of thread first ∷ l) (runs_same threads reads)
@@ -115,7 +118,8 @@ accesses_same p s x h =
     ap (λ (l : List Outcome). map accesses_of (map visits_of (map made_in l))) (sym (runs_same p.threads x.reads)) ∙ ap (accesses_on p) h.reads
 
 -- a candidate that ends in a state is one of the accesses that its loads lead to
-pub state_execution : (p : Program) (s : FinalState) (x : Execution) → IsCandidate p x → EndsIn p s x → IsExecutionOf (accesses_on p s.loads) p.places x
+pub state_execution : (p : Program) (s : FinalState) (x : Execution) → IsCandidate p x → EndsIn p s x
+    → IsExecutionOf (accesses_on p s.loads) p.places x
 state_execution p s x candidate ends = subst (λ t. IsExecutionOf t p.places x) (accesses_same p s x ends) candidate.execution
 
 pub is_ending_from : (p : Program) (s : FinalState) (x : Execution) → IsCandidate p x → EndsIn p s x → is_ending p s x ≡ true

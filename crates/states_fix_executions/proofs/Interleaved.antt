@@ -9,7 +9,8 @@ use Rattle.states_fix_executions.specs.VerdictLaws.{InterleavingEnds, Sequential
 use Rattle.states_fix_executions.proofs.Endings.{accesses_same}
 
 -- the execution that an interleaving makes reads the values of the interleaving
-values_made : (source : WriteAt → ℕ → Option WriteAt) (n : ℕ) (threads : List Thread) (values : List (List ℕ)) → length values ≡ length threads
+values_made : (source : WriteAt → ℕ → Option WriteAt) (n : ℕ) (threads : List Thread) (values : List (List ℕ))
+    → length values ≡ length threads
     → ((k : ℕ) (run : Outcome) → slice_get (runs_on threads values) k ≡ Some run → HasEnded run)
     → map (λ (reads : List (ℕ × Option WriteAt)). map (λ r. r.0) reads) (all_reads source n (map accesses_of (map visits_of (map made_in (runs_on threads values))))) ≡ values
 unfolding all_reads
@@ -23,7 +24,8 @@ values_made source n (thread ∷ threads) (given ∷ values) l ended =
     λ i. first i ∷ rest i
 
 -- what an interleaving ends in
-interleaved_sequential : (p : Program) (s : FinalState) → length s.loads ≡ length p.threads → InterleavingEnds p s → SomeSequential p (EndsIn p s)
+interleaved_sequential : (p : Program) (s : FinalState) → length s.loads ≡ length p.threads → InterleavingEnds p s
+    → SomeSequential p (EndsIn p s)
 interleaved_sequential p s l h =
     let made = interleavings_make_executions p s.loads h.line h.interleaving in
     record {

@@ -138,7 +138,8 @@ position_from_none p n (y ∷ xs) m h i t =
     later more s (inr j) = more j
 
 -- the element at the position that is found passes
-pub position_means : {X : Type 0} (p : X → Bool) (xs : List X) (k : ℕ) → position_from p 0 xs ≡ Some k → (m : X) × (slice_get xs k ≡ Some m) × (p m ≡ true)
+pub position_means : {X : Type 0} (p : X → Bool) (xs : List X) (k : ℕ) → position_from p 0 xs ≡ Some k
+    → (m : X) × (slice_get xs k ≡ Some m) × (p m ≡ true)
 position_means p xs k h =
     let r = position_from_means p 0 xs k h in
     let s : r.0 ≡ k = omega (arith, r.2) in
@@ -156,7 +157,8 @@ in_enumerate {X} n (suc i) (y ∷ xs) x h =
     let e : n + 1 + i ≡ n + suc i = omega arith in
     inr (subst (λ m. IsIn {X = ℕ × X} (m, x) (enumerate_from (n + 1) xs)) e (in_enumerate (n + 1) i xs x h))
 
-pub of_enumerate : {X : Type 0} (n : ℕ) (xs : List X) (e : ℕ × X) → IsIn e (enumerate_from n xs) → (i : ℕ) × (e.0 ≡ n + i) × (slice_get xs i ≡ Some e.1)
+pub of_enumerate : {X : Type 0} (n : ℕ) (xs : List X) (e : ℕ × X) → IsIn e (enumerate_from n xs)
+    → (i : ℕ) × (e.0 ≡ n + i) × (slice_get xs i ≡ Some e.1)
 of_enumerate n [] e h = absurd h
 of_enumerate n (y ∷ xs) e (inl h) = (0, ap (λ d. d.0) h ∙ (let s : n ≡ n + 0 = omega arith in s), ap (λ d. Some d.1) (sym h))
 of_enumerate n (y ∷ xs) e (inr h) = let r = of_enumerate (n + 1) xs e h in (suc r.0, omega (arith, r.1), r.2)
@@ -172,7 +174,8 @@ in_choices (ys ∷ xss) (x ∷ xs) n h =
     (in_map (λ chosen. x ∷ chosen) xs (choices xss) (in_choices xss xs (omega (arith, n)) (λ k y zs a b. h (suc k) y zs a b)))
 
 -- lists that pass the test of equality are equal, and back
-pub equal_means : {X : Type 0} (same : X → X → Bool) → ((x y : X) → same x y ≡ true → x ≡ y) → (xs ys : List X) → are_equal same xs ys ≡ true → xs ≡ ys
+pub equal_means : {X : Type 0} (same : X → X → Bool) → ((x y : X) → same x y ≡ true → x ≡ y) → (xs ys : List X)
+    → are_equal same xs ys ≡ true → xs ≡ ys
 equal_means same f [] [] h = refl
 equal_means same f [] (y ∷ ys) h = cc h
 equal_means same f (x ∷ xs) [] h = cc h

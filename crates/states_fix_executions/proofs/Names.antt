@@ -3,7 +3,8 @@ use Rattle.states_fix_executions.proofs.Vocabulary.{◌≡◌, ℕ, zero, suc, �
 use Rattle.states_fix_executions.proofs.Lists.{IsIn, in_first, in_second, in_either, in_map, in_flat_map, in_filter, of_filter, in_got, got_in}
 use Rattle.states_fix_executions.proofs.Emptied.{not_both, not_from}
 
-thread_in : (thread slot i : ℕ) (accesses : List Access) (a : Access) → slice_get accesses i ≡ Some a → IsIn (name thread (slot + i)) (thread_names thread slot accesses)
+thread_in : (thread slot i : ℕ) (accesses : List Access) (a : Access) → slice_get accesses i ≡ Some a
+    → IsIn (name thread (slot + i)) (thread_names thread slot accesses)
 thread_in thread slot i [] a h = cc h
 thread_in thread slot zero (b ∷ accesses) a h = let s : slot + 0 ≡ slot = omega arith in inl (ap (name thread) s)
 thread_in thread slot (suc i) (b ∷ accesses) a h =
@@ -52,14 +53,16 @@ apart_filter p (x ∷ xs) a =
     (λ t. rw t ((λ i. a.0 (of_filter p x xs i).0), apart_filter p xs a.1))
     (λ f. rw f (apart_filter p xs a.1))
 
-pub apart_from_once : {X : Type 0} (xs : List X) → ((j k : ℕ) (x : X) → slice_get xs j ≡ Some x → slice_get xs k ≡ Some x → j ≡ k) → AreApart xs
+pub apart_from_once : {X : Type 0} (xs : List X) → ((j k : ℕ) (x : X) → slice_get xs j ≡ Some x → slice_get xs k ≡ Some x → j ≡ k)
+    → AreApart xs
 apart_from_once [] h = tt
 apart_from_once (x ∷ xs) h = (
   (λ i. let g = in_got x xs i in let e : 0 ≡ suc g.0 = h 0 (suc g.0) x refl g.1 in omega (arith, e)),
   apart_from_once xs (λ j k y a b. let e : suc j ≡ suc k = h (suc j) (suc k) y a b in omega (arith, e)),
 )
 
-of_thread_names : (thread slot : ℕ) (accesses : List Access) (e : WriteAt) → IsIn e (thread_names thread slot accesses) → (e.thread ≡ thread) × (slot ≤ e.access)
+of_thread_names : (thread slot : ℕ) (accesses : List Access) (e : WriteAt) → IsIn e (thread_names thread slot accesses)
+    → (e.thread ≡ thread) × (slot ≤ e.access)
 of_thread_names thread slot [] e h = absurd h
 of_thread_names thread slot (a ∷ accesses) e (inl h) = (ap (λ d. d.thread) h, (let s : e.access ≡ slot = ap (λ d. d.access) h in omega (arith, s)))
 of_thread_names thread slot (a ∷ accesses) e (inr h) = let r = of_thread_names thread (suc slot) accesses e h in (r.0, omega (arith, r.1))
@@ -85,12 +88,14 @@ names_apart n (first ∷ threads) =
     (λ e i j. let a = of_thread_names n 0 first e i in let b = of_names (suc n) threads e j in omega (arith, a.0, b))
 
 -- the writes to a location are listed
-pub in_writes : (threads : List (List Access)) (place : ℕ) (w : WriteAt) → IsWriteTo threads place w → IsIn w (writes_in threads place (names_of threads))
+pub in_writes : (threads : List (List Access)) (place : ℕ) (w : WriteAt) → IsWriteTo threads place w
+    → IsIn w (writes_in threads place (names_of threads))
 in_writes threads place w h =
     in_filter (λ e. writes_there place (at_name threads e)) w (names_of threads) (listed threads w (write place h.0) h.1)
     (ap (writes_there place) h.1 ∙ writes_to_from place h.0)
 
-pub of_writes : (threads : List (List Access)) (place : ℕ) (w : WriteAt) → IsIn w (writes_in threads place (names_of threads)) → IsWriteTo threads place w
+pub of_writes : (threads : List (List Access)) (place : ℕ) (w : WriteAt) → IsIn w (writes_in threads place (names_of threads))
+    → IsWriteTo threads place w
 of_writes threads place w h =
     let r = of_filter (λ e. writes_there place (at_name threads e)) w (names_of threads) h in
     writes_there_means place (at_name threads w) r.1
@@ -103,10 +108,12 @@ writes_apart threads place = apart_filter (λ e. writes_there place (at_name thr
 pub order_apart : (threads : List (List Access)) (place : ℕ) (order : List WriteAt) → IsOrderOf threads place order → AreApart order
 order_apart threads place order h = apart_from_once order h.once
 
-pub order_writes : (threads : List (List Access)) (place : ℕ) (order : List WriteAt) (w : WriteAt) → IsOrderOf threads place order → IsIn w order → IsWriteTo threads place w
+pub order_writes : (threads : List (List Access)) (place : ℕ) (order : List WriteAt) (w : WriteAt) → IsOrderOf threads place order
+    → IsIn w order → IsWriteTo threads place w
 order_writes threads place order w h i = let g = in_got w order i in h.writes g.0 w g.1
 
-pub writes_ordered : (threads : List (List Access)) (place : ℕ) (order : List WriteAt) (w : WriteAt) → IsOrderOf threads place order → IsWriteTo threads place w → IsIn w order
+pub writes_ordered : (threads : List (List Access)) (place : ℕ) (order : List WriteAt) (w : WriteAt) → IsOrderOf threads place order
+    → IsWriteTo threads place w → IsIn w order
 writes_ordered threads place order w h i = let g = h.each w i.0 i.1 in got_in w order g.0 g.1
 
 -- a filter that drops an element makes a list shorter

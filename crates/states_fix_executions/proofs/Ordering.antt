@@ -15,7 +15,8 @@ record IsSeen (threads : List (List Access)) (x : Execution) (s : SeenAccess) : 
   order : s.order ≡ coherence_place threads x (name_seen s) s.access
 
 -- what is seen is an access
-seen_is : (visits : List (List Visit)) (x : Execution) (s : SeenAccess) → IsIn s (seen_accesses visits x) → IsSeen (map accesses_of visits) x s
+seen_is : (visits : List (List Visit)) (x : Execution) (s : SeenAccess) → IsIn s (seen_accesses visits x)
+    → IsSeen (map accesses_of visits) x s
 seen_is visits x s h =
     let threads : List (List Access) = map accesses_of visits in
     let t = of_flat_map (seen_in_thread threads x) s (enumerate_from 0 visits) h in
@@ -52,7 +53,8 @@ visit_seen visits x k i thread visit g h = record {
 }
 
 -- each access is seen
-access_seen : (visits : List (List Visit)) (x : Execution) (e : WriteAt) (a : Access) → at_name (map accesses_of visits) e ≡ Some a → SeenAt visits x e
+access_seen : (visits : List (List Visit)) (x : Execution) (e : WriteAt) (a : Access) → at_name (map accesses_of visits) e ≡ Some a
+    → SeenAt visits x e
 access_seen visits x e a h =
     let g = got_from_list (slice_get (map accesses_of visits) e.thread) e.access a h in
     let t = image_of accesses_of visits e.thread g.list g.list_is in
@@ -69,7 +71,8 @@ comes_seen threads x s t a b =
     ∙ (λ i. comes_by threads x (name_seen s) (sym a.at i) (name_seen t) (sym b.at i))
 
 -- each of the four relations leads from what has to come first
-step_comes : (threads : List (List Access)) (x : Execution) (e f : WriteAt) → Held threads x → StepBy (Precedes threads) threads x e f → comes threads x e f ≡ true
+step_comes : (threads : List (List Access)) (x : Execution) (e f : WriteAt) → Held threads x → StepBy (Precedes threads) threads x e f
+    → comes threads x e f ≡ true
 step_comes threads x e f held (ByPo h) = earlier_comes threads x e f h.first.0 h.second.0 h.first.1 h.second.1 h.thread h.earlier
 step_comes threads x e f held (ByRf h) =
     let w : at_name threads e ≡ Some (write h.place h.reads.0) = subst (CanRead threads (read h.place h.reads.0)) h.source (held.reads h.place h.reads.0 f h.reads.1) in
@@ -95,7 +98,8 @@ step_comes threads x e f held (ByFr h) = by_source (source_at threads x e) refl 
         (omega (arith, z, place_in threads x h.place b.earlier v held b.first, place_in threads x h.place b.later f held b.second, b.before))
 
 -- what comes first is an access
-comes_from : (threads : List (List Access)) (x : Execution) (e f : WriteAt) (o p : Option Access) → comes_by threads x e o f p ≡ true → (a : Access) × (o ≡ Some a)
+comes_from : (threads : List (List Access)) (x : Execution) (e f : WriteAt) (o p : Option Access) → comes_by threads x e o f p ≡ true
+    → (a : Access) × (o ≡ Some a)
 comes_from threads x e f None p h = cc h
 comes_from threads x e f (Some a) p h = (a, refl)
 
@@ -105,7 +109,8 @@ record StepTo (threads : List (List Access)) (x : Execution) (names : List Write
   within : IsIn from names
   step : StepBy (Precedes threads) threads x from f
 
-step_to : (threads : List (List Access)) (x : Execution) (e : WriteAt) (between : List WriteAt) (g f : WriteAt) → IsPathBy (Precedes threads) threads x e between g
+step_to : (threads : List (List Access)) (x : Execution) (e : WriteAt) (between : List WriteAt) (g f : WriteAt)
+    → IsPathBy (Precedes threads) threads x e between g
     → (f ≡ g) ⊎ IsIn f between → StepTo threads x (e ∷ between) f
 step_to threads x e [] g f path (inl i) = record { from = e; within = inl refl; step = subst (StepBy (Precedes threads) threads x e) (sym i) path }
 step_to threads x e [] g f path (inr i) = absurd i
@@ -116,7 +121,8 @@ step_to threads x e (h ∷ between) g f path (inl i) =
     let r = step_to threads x h between g f path.1 (inl i) in record { from = r.from; within = inr r.within; step = r.step }
 
 -- accesses that can be put into order have no cycle
-ordered_sequential : (visits : List (List Visit)) (x : Execution) → Held (map accesses_of visits) x → can_be_ordered (seen_accesses visits x) ≡ true
+ordered_sequential : (visits : List (List Visit)) (x : Execution) → Held (map accesses_of visits) x
+    → can_be_ordered (seen_accesses visits x) ≡ true
     → IsSequential (map accesses_of visits) x
 ordered_sequential visits x held h e between path =
     never_empties has_to_come Is (length (seen_accesses visits x)) (seen_accesses visits x) first.seen (first.within, inl first.name_is) come (λ s i. i.0) h
@@ -150,7 +156,8 @@ ordered_sequential visits x held h e between path =
         )
 
 -- and accesses without a cycle can be put into order
-sequential_ordered : (visits : List (List Visit)) (x : Execution) → Held (map accesses_of visits) x → IsSequential (map accesses_of visits) x
+sequential_ordered : (visits : List (List Visit)) (x : Execution) → Held (map accesses_of visits) x
+    → IsSequential (map accesses_of visits) x
     → can_be_ordered (seen_accesses visits x) ≡ true
 sequential_ordered visits x held h =
     empties_all has_to_come (IsSeen threads x) (λ s t. Leads threads x (name_seen s) (name_seen t)) (length (seen_accesses visits x)) (seen_accesses visits x)

@@ -22,7 +22,8 @@ source_found threads a (Some w) own h =
     ap Some (own.once w v a.place a.value h (writes_value_means a.place a.value (at_name threads v) f.1)) ∙ sym e)
 
 -- so the reads of a thread are
-thread_found : (threads : List (List Access)) (accesses : List Access) (reads : List (ℕ × Option WriteAt)) → HaveOwnValues threads → AreReadsOf threads accesses reads
+thread_found : (threads : List (List Access)) (accesses : List Access) (reads : List (ℕ × Option WriteAt)) → HaveOwnValues threads
+    → AreReadsOf threads accesses reads
     → reads ≡ map (source_by_value threads) accesses
 thread_found threads [] [] own h = refl
 thread_found threads [] (r ∷ reads) own h = absurd h
@@ -52,7 +53,8 @@ reads_are_fixed p s x y own c d e f =
     ∙ sym (reads_found (accesses_on p s.loads) p.places y own (state_execution p s y e f))
 
 -- lists with the same elements, each once and at most two, are the same where their last elements are
-same_order : (xs ys : List WriteAt) → AreApart xs → AreApart ys → ((w : WriteAt) → IsIn w xs → IsIn w ys) → ((w : WriteAt) → IsIn w ys → IsIn w xs)
+same_order : (xs ys : List WriteAt) → AreApart xs → AreApart ys → ((w : WriteAt) → IsIn w xs → IsIn w ys)
+    → ((w : WriteAt) → IsIn w ys → IsIn w xs)
     → ((u w v : WriteAt) → IsIn u xs → IsIn w xs → IsIn v xs → (u ≡ w) ⊎ ((w ≡ v) ⊎ (u ≡ v)))
     → ((w v : WriteAt) → last_write xs ≡ Some w → last_write ys ≡ Some v → w ≡ v) → xs ≡ ys
 same_order [] [] a b s t two last = refl
@@ -99,8 +101,10 @@ last_second (u ∷ us) vs w v i h =
     last_second us vs w v i (ap (slice_get (u ∷ us ++ vs)) (sym n) ∙ h)
 
 -- where an order is settled, it is found by the final value
-order_found : (threads : List (List Access)) (place : ℕ) (end : Option ℕ) (order : List WriteAt) → HaveOwnValues threads → IsSettled threads place end
-    → IsOrderOf threads place order → EndsWith end (value_of_access (option_and_then (at_name threads) (last_write order))) → order ≡ order_by_end threads place end
+order_found : (threads : List (List Access)) (place : ℕ) (end : Option ℕ) (order : List WriteAt) → HaveOwnValues threads
+    → IsSettled threads place end
+    → IsOrderOf threads place order → EndsWith end (value_of_access (option_and_then (at_name threads) (last_write order)))
+    → order ≡ order_by_end threads place end
 order_found threads place end order own settled h ends =
     same_order order (order_by_end threads place end) (order_apart threads place order h)
     (apart_append (filter (λ w. not (is_last threads place end w)) writes) (filter (is_last threads place end) writes)

@@ -18,7 +18,8 @@ coherent_any : (p : Program) (Ends : Execution → Type 0) → SomeCoherent p En
 coherent_any p Ends h = record { execution = h.execution; candidate = h.candidate; ends = h.ends; holds = tt }
 
 -- no two verdicts hold, whatever it means to end so
-pub no_two : (p : Program) (Ends : Execution → Type 0) (v w : Verdict) → WriteWithin p Ends → HasVerdict p Ends v → HasVerdict p Ends w → v ≡ w
+pub no_two : (p : Program) (Ends : Execution → Type 0) (v w : Verdict) → WriteWithin p Ends → HasVerdict p Ends v → HasVerdict p Ends w
+    → v ≡ w
 no_two p Ends Sequential Sequential within h k = refl
 no_two p Ends Sequential Relaxed within h k = absurd (k.0 h)
 no_two p Ends Sequential Incoherent within h k = absurd (k.0 (sequential_coherent p Ends within h))
@@ -53,7 +54,8 @@ differ : (b : Bool) → b ≡ true → b ≡ false → ⊥
 differ b t f = cc (t, f)
 
 -- the verdict by all candidates that end in a state holds
-pub verdict_holds : (p : Program) (s : FinalState) (xs : List Execution) → ListsEndings p s xs → WriteWithin p (EndsIn p s) → HasVerdict p (EndsIn p s) (verdict_by p xs)
+pub verdict_holds : (p : Program) (s : FinalState) (xs : List Execution) → ListsEndings p s xs → WriteWithin p (EndsIn p s)
+    → HasVerdict p (EndsIn p s) (verdict_by p xs)
 verdict_holds p s xs all within =
     by_verdict p (EndsIn p s) (list_any (is_sequential p) xs) (list_any (λ x. coheres (accesses_in p x) x) xs) (list_any (λ x. true) xs)
     (λ t. let r = any_in (is_sequential p) xs t in let o = all.only r.0 r.1 in record {

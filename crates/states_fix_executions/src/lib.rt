@@ -1,5 +1,5 @@
-//! What a final state says of the executions of a program that end in it: whether one is sequentially consistent, whether one is coherent per
-//! location, and whether there is one at all. Where writes have their own values and few go to one location, there is at most one.
+//! What a final state says of the executions of a program that end in it: whether one is sequentially consistent, whether one is coherent
+//! per location, and whether there is one at all. Where writes have their own values and few go to one location, there is at most one.
 #![tactic(auto)]
 
 mod cycle_states;
