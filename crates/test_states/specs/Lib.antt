@@ -1,0 +1,2 @@
+pub mod LoggedStates
+pub mod LogLaws
