@@ -7,11 +7,10 @@ use Rattle.list_laws.proofs.{Cases.by_same, Elements.drop_given}
 use Rattle.diy_io.specs.{declared.page.TheConstants.LINE_ROOM, Page.page_after, PageLaws.page_fits, Pieces.joined_text, SinkLaws.flat_map_more}
 use Rattle.diy_io.proofs.PiecesLemmas.{joined_text_more}
 use Rattle.list_laws.specs.Numbers.{upto}
-use Rattle.relax_edges.specs.{declared.edge.Edge.Edge, WordParts.word_of, EdgeTable.kind_of}
-use Rattle.exec_graph.specs.Graphs.{access_name, answer_word, arrow_line, arrow_of, condition_line, initial_places, kind_look, lap_word, pairs_by, quoted_byte, reads_initial, standing_edges, standing_lines}
-use Rattle.final_cond.specs.{Conditions.CondSeen, CondText.cond_text}
-use Rattle.cycle_events.specs.Resolution.{event_after}
-use Rattle.program_meaning.specs.{declared.seen.SeenAccess.SeenAccess, Standing.event_name}
+use Rattle.relax_edges.specs.declared.edge.Edge.{Edge}
+use Rattle.exec_graph.specs.{declared.arrows.Arrow.Arrow, Graphs.{PictureSeen, answer_word, arrow_of, caption, initial_places, lap_word, pairs_by, quoted_byte, reads_initial}}
+use Rattle.final_cond.specs.CondText.{cond_text}
+use Rattle.program_meaning.specs.declared.seen.SeenAccess.{SeenAccess}
 
 -- one more piece
 pub piece_more : (old text more : List ℕ) (pieces : List (Bor (List ℕ))) (i : ℕ) (d : Bor (List ℕ)) → i < length pieces
@@ -50,42 +49,23 @@ pairs_text g test all (x ∷ xs) =
     ∙ ap (λ t. t ++ flat_map g (flat_map (λ e. map (λ f. (e, f)) (filter (test e) all)) xs)) (flat_map-map g (λ f. (x, f)) (filter (test x) all))
     ∙ ap (λ t. flat_map (λ f. g (x, f)) (filter (test x) all) ++ t) (pairs_text g test all xs)
 
--- the lines of the edges that stand, from a number on
-abbrev pub standing_from : List Edge → ℕ → List (Edge × Bool) → List ℕ
-standing_from es k judged = flat_map (λ (j : ℕ × (Edge × Bool)). arrow_line (arrow_of es j.0 j.1.0)) (filter (λ (j : ℕ × (Edge × Bool)). j.1.1) (enumerate_from k judged))
+-- the arrows of the edges of a cycle, from a number on
+abbrev pub arrows_from : List Edge → ℕ → List (Edge × Bool) → List Arrow
+arrows_from es k judged = map (λ (j : ℕ × (Edge × Bool)). arrow_of es j.0 j.1) (enumerate_from k judged)
 
-first_standing : (es : List Edge) (k : ℕ) (edge : Edge) (stands : Bool) (more : List (Edge × Bool))
-    → cond stands (arrow_line (arrow_of es k edge)) [] ++ standing_from es (k + 1) more ≡ standing_from es k ((edge, stands) ∷ more)
-first_standing es k edge true more = refl
-first_standing es k edge false more = refl
+-- after an edge, its arrow is there
+pub arrow_more : (es resolved : List Edge) (judged : List (Edge × Bool)) (k : ℕ) (d : Edge × Bool) (found all : List Arrow) → es ≡ resolved → k < length judged
+    → found ++ arrows_from es k (drop k judged) ≡ all
+    → (found ++ arrow_of resolved k (get_or judged k d) ∷ []) ++ arrows_from es (k + 1) (drop (k + 1) judged) ≡ all
+arrow_more es resolved judged k d found all e inside h =
+    append_assoc found (arrow_of resolved k (get_or judged k d) ∷ []) (arrows_from es (k + 1) (drop (k + 1) judged))
+    ∙ ap (λ l. found ++ arrow_of l k (get_or judged k d) ∷ arrows_from es (k + 1) (drop (k + 1) judged)) (sym e)
+    ∙ sym (ap (λ l. found ++ arrows_from es k l) (drop_given judged k (get_or judged k d) (slice_get-get_or judged k d inside))) ∙ h
 
--- after an edge, its line is appended, if it stands
-pub standing_more : (es : List Edge) (judged : List (Edge × Bool)) (k : ℕ) (j : Edge × Bool) (text more all : List ℕ) → slice_get judged k ≡ Some j
-    → text ++ standing_from es k (drop k judged) ≡ all → more ≡ text ++ cond j.1 (arrow_line (arrow_of es k j.0)) []
-    → more ++ standing_from es (k + 1) (drop (k + 1) judged) ≡ all
-standing_more es judged k j text more all is h e =
-    ap (λ t. t ++ standing_from es (k + 1) (drop (k + 1) judged)) e
-    ∙ append_assoc text (cond j.1 (arrow_line (arrow_of es k j.0)) []) (standing_from es (k + 1) (drop (k + 1) judged))
-    ∙ ap (λ t. text ++ t) (first_standing es k j.0 j.1 (drop (k + 1) judged))
-    ∙ sym (ap (λ l. text ++ standing_from es k l) (drop_given judged k j is)) ∙ h
-
--- the same, where the edges are known as those of a cycle
-pub standing_next : (es resolved : List Edge) (judged : List (Edge × Bool)) (k : ℕ) (d : Edge × Bool) (text more all : List ℕ) → es ≡ resolved → k < length judged
-    → text ++ standing_from es k (drop k judged) ≡ all
-    → more ≡ text ++ cond (get_or judged k d).1 (arrow_line (arrow_of resolved k (get_or judged k d).0)) []
-    → more ++ standing_from es (k + 1) (drop (k + 1) judged) ≡ all
-standing_next es resolved judged k d text more all e inside h m =
-    standing_more es judged k (get_or judged k d) text more all (slice_get-get_or judged k d inside) h
-    (subst (λ l. more ≡ text ++ cond (get_or judged k d).1 (arrow_line (arrow_of l k (get_or judged k d).0)) []) (sym e) m)
-
--- where no edge is left, the lines of all that stand are appended
-pub standing_all : (judged : List (Edge × Bool)) (k : ℕ) (old text : List ℕ) → length judged ≤ k
-    → text ++ standing_from (map (λ j. j.0) judged) k (drop k judged) ≡ old ++ standing_from (map (λ j. j.0) judged) 0 judged
-    → text ≡ old ++ standing_lines judged
-standing_all judged k old text h e =
-    let es = map (λ (j : Edge × Bool). j.0) judged in
-    sym (append-nil text) ∙ sym (ap (λ l. text ++ standing_from es k l) (drop_all k judged h)) ∙ e
-    ∙ ap (λ t. old ++ t) (sym (flat_map-map arrow_line (λ (j : ℕ × (Edge × Bool)). arrow_of es j.0 j.1.0) (standing_edges judged)))
+-- where no edge is left, all arrows are there
+pub arrows_all : (es : List Edge) (judged : List (Edge × Bool)) (k : ℕ) (found all : List Arrow) → length judged ≤ k
+    → found ++ arrows_from es k (drop k judged) ≡ all → found ≡ all
+arrows_all es judged k found all h e = sym (append-nil found) ∙ sym (ap (λ l. found ++ arrows_from es k l) (drop_all k judged h)) ∙ e
 
 -- a page that holds a short text alone
 pub short_page : (old page text : List ℕ) → old ≡ [] → page ≡ page_after old text → length text < LINE_ROOM → page ≡ text
@@ -154,28 +134,18 @@ few_more k false list h = omega (arith, length-append list [])
 pub initial_few : (k : ℕ) (b : Bool) (list more : List ℕ) → length list ≤ k → more ≡ list ++ cond b (k ∷ []) [] → length more ≤ k + 1
 initial_few k b list more h e = subst (λ l. length l ≤ k + 1) (sym e) (few_more k b list h)
 
--- the condition and whether its terms hold, appended piece by piece
-pub condition_appended : (condition : CondSeen) (answer : Bool) (old first second word : List ℕ) → first ≡ old ++ codes "  label=\""
-    → second ≡ first ++ flat_map quoted_byte (cond_text condition) → word ≡ answer_word answer
-    → second ++ (codes "\\ncondition " ++ word ++ codes "\"\n") ≡ old ++ condition_line condition answer
-unfolding condition_line
-condition_appended condition answer old first second word h k e = rw (k, h, e) (simp append_assoc)
+-- the caption, appended piece by piece
+pub caption_appended : (picture : PictureSeen) (old a b c d holds coherent : List ℕ) → a ≡ old ++ codes "  labeljust=c\n  label=\""
+    → b ≡ a ++ flat_map quoted_byte picture.name → c ≡ b ++ codes "\\n" → d ≡ c ++ flat_map quoted_byte (cond_text picture.condition)
+    → holds ≡ answer_word picture.holds → coherent ≡ answer_word picture.coherent
+    → d ++ (codes "\\ncondition " ++ holds ++ codes "\\ncoherent " ++ coherent ++ codes "\"\n") ≡ old ++ caption picture
+unfolding caption
+caption_appended picture old a b c d holds coherent h k l m p q = rw (p, q, m, l, k, h) (simp append_assoc)
 
--- four texts, and then four more together
-four_and_four : (old l e n f m word s look a b c d : List ℕ) → a ≡ old ++ l → b ≡ a ++ e → c ≡ b ++ n → d ≡ c ++ f
-    → d ++ (m ++ word ++ s ++ look) ≡ old ++ (l ++ e ++ n ++ f ++ m ++ word ++ s ++ look)
-four_and_four old l e n f m word s look a b c d h k p q = rw (q, p, k, h) (simp append_assoc)
-
--- the line of an edge that stands, appended piece by piece
-pub standing_appended : (es : List Edge) (i : ℕ) (edge : Edge) (old a b c d word look : List ℕ) → a ≡ old ++ codes "  " → b ≡ a ++ access_name (event_name es i)
-    → c ≡ b ++ codes " -> " → d ≡ c ++ access_name (event_name es (event_after es i)) → word ≡ word_of edge → look ≡ kind_look (kind_of edge)
-    → d ++ (codes " [taillabel=\"" ++ word ++ codes "\", style=bold, " ++ look) ≡ old ++ arrow_line (arrow_of es i edge)
-unfolding arrow_line
-standing_appended es i edge old a b c d word look h k m n w l =
-    ap (λ t. d ++ (codes " [taillabel=\"" ++ t ++ codes "\", style=bold, " ++ look)) w
-    ∙ ap (λ t. d ++ (codes " [taillabel=\"" ++ word_of edge ++ codes "\", style=bold, " ++ t)) l
-    ∙ four_and_four old (codes "  ") (access_name (event_name es i)) (codes " -> ") (access_name (event_name es (event_after es i))) (codes " [taillabel=\"") (word_of edge)
-    (codes "\", style=bold, ") (kind_look (kind_of edge)) a b c d h k m n
+-- the lines of seven relations, appended one after another
+pub seven_appended : {X : Type 0} (f : X → List ℕ) (a b c d e g h : X) (old s t u v w y z : List ℕ) → s ≡ old ++ f a → t ≡ s ++ f b → u ≡ t ++ f c → v ≡ u ++ f d
+    → w ≡ v ++ f e → y ≡ w ++ f g → z ≡ y ++ f h → z ≡ old ++ flat_map f (a ∷ b ∷ c ∷ d ∷ e ∷ g ∷ h ∷ [])
+seven_appended f a b c d e g h old s t u v w y z i j k l m n o = rw (o, n, m, l, k, j, i) (simp (append_assoc, append-nil))
 
 -- six texts, appended one after another
 pub six_appended : (old a b c d e f s t u v w : List ℕ) (x : List ℕ) → s ≡ old ++ a → t ≡ s ++ b → u ≡ t ++ c → v ≡ u ++ d → w ≡ v ++ e → x ≡ w ++ f
