@@ -377,11 +377,17 @@ abbrev pub edge_style : Bool → Style
 edge_style true = Bold
 edge_style false = Dashed
 
+-- how far from its source the word of an arrow is, in tens of points: that of coherence order is farther, since a write may have two arrows in
+-- nearly one direction
+abbrev pub word_distance : Relation → List ℕ
+word_distance Co = codes "5"
+word_distance _ = codes "3.5"
+
 -- the word of an arrow, on it, near its source
 unfoldable pub word_on : Relation → List ℕ → List ℕ
 word_on relation word =
     codes ", taillabel=<<table border=\"0\" cellpadding=\"1\" cellspacing=\"0\"><tr><td bgcolor=\"white\">" ++ word
-    ++ codes "</td></tr></table>>, labeldistance=3.5, labelangle=0, fontcolor=\"" ++ relation_colour relation ++ codes "\""
+    ++ codes "</td></tr></table>>, labeldistance=" ++ word_distance relation ++ codes ", labelangle=0, fontcolor=\"" ++ relation_colour relation ++ codes "\""
 
 -- a position, so many points right and down
 unfoldable pub position_word : ℕ → ℕ → List ℕ

@@ -1,6 +1,6 @@
 ghost use Rattle.std.specs.{Prelude.{◌≡◌, ◌++◌, [], length, OnOk}, List.{flat_map}};
 ghost use Rattle.diy_io.specs.Pieces.{joined_text};
-ghost use Rattle.exec_graph.specs.Graphs.{access_point, barrier_word, column, edge_lines, edge_side, edge_stroke, edge_style, ends_word, further_barrier, left_of_dependency, left_of_order, name_word, order_word, pair_line, pick_word, place_word, point_word, position_word, relation_colour, relation_word, right_of_order, row, side_line, side_word, stroke_lines, style_word, thin_side, thin_stroke, word_beside, word_on};
+ghost use Rattle.exec_graph.specs.Graphs.{access_point, barrier_word, column, edge_lines, edge_side, edge_stroke, edge_style, ends_word, further_barrier, left_of_dependency, left_of_order, name_word, order_word, pair_line, pick_word, place_word, point_word, position_word, relation_colour, relation_word, right_of_order, row, side_line, side_word, stroke_lines, style_word, thin_side, thin_stroke, word_beside, word_distance, word_on};
 
 use crate::arrows::{Arrow, kind_relation};
 use crate::drawn::{Drawn, Point, Relation};
@@ -279,6 +279,16 @@ fn edge_side(relation: Relation, stands: bool, source: WriteAt, wide: usize) -> 
     }
 }
 
+/// How far from its source the word of an arrow is, in tens of points.
+fn word_distance(relation: Relation) -> &'static [u8]
+    ensures { result.now ≡ word_distance relation }
+{
+    match relation {
+        Relation::Co => b"5",
+        _ => b"3.5",
+    }
+}
+
 /// Appends the word of an arrow that is on it.
 #[tactic(auto, unfolding(crate::specs::Graphs::word_on))]
 fn push_on(relation: Relation, word: &[u8], text: &mut Vec<u8>) -> Result<(), NoMemory>
@@ -288,10 +298,13 @@ fn push_on(relation: Relation, word: &[u8], text: &mut Vec<u8>) -> Result<(), No
         b", taillabel=<<table border=\"0\" cellpadding=\"1\" cellspacing=\"0\"><tr><td bgcolor=\"white\">",
     )?;
     text.extend_from_slice(word)?;
+    let distance = word_distance(relation);
     let colour = relation_colour(relation);
     push_pieces(
         &[
-            b"</td></tr></table>>, labeldistance=3.5, labelangle=0, fontcolor=\"",
+            b"</td></tr></table>>, labeldistance=",
+            distance,
+            b", labelangle=0, fontcolor=\"",
             colour,
             b"\"",
         ],
