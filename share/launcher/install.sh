@@ -1,11 +1,13 @@
-# ./diy install and ./diy uninstall: the files of an installation, and what makes and takes away these.
-# (read by ../../diy)
+# ./diy install: the files of an installation, and what makes these. (read by ../../diy; uninstall takes them away)
 
 # The files of an installation, a line each: mode, place below the prefix, what makes it, and of what.
 files() {
     echo "755 libexec/diy-proved/diy_main copy $program"
+    echo "755 libexec/diy-proved/uninstall copy $top/share/launcher/uninstall"
+    echo "644 libexec/diy-proved/tool.sh copy $top/share/launcher/tool.sh"
     echo "644 libexec/diy-proved/version version"
     echo "755 libexec/diy-proved/edges copy $top/share/completions/edges"
+    echo "644 libexec/diy-proved/help/kinds copy $top/share/help/kinds"
     for tool in $commands; do
         echo "755 bin/$tool command $tool"
         echo "644 libexec/diy-proved/help/$tool.txt copy $top/share/help/$tool.txt"
@@ -13,14 +15,36 @@ files() {
         echo "644 share/bash-completion/completions/$tool copy $top/share/completions/bash"
         echo "644 share/fish/vendor_completions.d/$tool.fish copy $top/share/completions/fish"
     done
+    for place in "$top"/share/lists/*; do
+        echo "644 share/diy-proved/lists/${place##*/} copy $place"
+    done
     echo "644 share/man/man7/diy-edges.7 copy $top/share/man/man7/diy-edges.7"
     echo "644 share/zsh/site-functions/_diy_proved copy $top/share/completions/zsh"
+    echo "644 share/doc/diy-proved/copyright copyright"
+    echo "644 share/doc/diy-proved/README.md copy $top/README.md"
+    for page in $pages_of_tools; do
+        echo "644 share/doc/diy-proved/$page.md copy $pages/$page.md"
+    done
+    for file in "$pages"/guide/*.log "$pages"/pictures/*.svg; do
+        echo "644 share/doc/diy-proved/${file#"$pages"/} copy $file"
+    done
 }
+
+# The pages for users of the tools, as against those for readers of the code.
+pages_of_tools='GUIDE WORDS EDGES NAMES LISTING TESTS INSTRUCTIONS EXECUTIONS LOGS FROM-HERDTOOLS MEANING'
 
 content() {
     case $1 in
         copy) cat -- "$2" ;;
         version) version ;;
+        copyright)
+            cat <<TEXT
+Tools for litmus tests, made from the repository of diy-proved. The file libexec/diy-proved/version says from which commit.
+
+The repository states no licence: choosing one is up to its owner. Until then nobody else has been given the right to copy, change or
+distribute it, and an archive such as Debian's can't take it.
+TEXT
+            ;;
         command)
             cat <<TEXT
 #!/bin/sh
@@ -31,12 +55,14 @@ while [ -h "\$self" ]; do
     to=\$(readlink -- "\$self")
     case \$to in /*) self=\$to ;; *) self=\${self%/*}/\$to ;; esac
 done
-own=\${self%/*}/../libexec/diy-proved
-case \$#:\${1-} in
-    1:--help | 1:-h) exec cat "\$own/help/$2.txt" ;;
-    1:--version) exec cat "\$own/version" ;;
-esac
-exec "\$own/diy_main" $2 "\$@"
+prefix=\${self%/*}/..
+own=\$prefix/libexec/diy-proved
+program=\$own/diy_main help=\$own/help pages=\$prefix/share/doc/diy-proved
+print_version() {
+    cat "\$own/version"
+}
+. "\$own/tool.sh"
+call_tool $2 "\$@"
 TEXT
             ;;
     esac
@@ -49,7 +75,7 @@ read_commit() {
     said=$(git -C "$top" log -1 --date=short --format='%H %cd %ct' 2>/dev/null) || return 0
     commit=${said%% *} second=${said##* } day=${said#* }
     day=${day% *}
-    [ -z "$(git -C "$top" status --porcelain -- diy share crates crates.txt)" ] || changed=', with changes that are not committed'
+    [ -z "$(git -C "$top" status --porcelain -- diy share crates crates.txt docs README.md VERSION)" ] || changed=', with changes that are not committed'
 }
 
 # Says which commit the program was proved from, and by which kit: that of the build, or the one that is here where something else built it.
@@ -94,6 +120,7 @@ LIST
 
 # Writes all files beside their places, and then gives them their names, so that a failure leaves nothing half.
 install_all() {
+    list=$prefix/libexec/diy-proved/installed ending=.diy-new
     made='' new='' old=''
     [ ! -e "$list" ] || old=$(cat -- "$list" 2>/dev/null) || give_up "$list can't be read"
     while read -r mode place kind of; do
@@ -141,17 +168,9 @@ LIST
         *":$prefix/bin:"*) ;;
         *) echo "diy: the PATH doesn't name that folder" ;;
     esac
-}
-
-uninstall_all() {
-    [ -f "$list" ] || { echo "diy: nothing is installed in $prefix" >&2; exit 1; }
-    old=$(cat -- "$list" 2>/dev/null) || { echo "diy: $list can't be read" >&2; exit 73; }
-    # (the list goes last, so that this can be tried again)
-    while IFS= read -r place; do
-        [ "$prefix/$place" = "$list" ] || rm -f -- "$prefix/$place" || exit 73
-    done <<LIST
-$(printf '%s\n' "$old" | sed -n 's/^f //p')
-LIST
-    rm -f -- "$list" || exit 73
-    remove_folders "$(printf '%s\n' "$old" | sed -n 's/^d //p')"
+    # (where the package bash-completion looks for them)
+    case ":${XDG_DATA_HOME:-${HOME-}/.local/share}:${XDG_DATA_DIRS:-/usr/local/share:/usr/share}:" in
+        *":$prefix/share:"*) ;;
+        *) echo "diy: completions for bash need a line in ~/.bashrc: . '$prefix/share/bash-completion/completions/diyone7'" ;;
+    esac
 }

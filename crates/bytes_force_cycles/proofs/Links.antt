@@ -6,7 +6,7 @@ use Rattle.cycle_events.specs.Resolution.{move_count}
 use Rattle.final_cond.specs.States.{Meets}
 use Rattle.arch_trait.specs.{Cells.{WritesCells, MakesOneAccess}, Laws.IsArch, PlaceNames.{letters, number_in}, SeenTests.TestSeen, Threads.Puts}
 use Rattle.arch_trait.specs.Writing.{Writing, WritesBack, name_in}
-use Rattle.litmus_text.specs.{TestReadsBack.TestReadsBack, Reread.reread, TestReading.TestRead, TestText.test_text}
+use Rattle.litmus_text.specs.{TestReadsBack.TestReadsBack, Reread.reread, TestReading.TestRead}
 use Rattle.program_meaning.specs.{Executions.Execution, Standing.{AllStand, event_name}, Programs.{Program, IsCandidate, IsCoherentIn, accesses_in}}
 use Rattle.program_meaning.specs.Intended.{IsNumbering, cycle_accesses, intended, observed_locations}
 use Rattle.accesses_force_cycles.proofs.{Bridge.resolves, IntendedReads.reads-count}

@@ -7,7 +7,6 @@ use Rattle.micro_ops.specs.{declared.operation.Item.Item, declared.operation.Mic
 use Rattle.micro_ops.specs.declared.operation.Item.TheVariants as items
 use Rattle.arch_trait.specs.{declared.step.Step.Step, Codes.MakesSteps, PlaceRenumbering.{step_at, renumbered}, Links.link_control}
 use Rattle.arch_trait.specs.Threads.{ThreadCode, left_after, loads_after, thread_items, loads_in}
-use Rattle.arch_trait.specs.declared.link.Link.TheVariants as links
 use Rattle.arch_trait.proofs.Renumbered.{loads_kept, renumbered_makes}
 use Rattle.litmus_text.specs.TestReadsBack.{is_in, op_is_in}
 

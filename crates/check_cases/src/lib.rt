@@ -1,4 +1,4 @@
-//! Only tests: cases of the architectures and of conditions, and the devices over the system.
+//! Only tests: cases of the architectures and of conditions, the run of a printed thread, and the devices over the system.
 #![tactic(auto)]
 
 #[cfg(test)]
@@ -7,3 +7,5 @@ mod architectures;
 mod conditions;
 #[cfg(test)]
 mod devices;
+#[cfg(test)]
+mod runs;

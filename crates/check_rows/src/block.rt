@@ -9,6 +9,8 @@ pub enum Keyword {
     Words,
     /// An argument of the call, which may have blanks or be empty. Bytes below belong to it too.
     Word,
+    /// The arguments of a call that is made first, on the same shelf.
+    Before,
     /// The input is read as a test, of this architecture or of the one that its header names.
     Read,
     /// The bytes of the input.
@@ -56,6 +58,7 @@ impl Keyword {
             "row" => Some(Keyword::Row),
             "words" => Some(Keyword::Words),
             "word" => Some(Keyword::Word),
+            "before" => Some(Keyword::Before),
             "read" => Some(Keyword::Read),
             "input" => Some(Keyword::Input),
             "piece" => Some(Keyword::Piece),

@@ -12,6 +12,14 @@ use memory_devices::{MemShelf, MemSink, MemSource};
 use std::alloc::Global;
 use std::str;
 
+/// Adds arguments that blanks separate.
+fn push_words(words: &mut Words, text: &str) -> Result<(), TableError> {
+    for word in text.split(' ') {
+        words.push(word)?;
+    }
+    Ok(())
+}
+
 /// The arguments of a row's call: those that blanks separate, and those of a line of their own with the
 /// bytes below it.
 fn words_of(alloc: Global, row: &[Block]) -> Result<Words, TableError> {
@@ -19,11 +27,7 @@ fn words_of(alloc: Global, row: &[Block]) -> Result<Words, TableError> {
     for block in row {
         let argument = block.argument.as_str();
         match block.keyword {
-            Keyword::Words => {
-                for word in argument.split(' ') {
-                    words.push(word)?;
-                }
-            }
+            Keyword::Words => push_words(&mut words, argument)?,
             Keyword::Word => {
                 let below = str::from_utf8(block.bytes.as_slice()).ok();
                 let mut word = String::from_str(alloc, argument)?;
@@ -92,6 +96,7 @@ impl Trial<'_> {
             input: input_of(self.alloc, self.row)?,
             shelf: shelf_of(self.alloc, self.row)?,
         };
+        self.call_before(&mut devices.shelf)?;
         match first(self.row, Keyword::Tally) {
             Some(block) => self.call_counting(block, &mut devices)?,
             None => self.call_keeping(&mut devices)?,
@@ -102,6 +107,23 @@ impl Trial<'_> {
         }
         for block in self.row {
             self.add_file(block, &devices.shelf)?;
+        }
+        Ok(())
+    }
+
+    /// Makes the call that comes first, if the row has one. Of what it does only the files on the shelf are kept.
+    fn call_before(&self, shelf: &mut MemShelf) -> Result<(), TableError>
+        requires { shelf.old.mode ≡ Idle }
+        ensures { shelf.new.mode ≡ Idle }
+    {
+        if let Some(block) = first(self.row, Keyword::Before) {
+            let mut words = Words::new(self.alloc);
+            push_words(&mut words, block.argument.as_str())?;
+            let none = Vec::new(self.alloc);
+            let mut input = MemSource::new(Vec::new(self.alloc), 1, none);
+            let mut out = TallySink::new();
+            let mut err = TallySink::new();
+            let _ = run(self.alloc, &words, &mut input, &mut out, &mut err, shelf);
         }
         Ok(())
     }

@@ -20,9 +20,9 @@ use Rattle.arch_trait.proofs.Whole.{is_formed}
 use Rattle.litmus_text.specs.Tests.{IsPrintable}
 use Rattle.tests_force_cycles.specs.{CycleSteps.event_step, TestOf.{plain, is_named_location, last_term, last_terms, load_terms}}
 use Rattle.tests_force_cycles.proofs.{Headline.room_left, StepsAt.by_steps}
-use Rattle.test_maker.specs.{Made.AreOfArch, Refusals.{foreign_edge, is_crowded}, declared.refusal.Refusal.Refusal}
+use Rattle.test_maker.specs.{Made.AreOfArch, Refusals.{foreign_edge, is_crowded}}
 use Rattle.test_maker.specs.declared.refusal.Refusal.TheVariants.{TooManyRegisters}
-use Rattle.co_tests.specs.{CutResolution.{cut_open, is_ordering}, CoRefusals.{crowded_thread, is_no_coherence}}
+use Rattle.co_tests.specs.{declared.refusal.CoRefusal.CoRefusal, CutResolution.{cut_open, is_ordering}, CoRefusals.{crowded_thread, is_no_coherence}}
 use Rattle.co_tests.specs.CoherenceTests.{HasCoherenceTest, coherence_steps, coherence_test_of, writes_in}
 use Rattle.co_tests.proofs.{Values.{IsCut, one_location, one_move, write_count_is}, Events.unobserved, Fits.{IsLoopOf, loop_thread}}
 use Rattle.co_tests.proofs.Accepted.{accepted_has_test, writes_rotated, all_rotated, any_rotated}
@@ -121,7 +121,7 @@ all_printable a laws es codes l free same i d k =
     (sym left ∙ (ap (λ xs. get_or xs i (thread_code_of d)) same ∙ right))
 
 -- what the threads that are put make of a turned cycle
-pub made_turned : (a : Puts) (name : ℕ → List ℕ) (es kept : List Edge) (places : List (List ℕ)) (threads : ArrayVec Code) (cond0 cond1 : Cond) (writes : ℕ) (result : Result (Unit {0}) Refusal)
+pub made_turned : (a : Puts) (name : ℕ → List ℕ) (es kept : List Edge) (places : List (List ℕ)) (threads : ArrayVec Code) (cond0 cond1 : Cond) (writes : ℕ) (result : Result (Unit {0}) CoRefusal)
     → IsCut es → writes_in es ≤ 2 → kept ≡ es → places ≡ letters 1 → writes ≡ writes_in es → cond0.quantifier ≡ Exists → map term_view cond0.terms.items ≡ last_of_writes writes
     → PutsThreads a name es threads cond0 cond1 result
     → MakesTurned a name es (record { edges = kept; places = places; threads = map thread_code_of threads.items; cond = cond_view cond1 }) result
@@ -132,7 +132,7 @@ made_turned a name es kept places threads cond0 cond1 writes (Ok _) c few e p w 
 made_turned a name es kept places threads cond0 cond1 writes (Err refusal) c few e p w q t put = put
 
 -- and it can be printed
-pub made_printable : (a : Puts) (registers : ℕ) → a.registers ≡ registers → IsArch a → (es : List Edge) (places : List (List ℕ)) (threads : ArrayVec Code) (name : ℕ → List ℕ) (cond0 cond1 : Cond) (result : Result (Unit {0}) Refusal)
+pub made_printable : (a : Puts) (registers : ℕ) → a.registers ≡ registers → IsArch a → (es : List Edge) (places : List (List ℕ)) (threads : ArrayVec Code) (name : ℕ → List ℕ) (cond0 cond1 : Cond) (result : Result (Unit {0}) CoRefusal)
     → IsLoopOf a.name es → places ≡ letters 1 → PutsThreads a name es threads cond0 cond1 result
     → OnOk result (All (λ code. IsPrintable a.has registers (length places) code) threads.items)
 made_printable a registers count laws es places threads name cond0 cond1 (Ok _) l p put =
@@ -152,7 +152,7 @@ all_turned a es some h =
     ap (list_all (λ e. is_of_arch e a.name)) t.2.turn ∙ all_rotated (λ e. is_of_arch e a.name) t.0 es ∙ h
 
 -- a cycle whose test is made has one
-pub made_has_test : (a : Puts) (name : ℕ → List ℕ) (cycle : List Edge) (test : TestSeen) (result : Result (Unit {0}) Refusal) → IsCycle cycle
+pub made_has_test : (a : Puts) (name : ℕ → List ℕ) (cycle : List Edge) (test : TestSeen) (result : Result (Unit {0}) CoRefusal) → IsCycle cycle
     → foreign_edge a.name cycle ≡ None → MakesOfArch a name cycle test result → OnOk result (HasCoherenceTest a (turned cycle))
 made_has_test a name cycle test (Ok _) whole none made =
     accepted_has_test a cycle whole (ap (λ found. option_or found (refusal_of_arch a cycle)) none ∙ made.0)

@@ -6,9 +6,20 @@ use Rattle.relax_edges.specs.{declared.edge.Edge.Edge, EdgeTable.is_diff}
 use Rattle.cycle_events.specs.Resolution.{external_count, turned}
 use Rattle.arch_trait.specs.{Threads.Puts, Writing.{Writing, name_in}, SeenTests.TestSeen}
 use Rattle.litmus_text.specs.TestText.{test_text}
-use Rattle.test_maker.specs.{declared.refusal.Refusal.Refusal, declared.refusal.Refusal.TheVariants.{TooFewThreads, NotCoherence, ManyWrites, TooManyRegisters}}
+use Rattle.test_maker.specs.declared.refusal.Refusal.{Refusal}
 use Rattle.test_maker.specs.Refusals.{foreign_edge, is_crowded}
 use Rattle.co_tests.specs.{CutResolution.is_ordering, CoherenceTests.{writes_in, coherence_steps, coherence_test_of}}
+use Rattle.co_tests.specs.declared.refusal.CoRefusal.{CoRefusal}
+use Rattle.co_tests.specs.declared.refusal.CoRefusal.TheVariants as reasons
+use Rattle.test_maker.specs.declared.refusal.Refusal.TheVariants as refusals
+
+-- why a cycle has no coherence test, among the reasons of all tools
+abbrev pub co_refusal : CoRefusal → Refusal
+co_refusal (reasons.NotOfArch at) = refusals.NotOfArch at
+co_refusal reasons.TooFewThreads = refusals.TooFewThreads
+co_refusal reasons.NotCoherence = refusals.NotCoherence
+co_refusal reasons.ManyWrites = refusals.ManyWrites
+co_refusal (reasons.TooManyRegisters thread) = refusals.TooManyRegisters thread
 
 -- a reason, if a test passes
 abbrev pub reason_if : Bool → Refusal → Option Refusal
@@ -20,15 +31,15 @@ is_no_coherence cycle = list_any is_diff cycle || not (list_any is_ordering cycl
 
 -- the first thread that needs more registers than the architecture has
 abbrev pub crowded_thread : Puts → List Edge → Option Refusal
-crowded_thread a es = option_map (λ thread. TooManyRegisters thread) (position_from (is_crowded a) 0 (coherence_steps es))
+crowded_thread a es = option_map (λ thread. refusals.TooManyRegisters thread) (position_from (is_crowded a) 0 (coherence_steps es))
 
 -- the first reason why a cycle has no coherence test on the architecture
 abbrev pub coherence_refusal_of : Puts → List Edge → Option Refusal
 coherence_refusal_of a cycle =
     option_or (foreign_edge a.name cycle)
-    (option_or (reason_if (nat_lt (external_count cycle) 2) TooFewThreads)
-    (option_or (reason_if (is_no_coherence cycle) NotCoherence)
-    (option_or (reason_if (nat_lt 2 (writes_in cycle)) ManyWrites)
+    (option_or (reason_if (nat_lt (external_count cycle) 2) refusals.TooFewThreads)
+    (option_or (reason_if (is_no_coherence cycle) refusals.NotCoherence)
+    (option_or (reason_if (nat_lt 2 (writes_in cycle)) refusals.ManyWrites)
     (crowded_thread a (turned cycle)))))
 
 -- the coherence test of a cycle on an architecture

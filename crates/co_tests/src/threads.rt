@@ -5,12 +5,13 @@ ghost use Rattle.test_maker.specs.Made.{AreOfArch};
 ghost use Rattle.co_tests.specs.CutResolution.{cut_of};
 ghost use Rattle.co_tests.specs.{Shape.{HasShape}, Threads.{PutsThreads}};
 
+use crate::refusal::CoRefusal;
 use crate::steps::step_of;
-use arch_trait::{Arch, Step, ThreadCodes};
+use arch_trait::{Arch, Step, ThreadCodes, TooManyRegisters};
 use arrayvec::ArrayVec;
 use final_cond::Cond;
 use relax_edges::{Edge, MAX_EDGES};
-use test_maker::{Refusal, put_thread};
+use test_maker::put_thread;
 
 /// Makes `threads` the code of the threads of a cycle at one location that is cut at an edge, and
 /// appends what their loads read to the condition. What `threads` held before is dropped. If a thread
@@ -20,7 +21,7 @@ pub fn put_threads<A: Arch>(
     cut: usize,
     threads: &mut ThreadCodes,
     cond: &mut Cond,
-) -> Result<(), Refusal>
+) -> Result<(), CoRefusal>
     requires shape { HasShape edges.now }
     requires of_arch { AreOfArch A.puts edges.now }
     requires cut { cut_of edges.now ≡ Some cut }
@@ -35,7 +36,7 @@ pub fn put_threads<A: Arch>(
         if edge.is_external() {
             match put_thread::<A>(thread, steps.as_slice(), threads, cond) {
                 Ok(()) => {}
-                Err(refusal) => return Err(refusal),
+                Err(TooManyRegisters) => return Err(CoRefusal::TooManyRegisters { thread }),
             }
             thread += 1;
             steps.clear();

@@ -16,7 +16,7 @@ use Rattle.exec_check.specs.declared.checked_errors.CheckedKind.TheVariants as c
 use Rattle.diy_io.specs.{Count.{Rose, count_of}, Shelf.ShelfSeen, Taken.SourceSeen, Wrote.{SinkSeen, WroteAll, WrotePart}}
 use Rattle.diy_words.specs.{declared.usage.Usage.Usage, declared.usage.UsageKind.TheVariants.UnknownName, declared.request.Demo.Demo}
 use Rattle.diy_words.specs.declared.request.Check.{Check}
-use Rattle.diy_words.specs.Requests.{Task, TestTask, WhyTask, ListTask, Sought, asked_of, AsksTest, AsksWhy, AsksCoherence, CoherenceTask, AsksName, AsksList, AsksFamilies, AsksSum, AsksCross, AsksDemo, AsksCheck, AsksExecution, AsksCoherenceExecution, AsksLines, OfEdges, OfName, OfLines, CrossTask}
+use Rattle.diy_words.specs.Requests.{Task, TestTask, WhyTask, ListTask, Sought, asked_of, AsksTest, AsksWhy, AsksCoherence, CoherenceTask, AsksName, AsksList, AsksFamilies, AsksSum, AsksCross, AsksDemo, AsksCheck, AsksExecution, AsksCoherenceExecution, AsksNeeds, AsksLines, OfEdges, OfName, OfLines, CrossTask}
 use Rattle.tests_to_files.specs.{declared.ending.ListingEnd.ListingEnd, ListingEnds.{StopsAtTest, StopsAtAll}, Plans.{IsPlanned, planned_text}}
 use Rattle.tests_to_files.specs.declared.ending.ListingEnd.TheVariants as listings
 use Rattle.msum7_files.specs.declared.sum_end.SumEnd.{SumEnd}
@@ -24,7 +24,7 @@ use Rattle.msum7_files.specs.declared.sum_end.SumEnd.TheVariants as sums
 use Rattle.program_meaning.specs.Executions.{Execution}
 use Rattle.litmus_text.specs.TestReading.{TestRead}
 use Rattle.two_runs.specs.{IntendedRuns.intended_by, CoherenceRuns.incoherent_by}
-use Rattle.diy_tools.specs.{Devices.{OutAlone, Devices, DevicesSeen, devices}, ExecutionAnswers.{PrintsRun, AnswersRun}}
+use Rattle.diy_tools.specs.{Devices.{OutAlone, Devices, DevicesSeen, devices}, ExecutionAnswers.{PrintsRun, AnswersRun}, NeedsAnswers.needs_asked}
 use Rattle.diy_tools.specs.{ListAnswers.{AnswersListed, EndsAsked, plan_asked}, ArchMachines.{Machine, machine_of}, Memory.{MayWantMemory, NeverWantsMemory}}
 use Rattle.run_status.specs.{declared.status.Status.Status, declared.status.Device.TheVariants.{Input, Out, Shelf}}
 use Rattle.diy_tools.specs.{Refused.refused_list}
@@ -94,6 +94,16 @@ module _ (old new : Devices) where
       of_status words (Ok (AsksTest asked)) status (statuses.Refused refusal) h.0 (e, same_devices old new input h.1 shelf)
   test_caused words asked None status e input shelf h =
       by_print (λ s. CausesAsked words (Ok (AsksTest asked)) s old new) (asked_text asked) status old.out new.out h
+      (λ wrote. (e, record { input = input; shelf = shelf; out = wrote }))
+      (λ wrote. (wrote.fault, (e, record { input = input; shelf = shelf; out = wrote })))
+
+  needs_caused : (words : List (List ℕ)) (asked : TestTask) (refused : Option Refusal) (status : Status) → test_refused asked ≡ refused
+      → new.input ≡ old.input → new.shelf ≡ old.shelf
+      → AnswersEdges refused (needs_asked asked) status old.out new.out → CausesAsked words (Ok (AsksNeeds asked)) status old new
+  needs_caused words asked (Some refusal) status e input shelf h =
+      of_status words (Ok (AsksNeeds asked)) status (statuses.Refused refusal) h.0 (e, same_devices old new input h.1 shelf)
+  needs_caused words asked None status e input shelf h =
+      by_print (λ s. CausesAsked words (Ok (AsksNeeds asked)) s old new) (needs_asked asked) status old.out new.out h
       (λ wrote. (e, record { input = input; shelf = shelf; out = wrote }))
       (λ wrote. (wrote.fault, (e, record { input = input; shelf = shelf; out = wrote })))
 
@@ -353,6 +363,7 @@ module _ (old new : Devices) where
   asked_caused words (Ok (AsksCoherenceExecution asked)) status h =
       run_caused words (Ok (AsksCoherenceExecution asked)) (machine_of asked.arch) (coherence_refused asked) (incoherent_text asked) (incoherent_by asked.edges)
       status h.input h.shelf tt (λ refusal e. (e, refl)) (λ none printed. (none, printed)) (λ none printed. (printed.out.prints.fault, (none, printed))) h.out
+  asked_caused words (Ok (AsksNeeds asked)) status h = needs_caused words asked (test_refused asked) status refl h.input h.shelf h.out
   asked_caused words (Ok (AsksLines asked)) status h = listed_caused words asked status h
   asked_caused words (Ok (AsksTest asked)) status h = test_caused words asked (test_refused asked) status refl h.input h.shelf h.out
   asked_caused words (Ok (AsksCoherence asked)) status h = coherence_caused words asked (coherence_refused asked) status refl h.input h.shelf h.out

@@ -19,7 +19,7 @@ use Rattle.tests_from_files.specs.FilesEnds as classed
 use Rattle.exec_check.specs.{declared.checked_errors.CheckEnd.CheckEnd, FilesChecked.{AreTestAndExecution, FilesChecked}, CheckedLaws.right_files_done}
 use Rattle.exec_check.specs.declared.checked_errors.CheckEnd.TheVariants as checking
 use Rattle.diy_words.specs.{declared.usage.Usage.Usage, declared.request.Demo.Demo, declared.request.Check.Check}
-use Rattle.diy_words.specs.Requests.{Task, ListTask, Sought, asked_of, AsksTest, AsksWhy, AsksCoherence, WhyTask, AsksName, AsksList, AsksFamilies, AsksSum, AsksCross, AsksDemo, AsksCheck, AsksExecution, AsksCoherenceExecution, AsksLines, OfEdges, OfName, OfLines, CrossTask}
+use Rattle.diy_words.specs.Requests.{Task, ListTask, Sought, asked_of, AsksTest, AsksWhy, AsksCoherence, WhyTask, AsksName, AsksList, AsksFamilies, AsksSum, AsksCross, AsksDemo, AsksCheck, AsksExecution, AsksCoherenceExecution, AsksNeeds, AsksLines, OfEdges, OfName, OfLines, CrossTask}
 use Rattle.tests_to_files.specs.declared.ending.ListingEnd.{ListingEnd}
 use Rattle.tests_to_files.specs.declared.ending.ListingEnd.TheVariants as listings
 use Rattle.log_sum.specs.{declared.errors.LogError.LogError, Representing.logs_text}
@@ -30,7 +30,7 @@ use Rattle.msum7_files.specs.SumEnds as summed
 use Rattle.program_meaning.specs.Executions.{Execution}
 use Rattle.litmus_text.specs.TestReading.{TestRead}
 use Rattle.two_runs.specs.{IntendedRuns.intended_by, CoherenceRuns.incoherent_by}
-use Rattle.diy_tools.specs.{ExecutionAnswers.AnswersRun, ListAnswers.{AnswersListed, EndsAsked}, ArchMachines.{Machine, machine_of}, Memory.MayWantMemory}
+use Rattle.diy_tools.specs.{NeedsAnswers.needs_asked, ExecutionAnswers.AnswersRun, ListAnswers.{AnswersListed, EndsAsked}, ArchMachines.{Machine, machine_of}, Memory.MayWantMemory}
 use Rattle.run_status.specs.{declared.status.Status.Status, declared.status.Device.TheVariants.{Out, Shelf}}
 use Rattle.diy_tools.specs.{Devices.{Devices, DevicesSeen, devices}}
 use Rattle.diy_tools.specs.{Refused.refused_list, Statuses.{norm_status, classify_status, listing_status}, PrintAnswers.{AnswersEdges, Prints}}
@@ -393,6 +393,8 @@ asked_done words (Ok (AsksExecution asked)) status old new h can none =
     run_done (Ok (AsksExecution asked)) (machine_of asked.arch) (test_refused asked) (asked_text asked) (intended_by asked.edges asked.mode) status old.out new.out tt none.out can h.out
 asked_done words (Ok (AsksCoherenceExecution asked)) status old new h can none =
     run_done (Ok (AsksCoherenceExecution asked)) (machine_of asked.arch) (coherence_refused asked) (incoherent_text asked) (incoherent_by asked.edges) status old.out new.out tt none.out can h.out
+asked_done words (Ok (AsksNeeds asked)) status old new h can none =
+    edges_done (Ok (AsksNeeds asked)) (test_refused asked) (needs_asked asked) status old.out new.out none.out can h.out
 asked_done words (Ok (AsksLines asked)) status old new h can none = listed_done asked status old.out new.out none.out h.out
 asked_done words (Ok (AsksTest asked)) status old new h can none =
     edges_done (Ok (AsksTest asked)) (test_refused asked) (asked_text asked) status old.out new.out none.out can h.out

@@ -27,7 +27,7 @@ use Rattle.arch_arm.specs.Laws as arm_laws
 use Rattle.arch_arm.specs.ReadsBack as arm_back
 use Rattle.litmus_text.specs.Printable.{IsTestName}
 use Rattle.diy_words.specs.{declared.usage.Usage.Usage, TestNames.is_name}
-use Rattle.diy_words.specs.Requests.{Task, TestTask, ListTask, AsksTest, AsksWhy, WhyTask, AsksCoherence, CoherenceTask, AsksName, AsksList, AsksFamilies, AsksSum, AsksCross, AsksDemo, AsksCheck, AsksExecution, AsksCoherenceExecution, AsksLines, CrossTask, asked_of}
+use Rattle.diy_words.specs.Requests.{Task, TestTask, ListTask, AsksTest, AsksWhy, WhyTask, AsksCoherence, CoherenceTask, AsksName, AsksList, AsksFamilies, AsksSum, AsksCross, AsksDemo, AsksCheck, AsksExecution, AsksCoherenceExecution, AsksNeeds, AsksLines, CrossTask, asked_of}
 use Rattle.cycle_names.specs.CycleNames.{name_of}
 use Rattle.diy_words.proofs.RequestForm.{asked_form}
 use Rattle.test_maker.specs.{declared.refusal.Refusal.Refusal, Refusals.{foreign_edge, refusal_of}, CycleText.cycle_text}
@@ -39,17 +39,22 @@ use Rattle.run_status.specs.{declared.status.Status.Status, declared.status.Stat
 use Rattle.diy_tools.specs.{WhyAnswers.{AnswersRuns, AnswersWhy, WritesRuns}}
 use Rattle.diy_tools.specs.{ArchMachines.{Machine, machine_of}, PrintAnswers.AnswersEdges}
 use Rattle.diy_tools.specs.{CoherenceAnswers.{AnswersCoherence, incoherence_refused, incoherent_text}, TestAnswers.{asked_text, test_name}}
-use Rattle.diy_tools.specs.{CrossAnswers.AnswersCross, ListAnswers.{AnswersList, plan_asked}, Answers.{Answers, AnswersAsked}}
+use Rattle.diy_tools.specs.{CrossAnswers.{AnswersCross, cycles_asked, crossed_text}, ListAnswers.{AnswersList, plan_asked}, Answers.{Answers, AnswersAsked}}
 use Rattle.diy_tools.specs.{Devices.{Devices, DevicesSeen, devices}, ExecutionAnswers.{AnswersRun, AnswersExecution, AnswersCoherenceExecution}}
 use Rattle.diy_tools.specs.{Headline.{Headline, HeadlineAsked, PrintsIntended, PrintsIncoherent}, Refused.{refused_list, refused_of, refused_composing}}
 use Rattle.test_maker.specs.declared.refusal.Refusal.TheVariants as refusals
 use Rattle.two_runs.specs.{IntendedRuns.intended_by, CoherenceRuns.incoherent_by}
+use Rattle.tests_to_files_laws.proofs.OwnFiles.{different_have_own_files, listed_are_different, crossed_are_different}
 use Rattle.tests_to_files.specs.{Plans.{IsPlanned, planned_text}, WantedLaws.wanted_has_test}
 use Rattle.co_tests.specs.{CoRefusals.{coherence_refusal_of, coherence_text}, Incoherence.BytesShowIncoherence}
 use Rattle.co_tests.proofs.{Accepted.accepted_has_test as accepted_has_loop, Printed.printed_show}
 use Rattle.diycross7_cycles.specs.Laws.{IsCrossed}
 use Rattle.diycross7_cycles.proofs.Crossing.{crosses_all}
 use Rattle.diy_tools.proofs.TestNames.{words_name}
+use Rattle.needed_links.proofs.OrderLines.{lists_orders}
+use Rattle.bytes_force_cycles.{specs.Links.LinksDecideIn, proofs.Links.links_decide}
+use Rattle.litmus_text.specs.TestReading.{TestRead, test_read}
+use Rattle.diy_tools.specs.NeedsAnswers.{AnswersNeeds, needs_asked}
 
 -- what the law over the bytes asks of an architecture
 record KeepsLaws (m : Machine) : Type 0 where
@@ -129,6 +134,18 @@ text_forces arch mode name es named whole unrefused =
     let keeps = keeps_laws arch in
     printed_force m.puts m.puts.name m.writing name (turned es) mode keeps.laws keeps.back keeps.cells keeps.one named
     (accepted_has_test m.puts es mode whole unrefused)
+
+-- and what is read of it is decided by its links
+text_decides : (arch : ArchName) (mode : ObsMode) (name : List ℕ) (es : List Edge) (test : TestRead) → IsTestName name → IsCycle es
+    → refusal_of (machine_of arch).puts es mode ≡ None
+    → test_read (machine_of arch).puts.name (machine_of arch).writing (cycle_text (machine_of arch).puts (machine_of arch).writing mode name es) ≡ Ok test
+    → LinksDecideIn (machine_of arch).writing (turned es) mode test
+unfolding cycle_text
+text_decides arch mode name es test named whole unrefused read =
+    let m = machine_of arch in
+    let keeps = keeps_laws arch in
+    links_decide m.puts m.puts.name m.writing keeps.laws keeps.back keeps.cells keeps.one name (turned es) mode test
+    (record { named = named; has_test = accepted_has_test m.puts es mode whole unrefused; read = read })
 
 -- edges whose coherence test isn't refused make a cycle that isn't refused
 record IsLoop (a : Puts) (es : List Edge) : Type 0 where
@@ -216,6 +233,18 @@ asked_force words status old new h = of_asked (asked_of words) refl h
                   (test_named_so asked.name asked.edges whole.is_cycle (asked_form words (AsksCoherenceExecution asked) e)) whole.is_cycle whole.unrefused;
             })
 
+    of_needs : (asked : TestTask) → asked_of words ≡ Ok (AsksNeeds asked) → AnswersNeeds asked status old.out new.out
+        → HeadlineAsked (Ok (AsksNeeds asked)) status old new
+    of_needs asked e h none =
+        let whole = accepted (machine_of asked.arch).puts asked.mode asked.edges none in
+        record {
+          prints = subst (λ (refused : Option Refusal). AnswersEdges refused (needs_asked asked) status old.out new.out) none h;
+          lists = lists_orders (turned asked.edges);
+          decide = λ test read.
+              text_decides asked.arch asked.mode (test_name asked.name asked.edges) asked.edges test
+              (test_named_so asked.name asked.edges whole.is_cycle (asked_form words (AsksNeeds asked) e)) whole.is_cycle whole.unrefused read;
+        }
+
     -- the test of each cycle of a listing forces it
     each_forces : (asked : ListTask) (cycle : List Edge) → IsPlanned (plan_asked asked) cycle
         → BytesForce (machine_of asked.arch).puts.name (machine_of asked.arch).writing (planned_text (plan_asked asked) cycle) (turned cycle) asked.mode
@@ -224,10 +253,18 @@ asked_force words status old new h = of_asked (asked_of words) refl h
         (wanted_has_test (machine_of asked.arch).puts asked.mode asked.threads asked.accesses cycle planned.taken)
 
     of_list : (asked : ListTask) → AnswersList asked status old.shelf new.shelf old.out new.out → HeadlineAsked (Ok (AsksList asked)) status old new
-    of_list asked h = record { lists = h; forces = each_forces asked }
+    of_list asked h = record {
+      lists = h;
+      forces = each_forces asked;
+      own_files = λ given cycles all few.
+          different_have_own_files asked.folder (planned_text (plan_asked asked)) cycles (listed_are_different _ _ _ _ given cycles all) few;
+    }
 
     of_cross : (asked : CrossTask) → AnswersCross asked status old.shelf new.shelf old.out new.out → HeadlineAsked (Ok (AsksCross asked)) status old new
     of_cross asked h = record {
+      own_files =
+          different_have_own_files asked.folder (crossed_text asked) (cycles_asked asked)
+          (crossed_are_different (machine_of asked.arch).puts asked.mode asked.places);
       crosses = h;
       forces = λ cycle kept.
           let has : IsCrossed (machine_of asked.arch).puts asked.mode asked.places cycle = (crosses_all (machine_of asked.arch).puts asked.mode asked.places).each cycle kept in
@@ -255,6 +292,7 @@ asked_force words status old new h = of_asked (asked_of words) refl h
     of_asked (Ok (AsksCheck asked)) e h = tt
     of_asked (Ok (AsksExecution asked)) e h = of_execution asked e h.out
     of_asked (Ok (AsksCoherenceExecution asked)) e h = of_loop asked e h.out
+    of_asked (Ok (AsksNeeds asked)) e h = of_needs asked e h.out
     of_asked (Ok (AsksLines asked)) e h = record { lists = h.out; forces = each_forces asked }
     of_asked (Ok (AsksTest asked)) e h = of_test asked e h.out
     of_asked (Ok (AsksCoherence asked)) e h = of_coherence asked e h.out

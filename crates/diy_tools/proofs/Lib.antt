@@ -12,3 +12,4 @@ pub mod Caused
 pub mod Completed
 pub mod Limits
 pub mod Opened
+pub mod Needing

@@ -2,12 +2,12 @@
 -- Source: own.
 use Rattle.std.specs.Prelude.{ℕ, ◌≡◌, List, Result, Ok, Err}
 use Rattle.diy_words.specs.declared.usage.Usage.{Usage}
-use Rattle.diy_words.specs.Requests.{Task, AsksTest, AsksWhy, AsksCoherence, AsksName, AsksList, AsksFamilies, AsksSum, AsksCross, AsksDemo, AsksCheck, AsksExecution, AsksCoherenceExecution, AsksLines, asked_of}
+use Rattle.diy_words.specs.Requests.{Task, AsksTest, AsksWhy, AsksCoherence, AsksName, AsksList, AsksFamilies, AsksSum, AsksCross, AsksDemo, AsksCheck, AsksExecution, AsksCoherenceExecution, AsksNeeds, AsksLines, asked_of}
 use Rattle.run_status.specs.{declared.status.Status.Status}
 use Rattle.diy_tools.specs.{Devices.{Devices, OutAlone, InputAndOut, ShelfAndOut, DevicesSeen, devices}, TestAnswers.AnswersTest}
 use Rattle.diy_tools.specs.{NameAnswers.AnswersSought, FamilyAnswers.AnswersClassify, ListAnswers.{AnswersList, AnswersListed}, CrossAnswers.AnswersCross}
 use Rattle.diy_tools.specs.{DemoAnswers.demo_asked, CheckAnswers.AnswersCheck, PrintAnswers.Prints, SumAnswers.AnswersSum, WhyAnswers.AnswersWhy}
-use Rattle.diy_tools.specs.{CoherenceAnswers.AnswersCoherence, ExecutionAnswers.{AnswersExecution, AnswersCoherenceExecution}}
+use Rattle.diy_tools.specs.{CoherenceAnswers.AnswersCoherence, ExecutionAnswers.{AnswersExecution, AnswersCoherenceExecution}, NeedsAnswers.AnswersNeeds}
 use Rattle.run_status.specs.declared.status.Status.TheVariants as statuses
 
 -- the arguments make no request, the status says why, and no device changes; or the tool does what it is asked for, and the devices that it
@@ -26,6 +26,7 @@ AnswersAsked words (Ok (AsksDemo asked)) status old new = OutAlone (Prints (demo
 AnswersAsked words (Ok (AsksCheck asked)) status old new = AnswersCheck words asked status old new
 AnswersAsked words (Ok (AsksExecution asked)) status old new = OutAlone (AnswersExecution asked status) old new
 AnswersAsked words (Ok (AsksCoherenceExecution asked)) status old new = OutAlone (AnswersCoherenceExecution asked status) old new
+AnswersAsked words (Ok (AsksNeeds asked)) status old new = OutAlone (AnswersNeeds asked status) old new
 AnswersAsked words (Ok (AsksLines asked)) status old new = OutAlone (AnswersListed asked status) old new
 
 -- a call with these arguments ends with this status, and takes the devices from old to new

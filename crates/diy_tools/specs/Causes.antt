@@ -14,7 +14,7 @@ use Rattle.exec_check.specs.declared.checked_errors.CheckEnd.TheVariants as chec
 use Rattle.exec_check.specs.declared.checked_errors.CheckedKind.TheVariants as checked
 use Rattle.diy_io.specs.{Count.{Rose, count_of}, Taken.SourceSeen, Wrote.{SinkSeen, WroteAll, WrotePart}}
 use Rattle.diy_words.specs.{declared.usage.Usage.Usage, declared.usage.UsageKind.UsageKind, declared.usage.UsageKind.TheVariants.UnknownName}
-use Rattle.diy_words.specs.Requests.{Task, TestTask, CoherenceTask, Sought, WhyTask, AsksTest, AsksWhy, AsksCoherence, AsksName, AsksList, AsksFamilies, AsksSum, AsksCross, AsksDemo, AsksCheck, AsksExecution, AsksCoherenceExecution, AsksLines, OfEdges, OfName, OfLines, asked_of}
+use Rattle.diy_words.specs.Requests.{Task, TestTask, CoherenceTask, Sought, WhyTask, AsksTest, AsksWhy, AsksCoherence, AsksName, AsksList, AsksFamilies, AsksSum, AsksCross, AsksDemo, AsksCheck, AsksExecution, AsksCoherenceExecution, AsksNeeds, AsksLines, OfEdges, OfName, OfLines, asked_of}
 use Rattle.tests_to_files.specs.declared.ending.ListingEnd.TheVariants as listings
 use Rattle.msum7_files.specs.{declared.sum_end.SumEnd.SumEnd, SumEnds.LogFileMissing}
 use Rattle.msum7_files.specs.declared.sum_end.SumEnd.TheVariants as sums
@@ -25,7 +25,7 @@ use Rattle.diy_tools.specs.{Devices.{Devices, OutAlone, InputAndOut, ShelfAndOut
 use Rattle.diy_tools.specs.{DemoAnswers.demo_asked, FamilyAnswers.EndsFamilies, ListAnswers.{EndsAsked, AnswersListed}, Memory.MayWantMemory}
 use Rattle.diy_tools.specs.{NameAnswers.PrintsNamed, Refused.refused_list, SumAnswers.EndsSum, TestAnswers.{asked_text, test_name, test_refused}}
 use Rattle.diy_tools.specs.{ArchMachines.machine_of, WhyAnswers.{WritesRuns, why_unshown}, CoherenceAnswers.{coherence_refused, incoherent_text}}
-use Rattle.diy_tools.specs.ExecutionAnswers.{PrintsRun}
+use Rattle.diy_tools.specs.{ExecutionAnswers.PrintsRun, NeedsAnswers.needs_asked}
 use Rattle.run_status.specs.declared.status.Status.TheVariants as statuses
 use Rattle.run_status.specs.declared.status.TextKind.TheVariants as texts
 
@@ -62,6 +62,7 @@ asked_refused (Ok (AsksCoherence asked)) = coherence_refused asked
 asked_refused (Ok (AsksName asked)) = sought_refused asked.arch asked.cycle
 asked_refused (Ok (AsksExecution asked)) = test_refused asked
 asked_refused (Ok (AsksCoherenceExecution asked)) = coherence_refused asked
+asked_refused (Ok (AsksNeeds asked)) = test_refused asked
 asked_refused _ = None
 
 -- norm7 or classify7 reads lines of cycles up to this error; norm7 has written the lines of the cycles before it, and classify7 nothing
@@ -167,6 +168,8 @@ Finishes words (Ok AsksSum) old new = EndsSum words sums.Done old new
 Finishes words (Ok (AsksCheck asked)) old new = EndsCheck words asked checking.Done old new
 Finishes words (Ok (AsksExecution asked)) old new = ExecutionStops asked statuses.Done old new
 Finishes words (Ok (AsksCoherenceExecution asked)) old new = CoherenceExecutionStops asked statuses.Done old new
+Finishes words (Ok (AsksNeeds asked)) old new =
+    (test_refused asked ≡ None) × OutAlone (λ out out'. WroteAll out out' (needs_asked asked)) old new
 Finishes words (Ok (AsksLines asked)) old new = OutAlone (AnswersListed asked statuses.Done) old new
 
 -- norm7 has written a prefix of its lines; if it reads the input, these are the lines of the cycles before the first error of what was read
@@ -193,6 +196,8 @@ OutStops words (Ok AsksSum) old new = EndsSum words sums.OutFault old new
 OutStops words (Ok (AsksCheck asked)) old new = EndsCheck words asked checking.OutFault old new
 OutStops words (Ok (AsksExecution asked)) old new = ExecutionStops asked (statuses.WriteFault Out) old new
 OutStops words (Ok (AsksCoherenceExecution asked)) old new = CoherenceExecutionStops asked (statuses.WriteFault Out) old new
+OutStops words (Ok (AsksNeeds asked)) old new =
+    (test_refused asked ≡ None) × OutAlone (λ out out'. WrotePart out out' (needs_asked asked)) old new
 OutStops words (Ok (AsksLines asked)) old new = OutAlone (AnswersListed asked (statuses.WriteFault Out)) old new
 
 -- the cause of a status, and what is left on the devices

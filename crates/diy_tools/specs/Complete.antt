@@ -9,7 +9,7 @@ use Rattle.cycles_from_lines.specs.Cycles.{are_sound}
 use Rattle.text_parts.specs.Lines.{lines_of}
 use Rattle.diy_io.specs.{declared.source.TheConstants.MAX_INPUT, Count.Rose, Shelf.Files}
 use Rattle.diy_words.specs.{declared.usage.Usage.Usage, declared.request.Check.Check}
-use Rattle.diy_words.specs.Requests.{Task, Sought, AsksTest, AsksWhy, AsksCoherence, AsksName, AsksList, AsksFamilies, AsksSum, AsksCross, AsksDemo, AsksCheck, AsksExecution, AsksCoherenceExecution, AsksLines, OfEdges, OfName, OfLines, asked_of}
+use Rattle.diy_words.specs.Requests.{Task, Sought, AsksTest, AsksWhy, AsksCoherence, AsksName, AsksList, AsksFamilies, AsksSum, AsksCross, AsksDemo, AsksCheck, AsksExecution, AsksCoherenceExecution, AsksNeeds, AsksLines, OfEdges, OfName, OfLines, asked_of}
 use Rattle.msum7_files.specs.{Logs.{IsText, IsShort, AreWholeLogs}, SumEnds.AreLogs}
 use Rattle.run_status.specs.{declared.status.Status.Status, declared.status.Status.TheVariants.{Done, NoMemory}}
 use Rattle.diy_tools.specs.{Devices.{Devices, DevicesSeen, devices}}
@@ -85,6 +85,7 @@ CanBeDone words (Ok AsksSum) old = CanSum words old
 CanBeDone words (Ok (AsksCheck asked)) old = CanCheck words asked old
 CanBeDone words (Ok (AsksExecution asked)) old = test_refused asked ≡ None
 CanBeDone words (Ok (AsksCoherenceExecution asked)) old = coherence_refused asked ≡ None
+CanBeDone words (Ok (AsksNeeds asked)) old = test_refused asked ≡ None
 CanBeDone words (Ok (AsksLines asked)) old = ⊤
 
 -- no error count rises or is at its maximum

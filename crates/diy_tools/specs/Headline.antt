@@ -1,15 +1,20 @@
 -- The claim of the tools: for every accepted cycle the printed test forces the cycle; a listing writes such tests of exactly the listed
 -- cycles, each once, in order, and choices of relaxations write such tests of their cycles; two executions that no condition distinguishes
--- show why a cycle needs an observer; and a coherence test shows incoherence.
+-- show why a cycle needs an observer; a coherence test shows incoherence; and the orders that are printed as sufficient against an outcome
+-- are.
 -- Source: own.
-use Rattle.std.specs.Prelude.{◌≡◌, ◌⊎◌, ℕ, List, Result, Ok, None}
+use Rattle.std.specs.{Prelude.{◌≡◌, ◌≤◌, ◌⊎◌, ◌↔◌, ℕ, List, length, Result, Ok, Option, None}, List.Contains}
 use Rattle.relax_edges.specs.declared.{edge.Edge.Edge, kinds.ObsMode.ObsMode}
 use Rattle.cycle_events.specs.Resolution.{turned}
 use Rattle.diy_io.specs.{Shelf.ShelfSeen, Wrote.SinkSeen}
 use Rattle.diy_words.specs.declared.usage.Usage.{Usage}
-use Rattle.diy_words.specs.Requests.{Task, ListTask, AsksTest, AsksWhy, AsksCoherence, AsksList, CrossTask, AsksCross, AsksExecution, AsksCoherenceExecution, AsksLines, asked_of}
-use Rattle.tests_to_files.specs.Plans.{IsPlanned, planned_text}
-use Rattle.bytes_force_cycles.specs.PrintedHeadline.{BytesForce}
+use Rattle.diy_words.specs.Requests.{Task, ListTask, AsksTest, AsksWhy, AsksCoherence, AsksList, CrossTask, AsksCross, AsksExecution, AsksCoherenceExecution, AsksNeeds, AsksLines, asked_of}
+use Rattle.tests_to_files.specs.{ListedFiles.last_number, Plans.{IsPlanned, planned_text}}
+use Rattle.tests_to_files_laws.specs.OwnFiles.{HaveOwnFiles}
+use Rattle.bytes_force_cycles.specs.{Links.LinksDecideIn, PrintedHeadline.BytesForce}
+use Rattle.litmus_text.specs.TestReading.{TestRead, test_read}
+use Rattle.sc_and_interleavings.specs.Links.{IsOrdering}
+use Rattle.needed_links.specs.Needs.{needs_text, ordering_edges}
 use Rattle.co_tests.specs.Incoherence.{BytesShowIncoherence}
 use Rattle.two_runs.specs.{IntendedRuns.intended_by, CoherenceRuns.incoherent_by}
 use Rattle.run_status.specs.declared.status.{Status.Status, Status.TheVariants.NoMemory}
@@ -17,7 +22,7 @@ use Rattle.diy_tools.specs.{Devices.Devices, Devices.DevicesSeen, Devices.device
 use Rattle.diy_tools.specs.{PrintAnswers.Prints, TestAnswers.asked_text, TestAnswers.test_name, WhyAnswers.WritesRuns, WhyAnswers.why_unshown}
 use Rattle.diy_tools.specs.{CoherenceAnswers.coherence_refused, CoherenceAnswers.incoherent_text, CrossAnswers.AnswersCross}
 use Rattle.diy_tools.specs.{CrossAnswers.cycles_asked, CrossAnswers.crossed_text, ListAnswers.AnswersList, ListAnswers.AnswersListed, ListAnswers.plan_asked, ExecutionAnswers.PrintsRun}
-use Rattle.cycle_enum_laws.specs.Listing.{IsOneOf}
+use Rattle.cycle_enum_laws.specs.Listing.{IsOneOf, AreAllListed}
 
 -- a text is printed, or a prefix of it if standard output fails, and the bytes of the text force a cycle
 pub record PrintsForcing (m : Machine) (text : List ℕ) (cycle : List Edge) (mode : ObsMode) (status : Status) (old new : SinkSeen) : Type 0 where
@@ -41,31 +46,44 @@ pub record PrintsIncoherent (m : Machine) (text : List ℕ) (cycle : List Edge) 
   pub prints : PrintsRun m text (incoherent_by cycle) status old new
   pub shows : BytesShowIncoherence m.puts.name m.writing text (turned cycle)
 
+-- what suffices against the outcome of a test is printed. Its lines are those of exactly the edges that order, of which the links of the
+-- test's text, as it is read, say that they suffice and which of them are needed
+pub record PrintsNeeds (m : Machine) (text name : List ℕ) (cycle : List Edge) (mode : ObsMode) (status : Status) (old new : SinkSeen) : Type 0 where
+  pub prints : Prints (needs_text name (turned cycle)) status old new
+  pub lists : (i : ℕ) → Contains (ordering_edges (turned cycle)) i ↔ IsOrdering (turned cycle) i
+  pub decide : (test : TestRead) → test_read m.puts.name m.writing text ≡ Ok test → LinksDecideIn m.writing (turned cycle) mode test
+
 -- the lines of a listing are written as asked for, and the bytes of the text of each listed cycle force that cycle
 pub record ListsLines (asked : ListTask) (status : Status) (old new : SinkSeen) : Type 0 where
   pub lists : AnswersListed asked status old new
   pub forces : (cycle : List Edge) → IsPlanned (plan_asked asked) cycle →
       BytesForce (machine_of asked.arch).puts.name (machine_of asked.arch).writing (planned_text (plan_asked asked) cycle) (turned cycle) asked.mode
 
--- the tests of a listing are written as asked for, and the bytes of the text of each listed cycle force that cycle
+-- the tests of a listing are written as asked for, and the bytes of the text of each listed cycle force that cycle; and the listed cycles, as
+-- many as can be counted, have files of their own: no two tests have one file, so each file holds the text of its own test
 pub record ListsForcing (asked : ListTask) (status : Status) (old new : ShelfSeen) (before after : SinkSeen) : Type 0 where
   pub lists : AnswersList asked status old new before after
   pub forces : (cycle : List Edge) → IsPlanned (plan_asked asked) cycle →
       BytesForce (machine_of asked.arch).puts.name (machine_of asked.arch).writing (planned_text (plan_asked asked) cycle) (turned cycle) asked.mode
+  pub own_files : (given : Option (List Edge)) (cycles : List (List Edge)) → AreAllListed (IsPlanned (plan_asked asked)) given cycles → length cycles ≤ last_number →
+      HaveOwnFiles asked.folder (planned_text (plan_asked asked)) cycles
 
--- the tests of the choices' cycles are written as asked for, or there is no memory, and the bytes of the text of each force its cycle
+-- the tests of the choices' cycles are written as asked for, or there is no memory, and the bytes of the text of each force its cycle; and
+-- the choices' cycles, as many as can be counted, have files of their own
 pub record CrossesForcing (asked : CrossTask) (status : Status) (old new : ShelfSeen) (before after : SinkSeen) : Type 0 where
   pub crosses : AnswersCross asked status old new before after
   pub forces : (cycle : List Edge) → IsOneOf (cycles_asked asked) cycle →
       BytesForce (machine_of asked.arch).puts.name (machine_of asked.arch).writing (crossed_text asked cycle) (turned cycle) asked.mode
+  pub own_files : length (cycles_asked asked) ≤ last_number → HaveOwnFiles asked.folder (crossed_text asked) (cycles_asked asked)
 
 -- If the arguments ask for the test of edges that nothing refuses, it is printed, and forces the cycle that they make. If they ask why the
 -- mode avoid refuses edges, and nothing refuses to show that, there is no memory, or two executions of the test without observers are
 -- written that no condition distinguishes, though all edges stand in the first and one doesn't in the second. If they ask for the
 -- coherence test of edges that nothing refuses, it is printed, and shows incoherence. If they ask for the execution of either test instead,
--- there is no memory, or that execution is printed, and the bytes of the test force the cycle or show incoherence. If they ask for the
--- lines of a listing, these are written, and the tests of its cycles force them. If they ask for the tests of a listing or of choices,
--- these are written, or for choices there is no memory, and each test forces its cycle.
+-- there is no memory, or that execution is printed, and the bytes of the test force the cycle or show incoherence. If they ask what
+-- suffices against the outcome of a test, it is printed, and suffices as the law on links says. If they ask for the lines of a listing,
+-- these are written, and the tests of its cycles force them. If they ask for the tests of a listing or of choices, these are written, or for
+-- choices there is no memory, and each test forces its cycle.
 abbrev pub HeadlineAsked : Result Task Usage → Status → Devices → Devices → Type 0
 HeadlineAsked (Ok (AsksTest asked)) status old new =
     refused_of (machine_of asked.arch).puts asked.mode asked.edges ≡ None →
@@ -83,6 +101,9 @@ HeadlineAsked (Ok (AsksExecution asked)) status old new =
 HeadlineAsked (Ok (AsksCoherenceExecution asked)) status old new =
     coherence_refused asked ≡ None →
     (status ≡ NoMemory) ⊎ PrintsIncoherent (machine_of asked.arch) (incoherent_text asked) asked.edges status old.out new.out
+HeadlineAsked (Ok (AsksNeeds asked)) status old new =
+    refused_of (machine_of asked.arch).puts asked.mode asked.edges ≡ None →
+    PrintsNeeds (machine_of asked.arch) (asked_text asked) (test_name asked.name asked.edges) asked.edges asked.mode status old.out new.out
 HeadlineAsked (Ok (AsksLines asked)) status old new = ListsLines asked status old.out new.out
 HeadlineAsked (Ok (AsksList asked)) status old new = ListsForcing asked status old.shelf new.shelf old.out new.out
 HeadlineAsked (Ok (AsksCross asked)) status old new = CrossesForcing asked status old.shelf new.shelf old.out new.out

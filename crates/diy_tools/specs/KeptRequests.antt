@@ -25,6 +25,8 @@ use Rattle.tests_from_files.specs.declared.classified_errors.FilesEnd.{FilesEnd}
 use Rattle.exec_check.specs.{declared.checked_errors.CheckEnd.CheckEnd, FilesChecked.FilesChecked}
 use Rattle.arch_trait.specs.{Threads.Puts, Writing.Writing}
 use Rattle.exec_text.specs.Written.{text_of_execution}
+use Rattle.cycle_events.specs.Resolution.{turned}
+use Rattle.needed_links.specs.Needs.{needs_text}
 use Rattle.co_tests.specs.CoRefusals.{coherence_refusal_of, coherence_text}
 use Rattle.run_status.specs.declared.status.Status.TheVariants as statuses
 
@@ -76,6 +78,16 @@ AnswersIntended m request =
     AnswersRun m (refused_kept m request.mode request.edges)
     (cycle_text m.puts m.writing request.mode (chosen_name request.name (edges_kept request.edges)) (edges_kept request.edges))
     (intended_by (edges_kept request.edges) request.mode)
+
+-- the edges of a request for what suffices against an outcome are refused as for their test; or the text of it is printed
+abbrev pub AnswersNeeded : Machine → DiyOne → Status → SinkSeen → SinkSeen → Type 0
+AnswersNeeded m request =
+    AnswersEdges (refused_kept m request.mode request.edges)
+    (needs_text (chosen_name request.name (edges_kept request.edges)) (turned (edges_kept request.edges)))
+
+-- the same for a cycle under a name
+abbrev pub NeedsOn : Puts → ObsMode → List ℕ → List Edge → Status → SinkSeen → SinkSeen → Type 0
+NeedsOn puts mode name cycle = AnswersEdges (refusal_of puts cycle mode) (needs_text name (turned cycle))
 
 -- the same for a cycle under a name, on an architecture with this code that is written in this way
 abbrev pub RunsOn : Puts → Writing → ObsMode → List ℕ → List Edge → Status → SinkSeen → SinkSeen → Type 0

@@ -5,6 +5,7 @@ pub mod Statuses
 pub mod PrintAnswers
 pub mod TestAnswers
 pub mod NameAnswers
+pub mod NeedsAnswers
 pub mod FamilyAnswers
 pub mod ListAnswers
 pub mod SumAnswers

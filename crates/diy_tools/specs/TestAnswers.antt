@@ -1,4 +1,4 @@
--- What diyone7 does without -why, -co and -exec.
+-- What diyone7 does without -why, -co, -exec and -needs.
 -- Source: own.
 use Rattle.std.specs.Prelude.{ℕ, List, Option, Some, None}
 use Rattle.relax_edges.specs.declared.edge.Edge.{Edge}

@@ -13,6 +13,7 @@ use final_cond::Cond;
 use litmus_text::Test;
 use relax_edges::ArchName;
 use run_status::Status;
+use test_maker::Refusal;
 
 /// Prints the coherence test that is asked for.
 #[tactic(auto, using(crate::proofs::Coherent::incoherent_on))]
@@ -49,7 +50,7 @@ fn answer_loop<A: Arch, O: Sink>(cycle: &Cycle, name: &Option<TestName>, out: &m
         cond: Cond::default(),
     };
     match co_test_into::<A>(cycle, &mut test) {
-        Err(refusal) => Status::Refused(refusal),
+        Err(refusal) => Status::Refused(Refusal::from(refusal)),
         Ok(()) => print_named::<A, O>(&test, cycle, name, out),
     }
 }

@@ -18,7 +18,8 @@ use exec_text::write_execution;
 use relax_edges::{ArchName, ObsMode};
 use run_status::{Device, Status};
 use std::alloc::Global;
-use two_runs::{IntendedRun, RunError, coherence_run, intended_run};
+use test_maker::Refusal;
+use two_runs::{CoherenceError, IntendedError, IntendedRun, coherence_run, intended_run};
 
 /// Prints the execution that the test of the requested cycle asks for.
 #[tactic(auto, using(crate::proofs::Executed::intended_on))]
@@ -60,8 +61,8 @@ fn print_intended<A: Arch, O: Sink>(
 {
     match intended_run::<A>(alloc, cycle, mode, name) {
         Ok(given) => print_run::<A, O>(alloc, &given, out),
-        Err(RunError::Refused(refusal)) => Status::Refused(refusal),
-        Err(RunError::NoMemory) => Status::NoMemory,
+        Err(IntendedError::Refused(refusal)) => Status::Refused(Refusal::from(refusal)),
+        Err(IntendedError::NoMemory) => Status::NoMemory,
     }
 }
 
@@ -112,8 +113,8 @@ fn print_incoherent<A: Arch, O: Sink>(
 {
     match coherence_run::<A>(alloc, cycle, name) {
         Ok(given) => print_run::<A, O>(alloc, &given, out),
-        Err(RunError::Refused(refusal)) => Status::Refused(refusal),
-        Err(RunError::NoMemory) => Status::NoMemory,
+        Err(CoherenceError::Refused(refusal)) => Status::Refused(Refusal::from(refusal)),
+        Err(CoherenceError::NoMemory) => Status::NoMemory,
     }
 }
 

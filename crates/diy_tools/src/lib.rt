@@ -11,11 +11,17 @@ mod families;
 mod listing;
 mod machines;
 mod naming;
+mod needs;
 mod sums;
 mod testing;
 mod tools;
 mod why;
 
+pub use cycles_from_lines::LineKind;
+pub use diy_words::UsageKind;
+pub use exec_text::ExecKind;
+pub use litmus_text::TestKind;
+pub use log_sum::LogKind;
 pub use run_status::{Device, Status, TextKind};
 pub use test_maker::Refusal;
 pub use tools::run;

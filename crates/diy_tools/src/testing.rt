@@ -87,7 +87,7 @@ fn answer_cycle<A: Arch, O: Sink>(
         cond: Cond::default(),
     };
     match make_into::<A>(cycle, mode, &mut test) {
-        Err(refusal) => Status::Refused(refusal),
+        Err(refusal) => Status::Refused(Refusal::from(refusal)),
         Ok(()) => print_named::<A, O>(&test, cycle, name, out),
     }
 }

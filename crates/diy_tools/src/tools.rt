@@ -11,6 +11,7 @@ use crate::execution::{coherence_execution, execution};
 use crate::families::families;
 use crate::listing::{list, list_lines};
 use crate::naming::norm;
+use crate::needs::needs;
 use crate::sums::sum;
 use crate::testing::diyone;
 use crate::why::why;
@@ -20,7 +21,7 @@ use run_status::{Status, report};
 use std::alloc::Global;
 
 /// Does what the arguments ask for: it prints to `out` the test of a cycle, or its coherence test, or the
-/// execution that one of them asks for, or the names of cycles, or the lines of a listing's cycles, or the
+/// execution that one of them asks for, or what suffices against the outcome of a test, or the names of cycles, or the lines of a listing's cycles, or the
 /// sum of logs, or how many tests of each family were made and how long they are, or what holds of an
 /// execution of a test, or a picture of it; or it writes to the shelf the tests of a listing or of choices,
 /// or a test with two executions that show why an observer is needed.
@@ -31,7 +32,7 @@ use std::alloc::Global;
 /// that can run out of memory does (`Complete`); no other tool returns `NoMemory`; and each status has the one
 /// cause that `Causes` gives. No file of the shelf may be open, and none is open afterwards. The line of the
 /// status is written to `err`; if this fails, the status stays the same.
-#[tactic(auto, using(run_status::proofs::Reported::takes_line, crate::proofs::Forced::answers_force))]
+#[tactic(auto, using(run_status::proofs::Reported::takes_line))]
 pub fn run<I: Source, O: Sink, E: Sink, H: Shelf>(
     alloc: Global,
     words: &Words,
@@ -81,6 +82,7 @@ fn answer<I: Source, O: Sink, H: Shelf>(
         Ok(Request::Coherence(request)) => coherence(&request, out),
         Ok(Request::Execution(request)) => execution(alloc, &request, out),
         Ok(Request::CoherenceExecution(request)) => coherence_execution(alloc, &request, out),
+        Ok(Request::Needs(request)) => needs(&request, out),
         Ok(Request::Name(request)) => norm(&request, input, out),
         Ok(Request::List(request)) => list(request, shelf, out),
         Ok(Request::Lines(request)) => list_lines(request, out),

@@ -19,7 +19,7 @@ use relax_edges::ArchName;
 use run_status::{Device, Status};
 use std::alloc::Global;
 use tests_to_files::{File, put_files, test_path};
-use two_runs::{RunError, TwoRuns, two_runs};
+use two_runs::{TwoRuns, two_runs};
 
 /// Writes the test of a cycle without observers, and two executions of it that no condition on the final
 /// state distinguishes.
@@ -76,8 +76,10 @@ fn why_named<A: Arch, H: Shelf, O: Sink>(
 {
     match two_runs::<A>(alloc, cycle, name) {
         Ok(runs) => write_runs::<A, H, O>(alloc, &runs, name, folder, shelf, out),
-        Err(RunError::Refused(refusal)) => Status::Refused(refusal),
-        Err(RunError::NoMemory) => Status::NoMemory,
+        Err(error) => match error.refusal() {
+            Some(refusal) => Status::Refused(refusal),
+            None => Status::NoMemory,
+        },
     }
 }
 

@@ -3,7 +3,7 @@ use Rattle.std.proofs.Common.{◌≡◌, ℕ, Bool, true, false, List, [], ◌�
 use Rattle.std.specs.Prelude.{if◌then◌else◌}
 use Rattle.diy_words.specs.{declared.options.Tool.Tool, declared.usage.Usage.Usage, Parts.{parts_of, tool_named}, Sayings.Saying}
 use Rattle.diy_words.specs.{Gathered.{Gathered, gathered_of, all_given}, SaidInOrder.{sayings, said_all}, Notes.{no_notes, said_noted}}
-use Rattle.diy_words.specs.Requests.{Task, AsksTest, AsksWhy, AsksCoherence, AsksName, AsksList, AsksFamilies, AsksSum, AsksCross, AsksDemo, AsksCheck, AsksExecution, AsksCoherenceExecution, AsksLines, asks, families_with, demo_with, why_asked, coherence_asked, test_asked, test_or_execution, coherence_or_execution, one_asked, diyone_asked, diy_asked, check_asked, norm_asked, cross_asked, tool_asked, said_asked, asked_for, asked_of}
+use Rattle.diy_words.specs.Requests.{Task, AsksTest, AsksWhy, AsksCoherence, AsksName, AsksList, AsksFamilies, AsksSum, AsksCross, AsksDemo, AsksCheck, AsksExecution, AsksCoherenceExecution, AsksNeeds, AsksLines, asks, families_with, demo_with, why_asked, coherence_asked, test_asked, test_or_execution, test_or_needs, coherence_or_execution, one_asked, diyone_asked, diy_asked, check_asked, norm_asked, cross_asked, tool_asked, said_asked, asked_for, asked_of}
 use Rattle.diy_words.specs.declared.options.Tool.TheVariants as tools
 use Rattle.diy_words.proofs.{NotedLaws.said_so, OperandLaws.{AreFaultless, given_from, all_said}}
 
@@ -21,6 +21,7 @@ tool_of (AsksDemo _) = tools.Demo
 tool_of (AsksCheck _) = tools.Check
 tool_of (AsksExecution _) = tools.DiyOne
 tool_of (AsksCoherenceExecution _) = tools.DiyOne
+tool_of (AsksNeeds _) = tools.DiyOne
 tool_of (AsksLines _) = tools.Diy
 
 asks_tool : {X : Type 0} (tool : Tool) (request : X → Task) (asked : Result X Usage) (task : Task) → ((x : X) → tool_of (request x) ≡ tool) → asks request asked ≡ Ok task → tool_of task ≡ tool
@@ -38,7 +39,11 @@ diyone_tool count given task e = of_why given.why e
   where
     of_co : (b : Bool) → (if b then coherence_or_execution count given else test_or_execution count given) ≡ Ok task → tool_of task ≡ tools.DiyOne
     of_co true e = either_tool tools.DiyOne AsksCoherenceExecution AsksCoherence (coherence_asked count given) task given.exec (λ x. refl) (λ x. refl) e
-    of_co false e = either_tool tools.DiyOne AsksExecution AsksTest (test_asked count given) task given.exec (λ x. refl) (λ x. refl) e
+    of_co false e = of_exec given.exec e
+      where
+        of_exec : (b : Bool) → (if b then asks AsksExecution (test_asked count given) else test_or_needs count given) ≡ Ok task → tool_of task ≡ tools.DiyOne
+        of_exec true e = asks_tool tools.DiyOne AsksExecution (test_asked count given) task (λ x. refl) e
+        of_exec false e = either_tool tools.DiyOne AsksNeeds AsksTest (test_asked count given) task given.needs (λ x. refl) (λ x. refl) e
 
     of_why : (b : Bool) → (if b then asks AsksWhy (why_asked count given) else one_asked count given) ≡ Ok task → tool_of task ≡ tools.DiyOne
     of_why true e = asks_tool tools.DiyOne AsksWhy (why_asked count given) task (λ x. refl) e

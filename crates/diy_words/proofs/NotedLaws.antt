@@ -5,8 +5,8 @@ use Rattle.list_laws.proofs.Elements.{option_or-none}
 use Rattle.edges_from_text.specs.{KeptEdges.kept_edges, KeptEdges.edges_added, KeptLaws.added_more, KeptLaws.added_whole}
 use Rattle.diy_words.specs.declared.{options.Tool.Tool, request.TheConstants.MAX_CHOICES, usage.Usage.Usage}
 use Rattle.diy_words.specs.{Parts.Part, Requests.choice_count}
-use Rattle.diy_words.specs.Sayings.{Saying, SaysArch, SaysName, SaysMode, SaysFrom, SaysEdges, SaysRelaxes, SaysSize, SaysExact, SaysWhy, SaysCo, SaysExec, SaysLines, SaysGraph, SaysThreads, SaysAccesses, SaysAfter, SaysFolder, SaysTest, SaysExecution, SaysPlace, SaysCount, said_by}
-use Rattle.diy_words.specs.Gathered.{arch_of_saying, name_of_saying, mode_of_saying, from_of_saying, operand_of_saying, relaxes_of_saying, size_of_saying, is_exact, is_co, is_exec, is_lines, is_graph, threads_of_saying, accesses_of_saying, after_of_saying, folder_of_saying, is_why, count_of_saying, test_of_saying, execution_of_saying, edges_of_saying, places_of_word, files_of_saying, last_given, first_given, all_given, gathered_of}
+use Rattle.diy_words.specs.Sayings.{Saying, SaysArch, SaysName, SaysMode, SaysFrom, SaysEdges, SaysRelaxes, SaysSize, SaysExact, SaysWhy, SaysCo, SaysExec, SaysNeeds, SaysLines, SaysGraph, SaysThreads, SaysAccesses, SaysAfter, SaysFolder, SaysTest, SaysExecution, SaysPlace, SaysCount, said_by}
+use Rattle.diy_words.specs.Gathered.{arch_of_saying, name_of_saying, mode_of_saying, from_of_saying, operand_of_saying, relaxes_of_saying, size_of_saying, is_exact, is_co, is_exec, is_needs, is_lines, is_graph, threads_of_saying, accesses_of_saying, after_of_saying, folder_of_saying, is_why, count_of_saying, test_of_saying, execution_of_saying, edges_of_saying, places_of_word, files_of_saying, last_given, first_given, all_given, gathered_of}
 use Rattle.diy_words.specs.SaidInOrder.{is_limited, before_of, said_in, sayings}
 use Rattle.diy_words.specs.Notes.{Notes, no_notes, with_saying, with_next, notes_with, notes_of, before_noted, said_noted, gathered_noted}
 use Rattle.diy_words.proofs.ChoiceLaws.{choices_after, choices_more, choices_said}
@@ -132,6 +132,10 @@ exec_step : (notes : Notes) (saying : Saying) → (with_saying notes saying).giv
 exec_step notes SaysExec = refl
 exec_step notes saying = refl
 
+needs_step : (notes : Notes) (saying : Saying) → (with_saying notes saying).given.needs ≡ (is_needs saying || notes.given.needs)
+needs_step notes SaysNeeds = refl
+needs_step notes saying = refl
+
 lines_step : (notes : Notes) (saying : Saying) → (with_saying notes saying).given.lines ≡ (is_lines saying || notes.given.lines)
 lines_step notes SaysLines = refl
 lines_step notes saying = refl
@@ -151,6 +155,9 @@ co_noted said = any_noted (λ n. n.given.co) is_co refl co_step said
 
 exec_noted : (said : List Saying) → (notes_of said).given.exec ≡ list_any is_exec said
 exec_noted said = any_noted (λ n. n.given.exec) is_exec refl exec_step said
+
+needs_noted : (said : List Saying) → (notes_of said).given.needs ≡ list_any is_needs said
+needs_noted said = any_noted (λ n. n.given.needs) is_needs refl needs_step said
 
 lines_noted : (said : List Saying) → (notes_of said).given.lines ≡ list_any is_lines said
 lines_noted said = any_noted (λ n. n.given.lines) is_lines refl lines_step said
@@ -231,13 +238,14 @@ all_noted said =
       why_noted said,
       co_noted said,
       exec_noted said,
+      needs_noted said,
       lines_noted said,
       any_noted (λ n. n.given.graph) is_graph refl graph_step said,
     ) refl
 
 -- and what bears on the error of the next word
 before_all : (said : List Saying) → before_noted (notes_of said) ≡ before_of said
-before_all said = rw (taken_noted said, mode_noted said, why_noted said, co_noted said, exec_noted said, folder_noted said, lines_noted said) refl
+before_all said = rw (taken_noted said, mode_noted said, why_noted said, co_noted said, exec_noted said, needs_noted said, folder_noted said, lines_noted said) refl
 
 notes_more : (notes : Notes) (xs ys : List Saying) → notes_with notes (xs ++ ys) ≡ notes_with (notes_with notes xs) ys
 notes_more notes [] ys = refl

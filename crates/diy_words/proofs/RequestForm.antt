@@ -15,10 +15,10 @@ use Rattle.diy_words.specs.{declared.request.Request.Request, declared.usage.Usa
 use Rattle.diy_words.specs.declared.usage.UsageKind.TheVariants.{UnknownOption, BadName, BadFolder, StrayWord, ExcludedOption, TooManyChoices}
 use Rattle.diy_words.specs.{TestNames.is_name, NumberWords.{is_number, number_to}}
 use Rattle.diy_words.specs.Parts.{Part, Alone, Valued, Unvalued, waiting_at, alone_before, parts_from, parts_of, option_named, tool_named, mode_named}
-use Rattle.diy_words.specs.Sayings.{Saying, SaysName, SaysRelaxes, SaysPlace, SaysSize, SaysExact, SaysWhy, SaysCo, SaysExec, SaysLines, SaysGraph, SaysThreads, SaysAccesses, SaysFolder, SaysCount, SaysTest, SaysExecution, Before, usage_fault, why_said, co_said, exec_said, lines_said, folder_said, dashed_said, operand_said, relaxes_said, number_said, after_said, cycle_word_said, said_by, arch_said, mode_said, edges_said, begins_option}
+use Rattle.diy_words.specs.Sayings.{Saying, SaysName, SaysRelaxes, SaysPlace, SaysSize, SaysExact, SaysWhy, SaysCo, SaysExec, SaysNeeds, SaysLines, SaysGraph, SaysThreads, SaysAccesses, SaysFolder, SaysCount, SaysTest, SaysExecution, Before, usage_fault, why_said, co_said, exec_said, needs_said, lines_said, folder_said, dashed_said, operand_said, relaxes_said, number_said, after_said, cycle_word_said, said_by, arch_said, mode_said, edges_said, begins_option}
 use Rattle.diy_words.specs.Gathered.{Gathered, gathered_of, last_given, name_of_saying, size_of_saying, folder_of_saying, count_of_saying, test_of_saying, execution_of_saying}
 use Rattle.diy_words.specs.SaidInOrder.{before_of, said_in, sayings, said_first, said_all}
-use Rattle.diy_words.specs.Requests.{Task, AsksTest, AsksWhy, AsksCoherence, AsksName, AsksList, AsksFamilies, AsksCross, AsksDemo, AsksCheck, AsksExecution, AsksCoherenceExecution, AsksLines, NameTask, ListTask, FamiliesTask, list_with, families_with, cross_with, demo_with, check_with, choice_count, mode_or_accept, asks, test_with, why_with, coherence_with, why_asked, coherence_asked, test_asked, test_or_execution, coherence_or_execution, one_asked, diyone_asked, diy_asked, asked_for, norm_asked, tool_asked, said_asked, asked_of}
+use Rattle.diy_words.specs.Requests.{Task, AsksTest, AsksWhy, AsksCoherence, AsksName, AsksList, AsksFamilies, AsksCross, AsksDemo, AsksCheck, AsksExecution, AsksCoherenceExecution, AsksNeeds, AsksLines, NameTask, ListTask, FamiliesTask, list_with, families_with, cross_with, demo_with, check_with, choice_count, mode_or_accept, asks, test_with, why_with, coherence_with, why_asked, coherence_asked, test_asked, test_or_execution, test_or_needs, coherence_or_execution, one_asked, diyone_asked, diy_asked, asked_for, norm_asked, tool_asked, said_asked, asked_of}
 use Rattle.diy_words.specs.Given.{GivesTask, HasForm, WithinWords, list_kept}
 use Rattle.diy_io.specs.declared.shelf.TheConstants.{MAX_FOLDER}
 use Rattle.diy_words.specs.declared.request.Request.TheVariants as requests
@@ -62,12 +62,13 @@ option_form : (count at : ℕ) (saying : Saying) (b : Bool) → IsFit count sayi
 option_form count at saying true h = tt
 option_form count at saying false h = h
 
-special_form : (count : ℕ) (before : Before) (at : ℕ) (why co exec : Bool)
-    → SaysForm count (if why then why_said before at else if co then co_said before at else if exec then exec_said before at else usage_fault at UnknownOption)
-special_form count before at true co exec = option_form count at SaysWhy (before.obs || before.co || before.exec) tt
-special_form count before at false true exec = option_form count at SaysCo (before.obs || before.why) tt
-special_form count before at false false true = option_form count at SaysExec before.why tt
-special_form count before at false false false = tt
+special_form : (count : ℕ) (before : Before) (at : ℕ) (why co exec needs : Bool)
+    → SaysForm count (if why then why_said before at else if co then co_said before at else if exec then exec_said before at else if needs then needs_said before at else usage_fault at UnknownOption)
+special_form count before at true co exec needs = option_form count at SaysWhy (before.obs || before.co || before.exec || before.needs) tt
+special_form count before at false true exec needs = option_form count at SaysCo (before.obs || before.why || before.needs) tt
+special_form count before at false false true needs = option_form count at SaysExec (before.why || before.needs) tt
+special_form count before at false false false true = option_form count at SaysNeeds (before.why || before.co || before.exec) tt
+special_form count before at false false false false = tt
 
 listing_form : (count : ℕ) (before : Before) (at : ℕ) (exact lines : Bool)
     → SaysForm count (if exact then Ok SaysExact else if lines then lines_said before at else usage_fault at UnknownOption)
@@ -77,6 +78,7 @@ listing_form count before at false false = tt
 
 alone_dashed : (count : ℕ) (tool : Tool) (before : Before) (at : ℕ) (text : List ℕ) → SaysForm count (dashed_said tool before at text)
 alone_dashed count tools.DiyOne before at text = special_form count before at (bytes_eq text (codes "-why")) (bytes_eq text (codes "-co")) (bytes_eq text (codes "-exec"))
+    (bytes_eq text (codes "-needs"))
 alone_dashed count tools.Diy before at text = listing_form count before at (bytes_eq text (codes "-exact")) (bytes_eq text (codes "-list"))
 alone_dashed count tools.Norm before at text = tt
 alone_dashed count tools.Classify before at text = tt
@@ -274,6 +276,7 @@ IsNamedSo count (AsksDemo asked) = (1 ≤ asked.count) × (asked.count ≤ MAX_T
 IsNamedSo count (AsksCheck asked) = (asked.test < count) × (asked.execution < count)
 IsNamedSo count (AsksExecution asked) = IfSome asked.name (λ name. is_name name ≡ true)
 IsNamedSo count (AsksCoherenceExecution asked) = IfSome asked.name (λ name. is_name name ≡ true)
+IsNamedSo count (AsksNeeds asked) = IfSome asked.name (λ name. is_name name ≡ true)
 IsNamedSo count (AsksLines asked) = (asked.size ≤ MAX_EDGES) × IfSome asked.folder (λ folder. length folder ≤ MAX_FOLDER)
 IsNamedSo count _ = Unit {0}
 
@@ -349,9 +352,14 @@ diyone_form count given f = of_why given.why
     of_co true =
         either_form count AsksCoherenceExecution AsksCoherence (coherence_asked count given) given.exec
         (coherence_form count given.arch given.name given.edges given.folder f.0)
-    of_co false =
-        either_form count AsksExecution AsksTest (test_asked count given) given.exec
-        (test_form count given.arch given.name (mode_or_accept given.mode) given.edges given.folder f.0)
+    of_co false = of_exec given.exec
+      where
+        named : IfOk (test_asked count given) (λ asked. IsNamedSo count (AsksExecution asked) × IsNamedSo count (AsksTest asked))
+        named = test_form count given.arch given.name (mode_or_accept given.mode) given.edges given.folder f.0
+
+        of_exec : (b : Bool) → IsTaskSo count (if b then asks AsksExecution (test_asked count given) else test_or_needs count given)
+        of_exec true = either_form count AsksExecution AsksTest (test_asked count given) true named
+        of_exec false = either_form count AsksNeeds AsksTest (test_asked count given) given.needs named
 
     of_why : (b : Bool) → IsTaskSo count (if b then asks AsksWhy (why_asked count given) else one_asked count given)
     of_why true = explained_form count given.arch given.name given.edges given.folder f.0 f.2
@@ -414,6 +422,7 @@ request_form words result h = of_asked result (asked_of words) (words_form words
     )
     of_asked (Ok (requests.Coherence request)) (Ok (AsksCoherence asked)) e h = named_so request.name (subst (λ (name : Option (List ℕ)). IfSome name (λ name. is_name name ≡ true)) (sym h.1) e)
     of_asked (Ok (requests.Execution request)) (Ok (AsksExecution asked)) e h = named_so request.name (subst (λ (name : Option (List ℕ)). IfSome name (λ name. is_name name ≡ true)) (sym h.1) e)
+    of_asked (Ok (requests.Needs request)) (Ok (AsksNeeds asked)) e h = named_so request.name (subst (λ (name : Option (List ℕ)). IfSome name (λ name. is_name name ≡ true)) (sym h.1) e)
     of_asked (Ok (requests.CoherenceExecution request)) (Ok (AsksCoherenceExecution asked)) e h =
         named_so request.name (subst (λ (name : Option (List ℕ)). IfSome name (λ name. is_name name ≡ true)) (sym h.1) e)
     of_asked (Ok (requests.List request)) (Ok (AsksList asked)) e h = listed_so request asked h e
@@ -427,6 +436,7 @@ request_form words result h = of_asked result (asked_of words) (words_form words
     of_asked (Ok (requests.Test request)) asked e h = absurd h
     of_asked (Ok (requests.Execution request)) asked e h = absurd h
     of_asked (Ok (requests.CoherenceExecution request)) asked e h = absurd h
+    of_asked (Ok (requests.Needs request)) asked e h = absurd h
     of_asked (Ok (requests.Lines request)) asked e h = absurd h
     of_asked (Ok (requests.Why request)) asked e h = absurd h
     of_asked (Ok (requests.Coherence request)) asked e h = absurd h

@@ -34,6 +34,7 @@ code_notes notes = record {
     why = notes.why;
     co = notes.co;
     exec = notes.exec;
+    needs = notes.needs;
     lines = notes.lines;
     graph = notes.graph;
   };

@@ -2,7 +2,7 @@
 -- positions or files.
 use Rattle.std.specs.{Prelude.{ℕ, Bool, true, false, List, [], ◌∷◌, ◌++◌, Option, Some, None}, List.list_any, Option.{option_or, unwrap_or}}
 use Rattle.relax_edges.specs.{declared.kinds.ArchName.ArchName, declared.kinds.ObsMode.ObsMode, declared.edge.Edge.Edge}
-use Rattle.diy_words.specs.Sayings.{Saying, SaysArch, SaysName, SaysMode, SaysFrom, SaysEdges, SaysRelaxes, SaysSize, SaysExact, SaysWhy, SaysCo, SaysExec, SaysLines, SaysGraph, SaysThreads, SaysAccesses, SaysAfter, SaysFolder, SaysFile, SaysTest, SaysExecution, SaysPlace, SaysCount}
+use Rattle.diy_words.specs.Sayings.{Saying, SaysArch, SaysName, SaysMode, SaysFrom, SaysEdges, SaysRelaxes, SaysSize, SaysExact, SaysWhy, SaysCo, SaysExec, SaysNeeds, SaysLines, SaysGraph, SaysThreads, SaysAccesses, SaysAfter, SaysFolder, SaysFile, SaysTest, SaysExecution, SaysPlace, SaysCount}
 
 -- the value of `-arch`
 abbrev pub arch_of_saying : Saying → Option ArchName
@@ -78,6 +78,11 @@ is_co _ = false
 abbrev pub is_exec : Saying → Bool
 is_exec SaysExec = true
 is_exec _ = false
+
+-- that `-needs` is given
+abbrev pub is_needs : Saying → Bool
+is_needs SaysNeeds = true
+is_needs _ = false
 
 -- that `-list` is given
 abbrev pub is_lines : Saying → Bool
@@ -157,6 +162,7 @@ pub record Gathered : Type 0 where
   pub why : Bool
   pub co : Bool
   pub exec : Bool
+  pub needs : Bool
   pub lines : Bool
   pub graph : Bool
 
@@ -185,6 +191,7 @@ gathered_of said = record {
   why = list_any is_why said;
   co = list_any is_co said;
   exec = list_any is_exec said;
+  needs = list_any is_needs said;
   lines = list_any is_lines said;
   graph = list_any is_graph said;
 }

@@ -4,7 +4,7 @@ use Rattle.relax_edges.specs.declared.TheConstants.{MAX_EDGES}
 use Rattle.edges_from_text.specs.KeptEdges.{kept_edges}
 use Rattle.diy_words.specs.{declared.request.Diy.Diy, declared.request.TheConstants.MAX_TESTS, declared.request.Request.Request, declared.request.Sought.Sought}
 use Rattle.diy_words.specs.{declared.usage.Usage.Usage, declared.request.DiyOne.DiyOne, declared.request.Coherence.Coherence, TestNames.is_name}
-use Rattle.diy_words.specs.Requests.{Task, AsksTest, AsksWhy, AsksCoherence, AsksName, AsksList, AsksFamilies, AsksSum, AsksCross, AsksDemo, AsksCheck, AsksExecution, AsksCoherenceExecution, AsksLines, TestTask, CoherenceTask, ListTask, OfEdges, OfName, OfLines}
+use Rattle.diy_words.specs.Requests.{Task, AsksTest, AsksWhy, AsksCoherence, AsksName, AsksList, AsksFamilies, AsksSum, AsksCross, AsksDemo, AsksCheck, AsksExecution, AsksCoherenceExecution, AsksNeeds, AsksLines, TestTask, CoherenceTask, ListTask, OfEdges, OfName, OfLines}
 use Rattle.diy_io.specs.declared.shelf.TheConstants.{MAX_FOLDER}
 use Rattle.diy_words.specs.declared.request.Request.TheVariants as requests
 use Rattle.diy_words.specs.declared.request.Sought.TheVariants as sought
@@ -45,6 +45,7 @@ HoldsCoherence request asked =
 abbrev pub HoldsTask : Request → Task → Type 0
 HoldsTask (requests.Test request) (AsksTest asked) = HoldsTest request asked
 HoldsTask (requests.Execution request) (AsksExecution asked) = HoldsTest request asked
+HoldsTask (requests.Needs request) (AsksNeeds asked) = HoldsTest request asked
 HoldsTask (requests.Why request) (AsksWhy asked) =
     (request.arch ≡ asked.arch) × (option_map (λ name. name.bytes) request.name ≡ asked.name) × (request.edges ≡ kept_edges asked.edges)
     × (option_map (λ folder. folder.now) request.folder ≡ asked.folder)
@@ -76,6 +77,7 @@ HasForm (requests.Why request) =
     IfSome request.name (λ name. is_name name.bytes ≡ true) × ForSome request.folder (λ folder. length folder.now ≤ MAX_FOLDER)
 HasForm (requests.Coherence request) = IfSome request.name (λ name. is_name name.bytes ≡ true)
 HasForm (requests.Execution request) = IfSome request.name (λ name. is_name name.bytes ≡ true)
+HasForm (requests.Needs request) = IfSome request.name (λ name. is_name name.bytes ≡ true)
 HasForm (requests.CoherenceExecution request) = IfSome request.name (λ name. is_name name.bytes ≡ true)
 HasForm (requests.List request) = (request.limits.size ≤ MAX_EDGES) × ForSome request.folder (λ folder. length folder.now ≤ MAX_FOLDER)
 HasForm (requests.Lines request) = (request.limits.size ≤ MAX_EDGES) × ForSome request.folder (λ folder. length folder.now ≤ MAX_FOLDER)

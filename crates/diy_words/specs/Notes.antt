@@ -5,7 +5,7 @@ use Rattle.relax_edges.specs.declared.edge.Edge.{Edge}
 use Rattle.edges_from_text.specs.{declared.list.EdgeList.EdgeList, KeptEdges.{kept_edges, edges_added}}
 use Rattle.diy_words.specs.{declared.options.Tool.Tool, declared.request.TheConstants.MAX_CHOICES, declared.usage.Usage.Usage, Parts.Part}
 use Rattle.diy_words.specs.Gathered.{Gathered, gathered_of}
-use Rattle.diy_words.specs.Sayings.{Saying, SaysArch, SaysName, SaysMode, SaysFrom, SaysEdges, SaysRelaxes, SaysSize, SaysExact, SaysWhy, SaysCo, SaysExec, SaysLines, SaysGraph, SaysThreads, SaysAccesses, SaysAfter, SaysFolder, SaysLog, SaysFile, SaysTest, SaysExecution, SaysPlace, SaysCount, Before, said_by}
+use Rattle.diy_words.specs.Sayings.{Saying, SaysArch, SaysName, SaysMode, SaysFrom, SaysEdges, SaysRelaxes, SaysSize, SaysExact, SaysWhy, SaysCo, SaysExec, SaysNeeds, SaysLines, SaysGraph, SaysThreads, SaysAccesses, SaysAfter, SaysFolder, SaysLog, SaysFile, SaysTest, SaysExecution, SaysPlace, SaysCount, Before, said_by}
 
 -- what is gathered so far, except for edges, positions and files, of which nothing is gathered here; the edges, as many as a list holds;
 -- in how many ways a relaxation can be chosen for each position, up to one more than allowed; and how many operands were taken of those
@@ -39,6 +39,7 @@ with_saying notes SaysExact = record notes { given = record notes.given { exact 
 with_saying notes SaysWhy = record notes { given = record notes.given { why = true } }
 with_saying notes SaysCo = record notes { given = record notes.given { co = true } }
 with_saying notes SaysExec = record notes { given = record notes.given { exec = true } }
+with_saying notes SaysNeeds = record notes { given = record notes.given { needs = true } }
 with_saying notes SaysLines = record notes { given = record notes.given { lines = true } }
 with_saying notes SaysGraph = record notes { given = record notes.given { graph = true } }
 with_saying notes (SaysThreads threads) = record notes { given = record notes.given { threads = threads } }
@@ -74,6 +75,7 @@ before_noted notes = record {
   why = notes.given.why;
   co = notes.given.co;
   exec = notes.given.exec;
+  needs = notes.given.needs;
   folder = is_some notes.given.folder;
   lines = notes.given.lines;
 }

@@ -9,7 +9,8 @@ use Rattle.diy_words.specs.declared.usage.UsageKind.TheVariants.{UnknownTool, St
 use Rattle.diy_words.specs.{Parts.{parts_of, tool_named}, Sayings.Saying, Gathered.{Gathered, gathered_of}, SaidInOrder.{sayings, said_all}}
 use Rattle.diy_words.specs.declared.options.Tool.TheVariants as tools
 
--- what diyone7 is asked for without `-why` and `-co`: a test, or the execution that it asks for, under the given name or that of its cycle
+-- what diyone7 is asked for without `-why` and `-co`: a test, the execution that it asks for, or what suffices against its outcome, under
+-- the given name or that of its cycle
 pub record TestTask : Type 0 where
   pub arch : ArchName
   pub name : Option (List ℕ)
@@ -73,8 +74,8 @@ pub record FamiliesTask : Type 0 where
 -- what the arguments ask for: a test; why a cycle needs an observer; a coherence test; the names of cycles; the tests of a listing; the
 -- names of cycles by their families; the sum of the logs that the arguments after the first name, or of the input if there are none; the
 -- tests of the choices of relaxations; a number of tests; what holds of an execution of a test; instead of a test or a coherence test, the
--- execution that it asks for; instead of the tests of a listing, the lines of its cycles. For demo and mcheck7 the request itself has the
--- same type
+-- execution that it asks for; instead of a test, what suffices against its outcome; instead of the tests of a listing, the lines of its
+-- cycles. For demo and mcheck7 the request itself has the same type
 pub data Task : Type 0 where
   AsksTest : TestTask → Task
   AsksWhy : WhyTask → Task
@@ -88,6 +89,7 @@ pub data Task : Type 0 where
   AsksCheck : Check → Task
   AsksExecution : TestTask → Task
   AsksCoherenceExecution : CoherenceTask → Task
+  AsksNeeds : TestTask → Task
   AsksLines : ListTask → Task
 
 -- in how many ways a relaxation can be chosen for each position; if there is no position, in one way
@@ -175,9 +177,13 @@ why_asked count given = why_with count given.arch given.name given.edges given.f
 abbrev pub coherence_asked : ℕ → Gathered → Result CoherenceTask Usage
 coherence_asked count given = coherence_with count given.arch given.name given.edges given.folder
 
--- a test or, with `-exec`, the execution that it asks for
+-- a test or, with `-needs`, what suffices against its outcome
+abbrev pub test_or_needs : ℕ → Gathered → Result Task Usage
+test_or_needs count given = if given.needs then asks AsksNeeds (test_asked count given) else asks AsksTest (test_asked count given)
+
+-- with `-exec`, the execution that a test asks for
 abbrev pub test_or_execution : ℕ → Gathered → Result Task Usage
-test_or_execution count given = if given.exec then asks AsksExecution (test_asked count given) else asks AsksTest (test_asked count given)
+test_or_execution count given = if given.exec then asks AsksExecution (test_asked count given) else test_or_needs count given
 
 -- a coherence test or, with `-exec`, the execution that it asks for
 abbrev pub coherence_or_execution : ℕ → Gathered → Result Task Usage

@@ -183,6 +183,8 @@ fn finish_test(count: usize, notes: Notes<'_>) -> Result<Request<'_>, Usage>
     };
     if notes.exec {
         Ok(Request::Execution(request))
+    } else if notes.needs {
+        Ok(Request::Needs(request))
     } else {
         Ok(Request::Test(request))
     }
@@ -212,6 +214,7 @@ fn finish_list(count: usize, notes: Notes<'_>) -> Result<Request<'_>, Usage>
         why: _,
         co: _,
         exec: _,
+        needs: _,
         lines,
         graph: _,
     } = notes;

@@ -45,6 +45,8 @@ pub enum Request<'a> {
     Execution(DiyOne),
     /// The execution that a coherence test asks for, of diyone7 with `-co` and `-exec`.
     CoherenceExecution(Coherence),
+    /// What suffices against the outcome of a test, of diyone7 with `-needs`.
+    Needs(DiyOne),
     /// The lines of the cycles of a listing, of diy7 with `-list`.
     Lines(Diy<'a>),
 }
@@ -78,7 +80,7 @@ pub struct Source<'a> {
     pub name: &'a str,
 }
 
-/// What diyone7 is asked for without `-why` and `-co`, with or without `-exec`.
+/// What diyone7 is asked for without `-why` and `-co`, with or without `-exec` or `-needs`.
 #[derive(Drop)]
 pub struct DiyOne {
     /// The architecture of the test.

@@ -5,7 +5,8 @@ use Rattle.relax_edges.specs.{declared.TheConstants.MAX_EDGES, declared.kinds.Ob
 use Rattle.edge_algebra_laws.specs.Composable.{IsCycle}
 use Rattle.edge_algebra.specs.{declared.errors.CycleError.CycleError, Compose.composed, ComposingLaws.composes_exactly}
 use Rattle.arch_trait.specs.Threads.{Puts}
-use Rattle.test_maker.specs.{declared.refusal.Refusal.Refusal, Made.Judges, Refusals.refusal_of}
+use Rattle.test_maker.specs.declared.refusal.{MakeRefusal.MakeRefusal, Refusal.Refusal}
+use Rattle.test_maker.specs.{Made.Judges, Refusals.{make_refusal, refusal_of}}
 use Rattle.diycross7_cycles.specs.{Choices.is_accepted, ComposedLaws.composed_same}
 
 -- an accepted list is a cycle and has a test
@@ -23,8 +24,8 @@ pub accepted_few : (puts : Puts) (mode : ObsMode) (u : List Edge) → is_accepte
 accepted_few puts mode u h = (accepted_parts puts mode u h).0.few
 
 -- a cycle that the call accepts is the answer
-pub said_accepted : (puts : Puts) (mode : ObsMode) (u w : List Edge) (said : Result (Unit {0}) Refusal) →
-    composed u ≡ Ok w → Judges (refusal_of puts w mode) said → is_ok said ≡ true → Some w ≡ cond (is_accepted puts mode u) (Some u) None
+pub said_accepted : (puts : Puts) (mode : ObsMode) (u w : List Edge) (said : Result (Unit {0}) MakeRefusal) →
+    composed u ≡ Ok w → Judges make_refusal (refusal_of puts w mode) said → is_ok said ≡ true → Some w ≡ cond (is_accepted puts mode u) (Some u) None
 said_accepted puts mode u w (Ok _) m a h =
     let e = composed_same u w m in
     let n : refusal_of puts u mode ≡ None = ap (λ v. refusal_of puts v mode) (sym e) ∙ a in
@@ -32,12 +33,12 @@ said_accepted puts mode u w (Ok _) m a h =
 said_accepted puts mode u w (Err refusal) m a h = cc
 
 -- a cycle that the call refuses is not
-pub said_refused : (puts : Puts) (mode : ObsMode) (u w : List Edge) (said : Result (Unit {0}) Refusal) →
-    composed u ≡ Ok w → Judges (refusal_of puts w mode) said → is_ok said ≡ false → None ≡ cond (is_accepted puts mode u) (Some u) None
+pub said_refused : (puts : Puts) (mode : ObsMode) (u w : List Edge) (said : Result (Unit {0}) MakeRefusal) →
+    composed u ≡ Ok w → Judges make_refusal (refusal_of puts w mode) said → is_ok said ≡ false → None ≡ cond (is_accepted puts mode u) (Some u) None
 said_refused puts mode u w (Ok _) m a h = cc
 said_refused puts mode u w (Err refusal) m a h =
     let e = composed_same u w m in
-    let n : refusal_of puts u mode ≡ Some refusal = ap (λ v. refusal_of puts v mode) (sym e) ∙ a in
+    let n : refusal_of puts u mode ≡ Some (make_refusal refusal) = ap (λ v. refusal_of puts v mode) (sym e) ∙ a in
     rw (m, n) refl
 
 -- edges that make no cycle give no answer

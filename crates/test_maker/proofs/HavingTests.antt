@@ -11,7 +11,8 @@ use Rattle.final_cond.specs.declared.cond.Cond.{Cond}
 use Rattle.arch_trait.specs.{declared.code.Code.Code, Threads.Puts, SeenTests.TestSeen}
 use Rattle.tests_force_cycles.specs.{TestHeadline.{HasCode, HasTest}, CycleSteps.cycle_steps, TestOf.plain}
 use Rattle.tests_force_cycles.proofs.Headline.{room_left}
-use Rattle.test_maker.specs.{declared.refusal.Refusal.Refusal, Made.{AreOfArch, MakesSeenTest}, ConditionTerms.PutsThreads}
+use Rattle.test_maker.specs.declared.refusal.{Refusal.Refusal, MakeRefusal.MakeRefusal, CrowdedThread.CrowdedThread}
+use Rattle.test_maker.specs.{Made.{AreOfArch, MakesSeenTest}, ConditionTerms.PutsThreads}
 use Rattle.test_maker.specs.Refusals.{foreign_edge, need_refusal, unobserved_need, crowded_thread, resolved_refusal, refusal_of}
 use Rattle.test_maker.specs.declared.refusal.Refusal.TheVariants as refusals
 use Rattle.test_maker.proofs.{OfArch.{resolved_turned, turned_of_arch}, Printing.uncrowded}
@@ -45,7 +46,7 @@ uncrowded_has_code a es mode resolved of_arch none = record {
 }
 
 -- a cycle whose threads a call made
-pub made_has_code : (a : Puts) (register_name : ℕ → List ℕ) (es : List Edge) (mode : ObsMode) (threads : ArrayVec Code) (cond cond' : Cond) (result : Result (Unit {0}) Refusal) →
+pub made_has_code : (a : Puts) (register_name : ℕ → List ℕ) (es : List Edge) (mode : ObsMode) (threads : ArrayVec Code) (cond cond' : Cond) (result : Result (Unit {0}) CrowdedThread) →
     IsResolved es → AreOfArch a es → PutsThreads a register_name es mode threads cond cond' result → OnOk result (HasCode a es mode)
 made_has_code a register_name es mode threads cond cond' (Ok _) resolved of_arch put = uncrowded_has_code a es mode resolved of_arch put.0
 made_has_code a register_name es mode threads cond cond' (Err refusal) resolved of_arch put = tt
@@ -66,7 +67,7 @@ accepted_has_test a cycle mode is_cycle h =
         })
 
 -- a cycle that a call made the test of has a test
-pub made_has_test : (a : Puts) (register_name : ℕ → List ℕ) (cycle : List Edge) (mode : ObsMode) (test : TestSeen) (result : Result (Unit {0}) Refusal) →
+pub made_has_test : (a : Puts) (register_name : ℕ → List ℕ) (cycle : List Edge) (mode : ObsMode) (test : TestSeen) (result : Result (Unit {0}) MakeRefusal) →
     IsCycle cycle → MakesSeenTest a register_name cycle mode test result → OnOk result (HasTest a (turned cycle) mode)
 made_has_test a register_name cycle mode test (Ok _) is_cycle made = accepted_has_test a cycle mode is_cycle made.0
 made_has_test a register_name cycle mode test (Err refusal) is_cycle made = tt

@@ -14,7 +14,7 @@ use Rattle.arch_trait.proofs.{Whole.is_formed, Taking.in_order_le, Tables.length
 use Rattle.litmus_text.specs.{Tests.IsPrintable, declared.test.Test.Test}
 use Rattle.tests_force_cycles.specs.{CycleSteps.cycle_steps, TestOf.plain}
 use Rattle.tests_force_cycles.proofs.StepsFit.{steps_fit, steps_placed}
-use Rattle.test_maker.specs.{declared.refusal.Refusal.TheVariants.TooManyRegisters, declared.refusal.Refusal.Refusal, Refusals.{crowded_thread, is_crowded}}
+use Rattle.test_maker.specs.{declared.refusal.Refusal.TheVariants.TooManyRegisters, declared.refusal.CrowdedThread.CrowdedThread, Refusals.{crowded_thread, is_crowded}}
 use Rattle.test_maker.specs.{Made.{AreOfArch, CanPrint}, ConditionTerms.PutsThreads}
 use Rattle.final_cond.specs.declared.cond.Cond.{Cond}
 
@@ -143,7 +143,7 @@ all_printable a laws es mode codes resolved of_arch free same i d k =
     (sym left ∙ (ap (λ xs. get_or xs i (thread_code_of d)) same ∙ right))
 
 -- what a call made of a cycle whose places are letters can be printed
-pub made_printable : (a : Puts) (registers : ℕ) → a.registers ≡ registers → IsArch a → (es : List Edge) (mode : ObsMode) (test : Test) (result : Result (Unit {0}) Refusal) →
+pub made_printable : (a : Puts) (registers : ℕ) → a.registers ≡ registers → IsArch a → (es : List Edge) (mode : ObsMode) (test : Test) (result : Result (Unit {0}) CrowdedThread) →
     IsResolved es → AreOfArch a es → test.places ≡ letters (move_count es) → (name : ℕ → List ℕ) (cond0 cond1 : Cond) →
     PutsThreads a name es mode test.threads cond0 cond1 result → OnOk result (CanPrint a registers test)
 made_printable a registers count laws es mode test (Ok _) resolved of_arch places name cond0 cond1 put =

@@ -8,7 +8,7 @@ use Rattle.cycle_events.specs.Values.{Valuation, observer_need, valuation_of}
 use Rattle.cycle_events.proofs.Entries.{avoid_allowed, avoid_refused}
 use Rattle.arch_trait.specs.{SeenTests.TestSeen, Threads.Puts}
 use Rattle.tests_force_cycles.specs.TestOf.{test_of}
-use Rattle.test_maker.specs.{declared.refusal.Refusal.Refusal, Made.{AreOfArch, MakesSeenTest, MakesValued}}
+use Rattle.test_maker.specs.Made.{AreOfArch, MakesSeenTest, MakesValued}
 use Rattle.test_maker.specs.Refusals.{crowded_thread, foreign_edge, need_refusal, refusal_of, resolved_refusal, unobserved_need}
 use Rattle.test_maker.proofs.{HavingTests.not_foreign, OfArch.{resolved_turned, turned_of_arch}}
 
@@ -45,7 +45,6 @@ is_valued a {cycle} {edges} {es} {mode} {v} same none made resolves valued has =
     })
 
 -- so a call that makes the test by the values makes that of the cycle
-pub made_seen : (a : Puts) (register_name : ℕ → List ℕ) (cycle : List Edge) (mode : ObsMode) (v : Valuation) (test : TestSeen) (result : Result (Unit {0}) Refusal)
-    → IsValued a cycle mode v → MakesValued a register_name v.edges v.mode test result → MakesSeenTest a register_name cycle mode test result
-made_seen a register_name cycle mode v test (Ok _) is made = (is.refused ∙ made.0, made.1 ∙ is.makes register_name)
-made_seen a register_name cycle mode v test (Err refusal) is made = is.refused ∙ made
+pub made_seen : (a : Puts) (register_name : ℕ → List ℕ) (cycle : List Edge) (mode : ObsMode) (v : Valuation) (test : TestSeen)
+    → IsValued a cycle mode v → MakesValued a register_name v.edges v.mode test (Ok tt) → MakesSeenTest a register_name cycle mode test (Ok tt)
+made_seen a register_name cycle mode v test is made = (is.refused ∙ made.0, made.1 ∙ is.makes register_name)

@@ -9,8 +9,9 @@ use Rattle.cycle_events.specs.{declared.errors.ResolveError.ResolveError, declar
 use Rattle.cycle_events.specs.Values.{observer_need}
 use Rattle.cycle_events.specs.declared.errors.ResolveError.TheVariants as resolving
 use Rattle.arch_trait.specs.{declared.step.Step.Step, Threads.{Puts, shape_of}}
-use Rattle.test_maker.specs.declared.refusal.Refusal.{Refusal}
+use Rattle.test_maker.specs.declared.refusal.{Refusal.Refusal, MakeRefusal.MakeRefusal, ForeignEdge.ForeignEdge, CrowdedThread.CrowdedThread}
 use Rattle.test_maker.specs.declared.refusal.Refusal.TheVariants as refusals
+use Rattle.test_maker.specs.declared.refusal.MakeRefusal.TheVariants as making
 use Rattle.tests_force_cycles.specs.{CycleSteps.cycle_steps, TestOf.plain}
 
 -- why edges don't compose to a cycle
@@ -27,6 +28,22 @@ resolve_refusal resolving.CoherenceOnly = refusals.CoherenceOnly
 -- a write needs an observer
 abbrev pub need_refusal : NeedsObserver → Refusal
 need_refusal need = refusals.NeedsObserver need.location need.event
+
+-- an edge isn't of the architecture
+abbrev pub foreign_refusal : ForeignEdge → Refusal
+foreign_refusal edge = refusals.NotOfArch edge.at
+
+-- a thread needs more registers than the architecture has
+abbrev pub crowded_refusal : CrowdedThread → Refusal
+crowded_refusal crowded = refusals.TooManyRegisters crowded.thread
+
+-- why a cycle has no test, among the reasons of all tools
+abbrev pub make_refusal : MakeRefusal → Refusal
+make_refusal (making.NotOfArch at) = refusals.NotOfArch at
+make_refusal making.TooFewThreads = refusals.TooFewThreads
+make_refusal making.CoherenceOnly = refusals.CoherenceOnly
+make_refusal (making.NeedsObserver location event) = refusals.NeedsObserver location event
+make_refusal (making.TooManyRegisters thread) = refusals.TooManyRegisters thread
 
 -- the first edge, in the list as given, that isn't of the architecture
 abbrev pub foreign_edge : ArchName → List Edge → Option Refusal

@@ -6,21 +6,21 @@ ghost use Rattle.tests_force_cycles.specs.{CycleSteps.{numbers_read}, TestOf.{la
 ghost use Rattle.test_maker.specs.{Made.{AreOfArch}, ConditionTerms.{PutsThread, PutsThreads}};
 
 use crate::condition::put_load_terms;
-use crate::refusal::Refusal;
+use crate::refusal::CrowdedThread;
 use crate::steps::{Steps, fill_events, fill_observer, steps_of, thread_count};
-use arch_trait::{Arch, MAX_STEPS, Step, ThreadCodes};
+use arch_trait::{Arch, MAX_STEPS, Step, ThreadCodes, TooManyRegisters};
 use coherence_values::Valued;
 use final_cond::{Cond, MAX_TERMS};
 use relax_edges::MAX_EDGES;
 
 /// Makes `threads` the code of the threads of the test, including its observers, and appends what
 /// their loads read to the condition. What `threads` held before is dropped. If a thread needs too
-/// many registers, it returns `TooManyRegisters` with the first.
+/// many registers, it returns the first.
 pub fn put_threads<A: Arch>(
     valued: &Valued,
     threads: &mut ThreadCodes,
     cond: &mut Cond,
-) -> Result<(), Refusal>
+) -> Result<(), CrowdedThread>
     requires of_arch { AreOfArch A.puts valued.now.edges }
     requires last { map term_view cond.old.terms.items ≡ last_terms valued.now.edges valued.now.mode }
     ensures { PutsThreads A.puts (name_in A.writing.registers) valued.now.edges valued.now.mode threads.new cond.old cond.new result }
@@ -34,7 +34,10 @@ pub fn put_threads<A: Arch>(
     for thread in 0..thread_count(valued) {
         fill_observer(valued, thread, &mut reads);
         let steps = steps_of(valued, thread, &events, &reads);
-        put_thread::<A>(thread, steps, threads, cond)?;
+        match put_thread::<A>(thread, steps, threads, cond) {
+            Ok(()) => {}
+            Err(TooManyRegisters) => return Err(CrowdedThread { thread }),
+        }
     }
     Ok(())
 }
@@ -48,7 +51,7 @@ pub fn put_thread<A: Arch>(
     steps: &[Step],
     threads: &mut ThreadCodes,
     cond: &mut Cond,
-) -> Result<(), Refusal>
+) -> Result<(), TooManyRegisters>
     requires fit { FitSteps A.puts.name false steps.now }
     requires few { length steps.now ≤ MAX_STEPS }
     requires room { array_vec_len threads.old < MAX_EDGES }
@@ -60,6 +63,6 @@ pub fn put_thread<A: Arch>(
             put_load_terms::<A>(thread, steps, threads.last_loads(), &mut cond.terms);
             Ok(())
         }
-        Err(_) => Err(Refusal::TooManyRegisters { thread }),
+        Err(TooManyRegisters) => Err(TooManyRegisters),
     }
 }

@@ -8,9 +8,9 @@ use Rattle.litmus_text.specs.TestReading.{TestRead, test_read}
 use Rattle.program_meaning.specs.{Executions.Execution, Intended.intended}
 use Rattle.exec_text.specs.{ExecutionText.execution_read, Written.text_of_execution}
 use Rattle.bytes_force_cycles.specs.Readings.{place_in_test}
-use Rattle.test_maker.specs.{CycleText.cycle_text, Made.NamesLocation, Refusals.refusal_of}
-use Rattle.two_runs.specs.declared.{intended.IntendedRun.IntendedRun, errors.RunError.RunError}
-use Rattle.two_runs.specs.declared.errors.RunError.TheVariants as errors
+use Rattle.test_maker.specs.{CycleText.cycle_text, Made.MakeNamesLocation, Refusals.{make_refusal, refusal_of}}
+use Rattle.two_runs.specs.declared.{intended.IntendedRun.IntendedRun, errors.IntendedError.IntendedError}
+use Rattle.two_runs.specs.declared.errors.IntendedError.TheVariants as errors
 
 -- a text is read as some test
 abbrev pub IsRead : ArchName → Writing → List ℕ → Type 0
@@ -30,13 +30,13 @@ intended_by cycle mode test = intended (turned cycle) mode (place_in_test test)
 
 -- what a call gives for a cycle: what the text of its test is read as, and the intended execution; or the first reason why the cycle
 -- has no test; or, if there is no such reason, that there is no memory
-abbrev pub GivesRun : {A : Type 0} → Puts → Writing → List ℕ → List Edge → ObsMode → Result (IntendedRun A) RunError → Type 0
+abbrev pub GivesRun : {A : Type 0} → Puts → Writing → List ℕ → List Edge → ObsMode → Result (IntendedRun A) IntendedError → Type 0
 GivesRun a w name cycle mode (Ok given) =
     (refusal_of a cycle mode ≡ None) × IsRunOf a.name w (cycle_text a w mode name cycle) (intended_by cycle mode) given.test given.run
 GivesRun a w name cycle mode (Err errors.NoMemory) = refusal_of a cycle mode ≡ None
-GivesRun a w name cycle mode (Err (errors.Refused refusal)) = refusal_of a cycle mode ≡ Some refusal
+GivesRun a w name cycle mode (Err (errors.Refused refusal)) = refusal_of a cycle mode ≡ Some (make_refusal refusal)
 
 -- a refusal because a write needs an observer names a location that a test can have
-abbrev pub RunNamesLocation : RunError → Type 0
-RunNamesLocation (errors.Refused refusal) = NamesLocation refusal
+abbrev pub RunNamesLocation : IntendedError → Type 0
+RunNamesLocation (errors.Refused refusal) = MakeNamesLocation refusal
 RunNamesLocation errors.NoMemory = Unit {0}

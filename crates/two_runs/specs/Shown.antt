@@ -14,8 +14,17 @@ use Rattle.test_maker.specs.{declared.refusal.Refusal.Refusal, Refusals.{crowded
 use Rattle.test_maker.specs.declared.refusal.Refusal.TheVariants as refusals
 use Rattle.exec_text.specs.{ExecutionText.execution_read, Written.text_of_execution}
 use Rattle.bytes_force_cycles.specs.Readings.{program_read, place_in_test}
-use Rattle.two_runs.specs.{Undecided.NoneTells, declared.errors.RunError.RunError, declared.shown.TwoRuns.TwoRuns}
-use Rattle.two_runs.specs.declared.errors.RunError.TheVariants as errors
+use Rattle.two_runs.specs.{Undecided.NoneTells, declared.errors.WhyError.WhyError, declared.shown.TwoRuns.TwoRuns}
+use Rattle.two_runs.specs.declared.errors.WhyError.TheVariants as errors
+
+-- why nothing is shown, among the reasons of all tools; none, if there is no memory
+abbrev pub why_refusal : WhyError → Option Refusal
+why_refusal (errors.NotOfArch at) = Some (refusals.NotOfArch at)
+why_refusal errors.TooFewThreads = Some refusals.TooFewThreads
+why_refusal errors.CoherenceOnly = Some refusals.CoherenceOnly
+why_refusal errors.NothingToShow = Some refusals.NothingToShow
+why_refusal (errors.TooManyRegisters thread) = Some (refusals.TooManyRegisters thread)
+why_refusal errors.NoMemory = None
 
 -- why nothing is shown for a resolved cycle: no write needs an observer, or, if one does, a thread needs too many registers
 abbrev pub needless : Puts → List Edge → Option NeedsObserver → Option Refusal
@@ -46,17 +55,15 @@ pub record AreTwoRuns (a : Puts) (w : Writing) (name : List ℕ) (es : List Edge
 
 -- the result is the text of the test without observers, which has code on the architecture; or the first thread that needs too many
 -- registers; or, if no thread does, that there is no memory
-abbrev pub GivesText : Puts → Writing → List ℕ → List Edge → Result (Vec ℕ Global) RunError → Type 0
+abbrev pub GivesText : Puts → Writing → List ℕ → List Edge → Result (Vec ℕ Global) WhyError → Type 0
 GivesText a w name es (Ok text) = (crowded_thread a es Avoid ≡ None) × HasCode a es Avoid × (text.items ≡ test_text a.name w name (test_of a (name_in w.registers) es Avoid))
-GivesText a w name es (Err errors.NoMemory) = crowded_thread a es Avoid ≡ None
-GivesText a w name es (Err (errors.Refused refusal)) = crowded_thread a es Avoid ≡ Some refusal
+GivesText a w name es (Err error) = crowded_thread a es Avoid ≡ why_refusal error
 
 -- what is given for a resolved cycle in which this write needs an observer: the text and the two executions; or the first reason
 -- why nothing is shown; or, if there is no such reason, that there is no memory
-abbrev pub ShowsNeed : {A : Type 0} → Puts → Writing → List ℕ → List Edge → NeedsObserver → Result (TwoRuns A) RunError → Type 0
+abbrev pub ShowsNeed : {A : Type 0} → Puts → Writing → List ℕ → List Edge → NeedsObserver → Result (TwoRuns A) WhyError → Type 0
 ShowsNeed a w name es need (Ok runs) = (crowded_thread a es Avoid ≡ None) × AreTwoRuns a w name es need runs.text.items runs.test runs.one runs.two
-ShowsNeed a w name es need (Err errors.NoMemory) = crowded_thread a es Avoid ≡ None
-ShowsNeed a w name es need (Err (errors.Refused refusal)) = crowded_thread a es Avoid ≡ Some refusal
+ShowsNeed a w name es need (Err error) = crowded_thread a es Avoid ≡ why_refusal error
 
 -- a write of the resolved cycle needs an observer, and the text and the executions are those of this need
 pub record AreRunsFor (a : Puts) (w : Writing) (name : List ℕ) (es : List Edge) (needed : Option NeedsObserver) (text : List ℕ) (test : TestRead) (one two : Execution) : Type 0 where
@@ -65,10 +72,9 @@ pub record AreRunsFor (a : Puts) (w : Writing) (name : List ℕ) (es : List Edge
   pub runs : AreTwoRuns a w name es need text test one two
 
 -- what is given for a resolved cycle in which this write needs an observer, or none does
-abbrev pub ShowsResolved : {A : Type 0} → Puts → Writing → List ℕ → List Edge → Option NeedsObserver → Result (TwoRuns A) RunError → Type 0
+abbrev pub ShowsResolved : {A : Type 0} → Puts → Writing → List ℕ → List Edge → Option NeedsObserver → Result (TwoRuns A) WhyError → Type 0
 ShowsResolved a w name es needed (Ok runs) = (needless a es needed ≡ None) × AreRunsFor a w name es needed runs.text.items runs.test runs.one runs.two
-ShowsResolved a w name es needed (Err errors.NoMemory) = needless a es needed ≡ None
-ShowsResolved a w name es needed (Err (errors.Refused refusal)) = needless a es needed ≡ Some refusal
+ShowsResolved a w name es needed (Err error) = needless a es needed ≡ why_refusal error
 
 -- a cycle has a resolution, and the text and the executions are those of the resolved cycle
 pub record AreRunsIn (a : Puts) (w : Writing) (name : List ℕ) (resolution : Result (List Edge) ResolveError) (text : List ℕ) (test : TestRead) (one two : Execution) : Type 0 where
@@ -77,15 +83,13 @@ pub record AreRunsIn (a : Puts) (w : Writing) (name : List ℕ) (resolution : Re
   pub runs : AreRunsFor a w name es (observer_need es) text test one two
 
 -- what is given for a cycle that has this resolution, or none for this reason
-abbrev pub ShowsResolution : {A : Type 0} → Puts → Writing → List ℕ → Result (List Edge) ResolveError → Result (TwoRuns A) RunError → Type 0
+abbrev pub ShowsResolution : {A : Type 0} → Puts → Writing → List ℕ → Result (List Edge) ResolveError → Result (TwoRuns A) WhyError → Type 0
 ShowsResolution a w name resolution (Ok runs) = (unshown a resolution ≡ None) × AreRunsIn a w name resolution runs.text.items runs.test runs.one runs.two
-ShowsResolution a w name resolution (Err errors.NoMemory) = unshown a resolution ≡ None
-ShowsResolution a w name resolution (Err (errors.Refused refusal)) = unshown a resolution ≡ Some refusal
+ShowsResolution a w name resolution (Err error) = unshown a resolution ≡ why_refusal error
 
 -- what a call gives for a cycle: the text of its test without observers and the two executions; or the first reason why
 -- nothing is shown; or, if there is no such reason, that there is no memory
-abbrev pub Shows : {A : Type 0} → Puts → Writing → List ℕ → List Edge → Result (TwoRuns A) RunError → Type 0
+abbrev pub Shows : {A : Type 0} → Puts → Writing → List ℕ → List Edge → Result (TwoRuns A) WhyError → Type 0
 Shows a w name cycle (Ok runs) =
     (why_refused a cycle ≡ None) × AreRunsFor a w name (turned cycle) (observer_need (turned cycle)) runs.text.items runs.test runs.one runs.two
-Shows a w name cycle (Err errors.NoMemory) = why_refused a cycle ≡ None
-Shows a w name cycle (Err (errors.Refused refusal)) = why_refused a cycle ≡ Some refusal
+Shows a w name cycle (Err error) = why_refused a cycle ≡ why_refusal error

@@ -1,11 +1,11 @@
-ghost use Rattle.std.specs.Prelude.{◌≡◌, IfErr, IfOk};
+ghost use Rattle.std.specs.Prelude.{◌≡◌, IfOk};
 ghost use Rattle.arch_trait.specs.Writing.{name_in};
 ghost use Rattle.litmus_text.specs.{Printable.{IsTestName}, Tests.{test_seen}, TestText.{test_text}};
 ghost use Rattle.test_maker.specs.Made.{CanPrint};
 ghost use Rattle.co_tests.specs.CoherenceTests.{HasCoherenceTest, coherence_test_of, incoherent_execution};
-ghost use Rattle.two_runs.specs.{IntendedRuns.{IsRunOf, RunNamesLocation}, CoherenceRuns.{GivesCoherenceRun}};
+ghost use Rattle.two_runs.specs.{IntendedRuns.{IsRunOf}, CoherenceRuns.{GivesCoherenceRun}};
 
-use crate::errors::RunError;
+use crate::errors::CoherenceError;
 use crate::incoherent::incoherent_run;
 use crate::intended::IntendedRun;
 use crate::printed::read_printed;
@@ -26,10 +26,9 @@ pub fn coherence_run<A: Arch>(
     alloc: Global,
     cycle: &Cycle,
     name: &str,
-) -> Result<IntendedRun<A>, RunError>
+) -> Result<IntendedRun<A>, CoherenceError>
     requires named { IsTestName name.now }
-    ensures given { GivesCoherenceRun A.puts A.writing name.now cycle.now result }
-    ensures located { IfErr result RunNamesLocation }
+    ensures { GivesCoherenceRun A.puts A.writing name.now cycle.now result }
 {
     let mut test = Test::new();
     co_test_into::<A>(cycle, &mut test)?;

@@ -6,7 +6,7 @@ ghost use Rattle.tests_force_cycles.specs.{TestHeadline.{HasTest}, TestOf.{test_
 ghost use Rattle.test_maker.specs.{Made.{CanPrint}, Refusals.{refusal_of}};
 ghost use Rattle.two_runs.specs.{IntendedRuns.{GivesRun, RunNamesLocation}, Runs.{numbers_by, run_by}};
 
-use crate::errors::RunError;
+use crate::errors::IntendedError;
 use crate::printed::read_printed;
 use crate::run::run_of;
 use arch_trait::{Arch, Places};
@@ -40,7 +40,7 @@ pub fn intended_run<A: Arch>(
     cycle: &Cycle,
     mode: ObsMode,
     name: &str,
-) -> Result<IntendedRun<A>, RunError>
+) -> Result<IntendedRun<A>, IntendedError>
     requires named { IsTestName name.now }
     ensures given { GivesRun A.puts A.writing name.now cycle.now mode result }
     ensures located { IfErr result RunNamesLocation }
@@ -57,7 +57,7 @@ fn run_of_made<A: Arch>(
     mode: ObsMode,
     test: &Test,
     name: &str,
-) -> Result<IntendedRun<A>, RunError>
+) -> Result<IntendedRun<A>, IntendedError>
     requires named { IsTestName name.now }
     requires accepted { refusal_of A.puts cycle.now mode ≡ None }
     requires has_test { HasTest A.puts (turned cycle.now) mode }

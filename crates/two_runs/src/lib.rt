@@ -17,8 +17,10 @@ mod sink;
 mod text;
 mod undecided;
 
+pub use co_tests::CoRefusal;
 pub use coherence::coherence_run;
-pub use errors::RunError;
+pub use errors::{CoherenceError, IntendedError, WhyError};
 pub use intended::{IntendedRun, intended_run};
 pub use shown::{TwoRuns, two_runs};
+pub use test_maker::{MakeRefusal, Refusal};
 pub use undecided::{printed_undecided, tests_undecided};

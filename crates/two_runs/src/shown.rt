@@ -1,11 +1,11 @@
-ghost use Rattle.std.specs.Prelude.{◌≡◌, List, IfErr, Ok, Some};
+ghost use Rattle.std.specs.Prelude.{◌≡◌, List, Ok, Some};
 ghost use Rattle.relax_edges.specs.declared.edge.Edge.{Edge};
 ghost use Rattle.cycle_events.specs.{Resolution.{resolution_of}, Values.{observer_need}};
 ghost use Rattle.litmus_text.specs.Printable.{IsTestName};
 ghost use Rattle.test_maker.specs.Made.{AreOfArch};
-ghost use Rattle.two_runs.specs.{IntendedRuns.{RunNamesLocation}, Shown.{Shows, ShowsNeed, ShowsResolution, ShowsResolved}};
+ghost use Rattle.two_runs.specs.Shown.{Shows, ShowsNeed, ShowsResolution, ShowsResolved};
 
-use crate::errors::RunError;
+use crate::errors::WhyError;
 use crate::printed::read_text;
 use crate::printed_undecided;
 use crate::run::run_of;
@@ -19,7 +19,7 @@ use exec_meaning::Execution;
 use litmus_text::ReadTest;
 use relax_edges::ObsMode;
 use std::alloc::Global;
-use test_maker::{Refusal, all_of_arch, resolved_edges};
+use test_maker::{all_of_arch, resolved_edges};
 
 /// A test without observers, and two executions of it that no condition on the final state tells apart.
 #[derive(Drop)]
@@ -44,24 +44,22 @@ pub struct TwoRuns<A> {
 ///
 /// The error is the first of these reasons that holds: `NotOfArch`, `TooFewThreads`, `CoherenceOnly`, `NothingToShow`
 /// and `TooManyRegisters` (there are no observers among the threads). If none holds, it may be `NoMemory`.
-pub fn two_runs<A: Arch>(alloc: Global, cycle: &Cycle, name: &str) -> Result<TwoRuns<A>, RunError>
+pub fn two_runs<A: Arch>(alloc: Global, cycle: &Cycle, name: &str) -> Result<TwoRuns<A>, WhyError>
     requires named { IsTestName name.now }
-    ensures shown { Shows A.puts A.writing name.now cycle.now result }
-    ensures located { IfErr result RunNamesLocation }
+    ensures { Shows A.puts A.writing name.now cycle.now result }
 {
     resolved_edges();
     all_of_arch::<A>(cycle.edges())?;
     runs_of_arch(alloc, cycle, name)
 }
 
-fn runs_of_arch<A: Arch>(alloc: Global, cycle: &Cycle, name: &str) -> Result<TwoRuns<A>, RunError>
+fn runs_of_arch<A: Arch>(alloc: Global, cycle: &Cycle, name: &str) -> Result<TwoRuns<A>, WhyError>
     requires of_arch { (es : List Edge) → resolution_of cycle.now ≡ Ok es → AreOfArch A.puts es }
     requires named { IsTestName name.now }
-    ensures shown { ShowsResolution A.puts A.writing name.now (resolution_of cycle.now) result }
-    ensures located { IfErr result RunNamesLocation }
+    ensures { ShowsResolution A.puts A.writing name.now (resolution_of cycle.now) result }
 {
     match &resolve(cycle) {
-        Err(error) => Err(RunError::Refused(Refusal::from(error))),
+        Err(error) => Err(WhyError::from(error)),
         Ok(resolved) => runs_of_resolved(alloc, resolved, name),
     }
 }
@@ -70,14 +68,13 @@ fn runs_of_resolved<A: Arch>(
     alloc: Global,
     resolved: &Resolved,
     name: &str,
-) -> Result<TwoRuns<A>, RunError>
+) -> Result<TwoRuns<A>, WhyError>
     requires of_arch { AreOfArch A.puts resolved.now }
     requires named { IsTestName name.now }
-    ensures shown { ShowsResolved A.puts A.writing name.now resolved.now (observer_need resolved.now) result }
-    ensures located { IfErr result RunNamesLocation }
+    ensures { ShowsResolved A.puts A.writing name.now resolved.now (observer_need resolved.now) result }
 {
     match value(resolved, ObsMode::Avoid) {
-        Ok(_) => Err(RunError::Refused(Refusal::NothingToShow)),
+        Ok(_) => Err(WhyError::NothingToShow),
         Err(need) => runs_of_need(alloc, resolved, need, name),
     }
 }
@@ -87,12 +84,11 @@ fn runs_of_need<A: Arch>(
     resolved: &Resolved,
     need: NeedsObserver,
     name: &str,
-) -> Result<TwoRuns<A>, RunError>
+) -> Result<TwoRuns<A>, WhyError>
     requires of_arch { AreOfArch A.puts resolved.now }
     requires needs { observer_need resolved.now ≡ Some need }
     requires named { IsTestName name.now }
-    ensures shown { ShowsNeed A.puts A.writing name.now resolved.now need result }
-    ensures located { IfErr result RunNamesLocation }
+    ensures { ShowsNeed A.puts A.writing name.now resolved.now need result }
 {
     printed_undecided::<A>();
     let text = text_unobserved::<A>(alloc, resolved, name)?;

@@ -1,9 +1,9 @@
-ghost use Rattle.std.specs.{Prelude.{◌≡◌, length, IfErr, IfOk}, List.{All}};
+ghost use Rattle.std.specs.{Prelude.{◌≡◌, length, IfOk}, List.{All}};
 ghost use Rattle.litmus_text.specs.{Tests.{IsPrintable, test_seen}, TestText.{test_text}};
 ghost use Rattle.test_maker.specs.Made.{AreOfArch};
-ghost use Rattle.two_runs.specs.{IntendedRuns.{RunNamesLocation}, Shown.{GivesText}};
+ghost use Rattle.two_runs.specs.Shown.{GivesText};
 
-use crate::errors::RunError;
+use crate::errors::WhyError;
 use crate::sink::TextSink;
 use arch_trait::Arch;
 use cycle_resolve::Resolved;
@@ -17,10 +17,9 @@ pub(crate) fn text_unobserved<A: Arch>(
     alloc: Global,
     resolved: &Resolved,
     name: &str,
-) -> Result<Vec<u8>, RunError>
+) -> Result<Vec<u8>, WhyError>
     requires { AreOfArch A.puts resolved.now }
-    ensures given { GivesText A.puts A.writing name.now resolved.now result }
-    ensures located { IfErr result RunNamesLocation }
+    ensures { GivesText A.puts A.writing name.now resolved.now result }
 {
     let mut test = Test::new();
     make_unobserved::<A>(resolved, &mut test)?;

@@ -1,5 +1,5 @@
 -- That `put_threads` makes the code of all threads, or refuses the first that needs too many registers.
-use Rattle.std.proofs.Common.{◌≡◌, ◌<◌, ◌+◌, ◌++◌, ◌∷◌, [], arith, sym, ◌∙◌, ap, length, map, Some, length-take, length-append, take, true, false, refl}
+use Rattle.std.proofs.Common.{◌≡◌, ◌<◌, ◌+◌, ◌++◌, ◌∷◌, [], arith, sym, ◌∙◌, ap, length, map, length-take, length-append, take, true, false, refl}
 use Rattle.std.proofs.{lemmas.List.length-map, lemmas.List.Sums.count_by-le-length}
 use Rattle.std.specs.Option.{option_map}
 use Rattle.relax_edges.specs.EdgeTable.{is_external}
@@ -80,8 +80,7 @@ returns-in-Err g c =
     let whole = thread_whole es c.loop-i.thread c.loop-i.i c.as_slice.result.now (omega (arith, c.loop-i-test.true)) out c.loop-i.invariant.thread (c.as_slice.ensures.value ∙ pushed)
     (omega (arith, c.loop-i.invariant.thread, thread_within es c.loop-i.i (omega (arith, c.loop-i-test.true)) out)) in
     ap (option_map (λ thread. TooManyRegisters thread))
-    (crowded_here g.A.Arch.puts (coherence_steps es) c.loop-i.thread c.as_slice.result.now c.loop-i.invariant.grown.fitting whole c.in-Err.ensures.0)
-    ∙ ap Some (sym c.in-Err.ensures.1)
+    (crowded_here g.A.Arch.puts (coherence_steps es) c.loop-i.thread c.as_slice.result.now c.loop-i.invariant.grown.fitting whole c.in-Err.ensures)
 
 pub overflow_add-thread : goal.overflow_add-thread
 overflow_add-thread g c =

@@ -2,7 +2,7 @@
 use Rattle.std.proofs.Common.{subst, Ok}
 use Rattle.diy_words.specs.{declared.request.Request.Request, Given.GivesTask, Requests.asked_of}
 use Rattle.diy_tools.specs.{KeptRequests.{edges_kept, folder_kept, named_kept, refused_why}, ArchMachines.machine_of}
-use Rattle.diy_tools.proofs.{Coherent.coherence_answered, Executed.{execution_answered, loop_answered}, Running.{check_answered, name_answered}}
+use Rattle.diy_tools.proofs.{Coherent.coherence_answered, Executed.{execution_answered, loop_answered}, Needing.needs_answered, Running.{check_answered, name_answered}}
 use Rattle.diy_tools.proofs.Shows.{runs_idle}
 use Rattle.diy_tools.proofs.tools.answer.Goals as goal
 
@@ -47,3 +47,9 @@ returns-in-Ok-CoherenceExecution-clause-answers g c =
     (g.I.Source.seen c.args.input.now) (g.H.Shelf.seen c.args.shelf.now) (g.O.Sink.seen c.args.out.now) (g.O.Sink.seen c.coherence_execution.new.out)
     (subst (λ (r : Request). GivesTask (Ok r) (asked_of c.args.words.now)) c.in-Ok-CoherenceExecution.field-0-is c.in-Ok-CoherenceExecution.ensures.given)
     c.coherence_execution.ensures.answers
+
+pub returns-in-Ok-Needs-clause-answers : goal.returns-in-Ok-Needs-clause-answers
+returns-in-Ok-Needs-clause-answers g c =
+    needs_answered c.args.words.now c.in-Ok-Needs.request c.needs.result
+    (g.I.Source.seen c.args.input.now) (g.H.Shelf.seen c.args.shelf.now) (g.O.Sink.seen c.args.out.now) (g.O.Sink.seen c.needs.new.out)
+    (subst (λ (r : Request). GivesTask (Ok r) (asked_of c.args.words.now)) c.in-Ok-Needs.field-0-is c.in-Ok-Needs.ensures.given) c.needs.ensures.answers

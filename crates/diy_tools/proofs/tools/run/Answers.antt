@@ -1,5 +1,5 @@
 -- That the claims of `run` follow from what it answers.
-use Rattle.diy_tools.proofs.{Caused.answers_caused, Caused.answers_memory, Completed.answers_complete, Limits.answers_limited}
+use Rattle.diy_tools.proofs.{Caused.answers_caused, Caused.answers_memory, Completed.answers_complete, Forced.answers_force, Limits.answers_limited}
 use Rattle.diy_tools.proofs.tools.run.Goals as goal
 
 pub returns-clause-complete : goal.returns-clause-complete
@@ -17,3 +17,7 @@ returns-clause-causes g c =
 pub returns-clause-limited : goal.returns-clause-limited
 returns-clause-limited g c =
     answers_limited c.args.words.now c.answer-status.result _ _ c.answer-status.ensures.answers
+
+pub returns-clause-headline : goal.returns-clause-headline
+returns-clause-headline g c =
+    answers_force c.args.words.now c.answer-status.result _ _ c.answer-status.ensures.answers

@@ -1,5 +1,5 @@
 -- That `make_into` makes the test of a cycle that has one, which forces it, and that its refusals name locations of the cycle.
-use Rattle.std.proofs.{Common.{◌∙◌, sym, subst}, lemmas.Result.err_from_is_err_and}
+use Rattle.std.proofs.{Common.{◌∙◌, Ok, sym, subst}, lemmas.Result.err_from_is_err_and}
 use Rattle.std.specs.Prelude.{IfOk}
 use Rattle.cycle_events.specs.Resolution.{IsResolved}
 use Rattle.arch_trait.specs.Writing.{name_in}
@@ -14,18 +14,18 @@ returns-in_err-as_ref-2-clause-located g c =
 
 pub make_valued-requires : goal.make_valued-requires
 make_valued-requires g c =
-    (is_valued g.A.Arch.puts c.edges.ensures.value c.in_ok-all_of_arch.ensures.judged c.resolve-resolution.ensures.made c.in_ok-as_ref.ensures.value c.value-valuation.ensures c.in_ok-as_ref-2.ensures.value).of_arch
+    (is_valued g.A.Arch.puts c.edges.ensures.value c.in_ok-all_of_arch.ensures c.resolve-resolution.ensures.made c.in_ok-as_ref.ensures.value c.value-valuation.ensures c.in_ok-as_ref-2.ensures.value).of_arch
 
 pub returns-clause-made : goal.returns-clause-made
 returns-clause-made g c =
-    made_seen g.A.Arch.puts (name_in g.A.Arch.writing.registers) c.args.cycle.now c.args.mode c.in_ok-as_ref-2.field-0.now _ c.make_valued.result
-    (is_valued g.A.Arch.puts c.edges.ensures.value c.in_ok-all_of_arch.ensures.judged c.resolve-resolution.ensures.made c.in_ok-as_ref.ensures.value c.value-valuation.ensures c.in_ok-as_ref-2.ensures.value)
-    c.make_valued.ensures.made
+    made_seen g.A.Arch.puts (name_in g.A.Arch.writing.registers) c.args.cycle.now c.args.mode c.in_ok-as_ref-2.field-0.now _
+    (is_valued g.A.Arch.puts c.edges.ensures.value c.in_ok-all_of_arch.ensures c.resolve-resolution.ensures.made c.in_ok-as_ref.ensures.value c.value-valuation.ensures c.in_ok-as_ref-2.ensures.value)
+    c.in_ok-make_valued.ensures.made
 
 pub returns-clause-has_test : goal.returns-clause-has_test
-returns-clause-has_test g c = made_has_test g.A.Arch.puts _ c.args.cycle.now c.args.mode _ c.make_valued.result c.edges.ensures.composable (returns-clause-made g c)
+returns-clause-has_test g c = made_has_test g.A.Arch.puts _ c.args.cycle.now c.args.mode _ (Ok tt) c.edges.ensures.composable (returns-clause-made g c)
 
 pub returns-clause-forces : goal.returns-clause-forces
 returns-clause-forces g c =
-    made_forces g.A.Arch.puts g.A.Arch.writing g.met.A.Arch.laws g.met.A.Arch.reads_back c.args.cycle.now c.args.mode _ c.make_valued.result
+    made_forces g.A.Arch.puts g.A.Arch.writing g.met.A.Arch.laws g.met.A.Arch.reads_back c.args.cycle.now c.args.mode _ (Ok tt)
     c.edges.ensures.composable (returns-clause-made g c)

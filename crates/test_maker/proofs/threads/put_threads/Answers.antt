@@ -1,5 +1,5 @@
 -- That `put_threads` makes the code of all threads, or refuses the first that needs too many registers.
-use Rattle.std.proofs.{Common.{◌∙◌, ap, arith, map, refl, sym, Some}, lemmas.Result.err_from_is_err_and}
+use Rattle.std.proofs.Common.{◌∙◌, ap, arith, map, refl}
 use Rattle.std.specs.Option.{option_map}
 use Rattle.final_cond.specs.Conditions.{term_view}
 use Rattle.arch_trait.specs.{Codes.thread_code_of, Writing.name_in}
@@ -34,20 +34,18 @@ put_thread-requires-clause-terms_room g c =
     (load_room g.A.Arch.puts (name_in g.A.Arch.writing.registers) c.args.valued.now.edges c.args.valued.now.mode c.loop-thread.thread c.steps_of-steps.result.now c.loop-thread.threads c.args.cond.now c.loop-thread.cond
     resolved c.loop-thread.invariant.grown c.steps_of-steps.ensures.steps c.requires.last)
 
-pub returns-in_err-put_thread : goal.returns-in_err-put_thread
-returns-in_err-put_thread g c =
-    let p = err_from_is_err_and c.from_residual.result c.from_residual.ensures.1 in
+pub returns-in-Err : goal.returns-in-Err
+returns-in-Err g c =
     let all = cycle_steps c.args.valued.now.edges c.args.valued.now.mode plain in
-    rw (p.1, p.2) (ap (option_map (λ thread. TooManyRegisters thread))
-    (crowded_here g.A.Arch.puts all c.loop-thread.thread c.steps_of-steps.result.now c.loop-thread.invariant.grown.fitting c.steps_of-steps.ensures.steps c.in_err-put_thread.ensures.0)
-    ∙ ap Some (sym c.in_err-put_thread.ensures.1))
+    ap (option_map (λ thread. TooManyRegisters thread))
+    (crowded_here g.A.Arch.puts all c.loop-thread.thread c.steps_of-steps.result.now c.loop-thread.invariant.grown.fitting c.steps_of-steps.ensures.steps c.in-Err.ensures)
 
 pub loop-thread-preserved : goal.loop-thread-preserved
 loop-thread-preserved g c = record {
   grown =
       grown_more g.A.Arch.puts (name_in g.A.Arch.writing.registers) (cycle_steps c.args.valued.now.edges c.args.valued.now.mode plain) c.loop-thread.thread c.steps_of-steps.result.now _ _ _ _ _
-      c.loop-thread.invariant.grown c.steps_of-steps.ensures.steps c.in_ok-put_thread.ensures.0 c.in_ok-put_thread.ensures.1 c.in_ok-put_thread.ensures.3;
-  quantifier = c.in_ok-put_thread.ensures.2 ∙ c.loop-thread.invariant.quantifier;
+      c.loop-thread.invariant.grown c.steps_of-steps.ensures.steps c.in-Ok.ensures.0 c.in-Ok.ensures.1 c.in-Ok.ensures.3;
+  quantifier = c.in-Ok.ensures.2 ∙ c.loop-thread.invariant.quantifier;
 }
 
 pub returns : goal.returns

@@ -13,8 +13,8 @@ pub run_of_test-requires-clause-made : goal.run_of_test-requires-clause-made
 run_of_test-requires-clause-made g c =
     c.in_ok-co_test_into.ensures.made.1 ∙ ap (coherence_test_of g.A.Arch.puts (name_in g.A.Arch.writing.registers)) (sym (ap (λ (t : TestSeen). t.edges) c.in_ok-co_test_into.ensures.made.1))
 
-pub returns-clause-given : goal.returns-clause-given
-returns-clause-given g c = (
+pub returns : goal.returns
+returns g c = (
   c.in_ok-co_test_into.ensures.made.0,
   of_cycle g.A.Arch.puts g.A.Arch.NAME g.A.Arch.writing c.args.name.now c.args.cycle.now _ _ _ _ g.met.A.Arch.same_name
       (ap (λ (t : TestSeen). t.edges) c.in_ok-co_test_into.ensures.made.1) c.in_ok-co_test_into.ensures.made.1 c.in_ok-run_of_test.ensures,

@@ -11,7 +11,7 @@ pub read_text-requires : goal.read_text-requires
 read_text-requires g c =
     let a = g.A.Arch.puts in
     let w = g.A.Arch.writing in
-    let made = c.in_ok-text.ensures.given in
+    let made = c.in_ok-text.ensures in
     let u = undecided a g.A.Arch.NAME w c.args.name.now c.args.resolved.now c.args.need g.met.A.Arch.same_name c.printed_undecided.ensures c.requires.named made.1 c.requires.needs in
     subst (λ (n : ArchName). IsRead n w c.as_slice.result.now) g.met.A.Arch.same_name
     (subst (IsRead a.name w) (sym (c.as_slice.ensures.value ∙ made.2)) (u.test, u.reads))
@@ -19,14 +19,14 @@ read_text-requires g c =
 pub run_of-requires-2 : goal.run_of-requires-2
 run_of-requires-2 g c =
     subst (λ (v : Valuation). (x : ℕ) → Some c.args.need.event ≡ Some x → x < length v.edges) (sym c.value_unobserved-valued.ensures)
-    (λ event e. need_below c.args.resolved.now c.args.need event c.in_ok-text.ensures.given.1.resolved c.requires.needs e)
+    (λ event e. need_below c.args.resolved.now c.args.need event c.in_ok-text.ensures.1.resolved c.requires.needs e)
 
-pub returns-clause-shown : goal.returns-clause-shown
-returns-clause-shown g c =
+pub returns : goal.returns
+returns g c =
     let a = g.A.Arch.puts in
     let w = g.A.Arch.writing in
     let es = c.args.resolved.now in
-    let made = c.in_ok-text.ensures.given in
+    let made = c.in_ok-text.ensures in
     let u = undecided a g.A.Arch.NAME w c.args.name.now es c.args.need g.met.A.Arch.same_name c.printed_undecided.ensures c.requires.named made.1 c.requires.needs in (
       made.0,
       are_runs a w c.args.name.now es c.args.need c.in_ok-text.text.items c.as_slice.result.now c.in_ok-test.test c.in_ok-one.one c.in_ok-two.two made.2 c.as_slice.ensures.value u

@@ -6,4 +6,4 @@ use Rattle.two_runs.proofs.shown.two_runs.Goals as goal
 pub runs_of_arch-requires-clause-of_arch : goal.runs_of_arch-requires-clause-of_arch
 runs_of_arch-requires-clause-of_arch g c =
     λ es resolved. c.resolved_edges.ensures.of_arch g.A.Arch.puts c.args.cycle.now es
-    (ap (foreign_edge g.A.Arch.puts.name) (sym c.edges.ensures.value) ∙ c.in_ok-all_of_arch.ensures.judged) resolved
+    (ap (foreign_edge g.A.Arch.puts.name) (sym c.edges.ensures.value) ∙ c.in_ok-all_of_arch.ensures) resolved

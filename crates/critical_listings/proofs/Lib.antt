@@ -1,0 +1,15 @@
+pub mod Upto
+pub mod Normal
+pub mod Reading
+pub mod SixCycles
+pub mod Chains
+pub mod Making
+pub mod Writes
+pub mod Counting
+pub mod Externals
+pub mod Accepting
+pub mod Small
+pub mod Listing
+pub mod SixListed
+pub mod Rooms
+pub mod Converse

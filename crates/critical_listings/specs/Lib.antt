@@ -1,0 +1,4 @@
+pub mod Relaxes
+pub mod Accepted
+pub mod Listed
+pub mod Converse

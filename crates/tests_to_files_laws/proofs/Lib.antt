@@ -1,0 +1,3 @@
+pub mod Stems
+pub mod Written
+pub mod OwnFiles

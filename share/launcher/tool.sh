@@ -1,0 +1,110 @@
+# Calls a tool: its help, its version, or the program. If standard error is a terminal, a further line there says what to do about an error,
+# or which logs have no test. (read by ../../diy, and by the commands that ./diy install makes)
+# Set before it is called: program; help, the folder of the help; pages, the folder of the documentation; and the function print_version.
+
+call_tool() {
+    find_request "$@"
+    case $request in
+        help) exec cat -- "$help/$1.txt" ;;
+        version) print_version; exit ;;
+    esac
+    [ -t 2 ] && { true >&1; } 2>/dev/null || exec "$program" "$@"
+    exec 9>&1
+    said=$("$program" "$@" 2>&1 >&9 9>&-; status=$?; echo .; exit $status)
+    status=$?
+    exec 9>&-
+    said=${said%.}
+    printf %s "$said" >&2
+    case $status:$1 in
+        0:msum7) shift && note_logs "$@" ;;
+        0:*) ;;
+        *) write_hint "$@" ;;
+    esac
+    exit "$status"
+}
+
+# Sets whether the words ask for help or for the version. A value of -name or -o never does.
+find_request() {
+    request='' before=''
+    for word in "$@"; do
+        case $before in -name | -o) before='' && continue ;; esac
+        case $word in
+            --help | -help | -h) request=help && return ;;
+            --version | -version) request=version && return ;;
+        esac
+        before=$word
+    done
+}
+
+# Writes the hint for what the program said, by the kind of its error.
+write_hint() {
+    tool=$1 line=${said#diy: }
+    line=${line%?}
+    case $tool:$status:$line in
+        diyone7:1:'refused '* | norm7:1:'refused '*)
+            shift
+            edges=$(edges_among "$@")
+            set -f
+            # shellcheck disable=SC2086
+            set -- ${line#refused }
+            kind="refused $1" first=${2-}
+            ;;
+        *:1:'no file: '*) kind='no file' ;;
+        *:1:*) kind="text ${line##*: }" ;;
+        *:2:*) kind=${line%%:*} ;;
+        *:3:*) kind="${line%: *} ${line##*: }" ;;
+        *) kind=$line ;;
+    esac
+    pages=$(CDPATH='' cd -- "$pages" 2>/dev/null && pwd)
+    export kind first edges pages tool
+    awk '
+        function put(mark, value, before, at) {
+            while (at = index(text, mark)) {
+                before = before substr(text, 1, at - 1) value
+                text = substr(text, at + length(mark))
+            }
+            text = before text
+        }
+        index($0, ENVIRON["kind"] ": ") == 1 {
+            text = substr($0, length(ENVIRON["kind"]) + 3)
+            count = split(ENVIRON["edges"], edges)
+            put("%edge", edges[ENVIRON["first"] + 1])
+            put("%next", edges[(ENVIRON["first"] + 1) % (count ? count : 1) + 1])
+            put("%first", ENVIRON["first"])
+            put("%tool", ENVIRON["tool"])
+            put("%pages", ENVIRON["pages"])
+            print "hint: " text
+        }' "$help/kinds" >&2
+}
+
+# Prints the edges among the words of diyone7 or norm7.
+edges_among() {
+    before=''
+    for word in "$@"; do
+        case $before in -arch | -name | -obs | -o) before='' && continue ;; esac
+        case $word in
+            -*) before=$word ;;
+            *) printf '%s ' "$word" ;;
+        esac
+    done
+}
+
+# Says which of the logs that msum7 has read have no test: no line that begins one (docs/LOGS.md). What is no file can't be read again.
+note_logs() {
+    [ $# -gt 0 ] || set -- /dev/stdin
+    count=$#
+    for log in "$@"; do
+        shift
+        [ ! -f "$log" ] || set -- "$@" "$log"
+    done
+    [ $# -gt 0 ] || return
+    begin=$(printf '^[ \t]*Test[ \t]+[^ \t]+[ \t]+(Allowed|Forbidden|Required)[ \t]*\r?$')
+    lacking=$(LC_ALL=C grep -aLE "$begin" -- "$@" 2>/dev/null)
+    [ -n "$lacking" ] || return
+    case $count:$(printf '%s\n' "$lacking" | wc -l) in
+        1:*) said='1 log, no test in it' ;;
+        "$count:$count") said="$count logs, no test in them" ;;
+        *) said="$count logs, no test in $(printf '%s\n' "$lacking" | sed '$!s/$/,/' | tr '\n' ' ')" ;;
+    esac
+    echo "note: ${said% } (a test begins with a line such as Test SB Allowed)" >&2
+}
