@@ -16,6 +16,7 @@ use Rattle.exec_check.specs.declared.checked_errors.CheckedKind.TheVariants as c
 use Rattle.diy_io.specs.{Count.{Rose, count_of}, Shelf.ShelfSeen, Taken.SourceSeen, Wrote.{SinkSeen, WroteAll, WrotePart}}
 use Rattle.diy_words.specs.{declared.usage.Usage.Usage, declared.usage.UsageKind.TheVariants.UnknownName, declared.request.Demo.Demo}
 use Rattle.diy_words.specs.declared.request.Check.{Check}
+use Rattle.diy_words.specs.declared.request.ExecutionForm.{ExecutionForm}
 use Rattle.diy_words.specs.Requests.{Task, TestTask, WhyTask, ListTask, Sought, asked_of, AsksTest, AsksWhy, AsksCoherence, CoherenceTask, AsksName, AsksList, AsksFamilies, AsksSum, AsksCross, AsksDemo, AsksCheck, AsksExecution, AsksCoherenceExecution, AsksNeeds, AsksLines, OfEdges, OfName, OfLines, CrossTask}
 use Rattle.tests_to_files.specs.{declared.ending.ListingEnd.ListingEnd, ListingEnds.{StopsAtTest, StopsAtAll}, Plans.{IsPlanned, planned_text}}
 use Rattle.tests_to_files.specs.declared.ending.ListingEnd.TheVariants as listings
@@ -136,27 +137,27 @@ module _ (old new : Devices) where
   why_caused words asked None status e input (inr h) = runs_caused words asked status e input h
 
   -- an execution is printed, as far as standard output takes it
-  by_run : (G : Status → Type 0) (m : Machine) (text : List ℕ) (meant : TestRead → Execution) (status : Status) → PrintsRun m text meant status old.out new.out
-      → (PrintsRun m text meant statuses.Done old.out new.out → G statuses.Done)
-      → (PrintsRun m text meant (statuses.WriteFault Out) old.out new.out → G (statuses.WriteFault Out)) → G status
-  by_run G m text meant statuses.Done h all part = all h
-  by_run G m text meant (statuses.WriteFault Out) h all part = part h
-  by_run G m text meant status h all part = absurd h.prints
+  by_run : (G : Status → Type 0) (form : ExecutionForm) (m : Machine) (text : List ℕ) (meant : TestRead → Execution) (status : Status) → PrintsRun form m text meant status old.out new.out
+      → (PrintsRun form m text meant statuses.Done old.out new.out → G statuses.Done)
+      → (PrintsRun form m text meant (statuses.WriteFault Out) old.out new.out → G (statuses.WriteFault Out)) → G status
+  by_run G form m text meant statuses.Done h all part = all h
+  by_run G form m text meant (statuses.WriteFault Out) h all part = part h
+  by_run G form m text meant status h all part = absurd h.prints
 
   -- the execution that a test asks for, or a coherence test does
-  run_caused : (words : List (List ℕ)) (asked : Result Task Usage) (m : Machine) (refused : Option Refusal) (text : List ℕ) (meant : TestRead → Execution) (status : Status)
+  run_caused : (words : List (List ℕ)) (asked : Result Task Usage) (form : ExecutionForm) (m : Machine) (refused : Option Refusal) (text : List ℕ) (meant : TestRead → Execution) (status : Status)
       → new.input ≡ old.input → new.shelf ≡ old.shelf → MayWantMemory asked
       → ((refusal : Refusal) → refused ≡ Some refusal → CausesAsked words asked (statuses.Refused refusal) old old)
-      → (refused ≡ None → OutAlone (PrintsRun m text meant statuses.Done) old new → CausesAsked words asked statuses.Done old new)
-      → (refused ≡ None → OutAlone (PrintsRun m text meant (statuses.WriteFault Out)) old new → CausesAsked words asked (statuses.WriteFault Out) old new)
-      → AnswersRun m refused text meant status old.out new.out → CausesAsked words asked status old new
-  run_caused words asked m (Some refusal) text meant status input shelf wants refuses all part h =
+      → (refused ≡ None → OutAlone (PrintsRun form m text meant statuses.Done) old new → CausesAsked words asked statuses.Done old new)
+      → (refused ≡ None → OutAlone (PrintsRun form m text meant (statuses.WriteFault Out)) old new → CausesAsked words asked (statuses.WriteFault Out) old new)
+      → AnswersRun form m refused text meant status old.out new.out → CausesAsked words asked status old new
+  run_caused words asked form m (Some refusal) text meant status input shelf wants refuses all part h =
       of_status words asked status (statuses.Refused refusal) h.0
       (subst (λ (d : Devices). CausesAsked words asked (statuses.Refused refusal) old d) (sym (same_devices old new input h.1 shelf)) (refuses refusal refl))
-  run_caused words asked m None text meant status input shelf wants refuses all part (inl none) =
+  run_caused words asked form m None text meant status input shelf wants refuses all part (inl none) =
       of_status words asked status statuses.NoMemory none.0 (wants, record { out = none.1; files = ap (λ (s : ShelfSeen). s.files) shelf })
-  run_caused words asked m None text meant status input shelf wants refuses all part (inr h) =
-      by_run (λ s. CausesAsked words asked s old new) m text meant status h
+  run_caused words asked form m None text meant status input shelf wants refuses all part (inr h) =
+      by_run (λ s. CausesAsked words asked s old new) form m text meant status h
       (λ printed. all refl (record { input = input; shelf = shelf; out = printed }))
       (λ printed. part refl (record { input = input; shelf = shelf; out = printed }))
 
@@ -357,11 +358,11 @@ module _ (old new : Devices) where
   asked_caused : (words : List (List ℕ)) (asked : Result Task Usage) (status : Status)
       → AnswersAsked words asked status old new → CausesAsked words asked status old new
   asked_caused words (Err usage) status h = of_status words (Err usage) status (statuses.Usage usage.word usage.kind) h.0 ((refl, refl), h.1)
-  asked_caused words (Ok (AsksExecution asked)) status h =
-      run_caused words (Ok (AsksExecution asked)) (machine_of asked.arch) (test_refused asked) (asked_text asked) (intended_by asked.edges asked.mode) status
+  asked_caused words (Ok (AsksExecution form asked)) status h =
+      run_caused words (Ok (AsksExecution form asked)) form (machine_of asked.arch) (test_refused asked) (asked_text asked) (intended_by asked.edges asked.mode) status
       h.input h.shelf tt (λ refusal e. (e, refl)) (λ none printed. (none, printed)) (λ none printed. (printed.out.prints.fault, (none, printed))) h.out
-  asked_caused words (Ok (AsksCoherenceExecution asked)) status h =
-      run_caused words (Ok (AsksCoherenceExecution asked)) (machine_of asked.arch) (coherence_refused asked) (incoherent_text asked) (incoherent_by asked.edges)
+  asked_caused words (Ok (AsksCoherenceExecution form asked)) status h =
+      run_caused words (Ok (AsksCoherenceExecution form asked)) form (machine_of asked.arch) (coherence_refused asked) (incoherent_text asked) (incoherent_by asked.edges)
       status h.input h.shelf tt (λ refusal e. (e, refl)) (λ none printed. (none, printed)) (λ none printed. (printed.out.prints.fault, (none, printed))) h.out
   asked_caused words (Ok (AsksNeeds asked)) status h = needs_caused words asked (test_refused asked) status refl h.input h.shelf h.out
   asked_caused words (Ok (AsksLines asked)) status h = listed_caused words asked status h

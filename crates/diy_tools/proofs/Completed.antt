@@ -19,6 +19,7 @@ use Rattle.tests_from_files.specs.FilesEnds as classed
 use Rattle.exec_check.specs.{declared.checked_errors.CheckEnd.CheckEnd, FilesChecked.{AreTestAndExecution, FilesChecked}, CheckedLaws.right_files_done}
 use Rattle.exec_check.specs.declared.checked_errors.CheckEnd.TheVariants as checking
 use Rattle.diy_words.specs.{declared.usage.Usage.Usage, declared.request.Demo.Demo, declared.request.Check.Check}
+use Rattle.diy_words.specs.declared.request.ExecutionForm.{ExecutionForm}
 use Rattle.diy_words.specs.Requests.{Task, ListTask, Sought, asked_of, AsksTest, AsksWhy, AsksCoherence, WhyTask, AsksName, AsksList, AsksFamilies, AsksSum, AsksCross, AsksDemo, AsksCheck, AsksExecution, AsksCoherenceExecution, AsksNeeds, AsksLines, OfEdges, OfName, OfLines, CrossTask}
 use Rattle.tests_to_files.specs.declared.ending.ListingEnd.{ListingEnd}
 use Rattle.tests_to_files.specs.declared.ending.ListingEnd.TheVariants as listings
@@ -371,13 +372,13 @@ summed_done words status old new before after end (Some files) shown right none 
     files_done words files right status old new before after end shown none none_out e h
 
 -- an execution is printed where the edges aren't refused
-run_done : (asked : Result Task Usage) (m : Machine) (refused : Option Refusal) (text : List ℕ) (meant : TestRead → Execution) (status : Status) (old new : SinkSeen)
-    → MayWantMemory asked → (Rose old.faults new.faults → ⊥) → refused ≡ None → AnswersRun m refused text meant status old new → IsDone asked status
-run_done asked m (Some refusal) text meant status old new wants none can h = cc can
-run_done asked m None text meant status old new wants none can (inl empty) = inr (empty.0, wants)
-run_done asked m None text meant statuses.Done old new wants none can (inr h) = inl refl
-run_done asked m None text meant (statuses.WriteFault Out) old new wants none can (inr h) = absurd (none h.prints.fault)
-run_done asked m None text meant status old new wants none can (inr h) = absurd h.prints
+run_done : (asked : Result Task Usage) (form : ExecutionForm) (m : Machine) (refused : Option Refusal) (text : List ℕ) (meant : TestRead → Execution) (status : Status) (old new : SinkSeen)
+    → MayWantMemory asked → (Rose old.faults new.faults → ⊥) → refused ≡ None → AnswersRun form m refused text meant status old new → IsDone asked status
+run_done asked form m (Some refusal) text meant status old new wants none can h = cc can
+run_done asked form m None text meant status old new wants none can (inl empty) = inr (empty.0, wants)
+run_done asked form m None text meant statuses.Done old new wants none can (inr h) = inl refl
+run_done asked form m None text meant (statuses.WriteFault Out) old new wants none can (inr h) = absurd (none h.prints.fault)
+run_done asked form m None text meant status old new wants none can (inr h) = absurd h.prints
 
 listed_done : (asked : ListTask) (status : Status) (old new : SinkSeen) → (Rose old.faults new.faults → ⊥) → AnswersListed asked status old new
     → IsDone (Ok (AsksLines asked)) status
@@ -389,10 +390,10 @@ asked_done : (words : List (List ℕ)) (asked : Result Task Usage) (status : Sta
     → AnswersAsked words asked status old new → CanBeDone words asked old → NoFaults old new → IsDone asked status
 asked_done words (Err usage) status old new h can none = absurd can
 asked_done words (Ok (AsksWhy asked)) status old new h can none = why_done asked (why_unshown asked) status old new none can h.both
-asked_done words (Ok (AsksExecution asked)) status old new h can none =
-    run_done (Ok (AsksExecution asked)) (machine_of asked.arch) (test_refused asked) (asked_text asked) (intended_by asked.edges asked.mode) status old.out new.out tt none.out can h.out
-asked_done words (Ok (AsksCoherenceExecution asked)) status old new h can none =
-    run_done (Ok (AsksCoherenceExecution asked)) (machine_of asked.arch) (coherence_refused asked) (incoherent_text asked) (incoherent_by asked.edges) status old.out new.out tt none.out can h.out
+asked_done words (Ok (AsksExecution form asked)) status old new h can none =
+    run_done (Ok (AsksExecution form asked)) form (machine_of asked.arch) (test_refused asked) (asked_text asked) (intended_by asked.edges asked.mode) status old.out new.out tt none.out can h.out
+asked_done words (Ok (AsksCoherenceExecution form asked)) status old new h can none =
+    run_done (Ok (AsksCoherenceExecution form asked)) form (machine_of asked.arch) (coherence_refused asked) (incoherent_text asked) (incoherent_by asked.edges) status old.out new.out tt none.out can h.out
 asked_done words (Ok (AsksNeeds asked)) status old new h can none =
     edges_done (Ok (AsksNeeds asked)) (test_refused asked) (needs_asked asked) status old.out new.out none.out can h.out
 asked_done words (Ok (AsksLines asked)) status old new h can none = listed_done asked status old.out new.out none.out h.out

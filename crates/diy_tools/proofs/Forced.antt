@@ -27,6 +27,7 @@ use Rattle.arch_arm.specs.Laws as arm_laws
 use Rattle.arch_arm.specs.ReadsBack as arm_back
 use Rattle.litmus_text.specs.Printable.{IsTestName}
 use Rattle.diy_words.specs.{declared.usage.Usage.Usage, TestNames.is_name}
+use Rattle.diy_words.specs.declared.request.ExecutionForm.{ExecutionForm}
 use Rattle.diy_words.specs.Requests.{Task, TestTask, ListTask, AsksTest, AsksWhy, WhyTask, AsksCoherence, CoherenceTask, AsksName, AsksList, AsksFamilies, AsksSum, AsksCross, AsksDemo, AsksCheck, AsksExecution, AsksCoherenceExecution, AsksNeeds, AsksLines, CrossTask, asked_of}
 use Rattle.cycle_names.specs.CycleNames.{name_of}
 use Rattle.diy_words.proofs.RequestForm.{asked_form}
@@ -193,16 +194,16 @@ asked_force words status old new h = of_asked (asked_of words) refl h
               (test_named_so asked.name asked.edges whole.is_cycle (asked_form words (AsksCoherence asked) e)) whole.is_cycle whole.unrefused;
         }
 
-    of_execution : (asked : TestTask) → asked_of words ≡ Ok (AsksExecution asked) → AnswersExecution asked status old.out new.out
-        → HeadlineAsked (Ok (AsksExecution asked)) status old new
-    of_execution asked e h none =
-        printed (subst (λ (refused : Option Refusal). AnswersRun m refused (asked_text asked) (intended_by asked.edges asked.mode) status old.out new.out) none h)
+    of_execution : (form : ExecutionForm) (asked : TestTask) → asked_of words ≡ Ok (AsksExecution form asked) → AnswersExecution form asked status old.out new.out
+        → HeadlineAsked (Ok (AsksExecution form asked)) status old new
+    of_execution form asked e h none =
+        printed (subst (λ (refused : Option Refusal). AnswersRun form m refused (asked_text asked) (intended_by asked.edges asked.mode) status old.out new.out) none h)
       where
         m : Machine
         m = machine_of asked.arch
 
-        printed : AnswersRun m None (asked_text asked) (intended_by asked.edges asked.mode) status old.out new.out
-            → (status ≡ NoMemory) ⊎ PrintsIntended m (asked_text asked) asked.edges asked.mode status old.out new.out
+        printed : AnswersRun form m None (asked_text asked) (intended_by asked.edges asked.mode) status old.out new.out
+            → (status ≡ NoMemory) ⊎ PrintsIntended form m (asked_text asked) asked.edges asked.mode status old.out new.out
         printed (inl wants) = inl wants.0
         printed (inr run) =
             let whole = accepted m.puts asked.mode asked.edges none in
@@ -210,19 +211,19 @@ asked_force words status old new h = of_asked (asked_of words) refl h
               prints = run;
               forces =
                   text_forces asked.arch asked.mode (test_name asked.name asked.edges) asked.edges
-                  (test_named_so asked.name asked.edges whole.is_cycle (asked_form words (AsksExecution asked) e)) whole.is_cycle whole.unrefused;
+                  (test_named_so asked.name asked.edges whole.is_cycle (asked_form words (AsksExecution form asked) e)) whole.is_cycle whole.unrefused;
             })
 
-    of_loop : (asked : CoherenceTask) → asked_of words ≡ Ok (AsksCoherenceExecution asked) → AnswersCoherenceExecution asked status old.out new.out
-        → HeadlineAsked (Ok (AsksCoherenceExecution asked)) status old new
-    of_loop asked e h none =
-        printed (subst (λ (refused : Option Refusal). AnswersRun m refused (incoherent_text asked) (incoherent_by asked.edges) status old.out new.out) none h)
+    of_loop : (form : ExecutionForm) (asked : CoherenceTask) → asked_of words ≡ Ok (AsksCoherenceExecution form asked) → AnswersCoherenceExecution form asked status old.out new.out
+        → HeadlineAsked (Ok (AsksCoherenceExecution form asked)) status old new
+    of_loop form asked e h none =
+        printed (subst (λ (refused : Option Refusal). AnswersRun form m refused (incoherent_text asked) (incoherent_by asked.edges) status old.out new.out) none h)
       where
         m : Machine
         m = machine_of asked.arch
 
-        printed : AnswersRun m None (incoherent_text asked) (incoherent_by asked.edges) status old.out new.out
-            → (status ≡ NoMemory) ⊎ PrintsIncoherent m (incoherent_text asked) asked.edges status old.out new.out
+        printed : AnswersRun form m None (incoherent_text asked) (incoherent_by asked.edges) status old.out new.out
+            → (status ≡ NoMemory) ⊎ PrintsIncoherent form m (incoherent_text asked) asked.edges status old.out new.out
         printed (inl wants) = inl wants.0
         printed (inr run) =
             let whole = is_loop m.puts asked.edges none in
@@ -230,7 +231,7 @@ asked_force words status old new h = of_asked (asked_of words) refl h
               prints = run;
               shows =
                   text_shows asked.arch (test_name asked.name asked.edges) asked.edges
-                  (test_named_so asked.name asked.edges whole.is_cycle (asked_form words (AsksCoherenceExecution asked) e)) whole.is_cycle whole.unrefused;
+                  (test_named_so asked.name asked.edges whole.is_cycle (asked_form words (AsksCoherenceExecution form asked) e)) whole.is_cycle whole.unrefused;
             })
 
     of_needs : (asked : TestTask) → asked_of words ≡ Ok (AsksNeeds asked) → AnswersNeeds asked status old.out new.out
@@ -290,8 +291,8 @@ asked_force words status old new h = of_asked (asked_of words) refl h
     of_asked (Ok (AsksFamilies asked)) e h = tt
     of_asked (Ok AsksSum) e h = tt
     of_asked (Ok (AsksCheck asked)) e h = tt
-    of_asked (Ok (AsksExecution asked)) e h = of_execution asked e h.out
-    of_asked (Ok (AsksCoherenceExecution asked)) e h = of_loop asked e h.out
+    of_asked (Ok (AsksExecution form asked)) e h = of_execution form asked e h.out
+    of_asked (Ok (AsksCoherenceExecution form asked)) e h = of_loop form asked e h.out
     of_asked (Ok (AsksNeeds asked)) e h = of_needs asked e h.out
     of_asked (Ok (AsksLines asked)) e h = record { lists = h.out; forces = each_forces asked }
     of_asked (Ok (AsksTest asked)) e h = of_test asked e h.out

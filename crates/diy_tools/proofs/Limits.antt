@@ -192,9 +192,9 @@ module _ (old new : Devices) (much : TookTooMuch old new) where
       absurd (neither (same_input old.input new.input h.input) (same_shelf old.shelf new.shelf (ap (λ (s : ShelfSeen). s.opened) h.shelf)))
   asked_limit words (Ok (AsksCoherence asked)) status h =
       absurd (neither (same_input old.input new.input h.input) (same_shelf old.shelf new.shelf (ap (λ (s : ShelfSeen). s.opened) h.shelf)))
-  asked_limit words (Ok (AsksExecution asked)) status h =
+  asked_limit words (Ok (AsksExecution form asked)) status h =
       absurd (neither (same_input old.input new.input h.input) (same_shelf old.shelf new.shelf (ap (λ (s : ShelfSeen). s.opened) h.shelf)))
-  asked_limit words (Ok (AsksCoherenceExecution asked)) status h =
+  asked_limit words (Ok (AsksCoherenceExecution form asked)) status h =
       absurd (neither (same_input old.input new.input h.input) (same_shelf old.shelf new.shelf (ap (λ (s : ShelfSeen). s.opened) h.shelf)))
   asked_limit words (Ok (AsksNeeds asked)) status h =
       absurd (neither (same_input old.input new.input h.input) (same_shelf old.shelf new.shelf (ap (λ (s : ShelfSeen). s.opened) h.shelf)))
