@@ -98,7 +98,8 @@ bold_of es p x judged arrow h = (drawn, stood)
     stood r =
         let same : es ≡ r.es = same_Some es r.es r.cycle_is in
         let stands : EdgeStands es p x r.number = subst (λ l. EdgeStands l p x r.number) (sym same) r.stands in
-        let answers = λ answer there. (h.each r.number (arrow.edge, answer) there).1 stands ∙ sym r.bold in
+        let answers : (answer : Bool) → slice_get judged r.number ≡ Some (arrow.edge, answer) → answer ≡ arrow.stands =
+        λ (answer : Bool) (there : slice_get judged r.number ≡ Some (arrow.edge, answer)). (h.each r.number (arrow.edge, answer) there).1 stands ∙ sym r.bold in
         in_to (standing_arrows judged) arrow
         (in_filter (λ (a : Arrow). a.stands) (arrows_of judged) arrow r.bold
         (with_answer r.es judged arrow r.number (h.edges ∙ same) r.of answers))
@@ -156,7 +157,8 @@ dashed_of es p x judged arrow h = (drawn, fell)
     fell r =
         let same : es ≡ r.es = same_Some es r.es r.cycle_is in
         let fails : EdgeStands es p x r.number → ⊥ = subst (λ l. EdgeStands l p x r.number → ⊥) (sym same) r.fails in
-        let answers = λ answer there. no_yes answer (λ e. fails ((h.each r.number (arrow.edge, answer) there).0 e)) ∙ sym r.dashed in
+        let answers : (answer : Bool) → slice_get judged r.number ≡ Some (arrow.edge, answer) → answer ≡ arrow.stands =
+        λ (answer : Bool) (there : slice_get judged r.number ≡ Some (arrow.edge, answer)). no_yes answer (λ (e : answer ≡ true). fails ((h.each r.number (arrow.edge, answer) there).0 e)) ∙ sym r.dashed in
         let source = (there_decides p x arrow.source).1 r.source in
         let target = (there_decides p x arrow.target).1 r.target in
         in_to (dashed_arrows (seen_in p x) judged) arrow

@@ -8,7 +8,7 @@ use Rattle.diy_io.specs.{declared.page.TheConstants.LINE_ROOM, Page.page_after, 
 use Rattle.diy_io.proofs.PiecesLemmas.{joined_text_more}
 use Rattle.list_laws.specs.Numbers.{upto}
 use Rattle.relax_edges.specs.declared.edge.Edge.{Edge}
-use Rattle.exec_graph.specs.{declared.arrows.Arrow.Arrow, Graphs.{PictureSeen, answer_word, arrow_of, caption, initial_places, lap_word, pairs_by, quoted_byte, reads_initial}}
+use Rattle.exec_graph.specs.{declared.arrows.Arrow.Arrow, declared.drawn.{Drawn.Drawn, Relation.Relation}, Graphs.{PictureSeen, answer_word, arrow_of, arrows_of, caption, drawing_text, initial_places, lap_word, lines_drawn, pairs_by, points_drawn, quoted_byte, reads_initial, position_word, relation_colour, word_beside, word_distance, word_on}}
 use Rattle.final_cond.specs.CondText.{cond_text}
 use Rattle.program_meaning.specs.declared.seen.SeenAccess.{SeenAccess}
 
@@ -25,6 +25,11 @@ pub each_more : {X : Type 0} (f : X → List ℕ) (xs : List X) (i : ℕ) (d : X
 each_more f xs i d old text more inside h e =
     e ∙ ap (λ t. t ++ f (get_or xs i d)) h ∙ append_assoc old (flat_map f (take i xs)) (f (get_or xs i d))
     ∙ ap (λ t. old ++ t) (sym (flat_map_more f xs i d inside))
+
+-- the same, where the element is known as another
+pub each_next : {X : Type 0} (f : X → List ℕ) (xs : List X) (i : ℕ) (x : X) (old text more : List ℕ) → i < length xs → x ≡ get_or xs i x
+    → text ≡ old ++ flat_map f (take i xs) → more ≡ text ++ f x → more ≡ old ++ flat_map f (take (i + 1) xs)
+each_next f xs i x old text more inside is h e = each_more f xs i x old text more inside h (e ∙ ap (λ y. text ++ f y) is)
 
 passing_text : {X : Type 0} (f : X → List ℕ) (test : X → Bool) (xs : List X) → flat_map (λ x. cond (test x) (f x) []) xs ≡ flat_map f (filter test xs)
 passing_text f test [] = refl
@@ -134,18 +139,66 @@ few_more k false list h = omega (arith, length-append list [])
 pub initial_few : (k : ℕ) (b : Bool) (list more : List ℕ) → length list ≤ k → more ≡ list ++ cond b (k ∷ []) [] → length more ≤ k + 1
 initial_few k b list more h e = subst (λ l. length l ≤ k + 1) (sym e) (few_more k b list h)
 
+-- four texts, and then five more together
+four_and_five : (old l n m e s h t k u a b c d : List ℕ) → a ≡ old ++ l → b ≡ a ++ n → c ≡ b ++ m → d ≡ c ++ e
+    → d ++ (s ++ h ++ t ++ k ++ u) ≡ old ++ (l ++ n ++ m ++ e ++ s ++ h ++ t ++ k ++ u)
+four_and_five old l n m e s h t k u a b c d p q r v = rw (v, r, q, p) (simp append_assoc)
+
+-- two texts, and then five more together
+two_and_five : (old l n s h t k u a b : List ℕ) → a ≡ old ++ l → b ≡ a ++ n → b ++ (s ++ h ++ t ++ k ++ u) ≡ old ++ (l ++ n ++ s ++ h ++ t ++ k ++ u)
+two_and_five old l n s h t k u a b p q = rw (q, p) (simp append_assoc)
+
 -- the caption, appended piece by piece
 pub caption_appended : (picture : PictureSeen) (old a b c d holds coherent : List ℕ) → a ≡ old ++ codes "  labeljust=c\n  label=\""
     → b ≡ a ++ flat_map quoted_byte picture.name → c ≡ b ++ codes "\\n" → d ≡ c ++ flat_map quoted_byte (cond_text picture.condition)
     → holds ≡ answer_word picture.holds → coherent ≡ answer_word picture.coherent
     → d ++ (codes "\\ncondition " ++ holds ++ codes "\\ncoherent " ++ coherent ++ codes "\"\n") ≡ old ++ caption picture
 unfolding caption
-caption_appended picture old a b c d holds coherent h k l m p q = rw (p, q, m, l, k, h) (simp append_assoc)
+caption_appended picture old a b c d holds coherent h k l m p q =
+    ap (λ t. d ++ (codes "\\ncondition " ++ t ++ codes "\\ncoherent " ++ coherent ++ codes "\"\n")) p
+    ∙ ap (λ t. d ++ (codes "\\ncondition " ++ answer_word picture.holds ++ codes "\\ncoherent " ++ t ++ codes "\"\n")) q
+    ∙ four_and_five old (codes "  labeljust=c\n  label=\"") (flat_map quoted_byte picture.name) (codes "\\n") (flat_map quoted_byte (cond_text picture.condition))
+    (codes "\\ncondition ") (answer_word picture.holds) (codes "\\ncoherent ") (answer_word picture.coherent) (codes "\"\n") a b c d h k l m
 
--- the lines of seven relations, appended one after another
-pub seven_appended : {X : Type 0} (f : X → List ℕ) (a b c d e g h : X) (old s t u v w y z : List ℕ) → s ≡ old ++ f a → t ≡ s ++ f b → u ≡ t ++ f c → v ≡ u ++ f d
-    → w ≡ v ++ f e → y ≡ w ++ f g → z ≡ y ++ f h → z ≡ old ++ flat_map f (a ∷ b ∷ c ∷ d ∷ e ∷ g ∷ h ∷ [])
-seven_appended f a b c d e g h old s t u v w y z i j k l m n o = rw (o, n, m, l, k, j, i) (simp (append_assoc, append-nil))
+-- a word on an arrow, appended piece by piece
+pub on_appended : (relation : Relation) (word old a b distance colour : List ℕ)
+    → a ≡ old ++ codes ", taillabel=<<table border=\"0\" cellpadding=\"1\" cellspacing=\"0\"><tr><td bgcolor=\"white\">" → b ≡ a ++ word
+    → distance ≡ word_distance relation → colour ≡ relation_colour relation
+    → b ++ (codes "</td></tr></table>>, labeldistance=" ++ distance ++ codes ", labelangle=0, fontcolor=\"" ++ colour ++ codes "\"") ≡ old ++ word_on relation word
+unfolding word_on
+on_appended relation word old a b distance colour h k d c =
+    ap (λ t. b ++ (codes "</td></tr></table>>, labeldistance=" ++ t ++ codes ", labelangle=0, fontcolor=\"" ++ colour ++ codes "\"")) d
+    ∙ ap (λ t. b ++ (codes "</td></tr></table>>, labeldistance=" ++ word_distance relation ++ codes ", labelangle=0, fontcolor=\"" ++ t ++ codes "\"")) c
+    ∙ two_and_five old (codes ", taillabel=<<table border=\"0\" cellpadding=\"1\" cellspacing=\"0\"><tr><td bgcolor=\"white\">") word
+    (codes "</td></tr></table>>, labeldistance=") (word_distance relation) (codes ", labelangle=0, fontcolor=\"") (relation_colour relation) (codes "\"") a b h k
+
+-- nine texts, appended one after another
+nine_appended : (old l w m p n r k t u a b c d e f g h i : List ℕ) → a ≡ old ++ l → b ≡ a ++ w → c ≡ b ++ m → d ≡ c ++ p → e ≡ d ++ n → f ≡ e ++ w
+    → g ≡ f ++ (r ++ k ++ t) → h ≡ g ++ p → i ≡ h ++ u → i ≡ old ++ (l ++ w ++ m ++ p ++ n ++ w ++ r ++ k ++ t ++ p ++ u)
+nine_appended old l w m p n r k t u a b c d e f g h i q1 q2 q3 q4 q5 q6 q7 q8 q9 = rw (q9, q8, q7, q6, q5, q4, q3, q2, q1) (simp append_assoc)
+
+-- a word beside an arrow, appended piece by piece
+pub beside_appended : (relation : Relation) (word : List ℕ) (across down : ℕ) (old colour a b c d e f g h i : List ℕ) → colour ≡ relation_colour relation
+    → a ≡ old ++ codes "  \"" → b ≡ a ++ word → c ≡ b ++ codes "@" → d ≡ c ++ position_word across down → e ≡ d ++ codes "\" [label=\"" → f ≡ e ++ word
+    → g ≡ f ++ (codes "\", fontcolor=\"" ++ colour ++ codes "\", pos=\"") → h ≡ g ++ position_word across down → i ≡ h ++ codes "\"]\n"
+    → i ≡ old ++ word_beside relation word across down
+unfolding word_beside
+beside_appended relation word across down old colour a b c d e f g h i is q1 q2 q3 q4 q5 q6 q7 q8 q9 =
+    nine_appended old (codes "  \"") word (codes "@") (position_word across down) (codes "\" [label=\"") (codes "\", fontcolor=\"") (relation_colour relation)
+    (codes "\", pos=\"") (codes "\"]\n") a b c d e f g h i q1 q2 q3 q4 q5 q6
+    (q7 ∙ ap (λ t. f ++ (codes "\", fontcolor=\"" ++ t ++ codes "\", pos=\"")) is) q8 q9
+
+-- the lines of six relations and those of a seventh, appended one after another
+pub seven_appended : {X : Type 0} (f : X → List ℕ) (a b c d e g h : X) (old s t u v w y : List ℕ) → s ≡ old ++ f a → t ≡ s ++ f b → u ≡ t ++ f c → v ≡ u ++ f d
+    → w ≡ v ++ f e → y ≡ w ++ f g → y ++ f h ≡ old ++ flat_map f (a ∷ b ∷ c ∷ d ∷ e ∷ g ∷ h ∷ [])
+seven_appended f a b c d e g h old s t u v w y i j k l m n = rw (n, m, l, k, j, i) (simp (append_assoc, append-nil))
+
+-- the text of a graph, with what is drawn in it
+pub drawing_made : (picture : PictureSeen) (initial i2 i3 : List ℕ) (drawn d2 : List Drawn) (arrows a2 : List Arrow) (empty text : List ℕ)
+    → initial ≡ initial_places (length picture.places) picture.seen → i2 ≡ initial → drawn ≡ points_drawn picture.visits i2 picture.seen → i3 ≡ initial → d2 ≡ drawn
+    → arrows ≡ arrows_of picture.judged → a2 ≡ arrows → empty ≡ [] → text ≡ empty ++ lines_drawn picture i3 d2 a2 → text ≡ drawing_text picture
+unfolding drawing_text
+drawing_made picture initial i2 i3 drawn d2 arrows a2 empty text h1 h2 h3 h4 h5 h6 h7 h8 e = e ∙ rw (h8, h7, h6, h5, h3, h4, h2, h1) refl
 
 -- six texts, appended one after another
 pub six_appended : (old a b c d e f s t u v w : List ℕ) (x : List ℕ) → s ≡ old ++ a → t ≡ s ++ b → u ≡ t ++ c → v ≡ u ++ d → w ≡ v ++ e → x ≡ w ++ f

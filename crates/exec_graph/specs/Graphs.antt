@@ -2,7 +2,7 @@
 -- are read, the relations between them, the dependencies and barriers of the code, the edges of a cycle, and the condition.
 -- Source: own; the relations are the usual ones of axiomatic memory models, and accesses are written as in the literature.
 use Rattle.std.specs.Prelude.{ℕ, ◌+◌, ◌-◌, ◌*◌, ◌/◌, ◌%◌, ◌==◌, ◌&&◌, ◌||◌, zero, suc, not, Bool, true, false, cond, count_by, nat_lt, List, [], ◌∷◌, ◌++◌, codes, length, map, take, Option, Some, None, slice_get, slice_index_or}
-use Rattle.std.specs.{Fmt.decimal, Int.bit_at, List.{enumerate_from, filter, find, flat_map, list_all, list_any}}
+use Rattle.std.specs.{Fmt.decimal, Int.bit_at, List.{enumerate_from, filter, flat_map, list_all, list_any, position}}
 use Rattle.list_laws.specs.Numbers.{upto}
 use Rattle.relax_edges.specs.{declared.kinds.Dir.Dir, declared.kinds.Mark.Mark, declared.kinds.Com.Com, declared.kinds.Kind.Kind, declared.kinds.Pick.Pick, declared.edge.Edge.Edge, WordParts.word_of}
 use Rattle.relax_edges.specs.{declared.kinds.FenceKind.FenceKind, EdgeTable.kind_of}
@@ -223,9 +223,14 @@ abbrev pub thread_or_first : Option SeenAccess → ℕ
 thread_or_first None = 0
 thread_or_first (Some seen) = seen.thread
 
+-- the thread of the access with this number, if there is a number
+abbrev pub thread_numbered : List SeenAccess → Option ℕ → ℕ
+thread_numbered seen None = 0
+thread_numbered seen (Some k) = thread_or_first (slice_get seen k)
+
 -- the thread above which the initial write of a location is: that of the first write in coherence order
 abbrev pub home : List SeenAccess → ℕ → ℕ
-home seen place = thread_or_first (find (is_first_write place) seen)
+home seen place = thread_numbered seen (position (is_first_write place) seen)
 
 -- the initial write of a location is above the same thread as that of this place, and comes before it
 abbrev pub is_below : List SeenAccess → ℕ → ℕ → Bool

@@ -1,7 +1,10 @@
 -- What the code of a thread has before an access of it.
 -- Source: own.
-use Rattle.std.specs.Prelude.{ℕ, List, [], Option, Some, None}
-use Rattle.program_meaning.specs.Accesses.{Barred, Visit}
+use Rattle.std.specs.Prelude.{ℕ, ◌+◌, ◌-◌, ◌==◌, cond, List, [], Option, Some, None}
+use Rattle.micro_ops.specs.declared.operation.Item.{Item}
+use Rattle.micro_ops.specs.declared.operation.Item.TheVariants as items
+use Rattle.program_meaning.specs.Accesses.{Barred, Visit, reads_by}
+use Rattle.exec_graph.specs.declared.ties.Counted.{Counted}
 
 -- the barriers between an access and the one before it, and the loads that its address, its data and the branches before it depend on.
 -- Bit k of a mask names load number k of the thread, from 0
@@ -28,3 +31,9 @@ ties_of visit = record {
 abbrev pub ties_if : Option Visit → Ties
 ties_if None = untied
 ties_if (Some visit) = ties_of visit
+
+-- a count of the loads among the first accesses of a run, after one more item. Only private functions cite this
+abbrev pub with_item : Counted → Item → Counted
+with_item so_far (items.Barrier kind control) = so_far
+with_item so_far (items.Access dir mark place value a d c) =
+    cond (so_far.left == 0) so_far (record { loads = so_far.loads + cond (reads_by dir) 1 0; left = so_far.left - 1 })

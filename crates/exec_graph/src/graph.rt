@@ -1,4 +1,4 @@
-ghost use Rattle.std.specs.{Prelude.{◌≡◌, ◌≤◌, ◌++◌, [], cond, count_by, IfOk, OnOk, length}, List.{enumerate_from, filter, flat_map, list_all}};
+ghost use Rattle.std.specs.{Prelude.{◌≡◌, ◌≤◌, ◌++◌, [], cond, count_by, IfOk, OnOk, length, slice_get}, List.{enumerate_from, filter, flat_map, list_all, position}};
 ghost use Rattle.list_laws.specs.Numbers.{upto};
 ghost use Rattle.final_cond.specs.{Conditions.{cond_view}, CondText.{cond_text}};
 ghost use Rattle.relax_edges.specs.declared.TheConstants.{MAX_EDGES};
@@ -105,12 +105,30 @@ fn is_first_write(place: u8, seen: &SeenAccess) -> bool
     writes_to(place, &seen.access) && seen.order == 1
 }
 
+/// The number of the first write to a location in coherence order, among all accesses.
+fn first_write(seen: &[SeenAccess], place: u8) -> Option<usize>
+    ensures { result ≡ position (is_first_write place) seen.now }
+{
+    seen.iter()
+        .position(|access| is_first_write(place, access))
+}
+
+/// The thread of access number `k`, if there is one, and otherwise thread 0.
+fn thread_at(seen: &[SeenAccess], k: usize) -> u8
+    ensures { result ≡ thread_or_first (slice_get seen.now k) }
+{
+    match seen.get(k) {
+        Some(access) => access.thread,
+        None => 0,
+    }
+}
+
 /// The thread above which the initial write of a location is.
 fn home(seen: &[SeenAccess], place: u8) -> u8
     ensures { result ≡ home seen.now place }
 {
-    match seen.iter().find(|access| is_first_write(place, access)) {
-        Some(access) => access.thread,
+    match first_write(seen, place) {
+        Some(k) => thread_at(seen, k),
         None => 0,
     }
 }
@@ -127,15 +145,15 @@ fn is_below(seen: &[SeenAccess], place: u8, other: u8) -> bool
 fn push_initial(
     places: &Places,
     seen: &[SeenAccess],
-    initial: &[u8],
+    shown: &[u8],
     place: u8,
     text: &mut Vec<u8>,
 ) -> Result<(), NoMemory>
-    requires { length initial.now ≤ 255 }
-    ensures { OnOk result (text.new.items ≡ text.old.items ++ initial_line places.now seen.now initial.now place) }
+    requires { length shown.now ≤ 255 }
+    ensures { OnOk result (text.new.items ≡ text.old.items ++ initial_line places.now seen.now shown.now place) }
 {
     let name = place_word(places, place);
-    let below = initial
+    let below = shown
         .iter()
         .filter(|other| is_below(seen, place, **other))
         .count();
@@ -505,14 +523,14 @@ fn push_caption(picture: &Picture<'_>, text: &mut Vec<u8>) -> Result<(), NoMemor
 fn push_initials(
     places: &Places,
     seen: &[SeenAccess],
-    initial: &[u8],
+    shown: &[u8],
     text: &mut Vec<u8>,
 ) -> Result<(), NoMemory>
-    requires { length initial.now ≤ 255 }
-    ensures { OnOk result (text.new.items ≡ text.old.items ++ flat_map (initial_line places.now seen.now initial.now) initial.now) }
+    requires { length shown.now ≤ 255 }
+    ensures { OnOk result (text.new.items ≡ text.old.items ++ flat_map (initial_line places.now seen.now shown.now) shown.now) }
 {
-    for place in initial {
-        push_initial(places, seen, initial, *place, text)?;
+    for place in shown {
+        push_initial(places, seen, shown, *place, text)?;
     }
     Ok(())
 }

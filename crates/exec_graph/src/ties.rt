@@ -1,6 +1,6 @@
-ghost use Rattle.std.specs.Prelude.{◌≡◌, [], cond, count_by, take, IfOk, slice_get};
+ghost use Rattle.std.specs.Prelude.{◌≡◌, ◌<◌, ◌^◌, ◌-◌, cond, count_by, take, IfOk, slice_get};
 ghost use Rattle.program_meaning.specs.Accesses.{accesses_of, is_read, reads_by, visits_of};
-ghost use Rattle.exec_graph.specs.Ties.{ties_if, untied};
+ghost use Rattle.exec_graph.specs.Ties.{ties_if, untied, with_item};
 
 use micro_ops::Item;
 use program_meaning::Barred;
@@ -108,21 +108,44 @@ fn one_if_read(dir: Dir) -> usize
     }
 }
 
+/// The loads of a run that were counted, and how many accesses are left of those in which they are.
+#[derive(Clone, Copy)]
+struct Counted {
+    loads: usize,
+    left: usize,
+}
+
+/// The count after one more item.
+fn with_item(so_far: Counted, item: &Item) -> Counted
+    requires { so_far.loads < 2 ^ 64 - 1 }
+    ensures { result ≡ with_item so_far item.now }
+{
+    let Counted { loads, left } = so_far;
+    match *item {
+        Item::Barrier { .. } => so_far,
+        Item::Access { dir, .. } => {
+            if left == 0 {
+                so_far
+            } else {
+                Counted {
+                    loads: loads + one_if_read(dir),
+                    left: left - 1,
+                }
+            }
+        }
+    }
+}
+
 /// How many of the first `number` accesses of a run read.
-#[tactic(auto, using(crate::proofs::TieLaws::after_barrier, crate::proofs::TieLaws::after_access, crate::proofs::TieLaws::none_left))]
 pub(crate) fn loads_at(items: &[Item], number: usize) -> usize
     ensures { result ≡ count_by is_read (take number (accesses_of (visits_of items.now))) }
 {
-    let mut loads = 0;
-    let mut before = number;
+    let mut so_far = Counted {
+        loads: 0,
+        left: number,
+    };
     for item in items {
-        if let Item::Access { dir, .. } = *item {
-            if before == 0 {
-                return loads;
-            }
-            loads += one_if_read(dir);
-            before -= 1;
-        }
+        so_far = with_item(so_far, item);
     }
-    loads
+    so_far.loads
 }

@@ -5,4 +5,4 @@ use Rattle.exec_graph.specs.Graphs.{initial_line}
 use Rattle.exec_graph.proofs.graph.push_initials.Given as goal
 
 abbrev pub invariant-loop-place : goal.invariant-loop-place
-invariant-loop-place l = l.text.items ≡ l.fn.text.items ++ flat_map (initial_line l.places l.seen l.initial) (take l.place-index l.initial)
+invariant-loop-place l = l.text.items ≡ l.fn.text.items ++ flat_map (initial_line l.places l.seen l.shown) (take l.place-index l.shown)
