@@ -109,8 +109,7 @@ fn is_first_write(place: u8, seen: &SeenAccess) -> bool
 fn first_write(seen: &[SeenAccess], place: u8) -> Option<usize>
     ensures { result ≡ position (is_first_write place) seen.now }
 {
-    seen.iter()
-        .position(|access| is_first_write(place, access))
+    seen.iter().position(|access| is_first_write(place, access))
 }
 
 /// The thread of access number `k`, if there is one, and otherwise thread 0.
@@ -516,7 +515,10 @@ fn push_caption(picture: &Picture<'_>, text: &mut Vec<u8>) -> Result<(), NoMemor
     push_condition_text(picture.cond, text)?;
     let holds = answer_word(picture.holds).as_bytes();
     let coherent = answer_word(picture.coherent).as_bytes();
-    push_pieces(&[b"\\ncondition ", holds, b"\\ncoherent ", coherent, b"\"\n"], text)
+    push_pieces(
+        &[b"\\ncondition ", holds, b"\\ncoherent ", coherent, b"\"\n"],
+        text,
+    )
 }
 
 /// Appends the lines of the initial writes that are drawn.

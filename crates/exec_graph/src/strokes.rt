@@ -477,11 +477,7 @@ fn edge_stroke(arrow: &Arrow, wide: usize) -> Stroke
 }
 
 /// Appends the lines of the arrow of an edge.
-pub(crate) fn push_edge(
-    places: &Places,
-    arrow: &Arrow,
-    text: &mut Vec<u8>,
-) -> Result<(), NoMemory>
+pub(crate) fn push_edge(places: &Places, arrow: &Arrow, text: &mut Vec<u8>) -> Result<(), NoMemory>
     ensures { OnOk result (text.new.items ≡ text.old.items ++ edge_lines places.now arrow.now) }
 {
     let mut word: ArrayString<16> = ArrayString::new();
