@@ -8,6 +8,10 @@ files() {
     echo "644 libexec/diy-proved/version version"
     echo "755 libexec/diy-proved/edges copy $top/share/completions/edges"
     echo "644 libexec/diy-proved/help/kinds copy $top/share/help/kinds"
+    echo "755 libexec/diy-proved/gallery/gallery copy $top/share/gallery/gallery"
+    for file in page.css page.js; do
+        echo "644 libexec/diy-proved/gallery/$file copy $top/share/gallery/$file"
+    done
     for tool in $commands; do
         echo "755 bin/$tool command $tool"
         echo "644 libexec/diy-proved/help/$tool.txt copy $top/share/help/$tool.txt"
@@ -57,7 +61,7 @@ while [ -h "\$self" ]; do
 done
 prefix=\${self%/*}/..
 own=\$prefix/libexec/diy-proved
-program=\$own/diy_main help=\$own/help pages=\$prefix/share/doc/diy-proved
+program=\$own/diy_main help=\$own/help pages=\$prefix/share/doc/diy-proved gallery=\$own/gallery/gallery
 print_version() {
     cat "\$own/version"
 }

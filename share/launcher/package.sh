@@ -89,6 +89,8 @@ Installed-Size: $size
 Section: devel
 Priority: optional
 Depends: libc6 (>= $(needs))
+Recommends: python3 (>= 3.8)
+Suggests: graphviz
 Description: makes litmus tests from cycles of edges, by a proved program
  A litmus test is a small concurrent program that shows whether a machine may
  reorder memory accesses. These tools make such tests for x86, Power, AArch64,

@@ -1,6 +1,7 @@
 # Calls a tool: its help, its version, or the program. If standard error is a terminal, a further line there says what to do about an error,
 # or which logs have no test. (read by ../../diy, and by the commands that ./diy install makes)
-# Set before it is called: program; help, the folder of the help; pages, the folder of the documentation; and the function print_version.
+# Set before it is called: program; gallery, the script of the page; help, the folder of the help; pages, the folder of the documentation;
+# and the function print_version.
 
 call_tool() {
     find_request "$@"
@@ -8,6 +9,7 @@ call_tool() {
         help) exec cat -- "$help/$1.txt" ;;
         version) print_version; exit ;;
     esac
+    [ "$1" != diy-gallery ] || call_gallery "$@"
     [ -t 2 ] && { true >&1; } 2>/dev/null || exec "$program" "$@"
     exec 9>&1
     said=$("$program" "$@" 2>&1 >&9 9>&-; status=$?; echo .; exit $status)
@@ -21,6 +23,16 @@ call_tool() {
         *) write_hint "$@" ;;
     esac
     exit "$status"
+}
+
+# Runs the script that makes the page, over the program.
+call_gallery() {
+    shift
+    python3 -c 'import sys; sys.exit(sys.version_info < (3, 8))' 2>/dev/null || {
+        echo 'diy-gallery: needs the command python3, version 3.8 or later' >&2
+        exit 69
+    }
+    exec python3 "$gallery" "$program" "$(print_version)" "$@"
 }
 
 # Sets whether the words ask for help or for the version. A value of -name or -o never does.

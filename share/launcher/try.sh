@@ -6,9 +6,10 @@ try_tool() {
     [ $# -gt 0 ] || misused 'try needs a tool, such as ./diy try diyone7 -arch X86 PodWR Fre PodWR Fre'
     case $1 in --help | -help | -h) show_usage ;; esac
     require_tool "$1"
-    find_request "$@"
+    shift
+    find_request "$tool" "$@"
     [ -n "$request" ] || find_tried
-    call_tool "$@"
+    call_tool "$tool" "$@"
 }
 
 # Sets the program: one that is kept, or a new one.
@@ -17,6 +18,9 @@ find_tried() {
     kept=$top/crates/diy_main/out/tried
     program=$kept/$(sum_of_sources)
     [ -x "$program" ] || compile
+    print_version() {
+        echo 'one that nobody has proved yet'
+    }
     echo 'diy: the answer comes from a program that nobody has proved yet' >&2
 }
 

@@ -3,7 +3,8 @@ use Rattle.std.proofs.Common.{◌≡◌, ℕ, ◌+◌, ◌<◌, ◌≤◌, List,
 use Rattle.std.proofs.lemmas.{Bool.{le-leb, lt-ltb}, Fmt.decimal_is_IsNumeral}
 use Rattle.std.specs.{Fmt.decimal, Str.Parse.digits_value}
 use Rattle.list_laws.proofs.Digits.{digits_of, three_digits}
-use Rattle.relax_edges.specs.{declared.TheConstants.MAX_EDGES, declared.kinds.ArchName.ArchName, declared.kinds.ObsMode.ObsMode, Architectures.{arch_of, arch_word}}
+use Rattle.relax_edges.specs.{declared.TheConstants.MAX_EDGES, declared.kinds.ArchName.ArchName, declared.kinds.ObsMode.ObsMode}
+use Rattle.relax_edges.specs.Architectures.{arch_of, arch_word}
 use Rattle.relax_edges.specs.declared.kinds.ArchName.TheVariants as archs
 use Rattle.relax_edges.specs.declared.kinds.ObsMode.TheVariants as modes
 use Rattle.diy_io.specs.declared.shelf.TheConstants.{MAX_FOLDER}
@@ -38,24 +39,84 @@ number_read n some few =
     ) refl
 
 -- the words are read as the request
-asked : (arch : ArchName) (count : ℕ) (mode : Option ObsMode) (accesses : Option ℕ) (folder : Option (List ℕ)) → 0 < count → count + count ≤ MAX_EDGES → IsLimit accesses → IsFolder folder
-    → (let choices : Choices = record { mode = mode; accesses = accesses; folder = folder } in asked_of (critical_words arch count choices) ≡ Ok (AsksList (critical_task arch count choices)))
+asked : (arch : ArchName) (count : ℕ) (mode : Option ObsMode) (accesses : Option ℕ) (folder : Option (List ℕ)) → 0 < count
+    → count + count ≤ MAX_EDGES → IsLimit accesses → IsFolder folder
+    → (let choices : Choices = record { mode = mode; accesses = accesses; folder = folder } in asked_of
+    (critical_words arch count choices) ≡ Ok (AsksList (critical_task arch count choices)))
 asked arch count None None None some few limit named =
-    rw (arch_read arch, text_is_read, number_read (count + count) (omega (arith, some)) few, number_read count some (omega (arith, few))) refl
+    rw (
+      arch_read arch,
+      text_is_read,
+      number_read (count + count) (omega (arith, some)) few,
+      number_read count some
+          (omega (arith, few)),
+    ) refl
 asked arch count None None (Some folder) some few limit named =
-    rw (arch_read arch, text_is_read, number_read (count + count) (omega (arith, some)) few, number_read count some (omega (arith, few)), lt-ltb 0 (length folder) named.0, le-leb (length folder) MAX_FOLDER named.1) refl
+    rw (
+      arch_read arch,
+      text_is_read,
+      number_read (count + count) (omega (arith, some)) few,
+      number_read count some (omega (arith, few)),
+      lt-ltb 0 (length folder) named.0,
+      le-leb (length folder) MAX_FOLDER named.1,
+    ) refl
 asked arch count None (Some most) None some few limit named =
-    rw (arch_read arch, text_is_read, number_read (count + count) (omega (arith, some)) few, number_read count some (omega (arith, few)), number_read most (omega (arith, limit.0)) limit.1) refl
+    rw (
+      arch_read arch,
+      text_is_read,
+      number_read (count + count) (omega (arith, some)) few,
+      number_read count some (omega (arith, few)),
+      number_read most (omega (arith, limit.0)) limit.1,
+    ) refl
 asked arch count None (Some most) (Some folder) some few limit named =
-    rw (arch_read arch, text_is_read, number_read (count + count) (omega (arith, some)) few, number_read count some (omega (arith, few)), number_read most (omega (arith, limit.0)) limit.1, lt-ltb 0 (length folder) named.0, le-leb (length folder) MAX_FOLDER named.1) refl
+    rw (
+      arch_read arch,
+      text_is_read,
+      number_read (count + count) (omega (arith, some)) few,
+      number_read count some (omega (arith, few)),
+      number_read most (omega (arith, limit.0)) limit.1,
+      lt-ltb 0 (length folder) named.0,
+      le-leb (length folder) MAX_FOLDER named.1,
+    ) refl
 asked arch count (Some mode) None None some few limit named =
-    rw (arch_read arch, text_is_read, number_read (count + count) (omega (arith, some)) few, number_read count some (omega (arith, few)), mode_read mode) refl
+    rw (
+      arch_read arch,
+      text_is_read,
+      number_read (count + count) (omega (arith, some)) few,
+      number_read count some (omega (arith, few)),
+      mode_read mode,
+    ) refl
 asked arch count (Some mode) None (Some folder) some few limit named =
-    rw (arch_read arch, text_is_read, number_read (count + count) (omega (arith, some)) few, number_read count some (omega (arith, few)), mode_read mode, lt-ltb 0 (length folder) named.0, le-leb (length folder) MAX_FOLDER named.1) refl
+    rw (
+      arch_read arch,
+      text_is_read,
+      number_read (count + count) (omega (arith, some)) few,
+      number_read count some (omega (arith, few)),
+      mode_read mode,
+      lt-ltb 0 (length folder) named.0,
+      le-leb (length folder) MAX_FOLDER named.1,
+    ) refl
 asked arch count (Some mode) (Some most) None some few limit named =
-    rw (arch_read arch, text_is_read, number_read (count + count) (omega (arith, some)) few, number_read count some (omega (arith, few)), mode_read mode, number_read most (omega (arith, limit.0)) limit.1) refl
+    rw (
+      arch_read arch,
+      text_is_read,
+      number_read (count + count) (omega (arith, some)) few,
+      number_read count some (omega (arith, few)),
+      mode_read mode,
+      number_read most (omega (arith, limit.0)) limit.1,
+    ) refl
 asked arch count (Some mode) (Some most) (Some folder) some few limit named =
-    rw (arch_read arch, text_is_read, number_read (count + count) (omega (arith, some)) few, number_read count some (omega (arith, few)), mode_read mode, number_read most (omega (arith, limit.0)) limit.1, lt-ltb 0 (length folder) named.0, le-leb (length folder) MAX_FOLDER named.1) refl
+    rw (
+      arch_read arch,
+      text_is_read,
+      number_read (count + count) (omega (arith, some)) few,
+      number_read count some (omega (arith, few)),
+      mode_read mode,
+      number_read most (omega (arith, limit.0)) limit.1,
+      lt-ltb 0 (length folder) named.0,
+      le-leb
+          (length folder) MAX_FOLDER named.1,
+    ) refl
 
 pub words_ask : WordsAsk
 words_ask arch count choices some few c = asked arch count choices.mode choices.accesses choices.folder some few c.accesses c.folder

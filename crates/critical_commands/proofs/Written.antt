@@ -11,10 +11,14 @@ use Rattle.tests_to_files.specs.{declared.ending.ListingEnd.ListingEnd, ListingE
 use Rattle.tests_to_files.specs.declared.ending.ListingEnd.TheVariants as listings
 use Rattle.diy_words.specs.{declared.usage.Usage.Usage, Requests.{AsksLines, AsksList, ListTask, Task, asked_of}}
 use Rattle.run_status.specs.declared.status.Status.TheVariants.{Done}
-use Rattle.diy_tools.specs.{Answers.{Answers, AnswersAsked}, Devices.{DevicesSeen, devices}, ListAnswers.{AnswersList, AnswersListed, EndsAsked, plan_asked}, Statuses.listing_status}
+use Rattle.diy_tools.specs.{Answers.{Answers, AnswersAsked}, Devices.{DevicesSeen, devices}}
+use Rattle.diy_tools.specs.{ListAnswers.{AnswersList, AnswersListed, EndsAsked, plan_asked}, Statuses.listing_status}
 use Rattle.critical_listings.specs.{Accepted.{AllowsCritical, AllowsTwo}, Listed.ShowsAll}
-use Rattle.critical_listings.proofs.{Listing.{cycles_are_listed, listings_show_all}, Rooms.{aarch64_room, arm_room, power_room, riscv_room, x86_room}, SixListed.two_threads_list_six}
-use Rattle.critical_commands.specs.{Words.{AreChoices, Choices, IsLimit, critical_task, critical_words}, Written.{AreAllShown, CommandsListCycles, CommandsWriteAll, EachHasRoom, LinesListAll, ListingsWriteAll, TwoThreadsWriteSix, WritesTests}}
+use Rattle.critical_listings.proofs.Listing.{cycles_are_listed, listings_show_all}
+use Rattle.critical_listings.proofs.{Rooms.{aarch64_room, arm_room, power_room, riscv_room, x86_room}, SixListed.two_threads_list_six}
+use Rattle.critical_commands.specs.Words.{AreChoices, Choices, IsLimit, critical_task, critical_words}
+use Rattle.critical_commands.specs.Written.{AreAllShown, CommandsListCycles, CommandsWriteAll, EachHasRoom, LinesListAll, ListingsWriteAll}
+use Rattle.critical_commands.specs.Written.{TwoThreadsWriteSix, WritesTests}
 use Rattle.critical_commands.proofs.Words.{words_ask}
 
 -- a listing that isn't to go on after a cycle begins with the first
@@ -24,7 +28,8 @@ nothing_given None (Some cycle) e b = absurd b
 nothing_given (Some cycle) given e b = cc
 
 -- what shows all of a listing shows all that is listed
-all_shown : (plan : Plan) (count : ℕ) (cycles : List (List Edge)) → ShowsAll plan count → AreAllListed (IsPlanned plan) None cycles → AreAllShown count cycles
+all_shown : (plan : Plan) (count : ℕ) (cycles : List (List Edge)) → ShowsAll plan count → AreAllListed (IsPlanned plan) None cycles
+    → AreAllShown count cycles
 all_shown plan count cycles shows listed p x few candidate within coherent =
     elim (shows p x few candidate within coherent) [
       | inl interleaved ↦ inl interleaved
@@ -43,7 +48,8 @@ record WroteListed (asked : ListTask) (old new : ShelfSeen) : Type 0 where
   all : AreAllListed (IsPlanned (plan_asked asked)) None cycles
   files : WritesTests asked cycles old new
 
-wrote_listed : (asked : ListTask) (old new : ShelfSeen) (before after : SinkSeen) → asked.after ≡ None → AnswersList asked Done old new before after → WroteListed asked old new
+wrote_listed : (asked : ListTask) (old new : ShelfSeen) (before after : SinkSeen) → asked.after ≡ None
+    → AnswersList asked Done old new before after → WroteListed asked old new
 wrote_listed asked old new before after first answers = of_end answers.end answers.status_is answers.ends
   where
     of_end : (end : ListingEnd) → Done ≡ listing_status end → EndsAsked asked end old new before after → WroteListed asked old new
@@ -51,19 +57,22 @@ wrote_listed asked old new before after first answers = of_end answers.end answe
         let w = e.ends in
         record {
           cycles = w.cycles;
-          all = subst (λ given. AreAllListed (IsPlanned (plan_asked asked)) given w.cycles) (nothing_given asked.after e.given first e.begins) w.all;
+          all = subst (λ given. AreAllListed (IsPlanned (plan_asked asked)) given w.cycles)
+              (nothing_given asked.after e.given first e.begins) w.all;
           files = w.files;
         }
     of_end listings.ShelfFault h e = cc h
     of_end listings.OutFault h e = cc h
 
 -- a call whose arguments ask for a listing answers it
-list_answered : (words : List (List ℕ)) (asked : ListTask) (old new : DevicesSeen) → asked_of words ≡ Ok (AsksList asked) → Answers words Done old new
+list_answered : (words : List (List ℕ)) (asked : ListTask) (old new : DevicesSeen) → asked_of words ≡ Ok (AsksList asked)
+    → Answers words Done old new
     → AnswersList asked Done (devices old).shelf (devices new).shelf (devices old).out (devices new).out
 list_answered words asked old new asks answers =
     (subst (λ (task : Result Task Usage). AnswersAsked words task Done (devices old) (devices new)) asks answers).both
 
-lines_answered : (words : List (List ℕ)) (asked : ListTask) (old new : DevicesSeen) → asked_of words ≡ Ok (AsksLines asked) → Answers words Done old new
+lines_answered : (words : List (List ℕ)) (asked : ListTask) (old new : DevicesSeen) → asked_of words ≡ Ok (AsksLines asked)
+    → Answers words Done old new
     → AnswersListed asked Done (devices old).out (devices new).out
 lines_answered words asked old new asks answers =
     (subst (λ (task : Result Task Usage). AnswersAsked words task Done (devices old) (devices new)) asks answers).out
@@ -71,16 +80,28 @@ lines_answered words asked old new asks answers =
 -- the tests of all cycles there are were written
 pub listings_write_all : ListingsWriteAll
 listings_write_all words asked count old new asks allows most first answers =
-    let w = wrote_listed asked (devices old).shelf (devices new).shelf (devices old).out (devices new).out first (list_answered words asked old new asks answers) in
-    record { cycles = w.cycles; files = w.files; all = all_shown (plan_asked asked) count w.cycles (listings_show_all (plan_asked asked) count allows most) w.all }
+    let w = wrote_listed asked (devices old).shelf (devices new).shelf (devices old).out (devices new).out first
+    (list_answered words asked old new asks answers) in
+    record {
+      cycles = w.cycles;
+      files = w.files;
+      all = all_shown (plan_asked asked) count w.cycles
+          (listings_show_all (plan_asked asked) count allows most) w.all;
+    }
 
 -- or their lines
 pub lines_list_all : LinesListAll
 lines_list_all words asked count old new asks allows most first answers =
     let e = lines_answered words asked old new asks answers in
     let w = e.ok in
-    let all = subst (λ given. AreAllListed (IsPlanned (plan_asked asked)) given w.cycles) (nothing_given asked.after e.given first e.begins) w.all in
-    record { cycles = w.cycles; lines = w.wrote; all = all_shown (plan_asked asked) count w.cycles (listings_show_all (plan_asked asked) count allows most) all }
+    let all = subst (λ given. AreAllListed (IsPlanned (plan_asked asked)) given w.cycles)
+    (nothing_given asked.after e.given first e.begins) w.all in
+    record {
+      cycles = w.cycles;
+      lines = w.wrote;
+      all = all_shown (plan_asked asked) count w.cycles
+          (listings_show_all (plan_asked asked) count allows most) all;
+    }
 
 -- each architecture has room
 pub room : EachHasRoom
@@ -95,7 +116,8 @@ two_allowed None limit = tt
 two_allowed (Some most) limit = limit.0
 
 -- the command's listing allows what it is to
-allows : (arch : ArchName) (count : ℕ) (choices : Choices) → AreChoices choices → AllowsCritical count (plan_asked (critical_task arch count choices))
+allows : (arch : ArchName) (count : ℕ) (choices : Choices) → AreChoices choices
+    → AllowsCritical count (plan_asked (critical_task arch count choices))
 allows arch count choices c = record {
   relaxes = refl;
   size = omega arith;
@@ -108,14 +130,17 @@ allows arch count choices c = record {
 -- the command lists the edges of each critical cycle
 pub commands_list_cycles : CommandsListCycles
 commands_list_cycles arch count choices threads places x most chosen few execution within c =
-    cycles_are_listed (plan_asked (critical_task arch count choices)) count threads places x (allows arch count choices chosen) most few execution within c
+    cycles_are_listed (plan_asked (critical_task arch count choices)) count threads places x
+    (allows arch count choices chosen) most few execution within c
 
 -- the command wrote the tests of all cycles there are
 pub commands_write_all : CommandsWriteAll
 commands_write_all arch count choices old new some most c answers =
-    listings_write_all (critical_words arch count choices) (critical_task arch count choices) count old new (words_ask arch count choices some most c) (allows arch count choices c) most refl answers
+    listings_write_all (critical_words arch count choices) (critical_task arch count choices) count old new
+    (words_ask arch count choices some most c) (allows arch count choices c) most refl answers
 
-six_names : (let names : List (List ℕ) = map name_of six_cycles in names ≡ codes "SB" ∷ codes "MP" ∷ codes "R" ∷ codes "LB" ∷ codes "S" ∷ codes "2+2W" ∷ [])
+six_names : (let names : List (List ℕ) = map name_of six_cycles in names ≡ codes "SB" ∷ codes "MP" ∷ codes "R" ∷ codes "LB" ∷ codes "S"
+    ∷ codes "2+2W" ∷ [])
 unfolding rank_of found_family named_rotation links_text name_from name_of
 six_names = refl
 
@@ -127,5 +152,6 @@ two_threads_write_six = record {
       let asked = critical_task arch 2 choices in
       let w = wrote_listed asked (devices old).shelf (devices new).shelf (devices old).out (devices new).out refl
       (list_answered (critical_words arch 2 choices) asked old new (words_ask arch 2 choices (omega arith) (omega arith) c) answers) in
-      subst (λ cycles. WritesTests asked cycles (devices old).shelf (devices new).shelf) (two_threads_list_six (plan_asked asked) w.cycles (allows arch 2 choices c) refl w.all) w.files;
+      subst (λ cycles. WritesTests asked cycles (devices old).shelf (devices new).shelf)
+      (two_threads_list_six (plan_asked asked) w.cycles (allows arch 2 choices c) refl w.all) w.files;
 }

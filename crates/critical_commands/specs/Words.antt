@@ -1,7 +1,9 @@
 -- The words of the command that writes a test of every critical cycle, and what they ask for.
 -- Source: the command line of diy7 of the herdtools suite.
-use Rattle.std.specs.{Prelude.{◌≡◌, ℕ, ◌+◌, ◌<◌, ◌≤◌, ⊤, false, List, [], ◌∷◌, ◌++◌, length, Option, Some, None, Ok, codes}, Fmt.decimal, Option.option_map}
-use Rattle.relax_edges.specs.{declared.TheConstants.MAX_EDGES, declared.kinds.ArchName.ArchName, declared.kinds.ObsMode.ObsMode, Architectures.arch_word}
+use Rattle.std.specs.{Prelude.{◌≡◌, ℕ, ◌+◌, ◌<◌, ◌≤◌, ⊤, false, List, [], ◌∷◌, ◌++◌, length, Option, Some, None, Ok, codes}, Fmt.decimal}
+use Rattle.std.specs.{Option.option_map}
+use Rattle.relax_edges.specs.{declared.TheConstants.MAX_EDGES, declared.kinds.ArchName.ArchName, declared.kinds.ObsMode.ObsMode}
+use Rattle.relax_edges.specs.{Architectures.arch_word}
 use Rattle.relax_edges.specs.declared.kinds.ObsMode.TheVariants as modes
 use Rattle.diy_io.specs.declared.shelf.TheConstants.{MAX_FOLDER}
 use Rattle.diy_words.specs.Requests.{AsksList, ListTask, asked_of, mode_or_accept}
@@ -27,7 +29,8 @@ pub record Choices : Type 0 where
 -- the command for an architecture and so many threads: the five relaxations, twice as many edges as threads, and what is said besides
 abbrev pub critical_words : ArchName → ℕ → Choices → List (List ℕ)
 critical_words arch count choices =
-    codes "diy7" ∷ codes "-arch" ∷ arch_word arch ∷ codes "-edges" ∷ critical_text ∷ codes "-size" ∷ decimal (count + count) ∷ codes "-nprocs" ∷ decimal count
+    codes "diy7" ∷ codes "-arch" ∷ arch_word arch ∷ codes "-edges" ∷ critical_text ∷ codes "-size" ∷ decimal (count + count)
+    ∷ codes "-nprocs" ∷ decimal count
     ∷ (option_words (codes "-obs") (option_map mode_word choices.mode)
     ++ (option_words (codes "-accesses") (option_map decimal choices.accesses) ++ option_words (codes "-o") choices.folder))
 

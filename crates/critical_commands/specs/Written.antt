@@ -5,7 +5,8 @@ use Rattle.relax_edges.specs.{declared.TheConstants.MAX_EDGES, declared.kinds.Ar
 use Rattle.edge_algebra_laws.specs.Rotation.{IsRotation}
 use Rattle.cycle_enum_laws.specs.Listing.{IsOneOf}
 use Rattle.cycle_names.specs.CycleNames.{name_of}
-use Rattle.program_meaning.specs.{Accesses.Access, Executions.{Execution, IsExecutionOf}, Programs.{Program, IsCandidate, IsCoherentIn, accesses_in}}
+use Rattle.program_meaning.specs.{Accesses.Access, Executions.{Execution, IsExecutionOf}}
+use Rattle.program_meaning.specs.Programs.{Program, IsCandidate, IsCoherentIn, accesses_in}
 use Rattle.sc_and_interleavings.specs.CoherenceLaws.{WritesWithin}
 use Rattle.critical_cycles.specs.{Critical.CriticalCycle, CycleEdges.{AreEvents, critical_edges, critical_events}, TwoThreads.six_cycles}
 use Rattle.diy_io.specs.{Shelf.ShelfSeen, Wrote.{SinkSeen, WroteAll}}
@@ -49,17 +50,19 @@ pub record ListsAllShown (count : ℕ) (old new : SinkSeen) : Type 0 where
   pub lines : WroteAll old new (name_lines cycles)
   pub all : AreAllShown count cycles
 
--- arguments that ask for a listing that allows so many threads, and begins with the first cycle: if the call ends with the status `Done`, it
--- wrote the tests of all cycles there are
+-- arguments that ask for a listing that allows so many threads, and begins with the first cycle: if the call ends with the status `Done`,
+-- it wrote the tests of all cycles there are
 abbrev pub ListingsWriteAll : Type 0
 ListingsWriteAll =
-    (words : List (List ℕ)) (asked : ListTask) (count : ℕ) (old new : DevicesSeen) → asked_of words ≡ Ok (AsksList asked) → AllowsCritical count (plan_asked asked) → count + count ≤ MAX_EDGES
+    (words : List (List ℕ)) (asked : ListTask) (count : ℕ) (old new : DevicesSeen) → asked_of words ≡ Ok (AsksList asked)
+    → AllowsCritical count (plan_asked asked) → count + count ≤ MAX_EDGES
     → asked.after ≡ None → Answers words Done old new → WritesAllShown asked count (devices old).shelf (devices new).shelf
 
 -- and with `-list` it wrote their lines
 abbrev pub LinesListAll : Type 0
 LinesListAll =
-    (words : List (List ℕ)) (asked : ListTask) (count : ℕ) (old new : DevicesSeen) → asked_of words ≡ Ok (AsksLines asked) → AllowsCritical count (plan_asked asked) → count + count ≤ MAX_EDGES
+    (words : List (List ℕ)) (asked : ListTask) (count : ℕ) (old new : DevicesSeen) → asked_of words ≡ Ok (AsksLines asked)
+    → AllowsCritical count (plan_asked asked) → count + count ≤ MAX_EDGES
     → asked.after ≡ None → Answers words Done old new → ListsAllShown count (devices old).out (devices new).out
 
 -- each architecture has registers enough for two accesses a thread
@@ -69,18 +72,23 @@ EachHasRoom = (arch : ArchName) → HasRoom (machine_of arch).puts
 -- the command lists the edges of each critical cycle of at most so many threads, on each architecture, whatever it says besides
 abbrev pub CommandsListCycles : Type 0
 CommandsListCycles =
-    (arch : ArchName) (count : ℕ) (choices : Choices) (threads : List (List Access)) (places : ℕ) (x : Execution) → count + count ≤ MAX_EDGES → AreChoices choices → length threads ≤ count
-    → IsExecutionOf threads places x → WritesWithin threads places → (c : CriticalCycle threads x) → ListsCycle (plan_asked (critical_task arch count choices)) (critical_edges c)
+    (arch : ArchName) (count : ℕ) (choices : Choices) (threads : List (List Access)) (places : ℕ) (x : Execution)
+    → count + count ≤ MAX_EDGES → AreChoices choices → length threads ≤ count
+    → IsExecutionOf threads places x → WritesWithin threads places → (c : CriticalCycle threads x)
+    → ListsCycle (plan_asked (critical_task arch count choices)) (critical_edges c)
 
--- the command, on each architecture and for 1 to 24 threads, whatever it says besides: if it ends with the status `Done`, it wrote the tests of
--- all cycles there are
+-- the command, on each architecture and for 1 to 24 threads, whatever it says besides: if it ends with the status `Done`, it wrote the
+-- tests of all cycles there are
 abbrev pub CommandsWriteAll : Type 0
 CommandsWriteAll =
     (arch : ArchName) (count : ℕ) (choices : Choices) (old new : DevicesSeen) → 0 < count → count + count ≤ MAX_EDGES → AreChoices choices
-    → Answers (critical_words arch count choices) Done old new → WritesAllShown (critical_task arch count choices) count (devices old).shelf (devices new).shelf
+    → Answers (critical_words arch count choices) Done old new
+    → WritesAllShown (critical_task arch count choices) count (devices old).shelf (devices new).shelf
 
--- the command for two threads: if it ends with the status `Done`, it wrote the tests of SB, MP, R, LB, S and 2+2W, in this order, and no other
+-- the command for two threads: if it ends with the status `Done`, it wrote the tests of SB, MP, R, LB, S and 2+2W, in this order, and no
+-- other
 pub record TwoThreadsWriteSix : Type 0 where
   pub names : map name_of six_cycles ≡ codes "SB" ∷ codes "MP" ∷ codes "R" ∷ codes "LB" ∷ codes "S" ∷ codes "2+2W" ∷ []
-  pub writes : (arch : ArchName) (choices : Choices) (old new : DevicesSeen) → AreChoices choices → Answers (critical_words arch 2 choices) Done old new
+  pub writes : (arch : ArchName) (choices : Choices) (old new : DevicesSeen) → AreChoices choices
+      → Answers (critical_words arch 2 choices) Done old new
       → WritesTests (critical_task arch 2 choices) six_cycles (devices old).shelf (devices new).shelf

@@ -1,7 +1,9 @@
 //! One command of diy7 writes a test of every critical cycle: what its words ask for, and what the files then show.
 #![tactic(auto)]
 
-ghost use Rattle.critical_commands.specs.{Words.{WordsAsk}, Written.{CommandsListCycles, CommandsWriteAll, EachHasRoom, LinesListAll, ListingsWriteAll, TwoThreadsWriteSix}};
+ghost use Rattle.critical_commands.specs.Words.{WordsAsk};
+ghost use Rattle.critical_commands.specs.Written.{CommandsListCycles, CommandsWriteAll, EachHasRoom, LinesListAll, ListingsWriteAll};
+ghost use Rattle.critical_commands.specs.Written.{TwoThreadsWriteSix};
 
 /// The words of the command are read as the request of its listing, on each architecture and for 1 to 24
 /// threads, with and without `-obs`, `-accesses` and `-o`.

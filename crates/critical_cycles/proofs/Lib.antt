@@ -18,3 +18,4 @@ pub mod Turned
 pub mod Cuts
 pub mod Standing
 pub mod CriticalLaws
+mod Examples

@@ -1,6 +1,8 @@
 -- A cycle of plain edges with at most two accesses a thread and two writes a location has a test, wherever there is room.
-use Rattle.std.proofs.Common.{◌≡◌, ℕ, suc, ◌+◌, ◌<◌, ◌≤◌, Bool, true, false, ◌&&◌, cond, nat_lt, nat_le, List, [], ◌∷◌, ◌++◌, length, map, Option, Some, None, Ok, refl, sym, ◌∙◌, ap, subst, arith}
-use Rattle.std.proofs.{lemmas.Bool.{and_parts, false_from_ne_true, le-leb, le-ltb, ltb-true}, lemmas.List.length-map, lemmas.List.Sums.count_by-le-length}
+use Rattle.std.proofs.Common.{◌≡◌, ℕ, suc, ◌+◌, ◌<◌, ◌≤◌, Bool, true, false, ◌&&◌, cond, nat_lt, nat_le, List, [], ◌∷◌, ◌++◌, length, map}
+use Rattle.std.proofs.Common.{Option, Some, None, Ok, refl, sym, ◌∙◌, ap, subst, arith}
+use Rattle.std.proofs.{lemmas.Bool.{and_parts, false_from_ne_true, le-leb, le-ltb, ltb-true}, lemmas.List.length-map}
+use Rattle.std.proofs.{lemmas.List.Sums.count_by-le-length}
 use Rattle.std.specs.{List.{AllByRecursion, filter, filter_map, find, list_all, position_from}, Option.{option_map, option_or}}
 use Rattle.list_laws.specs.Numbers.{upto}
 use Rattle.list_laws.proofs.{Cases.by_test, Elements.all_append, Numbers.length-map-upto, Places.none_fails, Prefixes.count_exchanged}
@@ -9,7 +11,8 @@ use Rattle.relax_edges.specs.declared.kinds.ObsMode.TheVariants as modes
 use Rattle.edge_algebra_laws.specs.{Rotation.{IsRotation, rotated}}
 use Rattle.edge_algebra_laws.proofs.Rotating.{rotation_of_place, rotation_on}
 use Rattle.cycle_events.specs.Resolution.{IsResolved, ends_outside, events_in, external_count, move_count, resolution_of, turned}
-use Rattle.cycle_events.specs.Values.{edge_into, first_inner_entry, first_need, is_inner_entry, is_observed, is_write_at, need_at, value_of, write_at, write_count}
+use Rattle.cycle_events.specs.Values.{edge_into, first_inner_entry, first_need, is_inner_entry, is_observed, is_write_at, need_at, value_of}
+use Rattle.cycle_events.specs.Values.{write_at, write_count}
 use Rattle.cycle_events.proofs.Turning.{turn_of}
 use Rattle.program_meaning.specs.Intended.{observed_locations}
 use Rattle.arch_trait.specs.{declared.step.Step.Step, Links.is_addr}
@@ -53,7 +56,8 @@ no_need_at : (es : List Edge) (l : ℕ) → write_count es l ≤ 2 → need_at e
 unfolding first_inner_entry
 no_need_at es l h =
     ap (option_map (λ event. record { location = l; event = event }))
-    (never_found (is_inner_entry es l) (λ i. between (is_write_at es l i) (is_external (edge_into es i)) (value_of es i) (write_count es l) h) (filter_map (write_at es l) (upto (write_count es l))))
+    (never_found (is_inner_entry es l) (λ i. between (is_write_at es l i) (is_external (edge_into es i)) (value_of es i)
+    (write_count es l) h) (filter_map (write_at es l) (upto (write_count es l))))
 
 no_first_need : (es : List Edge) (ls : List ℕ) → AllByRecursion (λ l. need_at es l ≡ None) ls → first_need es ls ≡ None
 no_first_need es [] h = refl
@@ -64,7 +68,8 @@ unneeded es modes.Accept small = refl
 unneeded es modes.Force small = refl
 unneeded es modes.Avoid small =
     ap (option_map need_refusal)
-    (no_first_need es (upto (move_count es)) (all_upto (λ l. need_at es l ≡ None) (move_count es) (λ l h. no_need_at es l (small.locations l h))))
+    (no_first_need es (upto (move_count es)) (all_upto (λ l. need_at es l ≡ None) (move_count es)
+    (λ l h. no_need_at es l (small.locations l h))))
 
 -- no thread has too few registers
 abbrev IsShort : List Step → Type 0
@@ -86,7 +91,8 @@ uncrowded a room steps short =
     let places = places-le-length steps in
     le-ltb a.registers (a.need (shape_of steps)) (room.enough (shape_of steps) (omega arith) (omega arith) (omega arith) (omega arith))
 
-never_first : {X : Type 0} (P : X → Type 0) (t : X → Bool) → ((x : X) → P x → t x ≡ false) → (i : ℕ) (xs : List X) → AllByRecursion P xs → position_from t i xs ≡ None
+never_first : {X : Type 0} (P : X → Type 0) (t : X → Bool) → ((x : X) → P x → t x ≡ false) → (i : ℕ) (xs : List X) → AllByRecursion P xs
+    → position_from t i xs ≡ None
 never_first P t fails i [] h = refl
 never_first P t fails i (x ∷ xs) h =
     ap (λ b. cond b (Some i) (position_from t (i + 1) xs)) (fails x h.0) ∙ never_first P t fails (i + 1) xs h.1
@@ -95,10 +101,12 @@ short_steps : (es : List Edge) (mode : ObsMode) → IsSmall es → AllByRecursio
 unfolding cycle_steps
 short_steps es mode small =
     all_append IsShort (map (thread_steps es plain) (upto (external_count es))) (map (observer_steps es plain) (observed_locations es mode))
-    (all_mapped IsShort (thread_steps es plain) (upto (external_count es)) (all_upto (λ k. IsShort (thread_steps es plain k)) (external_count es)
+    (all_mapped IsShort (thread_steps es plain) (upto (external_count es))
+    (all_upto (λ k. IsShort (thread_steps es plain k)) (external_count es)
     (λ k h. omega (arith, small.threads k h, length-map (events_in es k) (event_step es plain)))))
     (all_mapped IsShort (observer_steps es plain) (observed_locations es mode)
-    (all_kept (λ l. IsShort (observer_steps es plain l)) (is_observed es mode) (upto (move_count es)) (all_upto (λ l. IsShort (observer_steps es plain l)) (move_count es)
+    (all_kept (λ l. IsShort (observer_steps es plain l)) (is_observed es mode) (upto (move_count es))
+    (all_upto (λ l. IsShort (observer_steps es plain l)) (move_count es)
     (λ l h. omega (arith, small.locations l h, length-map-upto (observing (plain l)) (write_count es l))))))
 
 roomy : (a : Puts) → HasRoom a → (es : List Edge) (mode : ObsMode) → IsSmall es → crowded_thread a es mode ≡ None
@@ -112,25 +120,30 @@ resolves es r =
     rw (le-ltb (external_count es) 2 r.threads, stays es r.outside, r.spread) refl
 
 -- such a cycle has a test in each mode
-pub accepted : (a : Puts) → HasRoom a → (es : List Edge) (mode : ObsMode) → IsResolved es → IsSmall es → list_all (λ e. is_of_arch e a.name) es ≡ true → refusal_of a es mode ≡ None
+pub accepted : (a : Puts) → HasRoom a → (es : List Edge) (mode : ObsMode) → IsResolved es → IsSmall es
+    → list_all (λ e. is_of_arch e a.name) es ≡ true → refusal_of a es mode ≡ None
 accepted a room es mode r small own =
-    ap (λ o. option_or (option_map (λ at. NotOfArch at) o) (resolved_refusal a (resolution_of es) mode)) (none_fails (λ e. is_of_arch e a.name) 0 es own)
+    ap (λ o. option_or (option_map (λ at. NotOfArch at) o) (resolved_refusal a (resolution_of es) mode))
+    (none_fails (λ e. is_of_arch e a.name) 0 es own)
     ∙ ap (λ u. resolved_refusal a u mode) (resolves es r)
     ∙ ap (λ o. option_or o (crowded_thread a es mode)) (unneeded es mode small)
     ∙ roomy a room es mode small
 
 -- and so has each rotation of it
-pub rotation_accepted : (a : Puts) → HasRoom a → (es u : List Edge) (mode : ObsMode) → IsResolved es → IsSmall es → list_all (λ e. is_of_arch e a.name) es ≡ true → IsRotation es u → refusal_of a u mode ≡ None
+pub rotation_accepted : (a : Puts) → HasRoom a → (es u : List Edge) (mode : ObsMode) → IsResolved es → IsSmall es
+    → list_all (λ e. is_of_arch e a.name) es ≡ true → IsRotation es u → refusal_of a u mode ≡ None
 rotation_accepted a room es u mode r small own turn =
     (accepted_alike a es u mode r.composes turn).0 (accepted a room es mode r small own)
 
 -- where the two parts of such a cycle are exchanged, each thread still has at most two events
-few_exchanged : (p q : List Edge) (k : ℕ) → IsResolved (p ++ q) → IsSmall (p ++ q) → ends_outside (q ++ p) ≡ true → k < external_count (q ++ p) → length (events_in (q ++ p) k) ≤ 2
+few_exchanged : (p q : List Edge) (k : ℕ) → IsResolved (p ++ q) → IsSmall (p ++ q) → ends_outside (q ++ p) ≡ true
+    → k < external_count (q ++ p) → length (events_in (q ++ p) k) ≤ 2
 few_exchanged p q k r small out h =
     let t = thread_exchanged p q k r.outside out h in
     omega (arith, ap length t.events, length-map (events_in (p ++ q) t.thread) (moved p q), small.threads t.thread t.below)
 
-few_turned : (es v : List Edge) (k : ℕ) → IsRotation es v → IsResolved es → IsSmall es → ends_outside v ≡ true → k < external_count v → length (events_in v k) ≤ 2
+few_turned : (es v : List Edge) (k : ℕ) → IsRotation es v → IsResolved es → IsSmall es → ends_outside v ≡ true → k < external_count v
+    → length (events_in v k) ≤ 2
 few_turned es v k turn r small out h =
     rw turn.to (few_exchanged turn.prefix turn.back k (subst IsResolved turn.from r) (subst IsSmall turn.from small)
     (subst (λ u. ends_outside u ≡ true) turn.to out) (subst (λ u. k < external_count u) turn.to h))
@@ -141,7 +154,8 @@ externals_turned es u turn =
     ap external_count turn.to ∙ count_exchanged is_external turn.back turn.prefix ∙ ap external_count (sym turn.from)
 
 -- each rotation of such a cycle has few enough accesses
-pub rotation_fits : (es u : List Edge) (accesses : Option ℕ) → AllowsTwo accesses → IsResolved es → IsSmall es → IsRotation es u → has_few_accesses accesses u ≡ true
+pub rotation_fits : (es u : List Edge) (accesses : Option ℕ) → AllowsTwo accesses → IsResolved es → IsSmall es → IsRotation es u
+    → has_few_accesses accesses u ≡ true
 unfolding has_few_accesses
 rotation_fits es u None enough r small turn = refl
 rotation_fits es u (Some most) enough r small turn =
@@ -150,4 +164,5 @@ rotation_fits es u (Some most) enough r small turn =
     let on : IsRotation es (turned u) = rw t.2.turn (rotation_on es u (rotated t.0 u) turn (rotation_of_place t.0 u)) in
     let again = externals_turned es (turned u) on in
     passes_upto (λ k. nat_le (length (events_in (turned u) k)) most) (external_count u)
-    (λ k h. le-leb (length (events_in (turned u) k)) most (omega (arith, enough, few_turned es (turned u) k on r small t.2.outside (omega (arith, h, same, again)))))
+    (λ k h. le-leb (length (events_in (turned u) k)) most (omega
+    (arith, enough, few_turned es (turned u) k on r small t.2.outside (omega (arith, h, same, again)))))

@@ -1,6 +1,7 @@
 -- The edges of a critical cycle as a chain: a segment's edge and an arc's edges in turn.
 use Rattle.std.proofs.Common.{◌≡◌, List, [], ◌∷◌, ◌++◌, Option, Some, None, sym, ap, subst}
-use Rattle.relax_edges.specs.{declared.kinds.Dir.Dir, declared.kinds.Dir.TheVariants.{R, W}, declared.edge.Edge.Edge, NamedEdges.{fre, pod, rfe, wse}}
+use Rattle.relax_edges.specs.{declared.kinds.Dir.Dir, declared.kinds.Dir.TheVariants.{R, W}, declared.edge.Edge.Edge}
+use Rattle.relax_edges.specs.NamedEdges.{fre, pod, rfe, wse}
 use Rattle.program_meaning.specs.{declared.WriteAt.WriteAt, Accesses.Access, Executions.Execution}
 use Rattle.sc_and_interleavings.specs.Relations.{ReadsFrom}
 use Rattle.critical_cycles.specs.Critical.{AreArcs, CriticalCycle, IsArc, Segment, dir_at, dir_of_access}
@@ -17,7 +18,8 @@ pub data IsArcTo : Dir → List Edge → Type 0 where
 -- segments and arcs in turn, by what the first access does, and what that does to which the last arc leads
 pub data Chain : Dir → Dir → List Edge → Type 0 where
   One : (from second to : Dir) (arc : List Edge) → IsArcTo to arc → Chain from to (pod from second ∷ arc)
-  More : (from second next to : Dir) (arc es : List Edge) → IsArcTo next arc → Chain next to es → Chain from to (pod from second ∷ (arc ++ es))
+  More : (from second next to : Dir) (arc es : List Edge) → IsArcTo next arc → Chain next to es
+      → Chain from to (pod from second ∷ (arc ++ es))
 
 one_step : (from to : Dir) → IsArcTo to (arc_edges from None to)
 one_step R R = Rfe
@@ -33,15 +35,18 @@ two_steps W w = WseRfe
 is_reader : (threads : List (List Access)) (x : Execution) (w f : WriteAt) → ReadsFrom threads x w f → R ≡ dir_at threads f
 is_reader threads x w f r = sym (ap dir_of_access r.reads.1)
 
-arc_to : (threads : List (List Access)) (x : Execution) (e : WriteAt) (middle : Option WriteAt) (f : WriteAt) (from : Dir) → IsArc threads x e middle f
+arc_to : (threads : List (List Access)) (x : Execution) (e : WriteAt) (middle : Option WriteAt) (f : WriteAt) (from : Dir)
+    → IsArc threads x e middle f
     → IsArcTo (dir_at threads f) (arc_edges from middle (dir_at threads f))
 arc_to threads x e None f from a = one_step from (dir_at threads f)
 arc_to threads x e (Some w) f from a = subst (λ d. IsArcTo d (arc_edges from (Some w) d)) (is_reader threads x w f a.1) (two_steps from w)
 
-chain_along : (threads : List (List Access)) (x : Execution) (s : Segment) (us : List Segment) (back : WriteAt) → AreArcs threads x s us back
+chain_along : (threads : List (List Access)) (x : Execution) (s : Segment) (us : List Segment) (back : WriteAt)
+    → AreArcs threads x s us back
     → Chain (dir_at threads s.first) (dir_at threads back) (edges_along threads (plain_edge threads) s us back)
 chain_along threads x s [] back a =
-    One (dir_at threads s.first) (dir_at threads s.last) (dir_at threads back) (arc_edges (dir_at threads s.last) s.middle (dir_at threads back))
+    One (dir_at threads s.first) (dir_at threads s.last) (dir_at threads back)
+    (arc_edges (dir_at threads s.last) s.middle (dir_at threads back))
     (arc_to threads x s.last s.middle back (dir_at threads s.last) a)
 chain_along threads x s (t ∷ us) back a =
     More (dir_at threads s.first) (dir_at threads s.last) (dir_at threads t.first) (dir_at threads back)
@@ -49,5 +54,6 @@ chain_along threads x s (t ∷ us) back a =
     (arc_to threads x s.last s.middle t.first (dir_at threads s.last) a.0) (chain_along threads x t us back a.1)
 
 -- the edges of a critical cycle are a chain that leads back to its start
-pub chain_of : (threads : List (List Access)) (x : Execution) (c : CriticalCycle threads x) → Chain (dir_at threads c.start.first) (dir_at threads c.start.first) (critical_edges c)
+pub chain_of : (threads : List (List Access)) (x : Execution) (c : CriticalCycle threads x)
+    → Chain (dir_at threads c.start.first) (dir_at threads c.start.first) (critical_edges c)
 chain_of threads x c = chain_along threads x c.start c.others c.start.first c.arcs

@@ -62,7 +62,8 @@ record IsCut (w : List Edge) : Type 0 where
   to : Dir
   is : w ≡ edges_of_arc arc ++ (flat_map edges_of_part parts ++ pod from to ∷ [])
 
-cut_of : (relaxes : List (List Edge)) → AllByRecursion (IsOneOf critical_relaxes) relaxes → 0 < length (concatenated relaxes) → IsCut (concatenated relaxes)
+cut_of : (relaxes : List (List Edge)) → AllByRecursion (IsOneOf critical_relaxes) relaxes → 0 < length (concatenated relaxes)
+    → IsCut (concatenated relaxes)
 cut_of [] each some = absurd (omega (arith, some))
 cut_of (r ∷ []) each some =
     let a = arc_then_segment r each.0 in
@@ -79,7 +80,8 @@ cut_of (r ∷ s ∷ relaxes) each some =
       is =
           ap (λ u. u ++ concatenated (s ∷ relaxes)) a.is
           ∙ append_assoc (edges_of_arc a.arc) (pod a.from a.to ∷ []) (concatenated (s ∷ relaxes))
-          ∙ ap (λ u. edges_of_arc a.arc ++ pod a.from a.to ∷ u) (c.is ∙ sym (append_assoc (edges_of_arc c.arc) (flat_map edges_of_part c.parts) last));
+          ∙ ap (λ u. edges_of_arc a.arc ++ pod a.from a.to ∷ u) (c.is ∙ sym
+          (append_assoc (edges_of_arc c.arc) (flat_map edges_of_part c.parts) last));
     }
 
 -- parts of which a list is a rotation
@@ -118,6 +120,8 @@ listed_cycles_are_critical plan u relaxes p =
     let on : IsRotation (flat_map edges_of_part h.parts) (turned u) =
     rw t.2.turn (rotation_on (flat_map edges_of_part h.parts) u (rotated t.0 u) h.rotation (rotation_of_place t.0 u)) in
     record {
-      shown = λ threads places x events execution within are. listed_are_critical threads places x h.parts (turned u) events execution within on are;
-      tested = λ mode number q x numbering makes candidate stand. standing_is_critical (turned u) mode number q x h.parts resolved on numbering makes candidate stand;
+      shown = λ threads places x events execution within are. listed_are_critical threads places x h.parts
+          (turned u) events execution within on are;
+      tested = λ mode number q x numbering makes candidate stand. standing_is_critical
+          (turned u) mode number q x h.parts resolved on numbering makes candidate stand;
     }

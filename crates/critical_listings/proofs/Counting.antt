@@ -1,10 +1,12 @@
 -- How many writes a location of a chain has: those that were counted from edge to edge.
-use Rattle.std.proofs.Common.{◌≡◌, ◌⊎◌, ℕ, zero, suc, ◌+◌, ◌<◌, ◌≤◌, Bool, true, false, ◌&&◌, ◌==◌, cond, inl, inr, List, [], ◌∷◌, length, take, refl, sym, ◌∙◌, ap, arith}
+use Rattle.std.proofs.Common.{◌≡◌, ◌⊎◌, ℕ, zero, suc, ◌+◌, ◌<◌, ◌≤◌, Bool, true, false, ◌&&◌, ◌==◌, cond, inl, inr, List, [], ◌∷◌, length}
+use Rattle.std.proofs.Common.{take, refl, sym, ◌∙◌, ap, arith}
 use Rattle.std.proofs.lemmas.{Bool.{and_from, and_parts, eq-eqb, eqb-true}, List.Sums.sum_by-cons}
 use Rattle.std.specs.List.{count_by}
 use Rattle.list_laws.specs.Numbers.{upto}
 use Rattle.list_laws.proofs.{Cases.{by_less}, Counts.{count_upto-suc, count_upto_fewer, count_upto_same}, Parts.count_upto-add}
-use Rattle.relax_edges.specs.{declared.kinds.Dir.Dir, declared.kinds.Dir.TheVariants.{W}, declared.edge.Edge.Edge, EdgeTable.{is_diff, same_dir, source_of}}
+use Rattle.relax_edges.specs.{declared.kinds.Dir.Dir, declared.kinds.Dir.TheVariants.{W}, declared.edge.Edge.Edge}
+use Rattle.relax_edges.specs.EdgeTable.{is_diff, same_dir, source_of}
 use Rattle.cycle_events.specs.{Resolution.{edge_at, location_of, move_count, moves_before}, Values.{is_write, is_write_at, write_count}}
 use Rattle.cycle_events.proofs.Locations.{location_first, location_wrapped, moves_most}
 use Rattle.critical_listings.proofs.{Chains.Chain, Writes.{writes_from, writes_of}}
@@ -13,7 +15,8 @@ use Rattle.critical_listings.proofs.{Chains.Chain, Writes.{writes_from, writes_o
 writes_after : ℕ → ℕ → List Edge → ℕ → Bool
 writes_after k m es i = same_dir (source_of (edge_at es i)) W && ((k + moves_before es i) == m)
 
-next_after : (k m : ℕ) (e : Edge) (es : List Edge) (i : ℕ) → writes_after k m (e ∷ es) (1 + i) ≡ writes_after (k + cond (is_diff e) 1 0) m es i
+next_after : (k m : ℕ) (e : Edge) (es : List Edge) (i : ℕ)
+    → writes_after k m (e ∷ es) (1 + i) ≡ writes_after (k + cond (is_diff e) 1 0) m es i
 unfolding writes_after moves_before
 next_after k m e es i =
     let one : 1 + i ≡ suc i = omega arith in
@@ -42,21 +45,33 @@ counted_from k m (e ∷ es) =
     )
 
 -- what passes one test passes one of two others
-pub count_either : (p q r : ℕ → Bool) (n : ℕ) → ((i : ℕ) → i < n → p i ≡ true → (q i ≡ true) ⊎ (r i ≡ true)) → count_by p (upto n) ≤ count_by q (upto n) + count_by r (upto n)
+pub count_either : (p q r : ℕ → Bool) (n : ℕ) → ((i : ℕ) → i < n → p i ≡ true → (q i ≡ true) ⊎ (r i ≡ true))
+    → count_by p (upto n) ≤ count_by q (upto n) + count_by r (upto n)
 count_either p q r zero h = omega arith
 count_either p q r (suc n) h =
-    omega (arith, count_upto-suc p n, count_upto-suc q n, count_upto-suc r n, count_either p q r n (λ i l. h i (omega (arith, l))), one (p n) (q n) (r n) (h n (omega arith)))
+    omega (
+      arith,
+      count_upto-suc p n,
+      count_upto-suc q n,
+      count_upto-suc r n,
+      count_either p q r n (λ i l. h i (omega (arith, l))),
+      one
+          (p n) (q n) (r n) (h n (omega arith)),
+    )
   where
     one : (a b c : Bool) → (a ≡ true → (b ≡ true) ⊎ (c ≡ true)) → cond {A = ℕ} a 1 0 ≤ cond {A = ℕ} b 1 0 + cond {A = ℕ} c 1 0
     one false b c h = omega arith
     one true b c h = elim (h refl) [ inl e ↦ rw e (omega arith) | inr e ↦ rw e (omega arith) ]
 
 -- where an event is, by how many edges to another location come before it
-by_moves : {G : Type 0} (es : List Edge) (i : ℕ) → i < length es → (moves_before es i < move_count es → location_of es i ≡ moves_before es i → G) → (moves_before es i ≡ move_count es → location_of es i ≡ 0 → G) → G
+by_moves : {G : Type 0} (es : List Edge) (i : ℕ) → i < length es
+    → (moves_before es i < move_count es → location_of es i ≡ moves_before es i → G)
+    → (moves_before es i ≡ move_count es → location_of es i ≡ 0 → G) → G
 by_moves es i h inside wrapped =
     by_less (moves_before es i) (move_count es)
     (λ l. inside l (location_first es i l))
-    (λ m. let e : moves_before es i ≡ move_count es = omega (arith, m, moves_most es i (omega (arith, h))) in wrapped e (location_wrapped es i e))
+    (λ m. let e : moves_before es i ≡ move_count es = omega (arith, m, moves_most es i (omega (arith, h))) in wrapped e
+    (location_wrapped es i e))
 
 passes_after : (m : ℕ) (es : List Edge) (i : ℕ) → is_write es i ≡ true → moves_before es i ≡ m → writes_after 0 m es i ≡ true
 unfolding writes_after

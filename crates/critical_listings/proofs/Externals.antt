@@ -11,7 +11,8 @@ use Rattle.critical_cycles.specs.CycleEdges.{arc_edges, critical_edges, edges_al
 arc_externals : (s : Segment) (from to : Dir) → external_count (arc_edges from s.middle to) ≡ length (threads_of s)
 arc_externals s from to = by s.middle from to
   where
-    by : (middle : Option WriteAt) (from to : Dir) → external_count (arc_edges from middle to) ≡ length (threads_of (record { first = s.first; last = s.last; middle = middle }))
+    by : (middle : Option WriteAt) (from to : Dir) → external_count (arc_edges from middle to) ≡ length
+        (threads_of (record { first = s.first; last = s.last; middle = middle }))
     by None R R = refl
     by None R W = refl
     by None W R = refl
@@ -41,5 +42,6 @@ externals_along threads s (t ∷ us) back =
     )
 
 -- as many edges are external as there are threads of segments and middle writes
-pub externals : (threads : List (List Access)) (x : Execution) (c : CriticalCycle threads x) → external_count (critical_edges c) ≡ length (flat_map threads_of (segments_of c))
+pub externals : (threads : List (List Access)) (x : Execution) (c : CriticalCycle threads x)
+    → external_count (critical_edges c) ≡ length (flat_map threads_of (segments_of c))
 externals threads x c = externals_along threads c.start c.others c.start.first

@@ -11,14 +11,17 @@ use Rattle.program_meaning.proofs.Runs.{accesses-count}
 use Rattle.sc_and_interleavings.proofs.SequentialLaws.{sequential_goes_along}
 use Rattle.critical_cycles.specs.Critical.{dir_at}
 use Rattle.critical_cycles.specs.CycleEdges.{critical_edges}
-use Rattle.critical_cycles.proofs.CriticalLaws.{candidates_show_cycles, critical_cycles_are_short, critical_cycles_have_events, two_threads_show_six}
+use Rattle.critical_cycles.proofs.CriticalLaws.{candidates_show_cycles, critical_cycles_are_short, critical_cycles_have_events}
+use Rattle.critical_cycles.proofs.CriticalLaws.{two_threads_show_six}
 use Rattle.test_maker.specs.Refusals.{refusal_of}
 use Rattle.tests_to_files.specs.Plans.{IsPlanned, Plan, has_few_accesses, has_few_threads, is_wanted}
 use Rattle.critical_listings.specs.{Accepted.{AllowsCritical, CyclesHaveTests}, Listed.{CyclesAreListed, ListingsShowAll, TwoThreadsShow}}
-use Rattle.critical_listings.proofs.{Accepting.{accepted, externals_turned, rotation_accepted, rotation_fits}, Chains.{Chain, chain_of}, Externals.externals, Making.made_of, Normal.least_rotation, Small.{own_edges, small}}
+use Rattle.critical_listings.proofs.{Accepting.{accepted, externals_turned, rotation_accepted, rotation_fits}, Chains.{Chain, chain_of}}
+use Rattle.critical_listings.proofs.{Externals.externals, Making.made_of, Normal.least_rotation, Small.{own_edges, small}}
 
 -- a normal form of a resolved chain that leads back, of few edges and threads, is listed
-pub planned_turned : (plan : Plan) (count : ℕ) (from : Dir) (es u : List Edge) → AllowsCritical count plan → Chain from from es → IsResolved es → length es ≤ count + count → external_count es ≤ count
+pub planned_turned : (plan : Plan) (count : ℕ) (from : Dir) (es u : List Edge) → AllowsCritical count plan → Chain from from es
+    → IsResolved es → length es ≤ count + count → external_count es ≤ count
     → IsRotation es u → IsNormal u → IsPlanned plan u
 unfolding is_wanted
 planned_turned plan count from es u allows chain r short few turn normal =
@@ -28,7 +31,12 @@ planned_turned plan count from es u allows chain r short few turn normal =
       cycle = cycle_of_rotation es u turn r.composes;
       normal = normal;
       limits = record { few = omega (arith, rotation_length es u turn, short, allows.size); same = λ e. cc (e, allows.any) };
-      made = rw allows.relaxes (record { turned = m.turned; rotation = rotation_on u es m.turned (rotation_back es u turn) m.rotation; made = m.made });
+      made = rw allows.relaxes (record {
+        turned = m.turned;
+        rotation = rotation_on u es m.turned
+            (rotation_back es u turn) m.rotation;
+        made = m.made;
+      });
       taken = and_from (is_none (refusal_of plan.puts u plan.mode)) (has_few_threads plan.threads u && has_few_accesses plan.accesses u)
           (ap is_none (rotation_accepted plan.puts allows.room es u plan.mode r fit (own_edges plan.puts.name from from es chain) turn))
           (and_from (has_few_threads plan.threads u) (has_few_accesses plan.accesses u)
@@ -54,7 +62,8 @@ cycles_are_listed plan count threads places x allows most enough execution withi
     record {
       listed = n.least;
       rotation = n.is.rotation;
-      planned = planned_turned plan count (dir_at threads c.start.first) es n.least allows (chain_of threads x c) r (omega (arith, short.edge_count, enough))
+      planned = planned_turned plan count (dir_at threads c.start.first) es n.least allows (chain_of threads x c) r
+          (omega (arith, short.edge_count, enough))
           (omega (arith, externals threads x c, short.thread_count, enough)) n.is.rotation n.is.normal;
     }
 
@@ -66,7 +75,8 @@ listings_show_all plan count allows most p x few candidate within coherent =
       | inr shown ↦ inr (record {
         cycle = shown.cycle;
         events = shown.events;
-        listed = cycles_are_listed plan count (accesses_in p x) p.places x allows most (omega (arith, accesses-count p x, few)) candidate.execution within shown.cycle;
+        listed = cycles_are_listed plan count (accesses_in p x) p.places x allows most
+            (omega (arith, accesses-count p x, few)) candidate.execution within shown.cycle;
       })
     ]
 
@@ -78,6 +88,7 @@ two_threads_show p x few candidate within coherent =
       | inr shown ↦ inr (record {
         cycle = shown.cycle;
         events = shown.events;
-        named = two_threads_show_six (accesses_in p x) p.places x candidate.execution within (omega (arith, accesses-count p x, few)) shown.cycle;
+        named = two_threads_show_six (accesses_in p x) p.places x candidate.execution within
+            (omega (arith, accesses-count p x, few)) shown.cycle;
       })
     ]

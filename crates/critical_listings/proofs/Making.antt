@@ -1,7 +1,8 @@
 -- A chain that leads back to its start is made of the ten relaxations: turned by one edge, it is arcs each followed by a segment.
 use Rattle.std.proofs.Common.{◌≡◌, List, [], ◌∷◌, ◌++◌, refl, sym, ◌∙◌, ap, append_assoc}
 use Rattle.std.proofs.lemmas.List.{append-nil}
-use Rattle.relax_edges.specs.{declared.kinds.Dir.Dir, declared.kinds.Dir.TheVariants.{R, W}, declared.edge.Edge.Edge, NamedEdges.pod, Order.rank_of}
+use Rattle.relax_edges.specs.{declared.kinds.Dir.Dir, declared.kinds.Dir.TheVariants.{R, W}, declared.edge.Edge.Edge, NamedEdges.pod}
+use Rattle.relax_edges.specs.{Order.rank_of}
 use Rattle.cycle_enum_laws.specs.Listing.{IsConcatenation, IsMadeOf, IsOneOf, concatenated}
 use Rattle.critical_cycles.specs.CycleEdges.{critical_edges}
 use Rattle.critical_listings.specs.Relaxes.{CyclesAreMade, critical_relaxes}

@@ -42,7 +42,8 @@ least_to u (suc n) = next (least_to u n)
         ]
       where
         rotation_same_length : (l : LeastTo u n) → length (rotated n u) ≡ length l.least
-        rotation_same_length l = omega (arith, rotation_length u (rotated n u) (rotation_of_place n u), rotation_length u l.least l.rotation)
+        rotation_same_length l =
+            omega (arith, rotation_length u (rotated n u) (rotation_of_place n u), rotation_length u l.least l.rotation)
 
 -- the least rotation of a list
 pub record HasLeast (u : List Edge) : Type 0 where

@@ -21,3 +21,6 @@ riscv_room = record { enough = λ shape loads stores addr places. omega arith }
 
 pub arm_room : HasRoom arm.puts
 arm_room = record { enough = λ shape loads stores addr places. omega arith }
+
+-- all five
+pub ruleset rooms = (x86_room, power_room, aarch64_room, riscv_room, arm_room)

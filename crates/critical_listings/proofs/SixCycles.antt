@@ -1,12 +1,14 @@
 -- The cycles of at most four edges and two threads that are made of the ten relaxations: all choices are tried by computing.
-use Rattle.std.proofs.Common.{◌≡◌, ◌<◌, ◌≤◌, Bool, true, false, not, ◌&&◌, ◌==◌, inl, inr, nat_le, List, [], ◌∷◌, ◌++◌, length, map, refl, sym, subst, arith, length-append}
+use Rattle.std.proofs.Common.{◌≡◌, ◌<◌, ◌≤◌, Bool, true, false, not, ◌&&◌, ◌==◌, inl, inr, nat_le, List, [], ◌∷◌, ◌++◌, length, map, refl}
+use Rattle.std.proofs.Common.{sym, subst, arith, length-append}
 use Rattle.std.proofs.lemmas.Bool.{and_parts, le-leb, leb-true, eqb-true}
 use Rattle.std.specs.List.{AllByRecursion, list_all, list_any}
 use Rattle.list_laws.specs.Numbers.{upto}
 use Rattle.list_laws.proofs.{Cases.by_test, Finds.any_upto_passing}
 use Rattle.relax_edges.specs.{declared.edge.Edge.Edge, Order.{is_same, rank_of}}
 use Rattle.edge_algebra_laws.specs.{Composable.is_closed, CycleOrder.{IsNormal, ranks_below}, Rotation.{IsRotation, rotated}}
-use Rattle.edge_algebra_laws.proofs.{Ordering.{above_of_ranks, ranks_of_above}, Rotating.{normal_of_places, rotation_of_place, rotation_same}}
+use Rattle.edge_algebra_laws.proofs.Ordering.{above_of_ranks, ranks_of_above}
+use Rattle.edge_algebra_laws.proofs.Rotating.{normal_of_places, rotation_of_place, rotation_same}
 use Rattle.cycle_events.specs.Resolution.{external_count, is_coherence_only, moves_in, thread_of, turned}
 use Rattle.cycle_enum_laws.specs.Listing.{AreRising, IsConcatenation, IsOneOf, concatenated}
 use Rattle.edges_from_text.proofs.Kept.{same_decides}
@@ -60,7 +62,8 @@ long_relaxes = refl
 pub long_relax : (r : List Edge) → IsOneOf critical_relaxes r → 2 ≤ length r
 long_relax r o = leb-true 2 (length r) (one_of_passes (λ u. nat_le 2 (length u)) critical_relaxes r long_relaxes o)
 
-no_other : (parts : List (List Edge)) → AllByRecursion (IsOneOf critical_relaxes) parts → 0 < length (concatenated parts) → length (concatenated parts) ≤ 4 → is_no_other (concatenated parts) ≡ true
+no_other : (parts : List (List Edge)) → AllByRecursion (IsOneOf critical_relaxes) parts → 0 < length (concatenated parts)
+    → length (concatenated parts) ≤ 4 → is_no_other (concatenated parts) ≡ true
 no_other [] each some few = absurd (omega (arith, some))
 no_other (r ∷ []) each some few = one_of_passes (λ u. is_no_other (u ++ [])) critical_relaxes r one_relax each.0
 no_other (r ∷ s ∷ []) each some few =
@@ -88,13 +91,20 @@ turned_to : (u : List Edge) → turns_to_six u ≡ true → TurnsToSix u
 unfolding turns_to_six
 turned_to u h =
     let w = any_upto_passing (λ k. list_any (is_same (rotated k u)) six_cycles) (length u) h in
-    record { cycle = rotated w.number u; six = found_is_one_of six_cycles (rotated w.number u) w.passes; rotation = rotation_of_place w.number u }
+    record {
+      cycle = rotated w.number u;
+      six = found_is_one_of six_cycles
+          (rotated w.number u) w.passes;
+      rotation = rotation_of_place w.number u;
+    }
 
 -- a concatenation of relaxations that is a cycle of at most four edges with a resolution turns to one of the six
-pub turns_to_one : (u : List Edge) → IsConcatenation critical_relaxes u → 0 < length u → length u ≤ 4 → is_closed u ≡ true → 2 ≤ external_count u → is_coherence_only (turned u) ≡ false → TurnsToSix u
+pub turns_to_one : (u : List Edge) → IsConcatenation critical_relaxes u → 0 < length u → length u ≤ 4 → is_closed u ≡ true
+    → 2 ≤ external_count u → is_coherence_only (turned u) ≡ false → TurnsToSix u
 unfolding is_short_cycle is_no_other
 turns_to_one u made some few closed threads spread =
-    let none : is_no_other u ≡ true = rw made.whole (no_other made.parts made.each (subst (λ v. 0 < length v) made.whole some) (subst (λ v. length v ≤ 4) made.whole few)) in
+    let none : is_no_other u ≡ true = rw made.whole (no_other made.parts made.each (subst (λ v. 0 < length v) made.whole some)
+    (subst (λ v. length v ≤ 4) made.whole few)) in
     let short : is_short_cycle u ≡ true = rw (closed, le-leb (length u) 4 few, le-leb 2 (external_count u) threads, spread) refl in
     turned_to u (chosen (is_short_cycle u) (turns_to_six u) none short)
   where
@@ -125,7 +135,8 @@ rising_when [] h = tt
 rising_when (u ∷ us) h =
     let p = and_parts (list_all (λ v. (length u == length v) && ranks_below (map rank_of u) (map rank_of v)) us) (are_rising us) h in (
       λ v o.
-          let q = and_parts (length u == length v) (ranks_below (map rank_of u) (map rank_of v)) (one_of_passes (λ w. (length u == length w) && ranks_below (map rank_of u) (map rank_of w)) us v p.0 o) in
+          let q = and_parts (length u == length v) (ranks_below (map rank_of u) (map rank_of v))
+          (one_of_passes (λ w. (length u == length w) && ranks_below (map rank_of u) (map rank_of w)) us v p.0 o) in
           inr (eqb-true (length u) (length v) q.0, above_of_ranks u v q.1),
       rising_when us p.1,
     )

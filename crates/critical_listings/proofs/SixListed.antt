@@ -1,23 +1,28 @@
 -- The listing for two threads has the six cycles and no other.
-use Rattle.std.proofs.Common.{◌≡◌, ℕ, ◌<◌, ◌≤◌, true, false, not, ◌&&◌, nat_lt, nat_le, List, [], ◌∷◌, length, None, Ok, Err, Result, refl, sym, subst, arith}
+use Rattle.std.proofs.Common.{◌≡◌, ℕ, ◌<◌, ◌≤◌, true, false, not, ◌&&◌, nat_lt, nat_le, List, [], ◌∷◌, length, None, Ok, Err, Result, refl}
+use Rattle.std.proofs.Common.{sym, subst, arith}
 use Rattle.std.proofs.lemmas.Bool.{and_parts, leb-true, ltb-false, not-true}
 use Rattle.std.specs.List.{AllByRecursion}
 use Rattle.list_laws.proofs.Cases.{by_test}
-use Rattle.relax_edges.specs.{declared.kinds.ObsMode.ObsMode, declared.kinds.Dir.Dir, declared.kinds.Dir.TheVariants.{R, W}, declared.edge.Edge.Edge, NamedEdges.{fre, pod, rfe, wse}, Order.rank_of}
+use Rattle.relax_edges.specs.{declared.kinds.ObsMode.ObsMode, declared.kinds.Dir.Dir, declared.kinds.Dir.TheVariants.{R, W}}
+use Rattle.relax_edges.specs.{declared.edge.Edge.Edge, NamedEdges.{fre, pod, rfe, wse}, Order.rank_of}
 use Rattle.edge_algebra_laws.specs.{Composable.is_closed, CycleOrder.IsNormal, Rotation.{IsRotation, rotated}}
 use Rattle.edge_algebra_laws.proofs.{Laws.cycle_of_rotation, Rotating.{normal_once, rotation_length, rotation_on, rotation_of_place}}
 use Rattle.cycle_enum_laws.specs.Listing.{IsMadeOf, IsOneOf}
 use Rattle.cycle_enum_laws.proofs.Listings.{listed_once}
-use Rattle.cycle_events.specs.Resolution.{IsResolved, ends_outside, external_count, is_coherence_only, moves_in, resolution_of, thread_of, turned}
+use Rattle.cycle_events.specs.Resolution.{IsResolved, ends_outside, external_count, is_coherence_only, moves_in, resolution_of, thread_of}
+use Rattle.cycle_events.specs.Resolution.{turned}
 use Rattle.cycle_events.specs.declared.errors.ResolveError.{ResolveError}
 use Rattle.arch_trait.specs.Threads.{Puts}
 use Rattle.test_maker.proofs.HavingTests.{neither}
 use Rattle.test_maker.specs.Refusals.{foreign_edge, refusal_of, resolved_refusal}
 use Rattle.rotations_are_alike.proofs.{Beginning.stays, Refused.accepted_alike}
 use Rattle.tests_to_files.specs.{Plans.{IsPlanned, Plan}, WantedLaws.wanted_has_test}
-use Rattle.critical_cycles.specs.TwoThreads.{load_buffering, message_passing, six_cycles, store_buffering, two_and_two_writes, write_write_read_write, write_write_write_read}
+use Rattle.critical_cycles.specs.TwoThreads.{load_buffering, message_passing, six_cycles, store_buffering, two_and_two_writes}
+use Rattle.critical_cycles.specs.TwoThreads.{write_write_read_write, write_write_write_read}
 use Rattle.critical_listings.specs.{Accepted.AllowsCritical, Listed.TwoThreadsListSix, Relaxes.critical_relaxes}
-use Rattle.critical_listings.proofs.{Chains.{Chain, Fre, More, One, Rfe, Wse}, Listing.planned_turned, SixCycles.{is_normal, is_short_cycle, normal_when, one_of_all, six_rising, turns_to_one}}
+use Rattle.critical_listings.proofs.{Chains.{Chain, Fre, More, One, Rfe, Wse}, Listing.planned_turned}
+use Rattle.critical_listings.proofs.SixCycles.{is_normal, is_short_cycle, normal_when, one_of_all, six_rising, turns_to_one}
 
 -- a cycle of two threads is a rotation of a resolved chain, and in normal form
 record IsTurned (u : List Edge) : Type 0 where
@@ -30,7 +35,8 @@ record IsTurned (u : List Edge) : Type 0 where
   few : external_count edges ≤ 2
   normal : IsNormal u
 
-by_place : (u : List Edge) (k : ℕ) (from : Dir) (es : List Edge) → Chain from from es → 0 < length es → is_short_cycle es ≡ true → ends_outside es ≡ true → nat_le (external_count es) 2 ≡ true
+by_place : (u : List Edge) (k : ℕ) (from : Dir) (es : List Edge) → Chain from from es → 0 < length es → is_short_cycle es ≡ true
+    → ends_outside es ≡ true → nat_le (external_count es) 2 ≡ true
     → rotated k es ≡ u → is_normal u ≡ true → IsTurned u
 unfolding is_short_cycle
 by_place u k from es chain some short outside few turn normal =
@@ -57,27 +63,33 @@ by_place u k from es chain some short outside few turn normal =
 
 turned_sb : IsTurned store_buffering
 unfolding is_short_cycle is_normal rank_of is_coherence_only turned moves_in thread_of
-turned_sb = by_place store_buffering 1 W _ (More W R W W (fre ∷ []) (pod W R ∷ fre ∷ []) Fre (One W R W (fre ∷ []) Fre)) (omega arith) refl refl refl refl refl
+turned_sb = by_place store_buffering 1 W _ (More W R W W (fre ∷ []) (pod W R ∷ fre ∷ []) Fre (One W R W (fre ∷ []) Fre))
+    (omega arith) refl refl refl refl refl
 
 turned_mp : IsTurned message_passing
 unfolding is_short_cycle is_normal rank_of is_coherence_only turned moves_in thread_of
-turned_mp = by_place message_passing 3 W _ (More W W R W (rfe ∷ []) (pod R R ∷ fre ∷ []) Rfe (One R R W (fre ∷ []) Fre)) (omega arith) refl refl refl refl refl
+turned_mp = by_place message_passing 3 W _ (More W W R W (rfe ∷ []) (pod R R ∷ fre ∷ []) Rfe (One R R W (fre ∷ []) Fre))
+    (omega arith) refl refl refl refl refl
 
 turned_r : IsTurned write_write_write_read
 unfolding is_short_cycle is_normal rank_of is_coherence_only turned moves_in thread_of
-turned_r = by_place write_write_write_read 3 W _ (More W W W W (wse ∷ []) (pod W R ∷ fre ∷ []) Wse (One W R W (fre ∷ []) Fre)) (omega arith) refl refl refl refl refl
+turned_r = by_place write_write_write_read 3 W _ (More W W W W (wse ∷ []) (pod W R ∷ fre ∷ []) Wse (One W R W (fre ∷ []) Fre))
+    (omega arith) refl refl refl refl refl
 
 turned_lb : IsTurned load_buffering
 unfolding is_short_cycle is_normal rank_of is_coherence_only turned moves_in thread_of
-turned_lb = by_place load_buffering 0 R _ (More R W R R (rfe ∷ []) (pod R W ∷ rfe ∷ []) Rfe (One R W R (rfe ∷ []) Rfe)) (omega arith) refl refl refl refl refl
+turned_lb = by_place load_buffering 0 R _ (More R W R R (rfe ∷ []) (pod R W ∷ rfe ∷ []) Rfe (One R W R (rfe ∷ []) Rfe))
+    (omega arith) refl refl refl refl refl
 
 turned_s : IsTurned write_write_read_write
 unfolding is_short_cycle is_normal rank_of is_coherence_only turned moves_in thread_of
-turned_s = by_place write_write_read_write 0 R _ (More R W W R (wse ∷ []) (pod W W ∷ rfe ∷ []) Wse (One W W R (rfe ∷ []) Rfe)) (omega arith) refl refl refl refl refl
+turned_s = by_place write_write_read_write 0 R _ (More R W W R (wse ∷ []) (pod W W ∷ rfe ∷ []) Wse (One W W R (rfe ∷ []) Rfe))
+    (omega arith) refl refl refl refl refl
 
 turned_2w : IsTurned two_and_two_writes
 unfolding is_short_cycle is_normal rank_of is_coherence_only turned moves_in thread_of
-turned_2w = by_place two_and_two_writes 0 W _ (More W W W W (wse ∷ []) (pod W W ∷ wse ∷ []) Wse (One W W W (wse ∷ []) Wse)) (omega arith) refl refl refl refl refl
+turned_2w = by_place two_and_two_writes 0 W _ (More W W W W (wse ∷ []) (pod W W ∷ wse ∷ []) Wse (One W W W (wse ∷ []) Wse))
+    (omega arith) refl refl refl refl refl
 
 turned_six : AllByRecursion IsTurned six_cycles
 turned_six = (turned_sb, (turned_mp, (turned_r, (turned_lb, (turned_s, (turned_2w, tt))))))
@@ -117,10 +129,12 @@ one_of_six plan allows size u p =
     let w = m.turned in
     let long = rotation_length u w m.rotation in
     let composes = cycle_of_rotation u w m.rotation p.cycle in
-    let tested = (accepted_alike plan.puts u w plan.mode p.cycle m.rotation).0 (wanted_has_test plan.puts plan.mode plan.threads plan.accesses u p.taken) in
+    let tested = (accepted_alike plan.puts u w plan.mode p.cycle m.rotation).0
+    (wanted_has_test plan.puts plan.mode plan.threads plan.accesses u p.taken) in
     let r = tested_resolves plan.puts w plan.mode tested in
     let t = turns_to_one w m.made composes.some (omega (arith, long, p.limits.few, size)) composes.closed r.threads r.spread in
-    let same : u ≡ t.cycle = normal_once u t.cycle p.normal (one_of_all IsTurned six_cycles t.cycle turned_six t.six).normal (rotation_on u w t.cycle m.rotation t.rotation) in
+    let same : u ≡ t.cycle = normal_once u t.cycle p.normal (one_of_all IsTurned six_cycles t.cycle turned_six t.six).normal
+    (rotation_on u w t.cycle m.rotation t.rotation) in
     subst (IsOneOf six_cycles) (sym same) t.six
 
 -- the listing for two threads has the six, in order, and no other

@@ -2,12 +2,14 @@
 use Rattle.std.proofs.Common.{◌≡◌, ℕ, ◌<◌, ◌≤◌, true, nat_le, List, [], ◌∷◌, ◌++◌, length, Some, refl, sym, ◌∙◌, ap, arith}
 use Rattle.std.proofs.{lemmas.Bool.leb-true, lemmas.List.append-nil}
 use Rattle.std.specs.List.{list_all}
-use Rattle.relax_edges.specs.{declared.kinds.ArchName.ArchName, declared.kinds.Dir.Dir, declared.edge.Edge.Edge, NamedEdges.pod, EdgeTable.is_of_arch}
+use Rattle.relax_edges.specs.{declared.kinds.ArchName.ArchName, declared.kinds.Dir.Dir, declared.edge.Edge.Edge, NamedEdges.pod}
+use Rattle.relax_edges.specs.{EdgeTable.is_of_arch}
 use Rattle.cycle_events.specs.Resolution.{IsResolved, events_in, external_count}
 use Rattle.tests_to_files.specs.{InternalRuns.{run_after, stays_below}, Plans.has_few_accesses}
 use Rattle.tests_to_files.proofs.RunLaws.{few_accesses_round}
 use Rattle.rotations_are_alike.proofs.Beginning.{stays}
-use Rattle.critical_listings.proofs.{Accepting.IsSmall, Chains.{Chain, Fre, FreRfe, IsArcTo, More, One, Rfe, Wse, WseRfe}, Counting.two_writes, Upto.each_upto}
+use Rattle.critical_listings.proofs.{Accepting.IsSmall, Chains.{Chain, Fre, FreRfe, IsArcTo, More, One, Rfe, Wse, WseRfe}}
+use Rattle.critical_listings.proofs.{Counting.two_writes, Upto.each_upto}
 
 -- an arc leaves no run of internal edges, and a segment makes one of one edge
 record IsCut (es : List Edge) : Type 0 where
@@ -27,7 +29,8 @@ cut_of from to es (One a second b arc is_arc) =
 cut_of from to es (More a second next b arc fs is_arc chain) = cut_by a second next arc fs is_arc (cut_of next b fs chain)
 
 -- a thread of a chain has at most two events
-two_events : (from to : Dir) (es : List Edge) (k : ℕ) → Chain from to es → IsResolved es → k < external_count es → length (events_in es k) ≤ 2
+two_events : (from to : Dir) (es : List Edge) (k : ℕ) → Chain from to es → IsResolved es → k < external_count es
+    → length (events_in es k) ≤ 2
 unfolding has_few_accesses
 two_events from to es k chain r h =
     let c = cut_of from to es chain in
@@ -54,4 +57,5 @@ own_by arch from second to arc es WseRfe h = h
 
 pub own_edges : (arch : ArchName) (from to : Dir) (es : List Edge) → Chain from to es → list_all (λ e. is_of_arch e arch) es ≡ true
 own_edges arch from to es (One a second b arc is_arc) = rw (append-nil arc) at (own_by arch a second b arc [] is_arc refl)
-own_edges arch from to es (More a second next b arc fs is_arc chain) = own_by arch a second next arc fs is_arc (own_edges arch next b fs chain)
+own_edges arch from to es (More a second next b arc fs is_arc chain) = own_by arch a second next arc fs is_arc
+    (own_edges arch next b fs chain)

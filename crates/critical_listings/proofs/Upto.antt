@@ -15,7 +15,8 @@ pub passes_upto : (p : ℕ → Bool) (n : ℕ) → ((i : ℕ) → i < n → p i 
 passes_upto p zero h = refl
 passes_upto p (suc n) h =
     list_all-append p (upto n) (n ∷ [])
-    ∙ and_from (list_all p (upto n)) (list_all p (n ∷ [])) (passes_upto p n (λ i l. h i (omega (arith, l)))) (and_from (p n) true (h n (omega arith)) refl)
+    ∙ and_from (list_all p (upto n)) (list_all p (n ∷ [])) (passes_upto p n (λ i l. h i (omega (arith, l))))
+    (and_from (p n) true (h n (omega arith)) refl)
 
 -- and where the list passes, each number does
 pub each_upto : (p : ℕ → Bool) (n : ℕ) → list_all p (upto n) ≡ true → (i : ℕ) → i < n → p i ≡ true

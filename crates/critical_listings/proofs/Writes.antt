@@ -2,7 +2,8 @@
 use Rattle.std.proofs.Common.{◌≡◌, ℕ, ◌+◌, ◌<◌, ◌≤◌, ◌&&◌, ◌==◌, cond, List, [], ◌∷◌, ◌++◌, refl, sym, ◌∙◌, ap, arith}
 use Rattle.std.proofs.{lemmas.Bool.{eq-eqb, ne_eqb}, lemmas.List.append-nil, lemmas.List.Sums.sum_by-cons}
 use Rattle.list_laws.proofs.Cases.{by_same}
-use Rattle.relax_edges.specs.{declared.kinds.Dir.Dir, declared.kinds.Dir.TheVariants.{R, W}, declared.edge.Edge.Edge, NamedEdges.pod, EdgeTable.{is_diff, same_dir, source_of}}
+use Rattle.relax_edges.specs.{declared.kinds.Dir.Dir, declared.kinds.Dir.TheVariants.{R, W}, declared.edge.Edge.Edge, NamedEdges.pod}
+use Rattle.relax_edges.specs.EdgeTable.{is_diff, same_dir, source_of}
 use Rattle.cycle_events.specs.Resolution.{move_count}
 use Rattle.cycle_events.proofs.Rotations.{move_count-append}
 use Rattle.critical_listings.proofs.Chains.{Chain, Fre, FreRfe, IsArcTo, More, One, Rfe, Wse, WseRfe}
@@ -42,12 +43,14 @@ arc_stays to arc es FreRfe = omega (arith, move_count-append arc es)
 arc_stays to arc es WseRfe = omega (arith, move_count-append arc es)
 
 -- a segment before a list
-segment_here : (k : ℕ) (from second : Dir) (es : List Edge) → writes_from k k (pod from second ∷ es) ≡ one_write from + writes_from (k + 1) k es
+segment_here : (k : ℕ) (from second : Dir) (es : List Edge)
+    → writes_from k k (pod from second ∷ es) ≡ one_write from + writes_from (k + 1) k es
 unfolding writes_from one_write
 segment_here k R second es = refl
 segment_here k W second es = grind (arith, eq-eqb)
 
-segment_elsewhere : (k m : ℕ) (from second : Dir) (es : List Edge) → (k ≡ m → ⊥) → writes_from k m (pod from second ∷ es) ≡ writes_from (k + 1) m es
+segment_elsewhere : (k m : ℕ) (from second : Dir) (es : List Edge) → (k ≡ m → ⊥)
+    → writes_from k m (pod from second ∷ es) ≡ writes_from (k + 1) m es
 unfolding writes_from
 segment_elsewhere k m R second es h = omega arith
 segment_elsewhere k m W second es h = grind (arith, ne_eqb)
@@ -64,18 +67,27 @@ pub record Writes (k : ℕ) (from to : Dir) (es : List Edge) : Type 0 where
   pub moves : 0 < move_count es
 
 -- a segment and an arc, and then what has its own writes, have theirs
-one_more : (k : ℕ) (from second next to : Dir) (arc es : List Edge) → IsArcTo next arc → Writes (k + 1) next to es → Writes k from to (pod from second ∷ (arc ++ es))
+one_more : (k : ℕ) (from second next to : Dir) (arc es : List Edge) → IsArcTo next arc → Writes (k + 1) next to es
+    → Writes k from to (pod from second ∷ (arc ++ es))
 one_more k from second next to arc es a w =
-    let moves : move_count (pod from second ∷ (arc ++ es)) ≡ 1 + move_count es = segment_moves from second (arc ++ es) ∙ ap (λ n. 1 + n) (arc_stays next arc es a) in
+    let moves : move_count (pod from second ∷ (arc ++ es)) ≡ 1 + move_count es = segment_moves from second (arc ++ es) ∙ ap (λ n. 1 + n)
+    (arc_stays next arc es a) in
     record {
       before = λ m h.
-          segment_elsewhere k m from second (arc ++ es) (λ e. omega (arith, h, e)) ∙ arc_elsewhere (k + 1) m next arc es a (λ e. omega (arith, h, e)) ∙ w.before m (omega (arith, h));
+          segment_elsewhere k m from second (arc ++ es) (λ e. omega (arith, h, e)) ∙ arc_elsewhere (k + 1) m next arc es a
+          (λ e. omega (arith, h, e)) ∙ w.before m (omega (arith, h));
       first =
           segment_here k from second (arc ++ es)
           ∙ ap (λ n. one_write from + n) (arc_elsewhere (k + 1) k next arc es a (λ e. omega (arith, e)) ∙ w.before k (omega arith))
           ∙ omega arith;
       inside = λ m h l. by_same (k + 1) m
-          (λ e. rw (← e) (omega (arith, segment_elsewhere k (k + 1) from second (arc ++ es) (λ n. omega (arith, n)), arc_here (k + 1) next arc es a, w.first)))
+          (λ e. rw (← e) (omega (
+            arith,
+            segment_elsewhere k (k + 1) from second (arc ++ es) (λ n. omega (arith, n)),
+            arc_here
+                (k + 1) next arc es a,
+            w.first,
+          )))
           (λ n. omega (
             arith,
             segment_elsewhere k m from second (arc ++ es) (λ e. omega (arith, h, e)),
@@ -104,12 +116,14 @@ no_writes k m = refl
 last_one : (k : ℕ) (from second to : Dir) (arc : List Edge) → IsArcTo to arc → Writes k from to (pod from second ∷ arc)
 last_one k from second to arc a =
     let moves : move_count (pod from second ∷ arc) ≡ 1 =
-    ap (λ u. move_count (pod from second ∷ u)) (sym (append-nil arc)) ∙ segment_moves from second (arc ++ []) ∙ ap (λ n. 1 + n) (arc_stays to arc [] a) in
+    ap (λ u. move_count (pod from second ∷ u)) (sym (append-nil arc)) ∙ segment_moves from second (arc ++ []) ∙ ap (λ n. 1 + n)
+    (arc_stays to arc [] a) in
     let here : (m : ℕ) → writes_from k m (pod from second ∷ arc) ≡ writes_from k m (pod from second ∷ (arc ++ [])) =
     λ m. ap (λ u. writes_from k m (pod from second ∷ u)) (sym (append-nil arc)) in
     record {
       before = λ m h.
-          here m ∙ segment_elsewhere k m from second (arc ++ []) (λ e. omega (arith, h, e)) ∙ arc_elsewhere (k + 1) m to arc [] a (λ e. omega (arith, h, e)) ∙ no_writes (k + 1) m;
+          here m ∙ segment_elsewhere k m from second (arc ++ []) (λ e. omega (arith, h, e)) ∙ arc_elsewhere (k + 1) m to arc [] a
+          (λ e. omega (arith, h, e)) ∙ no_writes (k + 1) m;
       first =
           here k ∙ segment_here k from second (arc ++ [])
           ∙ ap (λ n. one_write from + n) (arc_elsewhere (k + 1) k to arc [] a (λ e. omega (arith, e)) ∙ no_writes (k + 1) k)
@@ -117,11 +131,19 @@ last_one k from second to arc a =
       inside = λ m h l. absurd (omega (arith, h, l, moves));
       last =
           let end : k + move_count (pod from second ∷ arc) ≡ k + 1 = omega (arith, moves) in
-          rw end (omega (arith, here (k + 1), segment_elsewhere k (k + 1) from second (arc ++ []) (λ e. omega (arith, e)), arc_here (k + 1) to arc [] a, no_writes (k + 1) (k + 1)));
+          rw end (omega (
+            arith,
+            here (k + 1),
+            segment_elsewhere k (k + 1) from second (arc ++ []) (λ e. omega (arith, e)),
+            arc_here
+                (k + 1) to arc [] a,
+            no_writes (k + 1) (k + 1),
+          ));
       moves = omega (arith, moves);
     }
 
 -- the writes of each chain
 pub writes_of : (k : ℕ) (from to : Dir) (es : List Edge) → Chain from to es → Writes k from to es
 writes_of k from to es (One a second b arc is_arc) = last_one k a second b arc is_arc
-writes_of k from to es (More a second next b arc fs is_arc chain) = one_more k a second next b arc fs is_arc (writes_of (k + 1) next b fs chain)
+writes_of k from to es (More a second next b arc fs is_arc chain) = one_more k a second next b arc fs is_arc
+    (writes_of (k + 1) next b fs chain)

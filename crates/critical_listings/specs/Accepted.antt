@@ -34,5 +34,6 @@ pub record AllowsCritical (count : ℕ) (plan : Plan) : Type 0 where
 -- on an architecture with room, the edges of each critical cycle have a test, whatever the mode
 abbrev pub CyclesHaveTests : Type 0
 CyclesHaveTests =
-    (a : Puts) (mode : ObsMode) (threads : List (List Access)) (places : ℕ) (x : Execution) → HasRoom a → IsExecutionOf threads places x → WritesWithin threads places
+    (a : Puts) (mode : ObsMode) (threads : List (List Access)) (places : ℕ) (x : Execution) → HasRoom a → IsExecutionOf threads places x
+    → WritesWithin threads places
     → (c : CriticalCycle threads x) → length (critical_edges c) ≤ MAX_EDGES → refusal_of a (critical_edges c) mode ≡ None

@@ -4,9 +4,11 @@ use Rattle.std.specs.Prelude.{◌≡◌, ◌⊎◌, ℕ, ◌+◌, ◌≤◌, Lis
 use Rattle.relax_edges.specs.{declared.TheConstants.MAX_EDGES, declared.edge.Edge.Edge}
 use Rattle.edge_algebra_laws.specs.Rotation.{IsRotation}
 use Rattle.cycle_enum_laws.specs.Listing.{AreAllListed}
-use Rattle.program_meaning.specs.{declared.WriteAt.WriteAt, Accesses.Access, Executions.{Execution, IsExecutionOf}, Programs.{Program, IsCandidate, IsCoherentIn, accesses_in}}
+use Rattle.program_meaning.specs.{declared.WriteAt.WriteAt, Accesses.Access, Executions.{Execution, IsExecutionOf}}
+use Rattle.program_meaning.specs.Programs.{Program, IsCandidate, IsCoherentIn, accesses_in}
 use Rattle.sc_and_interleavings.specs.{CoherenceLaws.WritesWithin, SequentialLaws.GoesAlong}
-use Rattle.critical_cycles.specs.{Critical.CriticalCycle, CycleEdges.{AreEvents, critical_edges, critical_events}, TwoThreads.{IsOneOfSix, six_cycles}}
+use Rattle.critical_cycles.specs.{Critical.CriticalCycle, CycleEdges.{AreEvents, critical_edges, critical_events}}
+use Rattle.critical_cycles.specs.TwoThreads.{IsOneOfSix, six_cycles}
 use Rattle.tests_to_files.specs.Plans.{IsPlanned, Plan}
 use Rattle.critical_listings.specs.Accepted.{AllowsCritical}
 
@@ -19,7 +21,8 @@ pub record ListsCycle (plan : Plan) (es : List Edge) : Type 0 where
 -- a listing that allows so many threads lists the edges of each critical cycle of at most so many, if a cycle may have twice as many edges
 abbrev pub CyclesAreListed : Type 0
 CyclesAreListed =
-    (plan : Plan) (count : ℕ) (threads : List (List Access)) (places : ℕ) (x : Execution) → AllowsCritical count plan → count + count ≤ MAX_EDGES → length threads ≤ count
+    (plan : Plan) (count : ℕ) (threads : List (List Access)) (places : ℕ) (x : Execution) → AllowsCritical count plan
+    → count + count ≤ MAX_EDGES → length threads ≤ count
     → IsExecutionOf threads places x → WritesWithin threads places → (c : CriticalCycle threads x) → ListsCycle plan (critical_edges c)
 
 -- an interleaving of the program gives an execution
@@ -49,8 +52,8 @@ pub record ShowsSix (threads : List (List Access)) (x : Execution) : Type 0 wher
   pub events : AreEvents threads x (critical_edges cycle) (critical_events cycle)
   pub named : IsOneOfSix (critical_edges cycle)
 
--- each coherent candidate execution of a program of two threads, whose writes are to the program's locations, comes from an interleaving, or
--- it shows SB, MP, R, LB, S or 2+2W
+-- each coherent candidate execution of a program of two threads, whose writes are to the program's locations, comes from an interleaving,
+-- or it shows SB, MP, R, LB, S or 2+2W
 abbrev pub TwoThreadsShow : Type 0
 TwoThreadsShow =
     (p : Program) (x : Execution) → length p.threads ≤ 2 → IsCandidate p x → WritesWithin (accesses_in p x) p.places → IsCoherentIn p x
@@ -59,4 +62,5 @@ TwoThreadsShow =
 -- the listing for two threads, of at most four edges, has SB, MP, R, LB, S and 2+2W, in this order, and no other
 abbrev pub TwoThreadsListSix : Type 0
 TwoThreadsListSix =
-    (plan : Plan) (cycles : List (List Edge)) → AllowsCritical 2 plan → plan.limits.size ≡ 4 → AreAllListed (IsPlanned plan) None cycles → cycles ≡ six_cycles
+    (plan : Plan) (cycles : List (List Edge)) → AllowsCritical 2 plan → plan.limits.size ≡ 4 → AreAllListed (IsPlanned plan) None cycles
+    → cycles ≡ six_cycles

@@ -8,7 +8,7 @@ ghost use Rattle.arch_riscv.specs.Puts as riscv;
 ghost use Rattle.arch_arm.specs.Puts as arm;
 
 /// Each architecture has registers enough for two accesses a thread.
-#[tactic(auto, using(crate::proofs::Rooms::x86_room, crate::proofs::Rooms::power_room, crate::proofs::Rooms::aarch64_room, crate::proofs::Rooms::riscv_room, crate::proofs::Rooms::arm_room))]
+#[tactic(auto, using(crate::proofs::Rooms::rooms))]
 pub fn architectures_have_room()
     ensures on_x86 { HasRoom x86.puts }
     ensures on_power { HasRoom power.puts }

@@ -1,6 +1,7 @@
 //! The listings that have a test of every critical cycle, and what follows for all programs.
 
-ghost use Rattle.critical_listings.specs.{Accepted.{CyclesHaveTests}, Converse.{ListedCyclesAreCritical}, Listed.{CyclesAreListed, ListingsShowAll}};
+ghost use Rattle.critical_listings.specs.{Accepted.{CyclesHaveTests}, Converse.{ListedCyclesAreCritical}};
+ghost use Rattle.critical_listings.specs.Listed.{CyclesAreListed, ListingsShowAll};
 
 /// On an architecture with room for two accesses a thread, the edges of each critical cycle have a test,
 /// whatever the mode.

@@ -7,22 +7,12 @@ use Rattle.diy_io.specs.{Shelf.ShelfSeen, Taken.SourceSeen, Wrote.SinkSeen}
 use Rattle.diy_words.specs.{declared.request.Coherence.Coherence, declared.usage.Usage.Usage, Given.GivesTask}
 use Rattle.diy_words.specs.Requests.{Task, CoherenceTask, AsksCoherence, asked_of}
 use Rattle.diy_words.specs.declared.request.Request.TheVariants as requests
-use Rattle.co_tests.specs.{declared.refusal.CoRefusal.CoRefusal, CoRefusals.{co_refusal, coherence_refusal_of, coherence_text}}
-use Rattle.co_tests.specs.declared.refusal.CoRefusal.TheVariants as reasons
-use Rattle.test_maker.specs.Made.{NamesLocation}
+use Rattle.co_tests.specs.CoRefusals.{coherence_refusal_of, coherence_text}
 use Rattle.run_status.specs.{declared.status.Status.Status}
 use Rattle.diy_tools.specs.{Answers.{Answers, AnswersAsked}, ArchMachines.machine_of, CoherenceAnswers.AnswersCoherence}
 use Rattle.diy_tools.specs.{Devices.devices, PrintAnswers.AnswersEdges, TestAnswers.test_name}
 use Rattle.diy_tools.specs.KeptRequests.{AnswersIncoherence, edges_kept, name_kept, refused_incoherent}
 use Rattle.diy_tools.proofs.Running.{edges_answered, kept_so}
-
--- no reason why a cycle has no coherence test names a location
-pub no_location : (refusal : CoRefusal) → NamesLocation (co_refusal refusal)
-no_location (reasons.NotOfArch at) = tt
-no_location reasons.TooFewThreads = tt
-no_location reasons.NotCoherence = tt
-no_location reasons.ManyWrites = tt
-no_location (reasons.TooManyRegisters thread) = tt
 
 -- what is answered on an architecture is answered on the one with its name
 pub incoherent_on : (arch a : ArchName) (request : Coherence) (status : Status) (old new : SinkSeen) → arch ≡ a
