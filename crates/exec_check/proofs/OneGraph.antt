@@ -1,10 +1,10 @@
 -- An execution of a test has one graph.
 use Rattle.std.proofs.Common.{◌≡◌, ℕ, Bool, true, false, List, Option, refl, sym, ◌∙◌}
-use Rattle.relax_edges.specs.declared.{kinds.ArchName.ArchName, edge.Edge.Edge}
+use Rattle.relax_edges.specs.declared.{kinds.ArchName.ArchName}
 use Rattle.litmus_text.specs.{TestReading.TestRead, ReadPrograms.program_read}
 use Rattle.program_meaning.specs.{Executions.Execution, Programs.{IsCandidate, IsCoherentIn, visits_in}, SeenAccesses.seen_in}
 use Rattle.exec_graph.specs.Graphs.{drawing_text}
-use Rattle.exec_check.specs.{declared.verdict.Verdict.Verdict, Verdicts.{EndsInCondition, IsVerdict, JudgesFurther, judged_cycle}, ShownTexts.{IsGraph, OneGraph, graph_if, picture_of}}
+use Rattle.exec_check.specs.{declared.verdict.Verdict.Verdict, Verdicts.{EndsInCondition, JudgesFurther, judged_cycle}, ShownTexts.{OneGraph, graph_if, picture_of}}
 use Rattle.exec_check.proofs.OneVerdict.{edges_same, same_answer}
 
 graphs_same : (arch : ArchName) (register_number : List ℕ → Option ℕ) (test : TestRead) (x : Execution) (v w : Verdict) (b c : Bool) → b ≡ c

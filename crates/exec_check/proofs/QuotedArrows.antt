@@ -4,7 +4,7 @@ use Rattle.std.specs.{Prelude.◌↔◌, List.Contains}
 use Rattle.relax_edges.specs.declared.kinds.ArchName.{ArchName}
 use Rattle.litmus_text.specs.{TestReading.TestRead, ReadPrograms.program_read}
 use Rattle.program_meaning.specs.{Executions.Execution, SeenAccesses.seen_in}
-use Rattle.exec_graph.specs.{declared.arrows.Arrow.Arrow, Graphs.{dashed_arrows, standing_arrows}, GraphLaws.{IsOfFallenEdge, IsOfStandingEdge}}
+use Rattle.exec_graph.specs.{Graphs.{dashed_arrows, standing_arrows}, GraphLaws.{Arrow, IsOfFallenEdge, IsOfStandingEdge}}
 use Rattle.exec_graph.proofs.ArrowLaws.{dashed_arrows_law, standing_arrows_law}
 use Rattle.exec_check.specs.{declared.verdict.Verdict.Verdict, Verdicts.{JudgesFurther, judged_cycle}, ShownTexts.QuotedArrowsLaw}
 

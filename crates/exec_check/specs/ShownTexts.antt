@@ -5,7 +5,7 @@ use Rattle.std.specs.List.{Contains}
 use Rattle.relax_edges.specs.declared.kinds.ArchName.{ArchName}
 use Rattle.litmus_text.specs.{TestReading.TestRead, ReadPrograms.program_read}
 use Rattle.program_meaning.specs.{Executions.Execution, Programs.visits_in, SeenAccesses.seen_in}
-use Rattle.exec_graph.specs.{declared.arrows.Arrow.Arrow, Graphs.{PictureSeen, dashed_arrows, drawing_text, no_drawing_text, standing_arrows}, GraphLaws.{IsOfFallenEdge, IsOfStandingEdge}}
+use Rattle.exec_graph.specs.{Graphs.{PictureSeen, dashed_arrows, drawing_text, no_drawing_text, standing_arrows}, GraphLaws.{Arrow, IsOfFallenEdge, IsOfStandingEdge}}
 use Rattle.exec_check.specs.{declared.verdict.Verdict.Verdict, declared.shown.Shown.Shown, Verdicts.{IsVerdict, judged_cycle, verdict_text}}
 use Rattle.exec_check.specs.declared.shown.Shown.TheVariants as shows
 

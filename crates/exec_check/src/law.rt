@@ -7,7 +7,6 @@ pub fn one_verdict()
 {}
 
 /// An execution of a test has one graph.
-#[tactic(auto, using(crate::proofs::OneGraph::one_graph))]
 pub fn one_graph()
     ensures { OneGraph }
 {}

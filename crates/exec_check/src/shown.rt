@@ -77,7 +77,6 @@ fn graph_by<A: Arch>(
 }
 
 /// The text of the graph of a candidate execution of a test, on which this is the verdict.
-#[tactic(auto, using(exec_meaning::proofs::RunLaws::visits_are))]
 fn graph_of<A: Arch>(
     alloc: Global,
     test: &ReadTest<A>,

@@ -7,9 +7,9 @@ use Rattle.cycle_events.specs.Resolution.{event_after}
 use Rattle.program_meaning.specs.{declared.WriteAt.WriteAt, Executions.{Execution, same_write}, Programs.{Program, accesses_in, visits_in}, Standing.{EdgeStands, event_name}}
 use Rattle.program_meaning.specs.SeenAccesses.{seen_access, seen_in}
 use Rattle.program_meaning.proofs.Names.{same_write-refl, same_write-true}
-use Rattle.exec_graph.specs.{declared.arrows.Arrow.Arrow, JudgedCycles.{AreJudged, JudgesEdges}, Graphs.{arrow_of, arrows_of, dashed_arrows, has_name, is_dashed, is_there, standing_arrows}}
+use Rattle.exec_graph.specs.{declared.arrows.Arrow.Arrow, JudgedCycles.{AreJudged}, Graphs.{arrow_of, arrows_of, dashed_arrows, has_name, is_dashed, is_there, standing_arrows}}
 use Rattle.exec_graph.specs.GraphLaws.{DashedArrowsLaw, HasAccess, IsOfEdge, IsOfFallenEdge, IsOfStandingEdge, StandingArrowsLaw}
-use Rattle.exec_graph.proofs.{DrawnLaws.{Seen, seen_of, seen_there}, Members.{In, in_any, in_filter, in_map, in_numbered, in_of, in_to, of_any, of_filter, of_map, of_numbered}}
+use Rattle.exec_graph.proofs.{DrawnLaws.{seen_of, seen_there}, Members.{In, in_any, in_filter, in_map, in_numbered, in_of, in_to, of_any, of_filter, of_map, of_numbered}}
 
 -- number i of the edges is that of the judged edges
 judged_at : (judged : List (Edge × Bool)) (i : ℕ) (j : Edge × Bool) → slice_get judged i ≡ Some j → slice_get (map (λ (k : Edge × Bool). k.0) judged) i ≡ Some j.0

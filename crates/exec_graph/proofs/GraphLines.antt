@@ -1,5 +1,5 @@
 -- The lines of a graph, appended one after another.
-use Rattle.std.proofs.Common.{◌≡◌, ◌≤◌, ◌<◌, ℕ, zero, suc, ◌+◌, ◌-◌, ◌==◌, Bor, Bool, true, false, cond, List, [], ◌∷◌, ◌++◌, length, map, take, drop, get_or, Some, slice_get, refl, sym, ap, ◌∙◌, subst, arith, append_assoc, append-nil, length-append}
+use Rattle.std.proofs.Common.{◌≡◌, ◌≤◌, ◌<◌, ℕ, zero, suc, ◌+◌, ◌-◌, ◌==◌, Bor, Bool, true, false, cond, List, [], ◌∷◌, ◌++◌, length, map, take, drop, get_or, refl, sym, ap, ◌∙◌, subst, arith, append_assoc, append-nil, length-append}
 use Rattle.std.proofs.{lemmas.List.{drop_all, take_all}, lemmas.List.Elements.filter-append, lemmas.List.Folds.flat_map-map, lemmas.Option.slice_get-get_or}
 use Rattle.std.proofs.{lemmas.Bool.{eq-eqb, ne_eqb}, lemmas.Grind.flat_map-append}
 use Rattle.std.specs.{Prelude.codes, Fmt.decimal, List.{enumerate_from, filter, flat_map, list_any}}

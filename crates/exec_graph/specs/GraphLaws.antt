@@ -11,9 +11,13 @@ use Rattle.relax_edges.specs.declared.kinds.Dir.TheVariants as dirs
 use Rattle.cycle_events.specs.Resolution.{event_after}
 use Rattle.program_meaning.specs.{declared.WriteAt.WriteAt, Accesses.{Access, Visit, at_name, reads_before}, Executions.Execution, Coherence.{coherence_place, order_at, source_at}, SeenAccesses.{seen_access, seen_in}}
 use Rattle.program_meaning.specs.{Programs.{Program, accesses_in, visits_in}, Standing.{EdgeStands, NamedAccess, ComesBefore, access_at, event_name, is_in_mask}}
-use Rattle.exec_graph.specs.{declared.arrows.Arrow.Arrow, declared.drawn.Drawn.Drawn, declared.drawn.Relation.Relation, JudgedCycles.JudgesEdges, Ties.ties_of}
+use Rattle.exec_graph.specs.{declared.arrows.Arrow.Arrow as TheArrow, declared.drawn.Drawn.Drawn, declared.drawn.Relation.Relation, JudgedCycles.JudgesEdges, Ties.ties_of}
 use Rattle.exec_graph.specs.declared.drawn.Relation.TheVariants.{Po, Rf, Co, Fr, Addr, Data, Ctrl}
 use Rattle.exec_graph.specs.Graphs.{access_drawn, dashed_arrows, drawn_in, initial_write, kind_relation, standing_arrows, thin_pairs}
+
+-- the arrow of an edge of a cycle, with whether the edge stands, and with the names of the accesses that it leaves and enters
+abbrev pub Arrow : Type 0
+Arrow = TheArrow
 
 -- a node of a graph: the initial write of a location, or an access
 pub data Node : Type 0 where

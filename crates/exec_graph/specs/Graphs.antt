@@ -5,7 +5,7 @@ use Rattle.std.specs.Prelude.{ℕ, ◌+◌, ◌-◌, ◌*◌, ◌/◌, ◌%◌, 
 use Rattle.std.specs.{Fmt.decimal, Int.bit_at, List.{enumerate_from, filter, flat_map, list_all, list_any, position}}
 use Rattle.list_laws.specs.Numbers.{upto}
 use Rattle.relax_edges.specs.{declared.kinds.Dir.Dir, declared.kinds.Mark.Mark, declared.kinds.Com.Com, declared.kinds.Kind.Kind, declared.kinds.Pick.Pick, declared.edge.Edge.Edge, WordParts.word_of}
-use Rattle.relax_edges.specs.{declared.kinds.FenceKind.FenceKind, EdgeTable.kind_of}
+use Rattle.relax_edges.specs.{EdgeTable.kind_of}
 use Rattle.relax_edges.specs.declared.kinds.Dir.TheVariants as dirs
 use Rattle.relax_edges.specs.declared.kinds.Mark.TheVariants as marks
 use Rattle.relax_edges.specs.declared.kinds.Com.TheVariants as coms
