@@ -1,6 +1,6 @@
 -- The laws of this crate, from the facts of a resolved cycle.
 use Rattle.accesses_force_cycles.proofs.Vocabulary.{arith, EdgesJoin, OnlyTheIntended, TheIntendedMeets, NoConditionServes, AllEdgesStand, OneOutcome, AnOutcome}
-use Rattle.accesses_force_cycles.proofs.{Bridge.resolves, Needs.{enters_last, refused_entry}, OnlyOne.only_the_intended, EdgesJoin.{edges_join, intended_joins}}
+use Rattle.accesses_force_cycles.proofs.{ResolvedFacts.resolves, Needs.{enters_last, refused_entry}, OnlyOne.only_the_intended, EdgesJoin.{edges_join, intended_joins}}
 use Rattle.accesses_force_cycles.proofs.{IntendedExists.intended_meets, Programs.{outcome_makes, outcome_meets, intended_outcome}, AllStand.all_stand}
 use Rattle.accesses_force_cycles.proofs.Exchanged.{reads_exchanged, exchanged_meets, exchanged_ends, exchanged_breaks}
 

@@ -14,10 +14,10 @@ pub mod OnlyOne
 pub mod EdgesJoin
 pub mod Programs
 pub mod AllStand
-pub mod Bridge
+pub mod ResolvedFacts
 pub mod Rearranged
 pub mod Swaps
 pub mod Exchanged
 pub mod Needs
 pub mod Laws
-pub mod Tries
+pub mod SmallCycles

@@ -11,9 +11,9 @@ pub use Rattle.accesses_force_cycles.specs.Joining.{AreFree, IsOutcome, IsTiedUp
 pub use Rattle.accesses_force_cycles.specs.Laws.{AllEdgesStand, AllJoin, AnOutcome, EdgesJoin, NoConditionServes, OneOutcome, OnlyTheIntended, TheIntendedMeets}
 pub use Rattle.accesses_force_cycles.specs.Premises.{IsServed, MeetsCondition}
 unfoldable pub use Rattle.accesses_force_cycles.specs.Exchange.{exchanged, exchanged_order}
-pub use Rattle.cycle_events.proofs.Along.{value_after, value_most, values_in_thread, values_in_thread_grow, write_value}
+pub use Rattle.cycle_events.proofs.ValuesAlongEdges.{value_after, value_most, values_in_thread, values_in_thread_grow, write_value}
 pub use Rattle.cycle_events.proofs.Arcs.{SameRun, none_moves, one_location, one_run, several_locations, thread_below}
-pub use Rattle.cycle_events.proofs.Around.{after_before, after_below, before_below, by_after, changes_location, external_leads, internal_follows, keeps_location, mark_after, source_after}
+pub use Rattle.cycle_events.proofs.CycleRound.{after_before, after_below, before_below, by_after, changes_location, external_leads, internal_follows, keeps_location, mark_after, source_after}
 pub use Rattle.cycle_events.proofs.Threads.{IsAt, event_in_slot, slot_of_event, thread_out}
 pub use Rattle.cycle_events.proofs.Writes.{is_write_number, write_at_from, write_at_parts, write_number}
 pub use Rattle.cycle_events.specs.Resolution.{IsResolved, edge_at, event_before, external_count, move_count}

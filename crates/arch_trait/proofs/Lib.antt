@@ -14,7 +14,7 @@ pub mod Taking
 pub mod Runs
 pub mod Codes
 pub mod Shapes
-pub mod Whole
+pub mod WholeRuns
 pub mod Tables
 pub mod Compiling
 pub mod NextThreads

@@ -6,19 +6,19 @@ use Rattle.std.specs.{Prelude.{◌&&◌, is_some, nat_lt}, Str.bytes_eq, List.{A
 use Rattle.list_laws.proofs.{Elements.all_append, Cases.by_test, Numbers.{length-upto, slice_get-upto}}
 use Rattle.list_laws.specs.Numbers.{upto}
 use Rattle.relax_edges.specs.{declared.TheConstants.MAX_EDGES, declared.kinds.ArchName.ArchName, declared.kinds.ObsMode.ObsMode, declared.edge.Edge.Edge}
-use Rattle.cycle_events.proofs.Along.{write_count_most}
+use Rattle.cycle_events.proofs.ValuesAlongEdges.{write_count_most}
 use Rattle.cycle_events.specs.Resolution.{IsResolved, move_count}
 use Rattle.text_parts.specs.Names.{is_place_name, is_register_name}
 use Rattle.arch_trait.specs.{declared.arch.TheConstants.MAX_INSTRS, declared.step.Step.Step, Cells.MakesOneAccess, Codes.{AllBelow, IsFormedCode}}
 use Rattle.arch_trait.specs.{Laws.{IsArch, InOrder}, Links.branches, PlaceNames.{letters, location_name, number_in}, Writing.{Writing, WritesBack, name_in}}
 use Rattle.arch_trait.specs.Threads.{Puts, ThreadCode, FitSteps, compiled, is_load_dir, setting_out, visits}
-use Rattle.arch_trait.proofs.{Ordered.{compiled_ordered, compiled_accesses}, Tables.location_new, Whole.is_formed, Codes.thread_short}
+use Rattle.arch_trait.proofs.{Ordered.{compiled_ordered, compiled_accesses}, Tables.location_new, WholeRuns.is_formed, Codes.thread_short}
 use Rattle.litmus_text.specs.{Items.{Link, LinkFits, links_of}, Progress.{CodeFits, code_lands}, ReadTerms.TermFits}
-use Rattle.bytes_force_cycles.proofs.{FormedFits.{HasPlaces, code_fits, lands_once, links_fit}, Rereading.got_is}
+use Rattle.bytes_force_cycles.proofs.{FormedFits.{HasPlaces, code_fits, lands_once, links_fit}, RereadTests.got_is}
 use Rattle.accesses_force_cycles.proofs.Lists.{image_of}
 use Rattle.tests_force_cycles.specs.{TestHeadline.HasCode, CycleSteps.{cycle_steps, numbers_read}}
 use Rattle.tests_force_cycles.specs.TestOf.{plain, is_named_location, last_term, last_terms, load_term, thread_terms, load_terms}
-use Rattle.tests_force_cycles.proofs.{Everywhere.all_from, PlaceNames.{letter_at, locations_few}, StepsFit.{IsThread, all_at, steps_fit, steps_placed}}
+use Rattle.tests_force_cycles.proofs.{ListElements.all_from, PlaceNames.{letter_at, locations_few}, StepsFit.{IsThread, all_at, steps_fit, steps_placed}}
 
 -- what is in a table has a number
 name_found : (k : ℕ) (names : List (List ℕ)) (i : ℕ) (name : List ℕ) → slice_get names i ≡ Some name → is_some (position_from (λ x. bytes_eq x name) k names) ≡ true

@@ -1,7 +1,7 @@
-pub mod Mentioning
-pub mod Rereading
+pub mod MentionedLocations
+pub mod RereadTests
 pub mod NoInterleaving
-pub mod Forcing
+pub mod BytesForced
 pub mod Fits
 pub mod Lengths
 pub mod SomeTerm

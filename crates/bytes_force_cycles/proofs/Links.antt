@@ -9,19 +9,19 @@ use Rattle.arch_trait.specs.Writing.{Writing, WritesBack, name_in}
 use Rattle.litmus_text.specs.{TestReadsBack.TestReadsBack, Reread.reread, TestReading.TestRead}
 use Rattle.program_meaning.specs.{Executions.Execution, Standing.{AllStand, event_name}, Programs.{Program, IsCandidate, IsCoherentIn, accesses_in}}
 use Rattle.program_meaning.specs.Intended.{IsNumbering, cycle_accesses, intended, observed_locations}
-use Rattle.accesses_force_cycles.proofs.{Bridge.resolves, IntendedReads.reads-count}
+use Rattle.accesses_force_cycles.proofs.{ResolvedFacts.resolves, IntendedReads.reads-count}
 use Rattle.accesses_force_cycles.proofs.Programs as programs
 use Rattle.accesses_force_cycles.specs.Joining.{MakesAccesses}
 use Rattle.sc_and_interleavings.specs.{Sequential.HasNoCycle, LinkLaws.IsLink, Links.{PrecedesBut, KeepsOthers}}
-use Rattle.sc_and_interleavings.proofs.{Around.lives_without_cycle, InterleavingLaws.kept_orders_forbid, OneLink.{each_link_closes, others_are_kept}, Outcomes.standing_is_outcome}
+use Rattle.sc_and_interleavings.proofs.{RelationCycles.lives_without_cycle, InterleavingLaws.kept_orders_forbid, OneLink.{each_link_closes, others_are_kept}, Outcomes.standing_is_outcome}
 use Rattle.tests_force_cycles.specs.{FinalStates.{final_state, IsAskedFor}, TestHeadline.{HasTest, IsRenumbered}, TestPrograms.test_program, TestOf.test_of}
-use Rattle.tests_force_cycles.proofs.{Headline.{renumbered_numbers, renumbered_program, tests_ask_law}, Making.{makes, makes_enough, intended_enough}}
+use Rattle.tests_force_cycles.proofs.{Headline.{renumbered_numbers, renumbered_program, tests_ask_law}, AccessesMade.{makes, makes_enough, intended_enough}}
 use Rattle.tests_force_cycles.proofs.{RegisterNames.registers_found, TestCodes.{cycle_codes, cycle_program, are_codes}}
 use Rattle.bytes_force_cycles.specs.Readings.{program_read, place_in_test, ReadingAsks}
 use Rattle.bytes_force_cycles.specs.Links.{AllBut, IsPrintedTest, LinkCloses, EachLinkMayBreak, LinksDecide, ConditionDecides}
-use Rattle.bytes_force_cycles.proofs.{BackLaws.reads_back, Forcing.bytes_force, NoInterleaving.{WritesInside, test_writes_within}, Readable.readable}
+use Rattle.bytes_force_cycles.proofs.{BackLaws.reads_back, BytesForced.bytes_force, NoInterleaving.{WritesInside, test_writes_within}, Readable.readable}
 use Rattle.bytes_force_cycles.proofs.PrintedSc.{same_test}
-use Rattle.bytes_force_cycles.proofs.Rereading.{reread_test, reread_renumbered, by_table, threads_numbered, number_of_location, intended_same}
+use Rattle.bytes_force_cycles.proofs.RereadTests.{reread_test, reread_renumbered, by_table, threads_numbered, number_of_location, intended_same}
 
 -- what the printed text forces of the test that is read: all edges stand in each execution that it asks for, and the intended one is one
 record Forces (w : Writing) (es : List Edge) (mode : ObsMode) (test : TestRead) : Type 0 where

@@ -8,12 +8,12 @@ use Rattle.arch_trait.specs.{Laws.IsArch, PlaceNames.number_in, SeenTests.TestSe
 use Rattle.litmus_text.specs.TestReading.{TestRead}
 use Rattle.program_meaning.specs.{declared.WriteAt.WriteAt, Executions.Execution, Programs.{Program, IsCandidate, accesses_in}, Standing.AllStand}
 use Rattle.program_meaning.specs.Interleavings.{accesses_on}
-use Rattle.accesses_force_cycles.proofs.Bridge.{resolves}
+use Rattle.accesses_force_cycles.proofs.ResolvedFacts.{resolves}
 use Rattle.sc_and_interleavings.specs.{CoherenceLaws.WritesWithin, Sequential.IsSequential, Made.{made_by, IsOfInterleaving}}
 use Rattle.sc_and_interleavings.proofs.{SequentialMade.writes_to_own, Made.interleavings_make_executions}
 use Rattle.sc_and_interleavings.proofs.InterleavingLaws.{sequential_is_coherent, standing_is_not_sequential}
 use Rattle.tests_force_cycles.specs.{FinalStates.final_state, TestHeadline.{HasTest, IsRenumbered}, TestOf.test_of, TestPrograms.test_program}
-use Rattle.tests_force_cycles.proofs.{Headline.{renumbered_numbers, renumbered_program}, Making.makes, TestCodes.{cycle_codes, cycle_program, are_codes}}
+use Rattle.tests_force_cycles.proofs.{Headline.{renumbered_numbers, renumbered_program}, AccessesMade.makes, TestCodes.{cycle_codes, cycle_program, are_codes}}
 use Rattle.bytes_force_cycles.specs.Readings.{program_read, ReadingAsks, state_after, InterleavingMeets}
 use Rattle.bytes_force_cycles.proofs.BackLaws.{numbered_in}
 

@@ -3,7 +3,7 @@ use Rattle.std.proofs.Common.{ℕ, List}
 use Rattle.relax_edges.specs.declared.{kinds.ArchName.ArchName, kinds.ObsMode.ObsMode, edge.Edge.Edge}
 use Rattle.arch_trait.specs.{Cells.WritesCells, Cells.MakesOneAccess, Laws.IsArch, Threads.Puts, Writing.Writing, Writing.WritesBack, Writing.name_in}
 use Rattle.litmus_text.specs.{Printable.IsTestName, TestText.test_text}
-use Rattle.bytes_force_cycles.proofs.{BackLaws.reads_back, Forcing.bytes_force, Readable.readable}
+use Rattle.bytes_force_cycles.proofs.{BackLaws.reads_back, BytesForced.bytes_force, Readable.readable}
 use Rattle.tests_force_cycles.specs.{TestHeadline.HasTest, TestOf.test_of}
 use Rattle.bytes_force_cycles.specs.PrintedHeadline.{BytesForce}
 

@@ -6,7 +6,7 @@ use Rattle.relax_edges.specs.{declared.kinds.ArchName.ArchName, declared.kinds.O
 use Rattle.cycle_events.specs.Resolution.{move_count}
 use Rattle.arch_trait.specs.{Cells.{WritesCells, MakesOneAccess}, Laws.IsArch, PlaceNames.letters, Threads.Puts, Writing.{Writing, WritesBack, name_in}}
 use Rattle.bytes_force_cycles.proofs.{BackLaws.reads_back, Readable.readable, ScLaws.tests_are_sc_per_location}
-use Rattle.bytes_force_cycles.proofs.Rereading.{reread_test, reread_renumbered, by_table, threads_numbered}
+use Rattle.bytes_force_cycles.proofs.RereadTests.{reread_test, reread_renumbered, by_table, threads_numbered}
 use Rattle.tests_force_cycles.specs.{TestHeadline.HasTest, TestPrograms.test_program, TestOf.test_of}
 use Rattle.bytes_force_cycles.specs.{Readings.program_read, ScLaws.{ScDecides, PrintedAreScPerLocation}}
 

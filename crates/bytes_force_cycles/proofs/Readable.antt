@@ -16,7 +16,7 @@ use Rattle.bytes_force_cycles.proofs.{FormedFits.links_single, Lengths.{AreShort
 use Rattle.bytes_force_cycles.proofs.Fits.{all_links_fit, code_short, each_code, terms_fit, thread_code_fits, thread_is, thread_lands}
 use Rattle.litmus_text.proofs.RowBack.{named_op}
 use Rattle.tests_force_cycles.specs.{TestHeadline.HasCode, CycleSteps.cycle_steps, TestOf.{plain, last_terms, load_terms, test_of}}
-use Rattle.tests_force_cycles.proofs.{Everywhere.all_from, PlaceNames.{letter_at, locations_few}, StepsAt.{steps-count, steps_few}, Terms.terms_few}
+use Rattle.tests_force_cycles.proofs.{ListElements.all_from, PlaceNames.{letter_at, locations_few}, StepsAt.{steps-count, steps_few}, Terms.terms_few}
 
 pub registers_short : (names : List (List ℕ)) → list_all is_register_name names ≡ true → AreShort names
 registers_short [] h = tt

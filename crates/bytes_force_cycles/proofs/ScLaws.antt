@@ -4,7 +4,7 @@ use Rattle.relax_edges.specs.{declared.kinds.ObsMode.ObsMode, declared.edge.Edge
 use Rattle.arch_trait.specs.{Laws.IsArch, Threads.Puts, SeenTests.TestSeen}
 use Rattle.sc_and_interleavings.proofs.CoherenceLaws.{cycle_tests_are_sc_per_location}
 use Rattle.tests_force_cycles.specs.{TestHeadline.{HasTest, IsRenumbered}, TestOf.test_of}
-use Rattle.tests_force_cycles.proofs.{Headline.{renumbered_numbers, renumbered_program}, Making.makes, TestCodes.{cycle_codes, cycle_program, are_codes}}
+use Rattle.tests_force_cycles.proofs.{Headline.{renumbered_numbers, renumbered_program}, AccessesMade.makes, TestCodes.{cycle_codes, cycle_program, are_codes}}
 use Rattle.bytes_force_cycles.specs.ScLaws.{ScDecides, TestsAreScPerLocation}
 
 -- the law for the program of a cycle's test, under any numbers of places

@@ -9,8 +9,8 @@ use Rattle.relax_edges.specs.declared.kinds.Dir.TheVariants as dirs
 use Rattle.cycle_events.specs.Resolution.{IsResolved, edge_at, event_after, events_in, external_count, location_of, move_count, slot_of}
 use Rattle.cycle_events.specs.Values.{is_observed, value_of, write_count}
 use Rattle.cycle_events.specs.Resolution as resolution
-use Rattle.cycle_events.proofs.{Arcs.{last_keeps, location_below, thread_below}, Around.after_below, Threads.event_in_slot}
-use Rattle.cycle_events.proofs.Along.{value_after, value_most, write_value}
+use Rattle.cycle_events.proofs.{Arcs.{last_keeps, location_below, thread_below}, CycleRound.after_below, Threads.event_in_slot}
+use Rattle.cycle_events.proofs.ValuesAlongEdges.{value_after, value_most, write_value}
 use Rattle.arch_trait.specs.{declared.step.Step.Step, Threads.{Puts, is_load_dir, loads_in}}
 use Rattle.accesses_force_cycles.proofs.Lists.{got_map}
 use Rattle.tests_force_cycles.specs.CycleSteps.{event_step, thread_steps, observing, observer_steps, cycle_steps}

@@ -6,7 +6,7 @@ use Rattle.relax_edges.specs.declared.kinds.Kind.TheVariants as kinds
 use Rattle.co_tests.proofs.Opened.{source_same, same_at, opened-length, opened-threads, opened_thread}
 use Rattle.co_tests.proofs.Values.{IsCut, one_move, one_location, write_count_is, value_positive, value_within, value_written}
 use Rattle.co_tests.proofs.Events.{IsLoop, last_outside, thread_under, unobserved, none_observed, some_write, value_through}
-use Rattle.co_tests.proofs.{Fits.loop_thread, Asked.HasLoopCode, Asked.ends_terms}
+use Rattle.co_tests.proofs.{Fits.loop_thread, ConditionMet.HasLoopCode, ConditionMet.ends_terms}
 
 -- the names of the test's places
 abbrev pub place_names : List Edge → List (List ℕ)

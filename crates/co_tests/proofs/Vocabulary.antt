@@ -10,7 +10,7 @@ pub use Rattle.std.specs.List.{AllByRecursion, count_by, filter, filter_map, lis
 pub use Rattle.std.specs.Option.{option_map, option_or}
 pub use Rattle.std.specs.Prelude.{if◌then◌else◌, is_some, min, nat_le, ◌&&◌, ◌==◌, ◌||◌}
 pub use Rattle.accesses_force_cycles.proofs.{Accesses.EventAt, Accesses.observer_thread, Accesses.thread_accesses, AllStand.access_of_visit}
-pub use Rattle.accesses_force_cycles.proofs.{Bridge.goes_outside, Bridge.is_writing, Bridge.moves, Bridge.stays_inside, IntendedOrders.order_got}
+pub use Rattle.accesses_force_cycles.proofs.{ResolvedFacts.goes_outside, ResolvedFacts.is_writing, ResolvedFacts.moves, ResolvedFacts.stays_inside, IntendedOrders.order_got}
 pub use Rattle.accesses_force_cycles.proofs.IntendedReads.{stands_at}
 pub use Rattle.accesses_force_cycles.proofs.Lists.{filter-map, filter_all, got_below, got_map, image_of, kept, length-filter_map-upto, map-map, map_same, same_below, slice_get-filter_map-upto}
 pub use Rattle.accesses_force_cycles.proofs.Numbering.{location_of_number}
@@ -25,14 +25,14 @@ pub use Rattle.arch_trait.specs.{PlaceNames.letters, PlaceNames.location_name, P
 pub use Rattle.arch_trait.specs.Threads.{FitStep, FitSteps, HoldNumbers, Puts, ThreadCode, compiled, control_after, is_load_dir, is_store_dir, loads_in, shape_of, thread_items, visits}
 pub use Rattle.arch_trait.specs.{Writing.WritesBack, Writing.Writing, Writing.name_in, declared.arch.TheConstants.MAX_INSTRS}
 pub use Rattle.arch_trait.specs.{declared.link.Link.TheVariants.Plain, declared.step.Step.Step}
-pub use Rattle.arch_trait.proofs.{Whole.{is_formed, makes_steps}, Codes.thread_short, Tables.{length-letters, location_new}}
+pub use Rattle.arch_trait.proofs.{WholeRuns.{is_formed, makes_steps}, Codes.thread_short, Tables.{length-letters, location_new}}
 pub use Rattle.arch_trait.proofs.{Ordered.compiled_accesses, Ordered.compiled_ordered, Renumbered.renumbered_makes}
 pub use Rattle.bytes_force_cycles.proofs.BackLaws.{numbered_in, reads_back}
 pub use Rattle.bytes_force_cycles.proofs.Fits.{IsThreadCode, all_links, all_read_terms, each_code, numbers_small}
 pub use Rattle.bytes_force_cycles.proofs.FormedFits.{HasPlaces, code_fits, lands_once, links_fit, links_single}
-pub use Rattle.bytes_force_cycles.proofs.{Lengths.AreShort, Lengths.IsSmall, Lengths.text_short, Mentioning.place_is_in}
+pub use Rattle.bytes_force_cycles.proofs.{Lengths.AreShort, Lengths.IsSmall, Lengths.text_short, MentionedLocations.place_is_in}
 pub use Rattle.bytes_force_cycles.proofs.Readable.{formed_terms, ordered_few, registers_short, texts_short}
-pub use Rattle.bytes_force_cycles.proofs.Rereading.{by_table, got_is, intended_same, links_apart, reread_test, threads_numbered}
+pub use Rattle.bytes_force_cycles.proofs.RereadTests.{by_table, got_is, intended_same, links_apart, reread_test, threads_numbered}
 pub use Rattle.bytes_force_cycles.proofs.SomeTerm.{counted_one, term_most}
 pub use Rattle.bytes_force_cycles.specs.Readings.{program_read}
 pub use Rattle.co_tests.specs.Arc.{ValuesCountAlongArc, arc_behind}
@@ -42,12 +42,12 @@ pub use Rattle.co_tests.specs.CutResolution.{cut_of, cut_open, elsewhere, is_ord
 pub use Rattle.co_tests.specs.Incoherence.{AcceptedHaveTests, BytesShowIncoherence, HasCycle, MeetsReading, PrintedShowIncoherence}
 pub use Rattle.test_maker.specs.declared.refusal.Refusal.{Refusal}
 pub use Rattle.test_maker.specs.declared.refusal.Refusal.TheVariants.{ManyWrites, NotCoherence, TooFewThreads}
-pub use Rattle.cycle_events.proofs.{Arcs.same_moves, Around.after_below, Around.by_after, Around.mark_after, Around.source_after}
+pub use Rattle.cycle_events.proofs.{Arcs.same_moves, CycleRound.after_below, CycleRound.by_after, CycleRound.mark_after, CycleRound.source_after}
 pub use Rattle.cycle_events.proofs.EdgeCounts.{counted_kept, counted_on, counted_up, passing}
 pub use Rattle.cycle_events.proofs.Locations.{ends_with, moves-zero, moves_end, moves_on}
 pub use Rattle.cycle_events.proofs.Sizes.{only_in_slot, thread_has_events, thread_size_most}
 pub use Rattle.cycle_events.proofs.Threads.{event_in_slot, slot-zero, slot_in, slot_of_event, slot_out, thread-zero, thread_end, thread_in, thread_out, thread_up}
-pub use Rattle.cycle_events.proofs.{Turning.external_count-rotated, Turning.turn_of, ValueArcs.value_on_arc, Ways.way_after, Ways.way_ahead}
+pub use Rattle.cycle_events.proofs.{Turning.external_count-rotated, Turning.turn_of, ValueArcs.value_on_arc, TurnedRound.way_after, TurnedRound.way_ahead}
 pub use Rattle.cycle_events.proofs.Writes.{is_write_number, write_at_from}
 pub use Rattle.cycle_events.specs.Resolution.{edge_at, ends_outside, event_before, external_count, move_count, turned}
 pub use Rattle.cycle_events.specs.Values.{arc_of, is_after_moves, is_write, is_write_at, writes_counted}
@@ -82,17 +82,17 @@ pub use Rattle.relax_edges.specs.declared.kinds.Value.TheVariants.{Num}
 pub use Rattle.sc_and_interleavings.proofs.CoherenceLaws.{candidates_are_sc_per_location}
 pub use Rattle.sc_and_interleavings.specs.CoherenceLaws.{WritesWithin}
 pub use Rattle.sc_and_interleavings.specs.Relations.{Co, CoherenceOrder, Fr, FromRead, IsBefore, IsWriteTo, Po, ProgramOrder, ReadsFrom}
-pub use Rattle.tests_force_cycles.proofs.{EdgeMarks.has_edge, Everywhere.all_gets, Everywhere.position_first, Following.next_follows}
+pub use Rattle.tests_force_cycles.proofs.{EdgeMarks.has_edge, ListElements.all_gets, ListElements.position_first, LinkedAccesses.next_follows}
 pub use Rattle.tests_force_cycles.proofs.Headline.{renumbered_program, room_left}
-pub use Rattle.tests_force_cycles.proofs.Making.{asked_enough, candidate_enough, candidate_lists, makes, makes_enough, planned-count, planned_at, planned_reads}
-pub use Rattle.tests_force_cycles.proofs.Meeting.{IsMet, ShowsRegisters, read_terms, terms_from_threads, terms_of_thread, terms_read}
+pub use Rattle.tests_force_cycles.proofs.AccessesMade.{asked_enough, candidate_enough, candidate_lists, makes, makes_enough, planned-count, planned_at, planned_reads}
+pub use Rattle.tests_force_cycles.proofs.ConditionMet.{IsMet, ShowsRegisters, read_terms, terms_from_threads, terms_of_thread, terms_read}
 pub use Rattle.tests_force_cycles.proofs.{PlaceNames.letter_at, RegisterNames.registers_found}
 pub use Rattle.tests_force_cycles.proofs.StepsAt.{by_steps, steps-count, steps_few, thread_steps_at}
 pub use Rattle.tests_force_cycles.proofs.StepsFit.{Before, IsThread, all_at, fit_from, link_between, link_enters, link_first, link_leaves}
 pub use Rattle.tests_force_cycles.proofs.Terms.{load_terms-count, reads-count, sum_map}
 pub use Rattle.tests_force_cycles.proofs.TestCodes.{Origin, cycle_codes, cycle_program, numbers_kept, origin_of, steps_numbered}
 pub use Rattle.tests_force_cycles.proofs.ThreadRuns.{AreCodesOf, DidThread, ThreadOf, all_end, did_thread, items_below, visits_below}
-pub use Rattle.tests_force_cycles.proofs.{Ties.ties, Tying.external_ties, Visits.ends_free, Visits.step_access, Visits.thread_visits}
+pub use Rattle.tests_force_cycles.proofs.{LinksMade.ties, MarksAndLinks.external_ties, Visits.ends_free, Visits.step_access, Visits.thread_visits}
 pub use Rattle.tests_force_cycles.proofs.VisitsAt.{starts_free, visit_at, visits-count}
 pub use Rattle.tests_force_cycles.specs.CycleSteps.{event_link, event_step, numbers_read, thread_steps}
 pub use Rattle.tests_force_cycles.specs.{FinalStates.final_state, TestHeadline.FindsRegisters, TestHeadline.IsRenumbered}

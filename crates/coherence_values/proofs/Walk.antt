@@ -11,9 +11,9 @@ use Rattle.cycle_events.specs.declared.event.Event.{Event}
 use Rattle.cycle_events.specs.Resolution.{move_count, edge_at, event_of, events_of, event_before, moves_before, location_of, slot_of, IsResolved}
 use Rattle.cycle_events.specs.Values.{edge_into, is_write_at, way_place, value_of, write_count, write_at}
 use Rattle.cycle_events.specs.Entries.{is_later_entry, first_entry, inner_entry, last_entry}
-use Rattle.cycle_events.proofs.{Threads.{slot-zero, slot_in, slot_out}, Arcs.{several_locations, moved_location}, Ways.only_on_way, Entries.find_more}
+use Rattle.cycle_events.proofs.{Threads.{slot-zero, slot_in, slot_out}, Arcs.{several_locations, moved_location}, TurnedRound.only_on_way, Entries.find_more}
 use Rattle.cycle_events.proofs.Locations.{external_keeps, ends_with, moves-zero, moves_on, moves_kept, moves_most, moves_end, location_first, location_wrapped, location_kept}
-use Rattle.cycle_events.proofs.{Along.{is_write, value_at_end, value_most, write_count_most}, Writes.{write_of, is_write_number, write_at_from, value_from}}
+use Rattle.cycle_events.proofs.{ValuesAlongEdges.{is_write, value_at_end, value_most, write_count_most}, Writes.{write_of, is_write_number, write_at_from, value_from}}
 use Rattle.coherence_values.specs.{declared.valued.Arc.Arc, Arc.{seen_of, writes_before, seen_with, LeadsOn, all_seen}}
 
 -- an arc with one event more

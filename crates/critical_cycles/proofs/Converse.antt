@@ -13,9 +13,9 @@ use Rattle.std.specs.List.{IsDistinct}
 use Rattle.std.proofs.Common.{get_or}
 use Rattle.cycle_events.specs.Resolution.{moves_before, thread_of}
 use Rattle.critical_cycles.proofs.{Linked.{GoesOn, all_go_on}, Parts.{Along, Leads, along}}
-use Rattle.critical_cycles.proofs.{Counted.{passed, passed_at, passed_count, places_passed, threads_passed}}
-use Rattle.critical_cycles.proofs.Steps.{AllNext, Leaving, begins, edge_is, edges_are, edges_in, events_are, events_in, leaving, step_below}
-use Rattle.critical_cycles.proofs.Steps.{steps_along}
+use Rattle.critical_cycles.proofs.{PlacesAlongSteps.{passed, passed_at, passed_count, places_passed, threads_passed}}
+use Rattle.critical_cycles.proofs.EdgeSteps.{AllNext, Leaving, begins, edge_is, edges_are, edges_in, events_are, events_in, leaving, step_below}
+use Rattle.critical_cycles.proofs.EdgeSteps.{steps_along}
 use Rattle.critical_cycles.proofs.Resolved.{all_plain, arc_places, got_left}
 
 -- edges and events, side by side

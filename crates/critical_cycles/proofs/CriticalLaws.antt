@@ -3,7 +3,7 @@ use Rattle.critical_cycles.specs.CriticalLaws.{CandidatesShowCycles, CriticalCyc
 use Rattle.critical_cycles.specs.CriticalLaws.{CriticalIsNotSequential, SequentialOrCritical, ShowsCycle, TwoThreadsShowSix}
 use Rattle.critical_cycles.proofs.Vocabulary.{◌⊎◌, List, inl, inr, arith, Access, accesses_in, IsSequential, CriticalCycle, held}
 use Rattle.program_meaning.proofs.Runs.{accesses-count}
-use Rattle.critical_cycles.proofs.Back as back
+use Rattle.critical_cycles.proofs.RelationCycles as back
 use Rattle.critical_cycles.proofs.Reached as reached
 use Rattle.critical_cycles.proofs.Short.{critical_is_short}
 use Rattle.critical_cycles.proofs.SixNamed.{one_of_six}

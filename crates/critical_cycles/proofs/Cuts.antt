@@ -5,7 +5,7 @@ use Rattle.critical_cycles.proofs.Vocabulary.{Execution, WriteAt, Edge, Dir, fre
 use Rattle.critical_cycles.proofs.Vocabulary.{ListedAreCritical, Part, edges_of_arc, edges_of_part}
 use Rattle.cycle_events.specs.Resolution.{ends_outside}
 use Rattle.critical_cycles.specs.Listed.{Fre, FreRfe, Rfe, Wse, WseRfe}
-use Rattle.critical_cycles.proofs.{Converse.{parts_are_critical, zipped, zipped_edges, zipped_events}, Steps.{edges_in, events_in, leaving}}
+use Rattle.critical_cycles.proofs.{Converse.{parts_are_critical, zipped, zipped_edges, zipped_events}, EdgeSteps.{edges_in, events_in, leaving}}
 use Rattle.critical_cycles.proofs.{Turned.turned}
 
 abbrev flat : List Part → List Edge

@@ -8,7 +8,7 @@ use Rattle.std.specs.List.{IsDistinct}
 use Rattle.relax_edges.specs.declared.kinds.Dir.TheVariants as dirs
 use Rattle.program_meaning.specs.Accesses.{is_read, read, write}
 use Rattle.program_meaning.specs.Deciding.{are_distinct, are_reads, every, name}
-use Rattle.program_meaning.proofs.{Candidates.execution_means, CoherenceLaws.coheres_means, Every.every_name}
+use Rattle.program_meaning.proofs.{Candidates.execution_means, CoherenceLaws.coheres_means, ElementTests.every_name}
 
 -- each write is to a location below a number, tried by computing
 abbrev writes_within : ℕ → List (List Access) → Bool

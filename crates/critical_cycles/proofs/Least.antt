@@ -4,7 +4,7 @@ use Rattle.critical_cycles.proofs.Vocabulary.{refl, sym, ◌∙◌, ap, subst, a
 use Rattle.critical_cycles.proofs.Vocabulary.{by_less, by_test, AllByRecursion, flat_map, all_append, all_parts, WriteAt, Access, Execution}
 use Rattle.critical_cycles.proofs.Vocabulary.{AreArcs, CriticalCycle, Moves, Segment, place_at, threads_of}
 use Rattle.std.specs.List.{IsDistinct}
-use Rattle.critical_cycles.proofs.Ways.{Facts, IsWithin, Way, goes, joined, size, size-append}
+use Rattle.critical_cycles.proofs.ClosedWays.{Facts, IsWithin, Way, goes, joined, size, size-append}
 use Rattle.critical_cycles.proofs.Shorter.{Around, Closed, Shorter, middle_here, middle_there, middles, not_alone, one_place, one_thread}
 use Rattle.critical_cycles.proofs.Shorter.{size_around, turned}
 

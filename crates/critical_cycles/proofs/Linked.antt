@@ -7,7 +7,7 @@ use Rattle.critical_cycles.proofs.Vocabulary.{Segment, dir_at, place_at, AreRela
 use Rattle.relax_edges.specs.declared.kinds.Dir.TheVariants as dirs
 use Rattle.relax_edges.specs.declared.kinds.Kind.TheVariants as kinds
 use Rattle.critical_cycles.proofs.{Keys.{Exists, arc_goes, co_dirs, fr_dirs, rf_dirs}}
-use Rattle.critical_cycles.proofs.{Steps.{AllNext, Leaving, all_next, arc_steps, leaving, steps_along}}
+use Rattle.critical_cycles.proofs.{EdgeSteps.{AllNext, Leaving, all_next, arc_steps, leaving, steps_along}}
 
 -- an edge fits a segment: it stays in its thread, leads to another location, has no marks, and its accesses do what those of the
 -- segment do

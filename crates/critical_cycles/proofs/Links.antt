@@ -7,7 +7,7 @@ use Rattle.critical_cycles.proofs.Vocabulary.{AreEvents, accesses_of_segment, ed
 use Rattle.critical_cycles.proofs.Vocabulary.{LinkedCyclesHaveEvents}
 use Rattle.cycle_events.specs.Resolution.{edge_at, event_after}
 use Rattle.critical_cycles.proofs.Linked.{FitsSegment}
-use Rattle.critical_cycles.proofs.Steps.{AllNext, Leaving, all_next, arc_steps, each_next, edges_are, events_are, leaving, steps_along}
+use Rattle.critical_cycles.proofs.EdgeSteps.{AllNext, Leaving, all_next, arc_steps, each_next, edges_are, events_are, leaving, steps_along}
 use Rattle.critical_cycles.proofs.Resolved.{cycle_events, plain_fits}
 use Rattle.relax_edges.specs.declared.kinds.Dir.TheVariants as dirs
 use Rattle.relax_edges.specs.{declared.kinds.Reach.Reach, declared.kinds.Reach.TheVariants.External, declared.kinds.Sd.Sd}

@@ -4,7 +4,7 @@ use Rattle.critical_cycles.proofs.Vocabulary.{◌≡◌, AllByRecursion, flat_ma
 use Rattle.critical_cycles.proofs.Vocabulary.{AreArcs, IsArc, Moves, Segment, dir_at, EdgeLeads, accesses_of_segment, arc_edges}
 use Rattle.critical_cycles.proofs.Vocabulary.{edge_to_write, edges_along, plain_edge, Arc, Part, edges_of_arc, edges_of_part}
 use Rattle.critical_cycles.specs.Listed.{Fre, FreRfe, Rfe, Wse, WseRfe}
-use Rattle.critical_cycles.proofs.Steps.{AllNext, Leaving, begins}
+use Rattle.critical_cycles.proofs.EdgeSteps.{AllNext, Leaving, begins}
 
 -- a segment and an arc that steps begin with
 pub record Piece (threads : List (List Access)) (x : Execution) (l : List Leaving) (z : WriteAt) (es : List Edge) : Type 0 where

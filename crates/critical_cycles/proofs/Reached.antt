@@ -6,9 +6,9 @@ use Rattle.critical_cycles.proofs.Vocabulary.{refl, sym, ◌∙◌, ap, subst, a
 use Rattle.critical_cycles.proofs.Vocabulary.{by_test, WriteAt, Access, at_name, Execution, comes, earlier_comes, key, lesser_comes}
 use Rattle.critical_cycles.proofs.Vocabulary.{Precedes, StepBy, ByPo, ByRf, ByCo, ByFr, IsPathBy, IsSequential, CriticalCycle, Segment}
 use Rattle.critical_cycles.proofs.Vocabulary.{place_of_access}
-use Rattle.sc_and_interleavings.proofs.{Listed.{all_names, listed}, Sorting.In, Coming.comes_by, Coming.comes_first}
+use Rattle.sc_and_interleavings.proofs.{Listed.{all_names, listed}, Sorting.In, AccessOrder.comes_by, AccessOrder.comes_first}
 use Rattle.critical_cycles.proofs.Keys.{Arc, Exists, Goes, arc_goes, arrives, key_is}
-use Rattle.critical_cycles.proofs.{Ways.{Facts, IsWithin, Way, goes, joined, leaving, segment, size, within}, Least.critical}
+use Rattle.critical_cycles.proofs.{ClosedWays.{Facts, IsWithin, Way, goes, joined, leaving, segment, size, within}, Least.critical}
 
 -- a way from an access, or from a later one of its thread, that ends at or before another in its thread
 pub record Around (threads : List (List Access)) (x : Execution) (e f : WriteAt) : Type 0 where

@@ -14,10 +14,10 @@ use Rattle.cycle_events.specs.Resolution.{IsResolved, edge_at, ends_outside, ext
 use Rattle.cycle_events.specs.Resolution.{moves_before, moves_in, thread_of}
 use Rattle.relax_edges.specs.declared.kinds.Dir.TheVariants as dirs
 use Rattle.relax_edges.specs.declared.edge.Edge.TheVariants as edges
-use Rattle.critical_cycles.proofs.{Keys.Exists, Ways.goes, Linked.{FitsSegment, GoesOn, all_go_on}}
-use Rattle.critical_cycles.proofs.Steps.{AllNext, Leaving, begins, each_next, edges_are, edges_in, events_are, events_in, image, leaving}
-use Rattle.critical_cycles.proofs.Steps.{next_at, step_below, steps_along}
-use Rattle.critical_cycles.proofs.Counted.{passed, passed_at, passed_count, threads_passed, places_passed}
+use Rattle.critical_cycles.proofs.{Keys.Exists, ClosedWays.goes, Linked.{FitsSegment, GoesOn, all_go_on}}
+use Rattle.critical_cycles.proofs.EdgeSteps.{AllNext, Leaving, begins, each_next, edges_are, edges_in, events_are, events_in, image, leaving}
+use Rattle.critical_cycles.proofs.EdgeSteps.{next_at, step_below, steps_along}
+use Rattle.critical_cycles.proofs.PlacesAlongSteps.{passed, passed_at, passed_count, threads_passed, places_passed}
 
 -- an element of the first of two lists is one of both
 pub got_left : {X : Type 0} (xs ys : List X) (k : ℕ) → k < length xs → slice_get (xs ++ ys) k ≡ slice_get xs k

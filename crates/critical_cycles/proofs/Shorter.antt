@@ -3,8 +3,8 @@
 use Rattle.critical_cycles.proofs.Vocabulary.{◌≡◌, ℕ, ◌+◌, ◌<◌, ◌≤◌, List, [], ◌∷◌, ◌++◌, Some, None, inl, inr, sym, ◌∙◌, ap, subst, arith}
 use Rattle.critical_cycles.proofs.Vocabulary.{by_less, WriteAt, Access, Execution, ReadsFrom, IsArc, IsBeforeWrite, Segment, place_at}
 use Rattle.critical_cycles.proofs.Keys.{Exists, Goes, key_at, arc_goes, arrives}
-use Rattle.critical_cycles.proofs.Ways.{Facts, Way, few, first_arc, goes, joined, keeps, leaving, leaving_by, more, segment, size}
-use Rattle.critical_cycles.proofs.Ways.{size-append, within}
+use Rattle.critical_cycles.proofs.ClosedWays.{Facts, Way, few, first_arc, goes, joined, keeps, leaving, leaving_by, more, segment, size}
+use Rattle.critical_cycles.proofs.ClosedWays.{size-append, within}
 
 -- a way back to its own beginning
 abbrev pub Closed : List (List Access) → Execution → Segment → List Segment → Type 0

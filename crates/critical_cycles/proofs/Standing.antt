@@ -21,13 +21,13 @@ use Rattle.relax_edges.specs.declared.kinds.Kind.TheVariants as kinds
 use Rattle.relax_edges.specs.{declared.kinds.ObsMode.ObsMode}
 use Rattle.relax_edges.specs.{EdgeTable.{kind_reach, kind_source, kind_target}}
 use Rattle.cycle_events.specs.Resolution.{IsResolved, edge_at, event_after, location_of}
-use Rattle.cycle_events.proofs.Around.{after_below}
+use Rattle.cycle_events.proofs.CycleRound.{after_below}
 use Rattle.list_laws.proofs.Numbers.{length-map-upto, slice_get-map-upto}
 use Rattle.program_meaning.specs.{Accesses.{got_from, read}, Coherence.placed_by, Intended.{IsNumbering, cycle_accesses, event_access}}
 use Rattle.program_meaning.specs.Standing.{AllStand, CommunicatesBy, IsEvent, NamedAccess, Reaches, event_name}
 use Rattle.program_meaning.proofs.{Names.{GotFrom, got_from_list}, Runs.accesses-count}
 use Rattle.accesses_force_cycles.specs.Joining.{MakesAccesses, accesses_filled, values_read}
-use Rattle.accesses_force_cycles.proofs.{Accesses.event_at_name, Bridge.resolves, Lists.{Got, got_below}, Resolves.Resolves}
+use Rattle.accesses_force_cycles.proofs.{Accesses.event_at_name, ResolvedFacts.resolves, Lists.{Got, got_below}, Resolves.Resolves}
 use Rattle.sc_and_interleavings.proofs.SequentialMade.{Filled, filled_from, writes_to_own}
 use Rattle.critical_cycles.specs.Listed.{StandingIsCritical}
 use Rattle.critical_cycles.proofs.Cuts.{listed_are_critical}

@@ -9,7 +9,7 @@ use Rattle.critical_cycles.proofs.Vocabulary.{WriteAt, Edge, is_diff, is_externa
 use Rattle.std.proofs.Math.Nat.{mod-eq_of_lt, mod_self}
 use Rattle.std.specs.Prelude.{◌%◌}
 use Rattle.cycle_events.specs.Resolution.{IsResolved, ends_outside, external_count, location_of, move_count, thread_of}
-use Rattle.critical_cycles.proofs.Steps.{AllNext, Leaving, begins, each_next, edges_in, events_in, next_append}
+use Rattle.critical_cycles.proofs.EdgeSteps.{AllNext, Leaving, begins, each_next, edges_in, events_in, next_append}
 use Rattle.critical_cycles.proofs.{Converse.all_lead, Parts.Leads}
 
 -- an element of a list with one more at the end

@@ -8,7 +8,7 @@ pub use Rattle.std.proofs.lemmas.{Map.Keys.IsDistinct-from_apart, Map.Keys.apart
 pub use Rattle.std.proofs.lemmas.Option.{get_or_from_slice_get, slice_get-map, slice_get_within}
 pub use Rattle.std.specs.{List.AllByRecursion, List.count_by, List.flat_map, List.list_any, Option.option_map}
 pub use Rattle.std.specs.Prelude.{nat_lt, ◌↔◌, ◌≢◌, ◌⊎◌}
-pub use Rattle.cycle_events.proofs.{Around.by_after, Arcs.location_cases, Arcs.several_locations, Arcs.thread_below, EdgeCounts.PassingEdge}
+pub use Rattle.cycle_events.proofs.{CycleRound.by_after, Arcs.location_cases, Arcs.several_locations, Arcs.thread_below, EdgeCounts.PassingEdge}
 pub use Rattle.cycle_events.proofs.{EdgeCounts.passing, Locations.location_first}
 pub use Rattle.cycle_events.proofs.{Arcs.location_below, Locations.external_keeps, Locations.location-zero, Locations.location_wrapped}
 pub use Rattle.cycle_events.proofs.{Locations.moves_end}
@@ -33,7 +33,7 @@ pub use Rattle.relax_edges.specs.{declared.kinds.Sd.TheVariants.Diff, JoinedEdge
 pub use Rattle.relax_edges.specs.EdgeTable.{is_diff, is_external, joins_to, kind_of, kind_place, reach_of, same_dir, sd_of, source_mark}
 pub use Rattle.relax_edges.specs.EdgeTable.{source_of, target_mark, target_of}
 pub use Rattle.relax_edges.specs.NamedEdges.{fre, pod, rfe, wse}
-pub use Rattle.sc_and_interleavings.proofs.Coming.{comes, earlier_comes, key, lesser_comes}
+pub use Rattle.sc_and_interleavings.proofs.AccessOrder.{comes, earlier_comes, key, lesser_comes}
 pub use Rattle.sc_and_interleavings.proofs.Places.{Held, held, place_in}
 pub use Rattle.sc_and_interleavings.proofs.Shapes.{read_before, writes_ordered, writes_same}
 pub use Rattle.sc_and_interleavings.proofs.Vocabulary.{access_of_visit, moves}

@@ -3,11 +3,11 @@ pub mod Normal
 pub mod Reading
 pub mod SixCycles
 pub mod Chains
-pub mod Making
+pub mod MadeOfRelaxations
 pub mod Writes
 pub mod Counting
 pub mod Externals
-pub mod Accepting
+pub mod AcceptedChains
 pub mod Small
 pub mod Listing
 pub mod SixListed

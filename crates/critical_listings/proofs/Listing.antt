@@ -16,8 +16,8 @@ use Rattle.critical_cycles.proofs.CriticalLaws.{two_threads_show_six}
 use Rattle.test_maker.specs.Refusals.{refusal_of}
 use Rattle.tests_to_files.specs.Plans.{IsPlanned, Plan, has_few_accesses, has_few_threads, is_wanted}
 use Rattle.critical_listings.specs.{Accepted.{AllowsCritical, CyclesHaveTests}, Listed.{CyclesAreListed, ListingsShowAll, TwoThreadsShow}}
-use Rattle.critical_listings.proofs.{Accepting.{accepted, externals_turned, rotation_accepted, rotation_fits}, Chains.{Chain, chain_of}}
-use Rattle.critical_listings.proofs.{Externals.externals, Making.made_of, Normal.least_rotation, Small.{own_edges, small}}
+use Rattle.critical_listings.proofs.{AcceptedChains.{accepted, externals_turned, rotation_accepted, rotation_fits}, Chains.{Chain, chain_of}}
+use Rattle.critical_listings.proofs.{Externals.externals, MadeOfRelaxations.made_of, Normal.least_rotation, Small.{own_edges, small}}
 
 -- a normal form of a resolved chain that leads back, of few edges and threads, is listed
 pub planned_turned : (plan : Plan) (count : ℕ) (from : Dir) (es u : List Edge) → AllowsCritical count plan → Chain from from es

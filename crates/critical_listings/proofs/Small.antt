@@ -8,7 +8,7 @@ use Rattle.cycle_events.specs.Resolution.{IsResolved, events_in, external_count}
 use Rattle.tests_to_files.specs.{InternalRuns.{run_after, stays_below}, Plans.has_few_accesses}
 use Rattle.tests_to_files.proofs.RunLaws.{few_accesses_round}
 use Rattle.rotations_are_alike.proofs.Beginning.{stays}
-use Rattle.critical_listings.proofs.{Accepting.IsSmall, Chains.{Chain, Fre, FreRfe, IsArcTo, More, One, Rfe, Wse, WseRfe}}
+use Rattle.critical_listings.proofs.{AcceptedChains.IsSmall, Chains.{Chain, Fre, FreRfe, IsArcTo, More, One, Rfe, Wse, WseRfe}}
 use Rattle.critical_listings.proofs.{Counting.two_writes, Upto.each_upto}
 
 -- an arc leaves no run of internal edges, and a segment makes one of one edge

@@ -1,6 +1,6 @@
 pub mod Composing
 pub mod Lettering
 pub mod Marking
-pub mod Passing
+pub mod EdgesPassedOver
 pub mod Ranking
 pub mod Repeating

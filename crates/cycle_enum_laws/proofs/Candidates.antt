@@ -7,7 +7,7 @@ use Rattle.edge_algebra_laws.specs.Composable.{last_joins}
 use Rattle.edge_algebra_laws.proofs.Composing.{joined_prefix, joined_parts}
 use Rattle.cycle_enum_laws.specs.Listing.{IsOneOf, concatenated, IsMadeOf, IsListed}
 use Rattle.cycle_enum_laws.specs.Search.{IsIn, OccursIn, IsSingle, IsListCandidate, NoneBetween, IsRaised, IsExtended, LeadsNowhere}
-use Rattle.cycle_enum_laws.proofs.Raising.{raised_within, extended_within}
+use Rattle.cycle_enum_laws.proofs.GrowingLists.{raised_within, extended_within}
 
 module _ (relaxes : List (List Edge)) where
   -- each edge of a list occurs in a relaxation

@@ -1,9 +1,9 @@
-pub mod Answering
+pub mod SearchAnswers
 pub mod Candidates
 pub mod Counts
 pub mod Listings
-pub mod Nowhere
-pub mod Raising
+pub mod DroppedPrefixes
+pub mod GrowingLists
 pub mod Relaxing
 pub mod Searching
 pub mod Stepping

@@ -3,7 +3,7 @@ use Rattle.std.proofs.{Common.{◌≡◌, ◌<◌, ◌≤◌, inl, inr, ℕ, Lis
 use Rattle.relax_edges.specs.declared.edge.Edge.{Edge}
 use Rattle.cycle_enum_laws.specs.{Asked.{KeptBelow, KeptWhole}, Search.{LeadsNowhere, OfLength, IsRaised, IsExtended, IsFirstFrom}}
 use Rattle.cycle_enum_laws.proofs.Searching.{Searching, search_begins, search_raised, search_goes_on, search_found, nowhere_whole}
-use Rattle.cycle_enum_laws.proofs.Raising.{raised_within, extended_within}
+use Rattle.cycle_enum_laws.proofs.GrowingLists.{raised_within, extended_within}
 
 module _ (listed : List Edge → Type 0) (keeps : List Edge → Type 0) (n : ℕ) where
   -- where the search is

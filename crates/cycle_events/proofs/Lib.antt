@@ -4,11 +4,11 @@ pub mod Locations
 pub mod Turning
 pub mod Walking
 pub mod Arcs
-pub mod Around
+pub mod CycleRound
 pub mod Sizes
 pub mod Rotations
-pub mod Ways
-pub mod Along
+pub mod TurnedRound
+pub mod ValuesAlongEdges
 pub mod Writes
 pub mod Entries
 pub mod ValueLaws

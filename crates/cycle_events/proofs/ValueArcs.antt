@@ -9,7 +9,7 @@ use Rattle.list_laws.specs.Numbers.{upto}
 use Rattle.list_laws.proofs.{Cases.{by_test, by_less, by_option}, Counts.{count_upto_same, count_upto_one_more, count_upto_none}}
 use Rattle.list_laws.proofs.Numbers.{length-upto, get_or-upto}
 use Rattle.cycle_events.specs.{Resolution.{move_count, location_of, IsResolved}, Values.{is_write, is_after_moves, way, arc, way_place, value_of, write_at}}
-use Rattle.cycle_events.proofs.{Locations.moves_up, Arcs.location_below, Ways.by_way}
+use Rattle.cycle_events.proofs.{Locations.moves_up, Arcs.location_below, TurnedRound.by_way}
 use Rattle.cycle_events.proofs.Lists.{count_filter, found_counted, counted_found, rank_filter, unrank_filter, pairs_append, pairs_change, upto_grows, count_along, filter_everything, classes_follow}
 use Rattle.cycle_events.proofs.Writes.{write_of, write_at_parts, write_at_from, is_write_number}
 

@@ -5,8 +5,8 @@ use Rattle.relax_edges.specs.{declared.edge.Edge.Edge, EdgeTable.is_diff}
 use Rattle.list_laws.proofs.{Cases.{by_test, by_same}, Counts.counted, Finds.{find_upto, find_upto_only}}
 use Rattle.cycle_events.specs.Resolution.{move_count, edge_at, event_before, location_of, IsResolved}
 use Rattle.cycle_events.specs.Values.{is_write_at, way_place, value_of, write_count, write_at}
-use Rattle.cycle_events.proofs.{Locations.location_first, Arcs.{leaving, location_below}, Around.{before_below, after_before, keeps_location}}
-use Rattle.cycle_events.proofs.{Ways.{only_on_way, way_next}, Along.{is_write, value_after, value_at_end, values_grow}}
+use Rattle.cycle_events.proofs.{Locations.location_first, Arcs.{leaving, location_below}, CycleRound.{before_below, after_before, keeps_location}}
+use Rattle.cycle_events.proofs.{TurnedRound.{only_on_way, way_next}, ValuesAlongEdges.{is_write, value_after, value_at_end, values_grow}}
 
 -- a write at a location is a write, and is at that location
 pub write_at_parts : (es : List Edge) (l i : ℕ) → is_write_at es l i ≡ true → (is_write es i ≡ true) × (location_of es i ≡ l)

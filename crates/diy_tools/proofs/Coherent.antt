@@ -12,7 +12,7 @@ use Rattle.run_status.specs.{declared.status.Status.Status}
 use Rattle.diy_tools.specs.{Answers.{Answers, AnswersAsked}, ArchMachines.machine_of, CoherenceAnswers.AnswersCoherence}
 use Rattle.diy_tools.specs.{Devices.devices, PrintAnswers.AnswersEdges, TestAnswers.test_name}
 use Rattle.diy_tools.specs.KeptRequests.{AnswersIncoherence, edges_kept, name_kept, refused_incoherent}
-use Rattle.diy_tools.proofs.Running.{edges_answered, kept_so}
+use Rattle.diy_tools.proofs.RunAnswers.{edges_answered, kept_so}
 
 -- what is answered on an architecture is answered on the one with its name
 pub incoherent_on : (arch a : ArchName) (request : Coherence) (status : Status) (old new : SinkSeen) → arch ≡ a

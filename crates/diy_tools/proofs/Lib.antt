@@ -1,15 +1,15 @@
-pub mod Running
+pub mod RunAnswers
 pub mod Coherent
-pub mod Shows
+pub mod WhyAnswers
 pub mod TestNames
-pub mod Executed
-mod Forced
-pub mod Listed
-pub mod Crossed
-pub mod Summed
-pub mod Classed
-pub mod Caused
-pub mod Completed
+pub mod ExecutionAnswers
+mod ForcedTests
+pub mod ListingAnswers
+pub mod CrossAnswers
+pub mod SumAnswers
+pub mod FamilyAnswers
+pub mod Causes
+pub mod Completeness
 pub mod Limits
-pub mod Opened
-pub mod Needing
+pub mod CountedLogs
+pub mod NeedsAnswers

@@ -1,7 +1,7 @@
 -- What is answered after more than 2^40 bytes, from what is answered.
 use Rattle.std.proofs.Common.{◌≡◌, ◌≤◌, ◌<◌, ◌+◌, ◌^◌, ℕ, List, [], ◌∷◌, length, Option, None, Some, Ok, Err, sym, ap, subst, arith, inl, inr}
 use Rattle.std.specs.Prelude.{Result, ◌⊎◌}
-use Rattle.diy_tools.proofs.{Caused.of_files, Opened.{IsWithin, files_within, failed_within}}
+use Rattle.diy_tools.proofs.{Causes.of_files, CountedLogs.{IsWithin, files_within, failed_within}}
 use Rattle.relax_edges.specs.{declared.edge.Edge.Edge, declared.kinds.ArchName.ArchName}
 use Rattle.cycles_from_lines.specs.declared.errors.LinesError.TheVariants as lines
 use Rattle.cycles_from_lines.specs.{declared.errors.NormError.NormError, declared.errors.ClassifyError.ClassifyError, Classified.Classifies, Normed.Norms}
@@ -192,9 +192,9 @@ module _ (old new : Devices) (much : TookTooMuch old new) where
       absurd (neither (same_input old.input new.input h.input) (same_shelf old.shelf new.shelf (ap (λ (s : ShelfSeen). s.opened) h.shelf)))
   asked_limit words (Ok (AsksCoherence asked)) status h =
       absurd (neither (same_input old.input new.input h.input) (same_shelf old.shelf new.shelf (ap (λ (s : ShelfSeen). s.opened) h.shelf)))
-  asked_limit words (Ok (AsksExecution asked)) status h =
+  asked_limit words (Ok (AsksExecution form asked)) status h =
       absurd (neither (same_input old.input new.input h.input) (same_shelf old.shelf new.shelf (ap (λ (s : ShelfSeen). s.opened) h.shelf)))
-  asked_limit words (Ok (AsksCoherenceExecution asked)) status h =
+  asked_limit words (Ok (AsksCoherenceExecution form asked)) status h =
       absurd (neither (same_input old.input new.input h.input) (same_shelf old.shelf new.shelf (ap (λ (s : ShelfSeen). s.opened) h.shelf)))
   asked_limit words (Ok (AsksNeeds asked)) status h =
       absurd (neither (same_input old.input new.input h.input) (same_shelf old.shelf new.shelf (ap (λ (s : ShelfSeen). s.opened) h.shelf)))

@@ -24,8 +24,8 @@ AnswersAsked words (Ok (AsksFamilies asked)) status old new = AnswersClassify wo
 AnswersAsked words (Ok AsksSum) status old new = AnswersSum words status old new
 AnswersAsked words (Ok (AsksDemo asked)) status old new = OutAlone (Prints (demo_asked asked) status) old new
 AnswersAsked words (Ok (AsksCheck asked)) status old new = AnswersCheck words asked status old new
-AnswersAsked words (Ok (AsksExecution asked)) status old new = OutAlone (AnswersExecution asked status) old new
-AnswersAsked words (Ok (AsksCoherenceExecution asked)) status old new = OutAlone (AnswersCoherenceExecution asked status) old new
+AnswersAsked words (Ok (AsksExecution form asked)) status old new = OutAlone (AnswersExecution form asked status) old new
+AnswersAsked words (Ok (AsksCoherenceExecution form asked)) status old new = OutAlone (AnswersCoherenceExecution form asked status) old new
 AnswersAsked words (Ok (AsksNeeds asked)) status old new = OutAlone (AnswersNeeds asked status) old new
 AnswersAsked words (Ok (AsksLines asked)) status old new = OutAlone (AnswersListed asked status) old new
 

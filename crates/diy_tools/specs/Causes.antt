@@ -14,6 +14,7 @@ use Rattle.exec_check.specs.declared.checked_errors.CheckEnd.TheVariants as chec
 use Rattle.exec_check.specs.declared.checked_errors.CheckedKind.TheVariants as checked
 use Rattle.diy_io.specs.{Count.{Rose, count_of}, Taken.SourceSeen, Wrote.{SinkSeen, WroteAll, WrotePart}}
 use Rattle.diy_words.specs.{declared.usage.Usage.Usage, declared.usage.UsageKind.UsageKind, declared.usage.UsageKind.TheVariants.UnknownName}
+use Rattle.diy_words.specs.declared.request.ExecutionForm.{ExecutionForm}
 use Rattle.diy_words.specs.Requests.{Task, TestTask, CoherenceTask, Sought, WhyTask, AsksTest, AsksWhy, AsksCoherence, AsksName, AsksList, AsksFamilies, AsksSum, AsksCross, AsksDemo, AsksCheck, AsksExecution, AsksCoherenceExecution, AsksNeeds, AsksLines, OfEdges, OfName, OfLines, asked_of}
 use Rattle.tests_to_files.specs.declared.ending.ListingEnd.TheVariants as listings
 use Rattle.msum7_files.specs.{declared.sum_end.SumEnd.SumEnd, SumEnds.LogFileMissing}
@@ -60,8 +61,8 @@ asked_refused (Ok (AsksTest asked)) = test_refused asked
 asked_refused (Ok (AsksWhy asked)) = why_unshown asked
 asked_refused (Ok (AsksCoherence asked)) = coherence_refused asked
 asked_refused (Ok (AsksName asked)) = sought_refused asked.arch asked.cycle
-asked_refused (Ok (AsksExecution asked)) = test_refused asked
-asked_refused (Ok (AsksCoherenceExecution asked)) = coherence_refused asked
+asked_refused (Ok (AsksExecution form asked)) = test_refused asked
+asked_refused (Ok (AsksCoherenceExecution form asked)) = coherence_refused asked
 asked_refused (Ok (AsksNeeds asked)) = test_refused asked
 asked_refused _ = None
 
@@ -115,17 +116,17 @@ WhyStops asked status old new =
     (why_unshown asked ≡ None)
     × ShelfAndOut (WritesRuns (machine_of asked.arch) asked.folder (test_name asked.name asked.edges) asked.edges status) old new
 
--- nothing refuses the request, and diyone7 -exec has written the intended execution of a test, as far as this status says
-abbrev pub ExecutionStops : TestTask → Status → Devices → Devices → Type 0
-ExecutionStops asked status old new =
+-- nothing refuses the request, and diyone7 -exec or -dot has written or drawn the intended execution of a test, as far as this status says
+abbrev pub ExecutionStops : ExecutionForm → TestTask → Status → Devices → Devices → Type 0
+ExecutionStops form asked status old new =
     (test_refused asked ≡ None)
-    × OutAlone (PrintsRun (machine_of asked.arch) (asked_text asked) (intended_by asked.edges asked.mode) status) old new
+    × OutAlone (PrintsRun form (machine_of asked.arch) (asked_text asked) (intended_by asked.edges asked.mode) status) old new
 
--- nothing refuses the request, and diyone7 -exec has written the execution of a coherence test, as far as this status says
-abbrev pub CoherenceExecutionStops : CoherenceTask → Status → Devices → Devices → Type 0
-CoherenceExecutionStops asked status old new =
+-- nothing refuses the request, and diyone7 -exec or -dot has written or drawn the execution of a coherence test, as far as this status says
+abbrev pub CoherenceExecutionStops : ExecutionForm → CoherenceTask → Status → Devices → Devices → Type 0
+CoherenceExecutionStops form asked status old new =
     (coherence_refused asked ≡ None)
-    × OutAlone (PrintsRun (machine_of asked.arch) (incoherent_text asked) (incoherent_by asked.edges) status) old new
+    × OutAlone (PrintsRun form (machine_of asked.arch) (incoherent_text asked) (incoherent_by asked.edges) status) old new
 
 -- diy7, diycross7 or diyone7 -why has written files up to the one at which the shelf failed
 abbrev pub ListStops : Result Task Usage → Devices → Devices → Type 0
@@ -166,8 +167,8 @@ Finishes words (Ok (AsksDemo asked)) old new = OutAlone (λ out out'. WroteAll o
 Finishes words (Ok (AsksFamilies asked)) old new = FamiliesAll words asked.arch asked.files old new
 Finishes words (Ok AsksSum) old new = EndsSum words sums.Done old new
 Finishes words (Ok (AsksCheck asked)) old new = EndsCheck words asked checking.Done old new
-Finishes words (Ok (AsksExecution asked)) old new = ExecutionStops asked statuses.Done old new
-Finishes words (Ok (AsksCoherenceExecution asked)) old new = CoherenceExecutionStops asked statuses.Done old new
+Finishes words (Ok (AsksExecution form asked)) old new = ExecutionStops form asked statuses.Done old new
+Finishes words (Ok (AsksCoherenceExecution form asked)) old new = CoherenceExecutionStops form asked statuses.Done old new
 Finishes words (Ok (AsksNeeds asked)) old new =
     (test_refused asked ≡ None) × OutAlone (λ out out'. WroteAll out out' (needs_asked asked)) old new
 Finishes words (Ok (AsksLines asked)) old new = OutAlone (AnswersListed asked statuses.Done) old new
@@ -194,8 +195,8 @@ OutStops words (Ok (AsksDemo asked)) old new = OutAlone (λ out out'. WrotePart 
 OutStops words (Ok (AsksFamilies asked)) old new = FamiliesPart words asked.arch asked.files old new
 OutStops words (Ok AsksSum) old new = EndsSum words sums.OutFault old new
 OutStops words (Ok (AsksCheck asked)) old new = EndsCheck words asked checking.OutFault old new
-OutStops words (Ok (AsksExecution asked)) old new = ExecutionStops asked (statuses.WriteFault Out) old new
-OutStops words (Ok (AsksCoherenceExecution asked)) old new = CoherenceExecutionStops asked (statuses.WriteFault Out) old new
+OutStops words (Ok (AsksExecution form asked)) old new = ExecutionStops form asked (statuses.WriteFault Out) old new
+OutStops words (Ok (AsksCoherenceExecution form asked)) old new = CoherenceExecutionStops form asked (statuses.WriteFault Out) old new
 OutStops words (Ok (AsksNeeds asked)) old new =
     (test_refused asked ≡ None) × OutAlone (λ out out'. WrotePart out out' (needs_asked asked)) old new
 OutStops words (Ok (AsksLines asked)) old new = OutAlone (AnswersListed asked (statuses.WriteFault Out)) old new

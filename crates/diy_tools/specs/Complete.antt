@@ -83,8 +83,8 @@ CanBeDone words (Ok (AsksDemo asked)) old = ⊤
 CanBeDone words (Ok (AsksFamilies asked)) old = CanClassify words asked.arch asked.files old
 CanBeDone words (Ok AsksSum) old = CanSum words old
 CanBeDone words (Ok (AsksCheck asked)) old = CanCheck words asked old
-CanBeDone words (Ok (AsksExecution asked)) old = test_refused asked ≡ None
-CanBeDone words (Ok (AsksCoherenceExecution asked)) old = coherence_refused asked ≡ None
+CanBeDone words (Ok (AsksExecution form asked)) old = test_refused asked ≡ None
+CanBeDone words (Ok (AsksCoherenceExecution form asked)) old = coherence_refused asked ≡ None
 CanBeDone words (Ok (AsksNeeds asked)) old = test_refused asked ≡ None
 CanBeDone words (Ok (AsksLines asked)) old = ⊤
 

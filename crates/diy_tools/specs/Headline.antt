@@ -8,6 +8,7 @@ use Rattle.relax_edges.specs.declared.{edge.Edge.Edge, kinds.ObsMode.ObsMode}
 use Rattle.cycle_events.specs.Resolution.{turned}
 use Rattle.diy_io.specs.{Shelf.ShelfSeen, Wrote.SinkSeen}
 use Rattle.diy_words.specs.declared.usage.Usage.{Usage}
+use Rattle.diy_words.specs.declared.request.ExecutionForm.{ExecutionForm}
 use Rattle.diy_words.specs.Requests.{Task, ListTask, AsksTest, AsksWhy, AsksCoherence, AsksList, CrossTask, AsksCross, AsksExecution, AsksCoherenceExecution, AsksNeeds, AsksLines, asked_of}
 use Rattle.tests_to_files.specs.{ListedFiles.last_number, Plans.{IsPlanned, planned_text}}
 use Rattle.tests_to_files_laws.specs.OwnFiles.{HaveOwnFiles}
@@ -35,15 +36,15 @@ pub record PrintsIncoherence (m : Machine) (text : List ℕ) (cycle : List Edge)
   pub prints : Prints text status old new
   pub shows : BytesShowIncoherence m.puts.name m.writing text (turned cycle)
 
--- the execution that a test asks for is printed, and the bytes of the test force its cycle: that execution is coherent per location and
+-- the execution that a test asks for is printed, as a text or drawn, and the bytes of the test force its cycle: that execution is coherent per location and
 -- meets the condition, no other candidate execution does both, and all edges of the cycle stand in it
-pub record PrintsIntended (m : Machine) (text : List ℕ) (cycle : List Edge) (mode : ObsMode) (status : Status) (old new : SinkSeen) : Type 0 where
-  pub prints : PrintsRun m text (intended_by cycle mode) status old new
+pub record PrintsIntended (form : ExecutionForm) (m : Machine) (text : List ℕ) (cycle : List Edge) (mode : ObsMode) (status : Status) (old new : SinkSeen) : Type 0 where
+  pub prints : PrintsRun form m text (intended_by cycle mode) status old new
   pub forces : BytesForce m.puts.name m.writing text (turned cycle) mode
 
 -- the execution that a coherence test asks for is printed, and the bytes of the test show incoherence
-pub record PrintsIncoherent (m : Machine) (text : List ℕ) (cycle : List Edge) (status : Status) (old new : SinkSeen) : Type 0 where
-  pub prints : PrintsRun m text (incoherent_by cycle) status old new
+pub record PrintsIncoherent (form : ExecutionForm) (m : Machine) (text : List ℕ) (cycle : List Edge) (status : Status) (old new : SinkSeen) : Type 0 where
+  pub prints : PrintsRun form m text (incoherent_by cycle) status old new
   pub shows : BytesShowIncoherence m.puts.name m.writing text (turned cycle)
 
 -- what suffices against the outcome of a test is printed. Its lines are those of exactly the edges that order, of which the links of the
@@ -95,12 +96,12 @@ HeadlineAsked (Ok (AsksWhy asked)) status old new =
 HeadlineAsked (Ok (AsksCoherence asked)) status old new =
     coherence_refused asked ≡ None →
     PrintsIncoherence (machine_of asked.arch) (incoherent_text asked) asked.edges status old.out new.out
-HeadlineAsked (Ok (AsksExecution asked)) status old new =
+HeadlineAsked (Ok (AsksExecution form asked)) status old new =
     refused_of (machine_of asked.arch).puts asked.mode asked.edges ≡ None →
-    (status ≡ NoMemory) ⊎ PrintsIntended (machine_of asked.arch) (asked_text asked) asked.edges asked.mode status old.out new.out
-HeadlineAsked (Ok (AsksCoherenceExecution asked)) status old new =
+    (status ≡ NoMemory) ⊎ PrintsIntended form (machine_of asked.arch) (asked_text asked) asked.edges asked.mode status old.out new.out
+HeadlineAsked (Ok (AsksCoherenceExecution form asked)) status old new =
     coherence_refused asked ≡ None →
-    (status ≡ NoMemory) ⊎ PrintsIncoherent (machine_of asked.arch) (incoherent_text asked) asked.edges status old.out new.out
+    (status ≡ NoMemory) ⊎ PrintsIncoherent form (machine_of asked.arch) (incoherent_text asked) asked.edges status old.out new.out
 HeadlineAsked (Ok (AsksNeeds asked)) status old new =
     refused_of (machine_of asked.arch).puts asked.mode asked.edges ≡ None →
     PrintsNeeds (machine_of asked.arch) (asked_text asked) (test_name asked.name asked.edges) asked.edges asked.mode status old.out new.out

@@ -12,7 +12,9 @@ use Rattle.diy_words.specs.declared.request.Sought.TheVariants as sought
 use Rattle.tests_to_files.specs.{declared.ending.ListingEnd.ListingEnd, declared.listing.Listing.Listing, ListedLines.EndsLines, ListingEnds.EndsListing}
 use Rattle.tests_to_files.specs.Plans.{plan_of, plan_in}
 use Rattle.two_runs.specs.{IntendedRuns.intended_by, CoherenceRuns.incoherent_by, declared.shown.TwoRuns.TwoRuns, Shown.why_refused}
-use Rattle.diy_tools.specs.{ExecutionAnswers.AnswersRun, PrintAnswers.{Prints, AnswersEdges}}
+use Rattle.program_meaning.specs.Executions.{Execution}
+use Rattle.litmus_text.specs.TestReading.{TestRead}
+use Rattle.diy_tools.specs.{ExecutionAnswers.{AnswersRun, Shows}, PrintAnswers.{Prints, AnswersEdges}}
 use Rattle.run_status.specs.{declared.status.Status.Status}
 use Rattle.diy_tools.specs.{CheckAnswers.{EndsChecked, check_status, shown_of}, CrossAnswers.{AnswersCross, AnswersChoices}}
 use Rattle.diy_tools.specs.{FamilyAnswers.{EndsNamed, files_status}, ArchMachines.{Machine, machine, machine_of}, NameAnswers.{AnswersLines, AnswersName}}
@@ -26,6 +28,7 @@ use Rattle.exec_check.specs.{declared.checked_errors.CheckEnd.CheckEnd, FilesChe
 use Rattle.arch_trait.specs.{Threads.Puts, Writing.Writing}
 use Rattle.exec_text.specs.Written.{text_of_execution}
 use Rattle.cycle_events.specs.Resolution.{turned}
+use Rattle.diy_words.specs.declared.request.ExecutionForm.{ExecutionForm}
 use Rattle.needed_links.specs.Needs.{needs_text}
 use Rattle.co_tests.specs.CoRefusals.{coherence_refusal_of, coherence_text}
 use Rattle.run_status.specs.declared.status.Status.TheVariants as statuses
@@ -73,9 +76,9 @@ AnswersOne m request =
     (cycle_text m.puts m.writing request.mode (chosen_name request.name (edges_kept request.edges)) (edges_kept request.edges))
 
 -- the edges of a request for an execution are refused, there is no memory, or the intended execution of their test is printed
-abbrev pub AnswersIntended : Machine → DiyOne → Status → SinkSeen → SinkSeen → Type 0
-AnswersIntended m request =
-    AnswersRun m (refused_kept m request.mode request.edges)
+abbrev pub AnswersIntended : ExecutionForm → Machine → DiyOne → Status → SinkSeen → SinkSeen → Type 0
+AnswersIntended form m request =
+    AnswersRun form m (refused_kept m request.mode request.edges)
     (cycle_text m.puts m.writing request.mode (chosen_name request.name (edges_kept request.edges)) (edges_kept request.edges))
     (intended_by (edges_kept request.edges) request.mode)
 
@@ -90,13 +93,14 @@ abbrev pub NeedsOn : Puts → ObsMode → List ℕ → List Edge → Status → 
 NeedsOn puts mode name cycle = AnswersEdges (refusal_of puts cycle mode) (needs_text name (turned cycle))
 
 -- the same for a cycle under a name, on an architecture with this code that is written in this way
-abbrev pub RunsOn : Puts → Writing → ObsMode → List ℕ → List Edge → Status → SinkSeen → SinkSeen → Type 0
-RunsOn puts writing mode name cycle =
-    AnswersRun (machine puts writing) (refusal_of puts cycle mode) (cycle_text puts writing mode name cycle) (intended_by cycle mode)
+abbrev pub RunsOn : ExecutionForm → Puts → Writing → ObsMode → List ℕ → List Edge → Status → SinkSeen → SinkSeen → Type 0
+RunsOn form puts writing mode name cycle =
+    AnswersRun form (machine puts writing) (refusal_of puts cycle mode) (cycle_text puts writing mode name cycle) (intended_by cycle mode)
 
--- a text is printed, or there is no memory and nothing is printed
-abbrev pub PrintsInMemory : List ℕ → Status → SinkSeen → SinkSeen → Type 0
-PrintsInMemory text status old new = ((status ≡ statuses.NoMemory) × (new ≡ old)) ⊎ Prints text status old new
+-- a text that shows an execution of a test in a form is printed, or there is no memory and nothing is printed
+abbrev pub PrintsShown : ExecutionForm → Machine → TestRead → Execution → Status → SinkSeen → SinkSeen → Type 0
+PrintsShown form m test run status old new =
+    ((status ≡ statuses.NoMemory) × (new ≡ old)) ⊎ ((text : List ℕ) × Shows form m test run text × Prints text status old new)
 
 -- a folder that is lent, if one is given
 abbrev pub folder_lent : Option (Bor (List ℕ)) → Option (List ℕ)
@@ -168,16 +172,16 @@ AnswersLoop m name cycle =
     AnswersEdges (coherence_refusal_of m.puts cycle) (coherence_text m.puts m.writing (chosen_name name cycle) cycle)
 
 -- the edges of a request for the execution of a coherence test are refused, there is no memory, or that execution is printed
-abbrev pub AnswersIncoherent : Machine → Coherence → Status → SinkSeen → SinkSeen → Type 0
-AnswersIncoherent m request =
-    AnswersRun m (refused_incoherent m request.edges)
+abbrev pub AnswersIncoherent : ExecutionForm → Machine → Coherence → Status → SinkSeen → SinkSeen → Type 0
+AnswersIncoherent form m request =
+    AnswersRun form m (refused_incoherent m request.edges)
     (coherence_text m.puts m.writing (chosen_name request.name (edges_kept request.edges)) (edges_kept request.edges))
     (incoherent_by (edges_kept request.edges))
 
 -- the same for a cycle under a name, on an architecture with this code that is written in this way
-abbrev pub LoopRunsOn : Puts → Writing → List ℕ → List Edge → Status → SinkSeen → SinkSeen → Type 0
-LoopRunsOn puts writing name cycle =
-    AnswersRun (machine puts writing) (coherence_refusal_of puts cycle) (coherence_text puts writing name cycle) (incoherent_by cycle)
+abbrev pub LoopRunsOn : ExecutionForm → Puts → Writing → List ℕ → List Edge → Status → SinkSeen → SinkSeen → Type 0
+LoopRunsOn form puts writing name cycle =
+    AnswersRun form (machine puts writing) (coherence_refusal_of puts cycle) (coherence_text puts writing name cycle) (incoherent_by cycle)
 
 -- what is done for arguments that ask for the tests of choices
 abbrev pub AnswersCrossing : Result Task Usage → Status → ShelfSeen → ShelfSeen → SinkSeen → SinkSeen → Type 0

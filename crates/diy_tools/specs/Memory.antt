@@ -13,8 +13,8 @@ MayWantMemory (Ok (AsksFamilies asked)) = ⊤
 MayWantMemory (Ok AsksSum) = ⊤
 MayWantMemory (Ok (AsksCross asked)) = ⊤
 MayWantMemory (Ok (AsksCheck asked)) = ⊤
-MayWantMemory (Ok (AsksExecution asked)) = ⊤
-MayWantMemory (Ok (AsksCoherenceExecution asked)) = ⊤
+MayWantMemory (Ok (AsksExecution form asked)) = ⊤
+MayWantMemory (Ok (AsksCoherenceExecution form asked)) = ⊤
 MayWantMemory _ = ⊥
 
 -- the status is that of no memory only if the arguments ask for one of these tools

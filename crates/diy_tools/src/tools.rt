@@ -21,9 +21,10 @@ use run_status::{Status, report};
 use std::alloc::Global;
 
 /// Does what the arguments ask for: it prints to `out` the test of a cycle, or its coherence test, or the
-/// execution that one of them asks for, or what suffices against the outcome of a test, or the names of cycles, or the lines of a listing's cycles, or the
-/// sum of logs, or how many tests of each family were made and how long they are, or what holds of an
-/// execution of a test, or a picture of it; or it writes to the shelf the tests of a listing or of choices,
+/// execution that one of them asks for, as a text or as a picture, or what suffices against the outcome of a
+/// test, or the names of cycles, or the lines of a listing's cycles, or the sum of logs, or how many tests of
+/// each family were made and how long they are, or what holds of an execution of a test, or a picture of it;
+/// or it writes to the shelf the tests of a listing or of choices,
 /// or a test with two executions that show why an observer is needed.
 ///
 /// If the arguments make no request, or the edges are refused, no device but `err` changes. `Answers` says
@@ -80,8 +81,10 @@ fn answer<I: Source, O: Sink, H: Shelf>(
         Ok(Request::Test(request)) => diyone(&request, out),
         Ok(Request::Why(request)) => why(alloc, &request, shelf, out),
         Ok(Request::Coherence(request)) => coherence(&request, out),
-        Ok(Request::Execution(request)) => execution(alloc, &request, out),
-        Ok(Request::CoherenceExecution(request)) => coherence_execution(alloc, &request, out),
+        Ok(Request::Execution(form, request)) => execution(alloc, form, &request, out),
+        Ok(Request::CoherenceExecution(form, request)) => {
+            coherence_execution(alloc, form, &request, out)
+        }
         Ok(Request::Needs(request)) => needs(&request, out),
         Ok(Request::Name(request)) => norm(&request, input, out),
         Ok(Request::List(request)) => list(request, shelf, out),

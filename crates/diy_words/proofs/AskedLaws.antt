@@ -3,7 +3,8 @@ use Rattle.std.proofs.Common.{◌≡◌, ℕ, Bool, true, false, List, [], ◌�
 use Rattle.std.specs.Prelude.{if◌then◌else◌}
 use Rattle.diy_words.specs.{declared.options.Tool.Tool, declared.usage.Usage.Usage, Parts.{parts_of, tool_named}, Sayings.Saying}
 use Rattle.diy_words.specs.{Gathered.{Gathered, gathered_of, all_given}, SaidInOrder.{sayings, said_all}, Notes.{no_notes, said_noted}}
-use Rattle.diy_words.specs.Requests.{Task, AsksTest, AsksWhy, AsksCoherence, AsksName, AsksList, AsksFamilies, AsksSum, AsksCross, AsksDemo, AsksCheck, AsksExecution, AsksCoherenceExecution, AsksNeeds, AsksLines, asks, families_with, demo_with, why_asked, coherence_asked, test_asked, test_or_execution, test_or_needs, coherence_or_execution, one_asked, diyone_asked, diy_asked, check_asked, norm_asked, cross_asked, tool_asked, said_asked, asked_for, asked_of}
+use Rattle.diy_words.specs.Requests.{Task, AsksTest, AsksWhy, AsksCoherence, AsksName, AsksList, AsksFamilies, AsksSum, AsksCross, AsksDemo, AsksCheck, AsksExecution, AsksCoherenceExecution, AsksNeeds, AsksLines, asks, families_with, demo_with, why_asked, coherence_asked, test_asked, test_or_execution, test_or_picture, test_or_needs, coherence_or_execution, coherence_or_picture, one_asked, diyone_asked, diy_asked, check_asked, norm_asked, cross_asked, tool_asked, said_asked, asked_for, asked_of}
+use Rattle.diy_words.specs.declared.request.ExecutionForm.TheVariants.{Text, Drawn}
 use Rattle.diy_words.specs.declared.options.Tool.TheVariants as tools
 use Rattle.diy_words.proofs.{NotedLaws.said_so, OperandLaws.{AreFaultless, given_from, all_said}}
 
@@ -19,8 +20,8 @@ tool_of AsksSum = tools.Msum
 tool_of (AsksCross _) = tools.Cross
 tool_of (AsksDemo _) = tools.Demo
 tool_of (AsksCheck _) = tools.Check
-tool_of (AsksExecution _) = tools.DiyOne
-tool_of (AsksCoherenceExecution _) = tools.DiyOne
+tool_of (AsksExecution _ _) = tools.DiyOne
+tool_of (AsksCoherenceExecution _ _) = tools.DiyOne
 tool_of (AsksNeeds _) = tools.DiyOne
 tool_of (AsksLines _) = tools.Diy
 
@@ -38,12 +39,20 @@ diyone_tool : (count : ℕ) (given : Gathered) (task : Task) → diyone_asked co
 diyone_tool count given task e = of_why given.why e
   where
     of_co : (b : Bool) → (if b then coherence_or_execution count given else test_or_execution count given) ≡ Ok task → tool_of task ≡ tools.DiyOne
-    of_co true e = either_tool tools.DiyOne AsksCoherenceExecution AsksCoherence (coherence_asked count given) task given.exec (λ x. refl) (λ x. refl) e
+    of_co true e = of_text given.exec e
+      where
+        of_text : (b : Bool) → (if b then asks (AsksCoherenceExecution Text) (coherence_asked count given) else coherence_or_picture count given) ≡ Ok task → tool_of task ≡ tools.DiyOne
+        of_text true e = asks_tool tools.DiyOne (AsksCoherenceExecution Text) (coherence_asked count given) task (λ x. refl) e
+        of_text false e = either_tool tools.DiyOne (AsksCoherenceExecution Drawn) AsksCoherence (coherence_asked count given) task given.graph (λ x. refl) (λ x. refl) e
     of_co false e = of_exec given.exec e
       where
-        of_exec : (b : Bool) → (if b then asks AsksExecution (test_asked count given) else test_or_needs count given) ≡ Ok task → tool_of task ≡ tools.DiyOne
-        of_exec true e = asks_tool tools.DiyOne AsksExecution (test_asked count given) task (λ x. refl) e
-        of_exec false e = either_tool tools.DiyOne AsksNeeds AsksTest (test_asked count given) task given.needs (λ x. refl) (λ x. refl) e
+        of_dot : (b : Bool) → (if b then asks (AsksExecution Drawn) (test_asked count given) else test_or_needs count given) ≡ Ok task → tool_of task ≡ tools.DiyOne
+        of_dot true e = asks_tool tools.DiyOne (AsksExecution Drawn) (test_asked count given) task (λ x. refl) e
+        of_dot false e = either_tool tools.DiyOne AsksNeeds AsksTest (test_asked count given) task given.needs (λ x. refl) (λ x. refl) e
+
+        of_exec : (b : Bool) → (if b then asks (AsksExecution Text) (test_asked count given) else test_or_picture count given) ≡ Ok task → tool_of task ≡ tools.DiyOne
+        of_exec true e = asks_tool tools.DiyOne (AsksExecution Text) (test_asked count given) task (λ x. refl) e
+        of_exec false e = of_dot given.graph e
 
     of_why : (b : Bool) → (if b then asks AsksWhy (why_asked count given) else one_asked count given) ≡ Ok task → tool_of task ≡ tools.DiyOne
     of_why true e = asks_tool tools.DiyOne AsksWhy (why_asked count given) task (λ x. refl) e

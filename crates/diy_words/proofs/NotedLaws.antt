@@ -156,6 +156,9 @@ co_noted said = any_noted (λ n. n.given.co) is_co refl co_step said
 exec_noted : (said : List Saying) → (notes_of said).given.exec ≡ list_any is_exec said
 exec_noted said = any_noted (λ n. n.given.exec) is_exec refl exec_step said
 
+graph_noted : (said : List Saying) → (notes_of said).given.graph ≡ list_any is_graph said
+graph_noted said = any_noted (λ n. n.given.graph) is_graph refl graph_step said
+
 needs_noted : (said : List Saying) → (notes_of said).given.needs ≡ list_any is_needs said
 needs_noted said = any_noted (λ n. n.given.needs) is_needs refl needs_step said
 
@@ -240,12 +243,12 @@ all_noted said =
       exec_noted said,
       needs_noted said,
       lines_noted said,
-      any_noted (λ n. n.given.graph) is_graph refl graph_step said,
+      graph_noted said,
     ) refl
 
 -- and what bears on the error of the next word
 before_all : (said : List Saying) → before_noted (notes_of said) ≡ before_of said
-before_all said = rw (taken_noted said, mode_noted said, why_noted said, co_noted said, exec_noted said, needs_noted said, folder_noted said, lines_noted said) refl
+before_all said = rw (taken_noted said, mode_noted said, why_noted said, co_noted said, exec_noted said, needs_noted said, graph_noted said, folder_noted said, lines_noted said) refl
 
 notes_more : (notes : Notes) (xs ys : List Saying) → notes_with notes (xs ++ ys) ≡ notes_with (notes_with notes xs) ys
 notes_more notes [] ys = refl

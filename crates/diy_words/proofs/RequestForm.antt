@@ -15,10 +15,11 @@ use Rattle.diy_words.specs.{declared.request.Request.Request, declared.usage.Usa
 use Rattle.diy_words.specs.declared.usage.UsageKind.TheVariants.{UnknownOption, BadName, BadFolder, StrayWord, ExcludedOption, TooManyChoices}
 use Rattle.diy_words.specs.{TestNames.is_name, NumberWords.{is_number, number_to}}
 use Rattle.diy_words.specs.Parts.{Part, Alone, Valued, Unvalued, waiting_at, alone_before, parts_from, parts_of, option_named, tool_named, mode_named}
-use Rattle.diy_words.specs.Sayings.{Saying, SaysName, SaysRelaxes, SaysPlace, SaysSize, SaysExact, SaysWhy, SaysCo, SaysExec, SaysNeeds, SaysLines, SaysGraph, SaysThreads, SaysAccesses, SaysFolder, SaysCount, SaysTest, SaysExecution, Before, usage_fault, why_said, co_said, exec_said, needs_said, lines_said, folder_said, dashed_said, operand_said, relaxes_said, number_said, after_said, cycle_word_said, said_by, arch_said, mode_said, edges_said, begins_option}
+use Rattle.diy_words.specs.Sayings.{Saying, SaysName, SaysRelaxes, SaysPlace, SaysSize, SaysExact, SaysWhy, SaysCo, SaysExec, SaysNeeds, SaysLines, SaysGraph, SaysThreads, SaysAccesses, SaysFolder, SaysCount, SaysTest, SaysExecution, Before, usage_fault, why_said, co_said, exec_said, dot_said, needs_said, lines_said, folder_said, dashed_said, operand_said, relaxes_said, number_said, after_said, cycle_word_said, said_by, arch_said, mode_said, edges_said, begins_option}
 use Rattle.diy_words.specs.Gathered.{Gathered, gathered_of, last_given, name_of_saying, size_of_saying, folder_of_saying, count_of_saying, test_of_saying, execution_of_saying}
 use Rattle.diy_words.specs.SaidInOrder.{before_of, said_in, sayings, said_first, said_all}
-use Rattle.diy_words.specs.Requests.{Task, AsksTest, AsksWhy, AsksCoherence, AsksName, AsksList, AsksFamilies, AsksCross, AsksDemo, AsksCheck, AsksExecution, AsksCoherenceExecution, AsksNeeds, AsksLines, NameTask, ListTask, FamiliesTask, list_with, families_with, cross_with, demo_with, check_with, choice_count, mode_or_accept, asks, test_with, why_with, coherence_with, why_asked, coherence_asked, test_asked, test_or_execution, test_or_needs, coherence_or_execution, one_asked, diyone_asked, diy_asked, asked_for, norm_asked, tool_asked, said_asked, asked_of}
+use Rattle.diy_words.specs.Requests.{Task, AsksTest, AsksWhy, AsksCoherence, AsksName, AsksList, AsksFamilies, AsksCross, AsksDemo, AsksCheck, AsksExecution, AsksCoherenceExecution, AsksNeeds, AsksLines, NameTask, ListTask, FamiliesTask, list_with, families_with, cross_with, demo_with, check_with, choice_count, mode_or_accept, asks, test_with, why_with, coherence_with, why_asked, coherence_asked, test_asked, test_or_execution, test_or_picture, test_or_needs, coherence_or_execution, coherence_or_picture, one_asked, diyone_asked, diy_asked, asked_for, norm_asked, tool_asked, said_asked, asked_of}
+use Rattle.diy_words.specs.declared.request.ExecutionForm.TheVariants.{Text, Drawn}
 use Rattle.diy_words.specs.Given.{GivesTask, HasForm, WithinWords, list_kept}
 use Rattle.diy_io.specs.declared.shelf.TheConstants.{MAX_FOLDER}
 use Rattle.diy_words.specs.declared.request.Request.TheVariants as requests
@@ -62,13 +63,15 @@ option_form : (count at : ℕ) (saying : Saying) (b : Bool) → IsFit count sayi
 option_form count at saying true h = tt
 option_form count at saying false h = h
 
-special_form : (count : ℕ) (before : Before) (at : ℕ) (why co exec needs : Bool)
-    → SaysForm count (if why then why_said before at else if co then co_said before at else if exec then exec_said before at else if needs then needs_said before at else usage_fault at UnknownOption)
-special_form count before at true co exec needs = option_form count at SaysWhy (before.obs || before.co || before.exec || before.needs) tt
-special_form count before at false true exec needs = option_form count at SaysCo (before.obs || before.why || before.needs) tt
-special_form count before at false false true needs = option_form count at SaysExec (before.why || before.needs) tt
-special_form count before at false false false true = option_form count at SaysNeeds (before.why || before.co || before.exec) tt
-special_form count before at false false false false = tt
+special_form : (count : ℕ) (before : Before) (at : ℕ) (why co exec needs dot : Bool)
+    → SaysForm count (if why then why_said before at else if co then co_said before at else if exec then exec_said before at else if needs then needs_said before at
+    else if dot then dot_said before at else usage_fault at UnknownOption)
+special_form count before at true co exec needs dot = option_form count at SaysWhy (before.obs || before.co || before.exec || before.needs || before.graph) tt
+special_form count before at false true exec needs dot = option_form count at SaysCo (before.obs || before.why || before.needs) tt
+special_form count before at false false true needs dot = option_form count at SaysExec (before.why || before.needs || before.graph) tt
+special_form count before at false false false true dot = option_form count at SaysNeeds (before.why || before.co || before.exec || before.graph) tt
+special_form count before at false false false false true = option_form count at SaysGraph (before.why || before.exec || before.needs) tt
+special_form count before at false false false false false = tt
 
 listing_form : (count : ℕ) (before : Before) (at : ℕ) (exact lines : Bool)
     → SaysForm count (if exact then Ok SaysExact else if lines then lines_said before at else usage_fault at UnknownOption)
@@ -78,7 +81,7 @@ listing_form count before at false false = tt
 
 alone_dashed : (count : ℕ) (tool : Tool) (before : Before) (at : ℕ) (text : List ℕ) → SaysForm count (dashed_said tool before at text)
 alone_dashed count tools.DiyOne before at text = special_form count before at (bytes_eq text (codes "-why")) (bytes_eq text (codes "-co")) (bytes_eq text (codes "-exec"))
-    (bytes_eq text (codes "-needs"))
+    (bytes_eq text (codes "-needs")) (bytes_eq text (codes "-dot"))
 alone_dashed count tools.Diy before at text = listing_form count before at (bytes_eq text (codes "-exact")) (bytes_eq text (codes "-list"))
 alone_dashed count tools.Norm before at text = tt
 alone_dashed count tools.Classify before at text = tt
@@ -274,8 +277,8 @@ IsNamedSo count (AsksList asked) = (asked.size ≤ MAX_EDGES) × IfSome asked.fo
 IsNamedSo count (AsksCross asked) = IfSome asked.folder (λ folder. length folder ≤ MAX_FOLDER)
 IsNamedSo count (AsksDemo asked) = (1 ≤ asked.count) × (asked.count ≤ MAX_TESTS)
 IsNamedSo count (AsksCheck asked) = (asked.test < count) × (asked.execution < count)
-IsNamedSo count (AsksExecution asked) = IfSome asked.name (λ name. is_name name ≡ true)
-IsNamedSo count (AsksCoherenceExecution asked) = IfSome asked.name (λ name. is_name name ≡ true)
+IsNamedSo count (AsksExecution form asked) = IfSome asked.name (λ name. is_name name ≡ true)
+IsNamedSo count (AsksCoherenceExecution form asked) = IfSome asked.name (λ name. is_name name ≡ true)
 IsNamedSo count (AsksNeeds asked) = IfSome asked.name (λ name. is_name name ≡ true)
 IsNamedSo count (AsksLines asked) = (asked.size ≤ MAX_EDGES) × IfSome asked.folder (λ folder. length folder ≤ MAX_FOLDER)
 IsNamedSo count _ = Unit {0}
@@ -293,7 +296,7 @@ either_form count request other (Err usage) true h = tt
 either_form count request other (Err usage) false h = tt
 
 test_form : (count : ℕ) (arch : Option ArchName) (name : Option (List ℕ)) (mode : ObsMode) (edges : List Edge) (folder : Option (List ℕ)) → IfSome name (λ name. is_name name ≡ true)
-    → IfOk (test_with count arch name mode edges folder) (λ asked. IsNamedSo count (AsksExecution asked) × IsNamedSo count (AsksTest asked))
+    → IfOk (test_with count arch name mode edges folder) (λ asked. IsNamedSo count (AsksNeeds asked) × IsNamedSo count (AsksTest asked))
 test_form count None name mode edges folder h = tt
 test_form count (Some arch) name mode edges (Some folder) h = tt
 test_form count (Some arch) name mode edges None h = (h, h)
@@ -304,7 +307,7 @@ explained_form count None name edges folder h k = tt
 explained_form count (Some arch) name edges folder h k = (h, k)
 
 coherence_form : (count : ℕ) (arch : Option ArchName) (name : Option (List ℕ)) (edges : List Edge) (folder : Option (List ℕ)) → IfSome name (λ name. is_name name ≡ true)
-    → IfOk (coherence_with count arch name edges folder) (λ asked. IsNamedSo count (AsksCoherenceExecution asked) × IsNamedSo count (AsksCoherence asked))
+    → IfOk (coherence_with count arch name edges folder) (λ asked. IsNamedSo count (AsksCoherenceExecution Drawn asked) × IsNamedSo count (AsksCoherence asked))
 coherence_form count None name edges folder h = tt
 coherence_form count (Some arch) name edges (Some folder) h = tt
 coherence_form count (Some arch) name edges None h = (h, h)
@@ -349,17 +352,26 @@ diyone_form : (count : ℕ) (given : Gathered) → AreFit count given → IsTask
 diyone_form count given f = of_why given.why
   where
     of_co : (b : Bool) → IsTaskSo count (if b then coherence_or_execution count given else test_or_execution count given)
-    of_co true =
-        either_form count AsksCoherenceExecution AsksCoherence (coherence_asked count given) given.exec
-        (coherence_form count given.arch given.name given.edges given.folder f.0)
+    of_co true = of_text given.exec
+      where
+        named : IfOk (coherence_asked count given) (λ asked. IsNamedSo count (AsksCoherenceExecution Drawn asked) × IsNamedSo count (AsksCoherence asked))
+        named = coherence_form count given.arch given.name given.edges given.folder f.0
+
+        of_text : (b : Bool) → IsTaskSo count (if b then asks (AsksCoherenceExecution Text) (coherence_asked count given) else coherence_or_picture count given)
+        of_text true = either_form count (AsksCoherenceExecution Text) AsksCoherence (coherence_asked count given) true named
+        of_text false = either_form count (AsksCoherenceExecution Drawn) AsksCoherence (coherence_asked count given) given.graph named
     of_co false = of_exec given.exec
       where
-        named : IfOk (test_asked count given) (λ asked. IsNamedSo count (AsksExecution asked) × IsNamedSo count (AsksTest asked))
+        named : IfOk (test_asked count given) (λ asked. IsNamedSo count (AsksNeeds asked) × IsNamedSo count (AsksTest asked))
         named = test_form count given.arch given.name (mode_or_accept given.mode) given.edges given.folder f.0
 
-        of_exec : (b : Bool) → IsTaskSo count (if b then asks AsksExecution (test_asked count given) else test_or_needs count given)
-        of_exec true = either_form count AsksExecution AsksTest (test_asked count given) true named
-        of_exec false = either_form count AsksNeeds AsksTest (test_asked count given) given.needs named
+        of_dot : (b : Bool) → IsTaskSo count (if b then asks (AsksExecution Drawn) (test_asked count given) else test_or_needs count given)
+        of_dot true = either_form count (AsksExecution Drawn) AsksTest (test_asked count given) true named
+        of_dot false = either_form count AsksNeeds AsksTest (test_asked count given) given.needs named
+
+        of_exec : (b : Bool) → IsTaskSo count (if b then asks (AsksExecution Text) (test_asked count given) else test_or_picture count given)
+        of_exec true = either_form count (AsksExecution Text) AsksTest (test_asked count given) true named
+        of_exec false = of_dot given.graph
 
     of_why : (b : Bool) → IsTaskSo count (if b then asks AsksWhy (why_asked count given) else one_asked count given)
     of_why true = explained_form count given.arch given.name given.edges given.folder f.0 f.2
@@ -421,10 +433,11 @@ request_form words result h = of_asked result (asked_of words) (words_form words
       folder_so request.folder (subst (λ (f : Option (List ℕ)). IfSome f (λ folder. length folder ≤ MAX_FOLDER)) (sym h.3) e.1),
     )
     of_asked (Ok (requests.Coherence request)) (Ok (AsksCoherence asked)) e h = named_so request.name (subst (λ (name : Option (List ℕ)). IfSome name (λ name. is_name name ≡ true)) (sym h.1) e)
-    of_asked (Ok (requests.Execution request)) (Ok (AsksExecution asked)) e h = named_so request.name (subst (λ (name : Option (List ℕ)). IfSome name (λ name. is_name name ≡ true)) (sym h.1) e)
+    of_asked (Ok (requests.Execution form request)) (Ok (AsksExecution asked_form asked)) e h =
+        named_so request.name (subst (λ (name : Option (List ℕ)). IfSome name (λ name. is_name name ≡ true)) (sym h.1.1) e)
     of_asked (Ok (requests.Needs request)) (Ok (AsksNeeds asked)) e h = named_so request.name (subst (λ (name : Option (List ℕ)). IfSome name (λ name. is_name name ≡ true)) (sym h.1) e)
-    of_asked (Ok (requests.CoherenceExecution request)) (Ok (AsksCoherenceExecution asked)) e h =
-        named_so request.name (subst (λ (name : Option (List ℕ)). IfSome name (λ name. is_name name ≡ true)) (sym h.1) e)
+    of_asked (Ok (requests.CoherenceExecution form request)) (Ok (AsksCoherenceExecution asked_form asked)) e h =
+        named_so request.name (subst (λ (name : Option (List ℕ)). IfSome name (λ name. is_name name ≡ true)) (sym h.1.1) e)
     of_asked (Ok (requests.List request)) (Ok (AsksList asked)) e h = listed_so request asked h e
     of_asked (Ok (requests.Lines request)) (Ok (AsksLines asked)) e h = listed_so request asked h e
     of_asked (Ok (requests.Cross request)) (Ok (AsksCross asked)) e h = folder_so request.folder (subst (λ (f : Option (List ℕ)). IfSome f (λ folder. length folder ≤ MAX_FOLDER)) (sym h.2) e)
@@ -434,8 +447,8 @@ request_form words result h = of_asked result (asked_of words) (words_form words
     of_asked (Ok requests.Sum) asked e h = tt
     of_asked (Ok (requests.Check request)) asked e h = tt
     of_asked (Ok (requests.Test request)) asked e h = absurd h
-    of_asked (Ok (requests.Execution request)) asked e h = absurd h
-    of_asked (Ok (requests.CoherenceExecution request)) asked e h = absurd h
+    of_asked (Ok (requests.Execution form request)) asked e h = absurd h
+    of_asked (Ok (requests.CoherenceExecution form request)) asked e h = absurd h
     of_asked (Ok (requests.Needs request)) asked e h = absurd h
     of_asked (Ok (requests.Lines request)) asked e h = absurd h
     of_asked (Ok (requests.Why request)) asked e h = absurd h

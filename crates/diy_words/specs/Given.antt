@@ -44,13 +44,13 @@ HoldsCoherence request asked =
 -- the request holds what is asked for; the operands of diycross7 and of classify7 are no part of it
 abbrev pub HoldsTask : Request → Task → Type 0
 HoldsTask (requests.Test request) (AsksTest asked) = HoldsTest request asked
-HoldsTask (requests.Execution request) (AsksExecution asked) = HoldsTest request asked
+HoldsTask (requests.Execution form request) (AsksExecution asked_form asked) = (form ≡ asked_form) × HoldsTest request asked
 HoldsTask (requests.Needs request) (AsksNeeds asked) = HoldsTest request asked
 HoldsTask (requests.Why request) (AsksWhy asked) =
     (request.arch ≡ asked.arch) × (option_map (λ name. name.bytes) request.name ≡ asked.name) × (request.edges ≡ kept_edges asked.edges)
     × (option_map (λ folder. folder.now) request.folder ≡ asked.folder)
 HoldsTask (requests.Coherence request) (AsksCoherence asked) = HoldsCoherence request asked
-HoldsTask (requests.CoherenceExecution request) (AsksCoherenceExecution asked) = HoldsCoherence request asked
+HoldsTask (requests.CoherenceExecution form request) (AsksCoherenceExecution asked_form asked) = (form ≡ asked_form) × HoldsCoherence request asked
 HoldsTask (requests.Name request) (AsksName asked) = (request.arch ≡ asked.arch) × IsSought request.cycle asked.cycle
 HoldsTask (requests.List request) (AsksList asked) = list_kept request ≡ asked
 HoldsTask (requests.Lines request) (AsksLines asked) = list_kept request ≡ asked
@@ -76,9 +76,9 @@ HasForm (requests.Test request) = IfSome request.name (λ name. is_name name.byt
 HasForm (requests.Why request) =
     IfSome request.name (λ name. is_name name.bytes ≡ true) × ForSome request.folder (λ folder. length folder.now ≤ MAX_FOLDER)
 HasForm (requests.Coherence request) = IfSome request.name (λ name. is_name name.bytes ≡ true)
-HasForm (requests.Execution request) = IfSome request.name (λ name. is_name name.bytes ≡ true)
+HasForm (requests.Execution form request) = IfSome request.name (λ name. is_name name.bytes ≡ true)
 HasForm (requests.Needs request) = IfSome request.name (λ name. is_name name.bytes ≡ true)
-HasForm (requests.CoherenceExecution request) = IfSome request.name (λ name. is_name name.bytes ≡ true)
+HasForm (requests.CoherenceExecution form request) = IfSome request.name (λ name. is_name name.bytes ≡ true)
 HasForm (requests.List request) = (request.limits.size ≤ MAX_EDGES) × ForSome request.folder (λ folder. length folder.now ≤ MAX_FOLDER)
 HasForm (requests.Lines request) = (request.limits.size ≤ MAX_EDGES) × ForSome request.folder (λ folder. length folder.now ≤ MAX_FOLDER)
 HasForm (requests.Cross request) = ForSome request.folder (λ folder. length folder.now ≤ MAX_FOLDER)

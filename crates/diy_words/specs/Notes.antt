@@ -76,6 +76,7 @@ before_noted notes = record {
   co = notes.given.co;
   exec = notes.given.exec;
   needs = notes.given.needs;
+  graph = notes.given.graph;
   folder = is_some notes.given.folder;
   lines = notes.given.lines;
 }

@@ -4,6 +4,7 @@ use Rattle.std.specs.{Prelude.{ℕ, ◌*◌, Bool, nat_lt, if◌then◌else◌, 
 use Rattle.relax_edges.specs.{declared.kinds.ArchName.ArchName, declared.kinds.ObsMode.ObsMode, declared.kinds.ObsMode.TheVariants.Accept}
 use Rattle.relax_edges.specs.declared.edge.Edge.{Edge}
 use Rattle.diy_words.specs.{declared.request.CheckForm.CheckForm, declared.request.CheckForm.TheVariants.{Verdict, Graph}, declared.usage.Usage.Usage}
+use Rattle.diy_words.specs.{declared.request.ExecutionForm.ExecutionForm, declared.request.ExecutionForm.TheVariants.{Text, Drawn}}
 use Rattle.diy_words.specs.{declared.request.Check.Check, declared.request.Demo.Demo, declared.request.TheConstants.MAX_CHOICES, declared.options.Tool.Tool}
 use Rattle.diy_words.specs.declared.usage.UsageKind.TheVariants.{UnknownTool, StrayWord, MissingArch, MissingEdges, MissingNumber, MissingFile, MissingWhy, TooManyChoices}
 use Rattle.diy_words.specs.{Parts.{parts_of, tool_named}, Sayings.Saying, Gathered.{Gathered, gathered_of}, SaidInOrder.{sayings, said_all}}
@@ -87,8 +88,8 @@ pub data Task : Type 0 where
   AsksCross : CrossTask → Task
   AsksDemo : Demo → Task
   AsksCheck : Check → Task
-  AsksExecution : TestTask → Task
-  AsksCoherenceExecution : CoherenceTask → Task
+  AsksExecution : ExecutionForm → TestTask → Task
+  AsksCoherenceExecution : ExecutionForm → CoherenceTask → Task
   AsksNeeds : TestTask → Task
   AsksLines : ListTask → Task
 
@@ -181,14 +182,23 @@ coherence_asked count given = coherence_with count given.arch given.name given.e
 abbrev pub test_or_needs : ℕ → Gathered → Result Task Usage
 test_or_needs count given = if given.needs then asks AsksNeeds (test_asked count given) else asks AsksTest (test_asked count given)
 
--- with `-exec`, the execution that a test asks for
-abbrev pub test_or_execution : ℕ → Gathered → Result Task Usage
-test_or_execution count given = if given.exec then asks AsksExecution (test_asked count given) else test_or_needs count given
+-- with `-dot`, a picture of the execution that a test asks for
+abbrev pub test_or_picture : ℕ → Gathered → Result Task Usage
+test_or_picture count given = if given.graph then asks (AsksExecution Drawn) (test_asked count given) else test_or_needs count given
 
--- a coherence test or, with `-exec`, the execution that it asks for
+-- with `-exec`, the text of the execution that a test asks for
+abbrev pub test_or_execution : ℕ → Gathered → Result Task Usage
+test_or_execution count given = if given.exec then asks (AsksExecution Text) (test_asked count given) else test_or_picture count given
+
+-- a coherence test or, with `-dot`, a picture of the execution that it asks for
+abbrev pub coherence_or_picture : ℕ → Gathered → Result Task Usage
+coherence_or_picture count given =
+    if given.graph then asks (AsksCoherenceExecution Drawn) (coherence_asked count given) else asks AsksCoherence (coherence_asked count given)
+
+-- with `-exec`, the text of the execution that a coherence test asks for
 abbrev pub coherence_or_execution : ℕ → Gathered → Result Task Usage
 coherence_or_execution count given =
-    if given.exec then asks AsksCoherenceExecution (coherence_asked count given) else asks AsksCoherence (coherence_asked count given)
+    if given.exec then asks (AsksCoherenceExecution Text) (coherence_asked count given) else coherence_or_picture count given
 
 -- the request of diyone7 without `-why`
 abbrev pub one_asked : ℕ → Gathered → Result Task Usage

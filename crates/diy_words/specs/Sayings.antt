@@ -47,7 +47,7 @@ pub data Saying : Type 0 where
   SaysCount : ℕ → Saying
 
 -- what was said before an argument that decides whether it is an error: how many operands were taken of those whose number is limited,
--- and whether each of `-obs`, `-why`, `-co`, `-exec`, `-needs`, `-o` and `-list` was given
+-- and whether each of `-obs`, `-why`, `-co`, `-exec`, `-needs`, `-dot`, `-o` and `-list` was given
 pub record Before : Type 0 where
   pub taken : ℕ
   pub obs : Bool
@@ -55,6 +55,7 @@ pub record Before : Type 0 where
   pub co : Bool
   pub exec : Bool
   pub needs : Bool
+  pub graph : Bool
   pub folder : Bool
   pub lines : Bool
 
@@ -80,21 +81,25 @@ mode_said at None = usage_fault at BadMode
 abbrev pub obs_said : Before → ℕ → List ℕ → Result Saying Usage
 obs_said before at value = if before.why || before.co then usage_fault at ExcludedOption else mode_said (at + 1) (mode_named value)
 
--- `-why` at its index: after `-obs`, `-co`, `-exec` or `-needs` it is excluded
+-- `-why` at its index: after `-obs`, `-co`, `-exec`, `-needs` or `-dot` it is excluded
 abbrev pub why_said : Before → ℕ → Result Saying Usage
-why_said before at = if before.obs || before.co || before.exec || before.needs then usage_fault at ExcludedOption else Ok SaysWhy
+why_said before at = if before.obs || before.co || before.exec || before.needs || before.graph then usage_fault at ExcludedOption else Ok SaysWhy
 
 -- `-co` at its index: after `-obs`, `-why` or `-needs` it is excluded
 abbrev pub co_said : Before → ℕ → Result Saying Usage
 co_said before at = if before.obs || before.why || before.needs then usage_fault at ExcludedOption else Ok SaysCo
 
--- `-exec` at its index: after `-why` or `-needs` it is excluded
+-- `-exec` at its index: after `-why`, `-needs` or `-dot` it is excluded
 abbrev pub exec_said : Before → ℕ → Result Saying Usage
-exec_said before at = if before.why || before.needs then usage_fault at ExcludedOption else Ok SaysExec
+exec_said before at = if before.why || before.needs || before.graph then usage_fault at ExcludedOption else Ok SaysExec
 
--- `-needs` at its index: after `-why`, `-co` or `-exec` it is excluded
+-- `-dot` of diyone7 at its index: after `-why`, `-exec` or `-needs` it is excluded
+abbrev pub dot_said : Before → ℕ → Result Saying Usage
+dot_said before at = if before.why || before.exec || before.needs then usage_fault at ExcludedOption else Ok SaysGraph
+
+-- `-needs` at its index: after `-why`, `-co`, `-exec` or `-dot` it is excluded
 abbrev pub needs_said : Before → ℕ → Result Saying Usage
-needs_said before at = if before.why || before.co || before.exec then usage_fault at ExcludedOption else Ok SaysNeeds
+needs_said before at = if before.why || before.co || before.exec || before.graph then usage_fault at ExcludedOption else Ok SaysNeeds
 
 -- `-list` at its index: after `-o` it is excluded
 abbrev pub lines_said : Before → ℕ → Result Saying Usage
@@ -154,6 +159,7 @@ dashed_said tools.DiyOne before at text =
     else if bytes_eq text (codes "-co") then co_said before at
     else if bytes_eq text (codes "-exec") then exec_said before at
     else if bytes_eq text (codes "-needs") then needs_said before at
+    else if bytes_eq text (codes "-dot") then dot_said before at
     else usage_fault at UnknownOption
 dashed_said tools.Diy before at text =
     if bytes_eq text (codes "-exact") then Ok SaysExact

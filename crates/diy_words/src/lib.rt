@@ -15,7 +15,7 @@ pub use files::read_files;
 pub use places::read_places;
 pub use read::read_request;
 pub use request::{
-    Check, CheckForm, Coherence, Cross, Demo, Diy, DiyOne, MAX_CHOICES, MAX_GIVEN_NAME, MAX_TESTS,
-    Norm, Request, Sought, Source, TestName, Why,
+    Check, CheckForm, Coherence, Cross, Demo, Diy, DiyOne, ExecutionForm, MAX_CHOICES,
+    MAX_GIVEN_NAME, MAX_TESTS, Norm, Request, Sought, Source, TestName, Why,
 };
 pub use usage::{Usage, UsageKind};

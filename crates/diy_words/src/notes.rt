@@ -5,7 +5,7 @@ ghost use Rattle.edges_from_text.specs.{declared.read.Separators.TheVariants.{Bl
 ghost use Rattle.edge_algebra.specs.Compose.{composed};
 ghost use Rattle.diy_words.specs.{CodeNotes.{cycle_kept}, NumberWords.{number_to}, declared.usage.UsageKind.TheVariants.{ExcludedOption}};
 ghost use Rattle.diy_words.specs.{Parts.{Unvalued, mode_named}, Notes.{before_noted, more_choices}};
-ghost use Rattle.diy_words.specs.Sayings.{Before, SaysRelaxes, SaysPlace, SaysSize, SaysThreads, SaysAccesses, said_by, arch_said, name_said, mode_said, obs_said, why_said, co_said, exec_said, needs_said, lines_said, file_folder_said, edges_said, relaxes_said, relax_usage, number_said, after_said, folder_said, checked_said, operand_said, begins_option};
+ghost use Rattle.diy_words.specs.Sayings.{Before, SaysRelaxes, SaysPlace, SaysSize, SaysThreads, SaysAccesses, said_by, arch_said, name_said, mode_said, obs_said, why_said, co_said, exec_said, dot_said, needs_said, lines_said, file_folder_said, edges_said, relaxes_said, relax_usage, number_said, after_said, folder_said, checked_said, operand_said, begins_option};
 ghost use Rattle.diy_words.specs.declared.options.Tool.TheVariants as tools;
 
 use crate::name::name_of;
@@ -266,6 +266,7 @@ impl<'a> Notes<'a> {
             Tool::DiyOne if text == "-co" => self.take_co(at),
             Tool::DiyOne if text == "-exec" => self.take_exec(at),
             Tool::DiyOne if text == "-needs" => self.take_needs(at),
+            Tool::DiyOne if text == "-dot" => self.take_dot(at),
             Tool::Diy if text == "-exact" => {
                 self.limits.exact = true;
                 Ok(())
@@ -279,11 +280,11 @@ impl<'a> Notes<'a> {
         }
     }
 
-    /// Takes in `-why`, unless `-obs`, `-co`, `-exec` or `-needs` comes before it.
+    /// Takes in `-why`, unless `-obs`, `-co`, `-exec`, `-needs` or `-dot` comes before it.
     fn take_why(&mut self, at: usize) -> Result<(), Usage>
         ensures { notes_left result (code_notes self.new) ≡ notes_after (code_notes self.old) (why_said (before_noted (code_notes self.old)) at) }
     {
-        if self.mode.is_some() || self.co || self.exec || self.needs {
+        if self.mode.is_some() || self.co || self.exec || self.needs || self.graph {
             return Err(excluded_option(at));
         }
         self.why = true;
@@ -301,22 +302,33 @@ impl<'a> Notes<'a> {
         Ok(())
     }
 
-    /// Takes in `-exec`, unless `-why` or `-needs` comes before it.
+    /// Takes in `-exec`, unless `-why`, `-needs` or `-dot` comes before it.
     fn take_exec(&mut self, at: usize) -> Result<(), Usage>
         ensures { notes_left result (code_notes self.new) ≡ notes_after (code_notes self.old) (exec_said (before_noted (code_notes self.old)) at) }
     {
-        if self.why || self.needs {
+        if self.why || self.needs || self.graph {
             return Err(excluded_option(at));
         }
         self.exec = true;
         Ok(())
     }
 
-    /// Takes in `-needs`, unless `-why`, `-co` or `-exec` comes before it.
+    /// Takes in `-dot` for diyone7, unless `-why`, `-exec` or `-needs` comes before it.
+    fn take_dot(&mut self, at: usize) -> Result<(), Usage>
+        ensures { notes_left result (code_notes self.new) ≡ notes_after (code_notes self.old) (dot_said (before_noted (code_notes self.old)) at) }
+    {
+        if self.why || self.exec || self.needs {
+            return Err(excluded_option(at));
+        }
+        self.graph = true;
+        Ok(())
+    }
+
+    /// Takes in `-needs`, unless `-why`, `-co`, `-exec` or `-dot` comes before it.
     fn take_needs(&mut self, at: usize) -> Result<(), Usage>
         ensures { notes_left result (code_notes self.new) ≡ notes_after (code_notes self.old) (needs_said (before_noted (code_notes self.old)) at) }
     {
-        if self.why || self.co || self.exec {
+        if self.why || self.co || self.exec || self.graph {
             return Err(excluded_option(at));
         }
         self.needs = true;

@@ -6,7 +6,8 @@ ghost use Rattle.diy_words.specs.{Given.{GivesTask, HasForm, WithinWords}, CodeN
 use crate::notes::{Notes, missing_value};
 use crate::options::{OptionName, Tool, option_named, tool_named};
 use crate::request::{
-    Check, CheckForm, Coherence, Cross, Demo, Diy, DiyOne, MAX_CHOICES, Norm, Request, Sought, Why,
+    Check, CheckForm, Coherence, Cross, Demo, Diy, DiyOne, ExecutionForm, MAX_CHOICES, Norm,
+    Request, Sought, Why,
 };
 use crate::usage::{Usage, UsageKind, usage_at};
 use diy_io::{MAX_FOLDER, Words};
@@ -146,7 +147,9 @@ fn finish_coherence(count: usize, notes: Notes<'_>) -> Result<Request<'_>, Usage
         edges: notes.edges,
     };
     if notes.exec {
-        Ok(Request::CoherenceExecution(request))
+        Ok(Request::CoherenceExecution(ExecutionForm::Text, request))
+    } else if notes.graph {
+        Ok(Request::CoherenceExecution(ExecutionForm::Drawn, request))
     } else {
         Ok(Request::Coherence(request))
     }
@@ -182,7 +185,9 @@ fn finish_test(count: usize, notes: Notes<'_>) -> Result<Request<'_>, Usage>
         edges: notes.edges,
     };
     if notes.exec {
-        Ok(Request::Execution(request))
+        Ok(Request::Execution(ExecutionForm::Text, request))
+    } else if notes.graph {
+        Ok(Request::Execution(ExecutionForm::Drawn, request))
     } else if notes.needs {
         Ok(Request::Needs(request))
     } else {

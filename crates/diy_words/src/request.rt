@@ -41,10 +41,10 @@ pub enum Request<'a> {
     Demo(Demo),
     /// What holds of one execution of one test, of mcheck7.
     Check(Check),
-    /// The execution that a test asks for, of diyone7 with `-exec`.
-    Execution(DiyOne),
-    /// The execution that a coherence test asks for, of diyone7 with `-co` and `-exec`.
-    CoherenceExecution(Coherence),
+    /// The execution that a test asks for, of diyone7 with `-exec` or `-dot`.
+    Execution(ExecutionForm, DiyOne),
+    /// The execution that a coherence test asks for, of diyone7 with `-co` and `-exec` or `-dot`.
+    CoherenceExecution(ExecutionForm, Coherence),
     /// What suffices against the outcome of a test, of diyone7 with `-needs`.
     Needs(DiyOne),
     /// The lines of the cycles of a listing, of diy7 with `-list`.
@@ -80,7 +80,16 @@ pub struct Source<'a> {
     pub name: &'a str,
 }
 
-/// What diyone7 is asked for without `-why` and `-co`, with or without `-exec` or `-needs`.
+/// In which form diyone7 prints the execution that a test asks for.
+#[derive(Clone, Copy)]
+pub enum ExecutionForm {
+    /// As a text, with `-exec`.
+    Text,
+    /// As a picture, with `-dot`.
+    Drawn,
+}
+
+/// What diyone7 is asked for without `-why` and `-co`, with or without `-exec`, `-dot` or `-needs`.
 #[derive(Drop)]
 pub struct DiyOne {
     /// The architecture of the test.
@@ -107,7 +116,7 @@ pub struct Why<'a> {
     pub folder: Option<&'a str>,
 }
 
-/// What diyone7 is asked for with `-co`, with or without `-exec`: a test of edges at one location,
+/// What diyone7 is asked for with `-co`, with or without `-exec` or `-dot`: a test of edges at one location,
 /// whose condition no coherent execution meets, or the execution that it asks for.
 #[derive(Drop)]
 pub struct Coherence {

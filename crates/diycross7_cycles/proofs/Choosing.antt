@@ -7,7 +7,7 @@ use Rattle.list_laws.proofs.Cases.{by_test}
 use Rattle.arch_trait.specs.Threads.{Puts}
 use Rattle.cycle_enum_laws.specs.Listing.{concatenated}
 use Rattle.diycross7_cycles.specs.{Choices.{choices, first_kept, is_accepted, crossed}, CrossingSteps.{keep_turned, keep_accepted, chosen, chosen_first}}
-use Rattle.diycross7_cycles.proofs.Keeping.{all_kept, accepted_kept}
+use Rattle.diycross7_cycles.proofs.KeptCycles.{all_kept, accepted_kept}
 
 module _ (accepts : List Edge → Bool) where
   -- with no list left, the joined edges are the choice

@@ -1,7 +1,7 @@
 pub mod Turning
-pub mod Keeping
+pub mod KeptCycles
 pub mod Choosing
-pub mod Accepting
-pub mod Knowing
+pub mod AcceptedLists
+pub mod NormalFormsKept
 pub mod Members
-pub mod Crossing
+pub mod CrossedCycles

@@ -1,5 +1,6 @@
 pub mod Judging
 pub mod OneVerdict
+pub mod OneGraph
 pub mod Lines
 pub mod CheckedFileLaws
 pub mod CheckedEndLaws

@@ -11,7 +11,7 @@ use Rattle.exec_check.specs.declared.verdict.Verdict.{Verdict}
 use Rattle.exec_check.specs.Verdicts.{JudgesFurther, IsVerdict, judged_cycle, answer_line, judged_lines, further_lines, verdict_text}
 
 -- two answers to one question
-same_answer : (b c : Bool) (P : Type 0) → (IsTrue b ↔ P) → (IsTrue c ↔ P) → b ≡ c
+pub same_answer : (b c : Bool) (P : Type 0) → (IsTrue b ↔ P) → (IsTrue c ↔ P) → b ≡ c
 same_answer true c P f g = sym (g.1 (f.0 refl))
 same_answer false true P f g = f.1 (g.0 refl)
 same_answer false false P f g = refl
@@ -29,7 +29,7 @@ same_edges (j ∷ judged) (k ∷ others) e h =
     let rest : judged ≡ others = same_edges judged others more (λ i a b s t. h (suc i) a b s t) in
     λ i. (edge i, answer i) ∷ rest i
 
-edges_same : (cycle : Option (List Edge)) (p : Program) (x : Execution) (judged others : List (Edge × Bool)) → JudgesEdges cycle p x judged → JudgesEdges cycle p x others → judged ≡ others
+pub edges_same : (cycle : Option (List Edge)) (p : Program) (x : Execution) (judged others : List (Edge × Bool)) → JudgesEdges cycle p x judged → JudgesEdges cycle p x others → judged ≡ others
 edges_same None p x judged others h k = h ∙ sym k
 edges_same (Some es) p x judged others h k =
     same_edges judged others (h.edges ∙ sym k.edges) (λ i a b s t. same_answer a.1 b.1 (EdgeStands es p x i) (h.each i a s) (k.each i b t))

@@ -1,17 +1,21 @@
--- The bold arrows in the graph of a candidate are those of the edges of the quoted cycle that stand.
+-- The bold arrows in the graph of a candidate are those of the edges of the quoted cycle that stand, the dashed ones those of the others.
 use Rattle.std.proofs.Common.{◌≡◌, ℕ, Bool, true, false, List, Option}
 use Rattle.std.specs.{Prelude.◌↔◌, List.Contains}
 use Rattle.relax_edges.specs.declared.kinds.ArchName.{ArchName}
 use Rattle.litmus_text.specs.{TestReading.TestRead, ReadPrograms.program_read}
-use Rattle.program_meaning.specs.Executions.{Execution}
-use Rattle.exec_graph.specs.{Graphs.{Arrow, standing_arrows}, GraphLaws.IsOfStandingEdge}
-use Rattle.exec_graph.proofs.ArrowLaws.{standing_arrows_law}
+use Rattle.program_meaning.specs.{Executions.Execution, SeenAccesses.seen_in}
+use Rattle.exec_graph.specs.{Graphs.{dashed_arrows, standing_arrows}, GraphLaws.{Arrow, IsOfFallenEdge, IsOfStandingEdge}}
+use Rattle.exec_graph.proofs.ArrowLaws.{dashed_arrows_law, standing_arrows_law}
 use Rattle.exec_check.specs.{declared.verdict.Verdict.Verdict, Verdicts.{JudgesFurther, judged_cycle}, ShownTexts.QuotedArrowsLaw}
 
 of_further : (b : Bool) (arch : ArchName) (register_number : List ℕ → Option ℕ) (test : TestRead) (x : Execution) (v : Verdict) (arrow : Arrow)
-    → JudgesFurther b arch register_number test x v → b ≡ true
-    → (Contains (standing_arrows v.edges.items) arrow ↔ IsOfStandingEdge (judged_cycle arch test) (program_read test) x arrow)
-of_further true arch register_number test x v arrow h e = standing_arrows_law (judged_cycle arch test) (program_read test) x v.edges.items arrow h.edges
+    → JudgesFurther b arch register_number test x v → b ≡ true → let p = program_read test in
+    (Contains (standing_arrows v.edges.items) arrow ↔ IsOfStandingEdge (judged_cycle arch test) p x arrow)
+    × (Contains (dashed_arrows (seen_in p x) v.edges.items) arrow ↔ IsOfFallenEdge (judged_cycle arch test) p x arrow)
+of_further true arch register_number test x v arrow h e = (
+  standing_arrows_law (judged_cycle arch test) (program_read test) x v.edges.items arrow h.edges,
+  dashed_arrows_law (judged_cycle arch test) (program_read test) x v.edges.items arrow h.edges,
+)
 of_further false arch register_number test x v arrow h e = cc e
 
 pub quoted_arrows_law : QuotedArrowsLaw

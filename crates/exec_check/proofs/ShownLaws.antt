@@ -1,9 +1,12 @@
 -- What the verdict on an execution says of the graph.
 use Rattle.std.proofs.Common.{◌≡◌, List, Option, Some, None, true, false}
-use Rattle.std.specs.Prelude.{ℕ, Bool}
+use Rattle.std.specs.Prelude.{ℕ, Bool, length}
 use Rattle.relax_edges.specs.{declared.kinds.ArchName.ArchName, declared.edge.Edge.Edge}
 use Rattle.litmus_text.specs.{TestReading.TestRead, ReadPrograms.program_read}
-use Rattle.program_meaning.specs.{Executions.Execution, Programs.{Program, IsCandidate}}
+use Rattle.final_cond.specs.Conditions.{CondSeen}
+use Rattle.program_meaning.specs.{declared.seen.SeenAccess.SeenAccess, Accesses.Visit, Executions.Execution, Programs.{Program, IsCandidate, visits_in}, SeenAccesses.seen_in}
+use Rattle.exec_graph.specs.Graphs.{PictureSeen}
+use Rattle.exec_check.specs.ShownTexts.{picture_of}
 use Rattle.exec_graph.specs.JudgedCycles.{AreEdgesOf, JudgesEdges}
 use Rattle.exec_check.specs.{declared.verdict.Verdict.Verdict, Verdicts.{IsVerdict, JudgesFurther, judged_cycle}}
 
@@ -25,3 +28,30 @@ drawn_edges arch register_number test x v h e = further_edges v.candidate arch r
 pub drawn_candidate : (arch : ArchName) (register_number : List ℕ → Option ℕ) (test : TestRead) (x : Execution) (v : Verdict)
     → IsVerdict arch register_number test x v → v.candidate ≡ true → IsCandidate (program_read test) x
 drawn_candidate arch register_number test x v h e = h.candidate.0 e
+
+-- what is gathered for a graph is what the graph shows
+pub picture_is : (test : TestRead) (x : Execution) (v : Verdict) (name : List ℕ) (places : List (List ℕ)) (threads : ℕ) (seen : List SeenAccess) (visits : List (List Visit))
+    (judged : List (Edge × Bool)) (condition : CondSeen) → name ≡ test.name → places ≡ test.places → threads ≡ length test.threads
+    → seen ≡ seen_in (program_read test) x → visits ≡ visits_in (program_read test) x → judged ≡ v.edges.items → condition ≡ test.cond
+    → ◌≡◌ {A = PictureSeen} (record {
+      name = name;
+      places = places;
+      threads = threads;
+      seen = seen;
+      visits = visits;
+      judged = judged;
+      condition = condition;
+      holds = v.condition;
+      coherent = v.coherent;
+    }) (picture_of test x v)
+picture_is test x v name places threads seen visits judged condition n p t s r j c = λ i. record {
+  name = n i;
+  places = p i;
+  threads = t i;
+  seen = s i;
+  visits = r i;
+  judged = j i;
+  condition = c i;
+  holds = v.condition;
+  coherent = v.coherent;
+}

@@ -46,7 +46,7 @@ pub(crate) fn judge<A: Arch>(
 }
 
 /// The verdict on an execution of a test.
-fn verdict_on<A: Arch>(
+pub(crate) fn verdict_on<A: Arch>(
     alloc: Global,
     test: &ReadTest<A>,
     exec: &Execution,

@@ -1,19 +1,20 @@
--- What is drawn are the nodes, and the pairs of each relation are the pairs of nodes between which it holds.
-use Rattle.std.proofs.Common.{◌≡◌, ◌<◌, ℕ, suc, ◌+◌, arith, Bool, true, false, ◌==◌, ◌&&◌, List, [], ◌∷◌, length, map, Option, Some, None, slice_get, refl, sym, ap, subst, ◌∙◌, inl, inr}
+-- What is drawn are the nodes, and the thin arrows of each relation are those of the pairs of nodes between which it holds, and along which no
+-- edge stands.
+use Rattle.std.proofs.Common.{◌≡◌, ◌<◌, ℕ, zero, suc, ◌+◌, arith, Bool, true, false, ◌==◌, ◌&&◌, List, [], ◌∷◌, length, map, Option, Some, None, slice_get, refl, sym, ap, subst, ◌∙◌, inl, inr}
 use Rattle.std.proofs.{lemmas.Bool.{and_parts, and_from, eqb-true, eq-eqb, lt-ltb, ltb-true}, lemmas.Option.same_Some}
 use Rattle.std.specs.{Prelude.{◌↔◌, ◌⊎◌, cond, nat_lt, not}, Bool.Decides, List.{Contains, enumerate_from, filter, flat_map, list_any, prefix_len}}
 use Rattle.list_laws.specs.Numbers.{upto}
-use Rattle.relax_edges.specs.declared.kinds.Dir.{Dir}
+use Rattle.relax_edges.specs.{declared.kinds.Dir.Dir, EdgeTable.kind_of}
 use Rattle.relax_edges.specs.declared.kinds.Dir.TheVariants as dirs
-use Rattle.program_meaning.specs.{declared.WriteAt.WriteAt, Accesses.{Access, Visit, at_name, got_from, reads_by}, Deciding.name}
-use Rattle.program_meaning.specs.{Executions.{Execution, same_write}, Interleavings.{writes_by, writes_to}, Standing.NamedAccess}
+use Rattle.program_meaning.specs.{declared.WriteAt.WriteAt, Accesses.{Access, Visit, accesses_of, at_name, got_from, reads_among, reads_before, reads_by}, Deciding.name}
+use Rattle.program_meaning.specs.{Executions.{Execution, same_write}, Interleavings.{writes_by, writes_to}, Standing.{NamedAccess, is_in_mask}}
 use Rattle.program_meaning.specs.{Programs.{Program, accesses_in, visits_in}, Coherence.{coherence_place, from_one, order_at, order_place, placed_by, source_at}}
 use Rattle.program_meaning.proofs.Names.{at_name_of, same_write-refl, same_write-true}
 use Rattle.program_meaning.specs.{declared.seen.SeenAccess.SeenAccess, SeenAccesses.{seen_access, seen_in, seen_in_thread}}
-use Rattle.exec_graph.specs.{declared.drawn.Drawn.Drawn, declared.drawn.Point.TheVariants.{At, Initial}, declared.drawn.Relation.Relation}
-use Rattle.exec_graph.specs.declared.drawn.Relation.TheVariants.{Po, Rf, Co, Fr}
-use Rattle.exec_graph.specs.Graphs.{access_drawn, drawn_in, initial_places, initial_write, is_initial, is_reached, pairs_by, reads_initial, relates}
-use Rattle.exec_graph.specs.GraphLaws.{Node, InitialWrite, TheAccess, IsDrawn, IsFirstWrite, IsNodeIn, ReadsInitial, FollowsInThread, IsReadFrom, FollowsInOrder, IsOverwritten, ListsPairs, drawn_as, NodesLaw, EndsLaw, PoPairsLaw, RfPairsLaw, CoPairsLaw, FrPairsLaw}
+use Rattle.exec_graph.specs.{declared.arrows.Arrow.Arrow, declared.drawn.Drawn.Drawn, declared.drawn.Point.Point, declared.drawn.Point.TheVariants.{At, Initial}, declared.drawn.Relation.Relation, Ties.ties_if}
+use Rattle.exec_graph.specs.declared.drawn.Relation.TheVariants.{Po, Rf, Co, Fr, Addr, Data, Ctrl}
+use Rattle.exec_graph.specs.Graphs.{access_among, access_drawn, drawn_in, initial_places, initial_write, is_at, is_initial, is_reached, is_same, is_thin, kind_relation, loads_in, pairs_by, reads_initial, relates, stands_along}
+use Rattle.exec_graph.specs.GraphLaws.{Node, InitialWrite, TheAccess, IsDrawn, IsFirstWrite, IsNodeIn, ReadsInitial, FollowsInThread, IsReadFrom, FollowsInOrder, IsOverwritten, IsDependent, Related, HasBold, Joins, drawn_as, NodesLaw, EndsLaw, ThinArrowsLaw}
 use Rattle.exec_graph.proofs.Members.{In, in_any, in_cases, in_filter, in_flat_map, in_left, in_map, in_numbered, in_of, in_right, in_to, in_upto, of_any, of_filter, of_flat_map, of_map, of_numbered, of_upto}
 
 -- a pair that passes a test is one of elements
@@ -38,7 +39,7 @@ listed test xs a b h k = (
 )
 
 -- an access with a name is seen
-seen_there : (threads : List (List Access)) (x : Execution) (visits : List (List Visit)) (w : WriteAt) (v : Visit) → at_name visits w ≡ Some v
+pub seen_there : (threads : List (List Access)) (x : Execution) (visits : List (List Visit)) (w : WriteAt) (v : Visit) → at_name visits w ≡ Some v
     → In (seen_access threads x w.thread w.access v.access v.mark) (flat_map (seen_in_thread threads x) (enumerate_from 0 visits))
 seen_there threads x visits w v h = of_thread (slice_get visits w.thread) refl h
   where
@@ -52,12 +53,12 @@ seen_there threads x visits w v h = of_thread (slice_get visits w.thread) refl h
         (in_numbered vs 0 w.access w.access v (omega arith) g))
 
 -- an access that is seen, by its name
-record Seen (threads : List (List Access)) (x : Execution) (visits : List (List Visit)) (seen : SeenAccess) : Type 0 where
-  named : NamedAccess
-  there : at_name visits named.name ≡ Some named.visit
-  is : seen_access threads x named.name.thread named.name.access named.visit.access named.visit.mark ≡ seen
+pub record Seen (threads : List (List Access)) (x : Execution) (visits : List (List Visit)) (seen : SeenAccess) : Type 0 where
+  pub named : NamedAccess
+  pub there : at_name visits named.name ≡ Some named.visit
+  pub is : seen_access threads x named.name.thread named.name.access named.visit.access named.visit.mark ≡ seen
 
-seen_of : (threads : List (List Access)) (x : Execution) (visits : List (List Visit)) (seen : SeenAccess)
+pub seen_of : (threads : List (List Access)) (x : Execution) (visits : List (List Visit)) (seen : SeenAccess)
     → In seen (flat_map (seen_in_thread threads x) (enumerate_from 0 visits)) → Seen threads x visits seen
 seen_of threads x visits seen h =
     let row = of_flat_map (seen_in_thread threads x) (enumerate_from 0 visits) seen h in
@@ -160,6 +161,20 @@ reads_seen : (p : Program) (x : Execution) (place : ℕ) (seen : SeenAccess) (s 
     → reads_initial place seen ≡ true → ReadsInitial (accesses_in p x) x place s.named
 reads_seen p x place seen s h = (reads_initial_decides (accesses_in p x) x place s.named).0 (subst (λ a. reads_initial place a ≡ true) (sym s.is) h)
 
+-- the loads before an access are counted by its thread
+loads_are : (visits : List (List Visit)) (thread n : ℕ) → loads_in (slice_get visits thread) n ≡ reads_among (slice_get (map accesses_of visits) thread) n
+loads_are [] thread n = refl
+loads_are (v ∷ visits) zero n = refl
+loads_are (v ∷ visits) (suc thread) n = loads_are visits thread n
+
+-- an access is drawn with what its thread has before it
+among_is : (p : Program) (x : Execution) (e : NamedAccess) → at_name (visits_in p x) e.name ≡ Some e.visit
+    → access_among (visits_in p x) (seen_access (accesses_in p x) x e.name.thread e.name.access e.visit.access e.visit.mark) ≡ drawn_as (accesses_in p x) x (TheAccess e)
+among_is p x e h =
+    let seen = seen_access (accesses_in p x) x e.name.thread e.name.access e.visit.access e.visit.mark in
+    ap (λ l. access_drawn l (ties_if (at_name (visits_in p x) e.name)) seen) (loads_are (visits_in p x) e.name.thread e.name.access)
+    ∙ ap (λ o. access_drawn (reads_before (accesses_in p x) e.name) (ties_if o) seen) h
+
 -- each node is drawn
 node_there : (p : Program) (x : Execution) (n : Node) → IsNodeIn p x n → In (drawn_as (accesses_in p x) x n) (drawn_in p x)
 node_there p x (InitialWrite place) h =
@@ -167,20 +182,21 @@ node_there p x (InitialWrite place) h =
     let e = h.reader in
     let s = seen_access (accesses_in p x) x e.name.thread e.name.access e.visit.access e.visit.mark in
     let there = seen_there (accesses_in p x) x (visits_in p x) e.name e.visit h.is_access in
-    in_left (map initial_write (initial_places p.places seen)) (map access_drawn seen) (initial_write place)
+    in_left (map initial_write (initial_places p.places seen)) (map (access_among (visits_in p x)) seen) (initial_write place)
     (in_map initial_write (initial_places p.places seen) place
     (in_filter (λ place. list_any (reads_initial place) seen) (upto p.places) place
     (in_any (reads_initial place) seen s there ((reads_initial_decides (accesses_in p x) x place e).1 h.reads))
     (in_upto p.places place h.within)))
 node_there p x (TheAccess e) h =
     let seen = seen_in p x in
-    in_right (map initial_write (initial_places p.places seen)) (map access_drawn seen) (drawn_as (accesses_in p x) x (TheAccess e))
-    (in_map access_drawn seen (seen_access (accesses_in p x) x e.name.thread e.name.access e.visit.access e.visit.mark)
-    (seen_there (accesses_in p x) x (visits_in p x) e.name e.visit h))
+    let s = seen_access (accesses_in p x) x e.name.thread e.name.access e.visit.access e.visit.mark in
+    subst (λ d. In d (drawn_in p x)) (among_is p x e h)
+    (in_right (map initial_write (initial_places p.places seen)) (map (access_among (visits_in p x)) seen) (access_among (visits_in p x) s)
+    (in_map (access_among (visits_in p x)) seen s (seen_there (accesses_in p x) x (visits_in p x) e.name e.visit h)))
 
 -- and nothing else
 node_of : (p : Program) (x : Execution) (d : Drawn) → In d (drawn_in p x) → IsDrawn p x d
-node_of p x d h = of_part (in_cases (map initial_write initial) (map access_drawn seen) d h)
+node_of p x d h = of_part (in_cases (map initial_write initial) (map (access_among (visits_in p x)) seen) d h)
   where
     seen : List SeenAccess
     seen = seen_in p x
@@ -188,7 +204,7 @@ node_of p x d h = of_part (in_cases (map initial_write initial) (map access_draw
     initial : List ℕ
     initial = initial_places p.places seen
 
-    of_part : In d (map initial_write initial) ⊎ In d (map access_drawn seen) → IsDrawn p x d
+    of_part : In d (map initial_write initial) ⊎ In d (map (access_among (visits_in p x)) seen) → IsDrawn p x d
     of_part (inl g) =
         let place = of_map initial_write initial d g in
         let passes = of_filter (λ place. list_any (reads_initial place) seen) (upto p.places) place.0 place.1 in
@@ -205,9 +221,9 @@ node_of p x d h = of_part (in_cases (map initial_write initial) (map access_draw
           is = sym place.2;
         }
     of_part (inr g) =
-        let one = of_map access_drawn seen d g in
+        let one = of_map (access_among (visits_in p x)) seen d g in
         let s = seen_of (accesses_in p x) x (visits_in p x) one.0 one.1 in
-        record { node = TheAccess s.named; is_node = s.there; is = sym (ap access_drawn s.is ∙ one.2) }
+        record { node = TheAccess s.named; is_node = s.there; is = sym (sym (among_is p x s.named s.there) ∙ ap (access_among (visits_in p x)) s.is ∙ one.2) }
 
 pub nodes_law : NodesLaw
 nodes_law p x d = (
@@ -216,18 +232,8 @@ nodes_law p x d = (
 )
 
 pub ends_law : EndsLaw
-ends_law relation p x a b c =
-    let pair = pair_of (relates relation) (drawn_in p x) a b c in (node_of p x a pair.0, node_of p x b pair.1)
-
--- where the test of a relation decides what holds between nodes, the pairs of the relation are those between which it holds
-pairs_are : (relation : Relation) (Related : List (List Access) → Execution → Node → Node → Type 0)
-    → ((threads : List (List Access)) (x : Execution) (m n : Node) → Decides (relates relation (drawn_as threads x m) (drawn_as threads x n)) (Related threads x m n))
-    → ListsPairs (pairs_by (relates relation)) Related
-pairs_are relation Related decides p x m n h k =
-    let threads = accesses_in p x in
-    let l = listed (relates relation) (drawn_in p x) (drawn_as threads x m) (drawn_as threads x n) (node_there p x m h) (node_there p x n k) in
-    let d = decides threads x m n in
-    (λ c. d.0 (l.0 c), λ p. l.1 (d.1 p))
+ends_law arrows relation p x a b c =
+    let pair = pair_of (is_thin arrows relation) (drawn_in p x) a b c in (node_of p x a pair.0, node_of p x b pair.1)
 
 -- a test that never passes
 never : (b : Bool) → (b ≡ true → ⊥) → Decides b ⊥
@@ -296,14 +302,159 @@ fr_decides threads x (TheAccess e) (InitialWrite place) =
     last_fails (reads_by a.dir) (place == a.place) (nat_lt m 0) (λ h. omega (arith, ltb-true m 0 h))
 fr_decides threads x (InitialWrite place) n = never false (λ h. cc h)
 
-pub po_pairs_law : PoPairsLaw
-po_pairs_law = pairs_are Po FollowsInThread po_decides
+dependent_decides : (mask : Visit → ℕ) (threads : List (List Access)) (e f : NamedAccess)
+    → Decides ((e.name.thread == f.name.thread) && is_in_mask threads e (mask f.visit)) (IsDependent threads mask e f)
+dependent_decides mask threads e f =
+    let d = both (e.name.thread == f.name.thread) (is_in_mask threads e (mask f.visit)) (same_decides e.name.thread f.name.thread) (λ h. h, λ h. h) in
+    (λ t. let p = d.0 t in record { thread = sym p.0; named = p.1 }, λ r. d.1 (sym r.thread, r.named))
 
-pub rf_pairs_law : RfPairsLaw
-rf_pairs_law = pairs_are Rf IsReadFrom rf_decides
+addr_decides : (threads : List (List Access)) (x : Execution) (m n : Node) → Decides (relates Addr (drawn_as threads x m) (drawn_as threads x n)) (Related Addr threads x m n)
+addr_decides threads x (TheAccess e) (TheAccess f) = dependent_decides (λ v. v.address_mask) threads e f
+addr_decides threads x (TheAccess e) (InitialWrite place) = never false (λ h. cc h)
+addr_decides threads x (InitialWrite place) n = never false (λ h. cc h)
 
-pub co_pairs_law : CoPairsLaw
-co_pairs_law = pairs_are Co FollowsInOrder co_decides
+data_decides : (threads : List (List Access)) (x : Execution) (m n : Node) → Decides (relates Data (drawn_as threads x m) (drawn_as threads x n)) (Related Data threads x m n)
+data_decides threads x (TheAccess e) (TheAccess f) = dependent_decides (λ v. v.data_mask) threads e f
+data_decides threads x (TheAccess e) (InitialWrite place) = never false (λ h. cc h)
+data_decides threads x (InitialWrite place) n = never false (λ h. cc h)
 
-pub fr_pairs_law : FrPairsLaw
-fr_pairs_law = pairs_are Fr IsOverwritten fr_decides
+ctrl_decides : (threads : List (List Access)) (x : Execution) (m n : Node) → Decides (relates Ctrl (drawn_as threads x m) (drawn_as threads x n)) (Related Ctrl threads x m n)
+ctrl_decides threads x (TheAccess e) (TheAccess f) = dependent_decides (λ v. v.control_mask) threads e f
+ctrl_decides threads x (TheAccess e) (InitialWrite place) = never false (λ h. cc h)
+ctrl_decides threads x (InitialWrite place) n = never false (λ h. cc h)
+
+related_decides : (relation : Relation) (threads : List (List Access)) (x : Execution) (m n : Node)
+    → Decides (relates relation (drawn_as threads x m) (drawn_as threads x n)) (Related relation threads x m n)
+related_decides Po = po_decides
+related_decides Rf = rf_decides
+related_decides Co = co_decides
+related_decides Fr = fr_decides
+related_decides Addr = addr_decides
+related_decides Data = data_decides
+related_decides Ctrl = ctrl_decides
+
+same_relation : (r s : Relation) → is_same r s ≡ true → s ≡ r
+same_relation Po Po h = refl
+same_relation Po Rf h = cc h
+same_relation Po Co h = cc h
+same_relation Po Fr h = cc h
+same_relation Po Addr h = cc h
+same_relation Po Data h = cc h
+same_relation Po Ctrl h = cc h
+same_relation Rf Po h = cc h
+same_relation Rf Rf h = refl
+same_relation Rf Co h = cc h
+same_relation Rf Fr h = cc h
+same_relation Rf Addr h = cc h
+same_relation Rf Data h = cc h
+same_relation Rf Ctrl h = cc h
+same_relation Co Po h = cc h
+same_relation Co Rf h = cc h
+same_relation Co Co h = refl
+same_relation Co Fr h = cc h
+same_relation Co Addr h = cc h
+same_relation Co Data h = cc h
+same_relation Co Ctrl h = cc h
+same_relation Fr Po h = cc h
+same_relation Fr Rf h = cc h
+same_relation Fr Co h = cc h
+same_relation Fr Fr h = refl
+same_relation Fr Addr h = cc h
+same_relation Fr Data h = cc h
+same_relation Fr Ctrl h = cc h
+same_relation Addr Po h = cc h
+same_relation Addr Rf h = cc h
+same_relation Addr Co h = cc h
+same_relation Addr Fr h = cc h
+same_relation Addr Addr h = refl
+same_relation Addr Data h = cc h
+same_relation Addr Ctrl h = cc h
+same_relation Data Po h = cc h
+same_relation Data Rf h = cc h
+same_relation Data Co h = cc h
+same_relation Data Fr h = cc h
+same_relation Data Addr h = cc h
+same_relation Data Data h = refl
+same_relation Data Ctrl h = cc h
+same_relation Ctrl Po h = cc h
+same_relation Ctrl Rf h = cc h
+same_relation Ctrl Co h = cc h
+same_relation Ctrl Fr h = cc h
+same_relation Ctrl Addr h = cc h
+same_relation Ctrl Data h = cc h
+same_relation Ctrl Ctrl h = refl
+
+same_refl : (r : Relation) → is_same r r ≡ true
+same_refl Po = refl
+same_refl Rf = refl
+same_refl Co = refl
+same_refl Fr = refl
+same_refl Addr = refl
+same_refl Data = refl
+same_refl Ctrl = refl
+
+-- a point is the access with a name exactly where the names are the same
+at_decides : (name : WriteAt) (w : WriteAt) → Decides (is_at (At w.thread w.access) name) (name ≡ w)
+at_decides name w = (λ h. same_write-true name w h, λ h. subst (λ u. same_write u w ≡ true) (sym h) (same_write-refl w))
+
+-- an edge stands along a pair of accesses exactly where its arrow joins them
+along_decides : (relation : Relation) (e f : NamedAccess) (arrow : Arrow)
+    → Decides (stands_along relation (At e.name.thread e.name.access) (At f.name.thread f.name.access) arrow) (Joins relation e f arrow)
+along_decides relation e f arrow =
+    let from = at_decides arrow.source e.name in
+    let to = at_decides arrow.target f.name in
+    let same = is_same relation (kind_relation (kind_of arrow.edge)) in
+    let ends = both (is_at (At e.name.thread e.name.access) arrow.source) (is_at (At f.name.thread f.name.access) arrow.target) from to in
+    let rest = is_at (At e.name.thread e.name.access) arrow.source && is_at (At f.name.thread f.name.access) arrow.target in (
+      λ h. let p = and_parts arrow.stands (same && rest) h in
+          let q = and_parts same rest p.1 in
+          let n = ends.0 q.1 in
+          record { stands = p.0; relation_is = same_relation relation (kind_relation (kind_of arrow.edge)) q.0; source_is = n.0; target_is = n.1 },
+      λ r. and_from arrow.stands (same && rest) r.stands
+          (and_from same rest (subst (λ s. is_same relation s ≡ true) (sym r.relation_is) (same_refl relation)) (ends.1 (r.source_is, r.target_is))),
+    )
+
+-- no edge stands along a pair one of whose ends is no access
+no_bold : (arrows : List Arrow) (relation : Relation) (from to : Point) → ((a : Arrow) → (is_at from a.source && is_at to a.target) ≡ true → ⊥)
+    → list_any (stands_along relation from to) arrows ≡ true → ⊥
+no_bold arrows relation from to fails h =
+    let a = of_any (stands_along relation from to) arrows h in
+    let same = is_same relation (kind_relation (kind_of a.0.edge)) in
+    let ends = is_at from a.0.source && is_at to a.0.target in
+    fails a.0 (and_parts same ends (and_parts a.0.stands (same && ends) a.2).1).1
+
+-- some edge stands along a pair of nodes exactly where the pair has a bold arrow
+bold_decides : (arrows : List Arrow) (relation : Relation) (threads : List (List Access)) (x : Execution) (m n : Node)
+    → Decides (list_any (stands_along relation (drawn_as threads x m).point (drawn_as threads x n).point) arrows) (HasBold arrows relation m n)
+bold_decides arrows relation threads x (TheAccess e) (TheAccess f) =
+    let test = stands_along relation (At e.name.thread e.name.access) (At f.name.thread f.name.access) in (
+      λ h. let a = of_any test arrows h in (a.0, in_to arrows a.0 a.1, (along_decides relation e f a.0).0 a.2),
+      λ r. in_any test arrows r.0 (in_of arrows r.0 r.1) ((along_decides relation e f r.0).1 r.2),
+    )
+bold_decides arrows relation threads x (TheAccess e) (InitialWrite place) =
+    let from = At e.name.thread e.name.access in
+    never (list_any (stands_along relation from (Initial place)) arrows)
+    (no_bold arrows relation from (Initial place) (λ a h. let f = (and_parts (is_at from a.source) false h).1 in cc f))
+bold_decides arrows relation threads x (InitialWrite place) n =
+    let to = (drawn_as threads x n).point in
+    never (list_any (stands_along relation (Initial place) to) arrows) (no_bold arrows relation (Initial place) to (λ a h. cc h))
+
+fails_decides : {P : Type 0} (b : Bool) → Decides b P → Decides (not b) (P → ⊥)
+fails_decides true d = (λ h. cc h, λ n. absurd (n (d.0 refl)))
+fails_decides false d = (λ h p. let e = d.1 p in cc e, λ n. refl)
+
+thin_decides : (arrows : List Arrow) (relation : Relation) (threads : List (List Access)) (x : Execution) (m n : Node)
+    → Decides (is_thin arrows relation (drawn_as threads x m) (drawn_as threads x n)) (Related relation threads x m n × (HasBold arrows relation m n → ⊥))
+thin_decides arrows relation threads x m n =
+    let from = (drawn_as threads x m).point in
+    let to = (drawn_as threads x n).point in
+    both (relates relation (drawn_as threads x m) (drawn_as threads x n)) (not (list_any (stands_along relation from to) arrows))
+    (related_decides relation threads x m n)
+    (fails_decides (list_any (stands_along relation from to) arrows) (bold_decides arrows relation threads x m n))
+
+pub thin_arrows_law : ThinArrowsLaw
+thin_arrows_law arrows relation p x m n h k =
+    let threads = accesses_in p x in
+    let l = listed (is_thin arrows relation) (drawn_in p x) (drawn_as threads x m) (drawn_as threads x n) (node_there p x m h) (node_there p x n k) in
+    let d = thin_decides arrows relation threads x m n in
+    (λ c. d.0 (l.0 c), λ p. l.1 (d.1 p))

@@ -1,5 +1,5 @@
 -- The lines of a graph, appended one after another.
-use Rattle.std.proofs.Common.{◌≡◌, ◌≤◌, ◌<◌, ℕ, zero, suc, ◌+◌, ◌-◌, ◌==◌, Bor, Bool, true, false, cond, List, [], ◌∷◌, ◌++◌, length, map, take, drop, get_or, Some, slice_get, refl, sym, ap, ◌∙◌, subst, arith, append_assoc, append-nil, length-append}
+use Rattle.std.proofs.Common.{◌≡◌, ◌≤◌, ◌<◌, ℕ, zero, suc, ◌+◌, ◌-◌, ◌==◌, Bor, Bool, true, false, cond, List, [], ◌∷◌, ◌++◌, length, map, take, drop, get_or, refl, sym, ap, ◌∙◌, subst, arith, append_assoc, append-nil, length-append}
 use Rattle.std.proofs.{lemmas.List.{drop_all, take_all}, lemmas.List.Elements.filter-append, lemmas.List.Folds.flat_map-map, lemmas.Option.slice_get-get_or}
 use Rattle.std.proofs.{lemmas.Bool.{eq-eqb, ne_eqb}, lemmas.Grind.flat_map-append}
 use Rattle.std.specs.{Prelude.codes, Fmt.decimal, List.{enumerate_from, filter, flat_map, list_any}}
@@ -7,11 +7,10 @@ use Rattle.list_laws.proofs.{Cases.by_same, Elements.drop_given}
 use Rattle.diy_io.specs.{declared.page.TheConstants.LINE_ROOM, Page.page_after, PageLaws.page_fits, Pieces.joined_text, SinkLaws.flat_map_more}
 use Rattle.diy_io.proofs.PiecesLemmas.{joined_text_more}
 use Rattle.list_laws.specs.Numbers.{upto}
-use Rattle.relax_edges.specs.{declared.edge.Edge.Edge, WordParts.word_of, EdgeTable.kind_of}
-use Rattle.exec_graph.specs.Graphs.{access_name, answer_word, arrow_line, arrow_of, condition_line, initial_places, kind_look, lap_word, pairs_by, quoted_byte, reads_initial, standing_edges, standing_lines}
-use Rattle.final_cond.specs.{Conditions.CondSeen, CondText.cond_text}
-use Rattle.cycle_events.specs.Resolution.{event_after}
-use Rattle.program_meaning.specs.{declared.seen.SeenAccess.SeenAccess, Standing.event_name}
+use Rattle.relax_edges.specs.declared.edge.Edge.{Edge}
+use Rattle.exec_graph.specs.{declared.arrows.Arrow.Arrow, declared.drawn.{Drawn.Drawn, Relation.Relation}, Graphs.{PictureSeen, answer_word, arrow_of, arrows_of, caption, drawing_text, initial_places, lap_word, lines_drawn, pairs_by, points_drawn, quoted_byte, reads_initial, position_word, relation_colour, word_beside, word_distance, word_on}}
+use Rattle.final_cond.specs.CondText.{cond_text}
+use Rattle.program_meaning.specs.declared.seen.SeenAccess.{SeenAccess}
 
 -- one more piece
 pub piece_more : (old text more : List ℕ) (pieces : List (Bor (List ℕ))) (i : ℕ) (d : Bor (List ℕ)) → i < length pieces
@@ -26,6 +25,11 @@ pub each_more : {X : Type 0} (f : X → List ℕ) (xs : List X) (i : ℕ) (d : X
 each_more f xs i d old text more inside h e =
     e ∙ ap (λ t. t ++ f (get_or xs i d)) h ∙ append_assoc old (flat_map f (take i xs)) (f (get_or xs i d))
     ∙ ap (λ t. old ++ t) (sym (flat_map_more f xs i d inside))
+
+-- the same, where the element is known as another
+pub each_next : {X : Type 0} (f : X → List ℕ) (xs : List X) (i : ℕ) (x : X) (old text more : List ℕ) → i < length xs → x ≡ get_or xs i x
+    → text ≡ old ++ flat_map f (take i xs) → more ≡ text ++ f x → more ≡ old ++ flat_map f (take (i + 1) xs)
+each_next f xs i x old text more inside is h e = each_more f xs i x old text more inside h (e ∙ ap (λ y. text ++ f y) is)
 
 passing_text : {X : Type 0} (f : X → List ℕ) (test : X → Bool) (xs : List X) → flat_map (λ x. cond (test x) (f x) []) xs ≡ flat_map f (filter test xs)
 passing_text f test [] = refl
@@ -50,42 +54,23 @@ pairs_text g test all (x ∷ xs) =
     ∙ ap (λ t. t ++ flat_map g (flat_map (λ e. map (λ f. (e, f)) (filter (test e) all)) xs)) (flat_map-map g (λ f. (x, f)) (filter (test x) all))
     ∙ ap (λ t. flat_map (λ f. g (x, f)) (filter (test x) all) ++ t) (pairs_text g test all xs)
 
--- the lines of the edges that stand, from a number on
-abbrev pub standing_from : List Edge → ℕ → List (Edge × Bool) → List ℕ
-standing_from es k judged = flat_map (λ (j : ℕ × (Edge × Bool)). arrow_line (arrow_of es j.0 j.1.0)) (filter (λ (j : ℕ × (Edge × Bool)). j.1.1) (enumerate_from k judged))
+-- the arrows of the edges of a cycle, from a number on
+abbrev pub arrows_from : List Edge → ℕ → List (Edge × Bool) → List Arrow
+arrows_from es k judged = map (λ (j : ℕ × (Edge × Bool)). arrow_of es j.0 j.1) (enumerate_from k judged)
 
-first_standing : (es : List Edge) (k : ℕ) (edge : Edge) (stands : Bool) (more : List (Edge × Bool))
-    → cond stands (arrow_line (arrow_of es k edge)) [] ++ standing_from es (k + 1) more ≡ standing_from es k ((edge, stands) ∷ more)
-first_standing es k edge true more = refl
-first_standing es k edge false more = refl
+-- after an edge, its arrow is there
+pub arrow_more : (es resolved : List Edge) (judged : List (Edge × Bool)) (k : ℕ) (d : Edge × Bool) (found all : List Arrow) → es ≡ resolved → k < length judged
+    → found ++ arrows_from es k (drop k judged) ≡ all
+    → (found ++ arrow_of resolved k (get_or judged k d) ∷ []) ++ arrows_from es (k + 1) (drop (k + 1) judged) ≡ all
+arrow_more es resolved judged k d found all e inside h =
+    append_assoc found (arrow_of resolved k (get_or judged k d) ∷ []) (arrows_from es (k + 1) (drop (k + 1) judged))
+    ∙ ap (λ l. found ++ arrow_of l k (get_or judged k d) ∷ arrows_from es (k + 1) (drop (k + 1) judged)) (sym e)
+    ∙ sym (ap (λ l. found ++ arrows_from es k l) (drop_given judged k (get_or judged k d) (slice_get-get_or judged k d inside))) ∙ h
 
--- after an edge, its line is appended, if it stands
-pub standing_more : (es : List Edge) (judged : List (Edge × Bool)) (k : ℕ) (j : Edge × Bool) (text more all : List ℕ) → slice_get judged k ≡ Some j
-    → text ++ standing_from es k (drop k judged) ≡ all → more ≡ text ++ cond j.1 (arrow_line (arrow_of es k j.0)) []
-    → more ++ standing_from es (k + 1) (drop (k + 1) judged) ≡ all
-standing_more es judged k j text more all is h e =
-    ap (λ t. t ++ standing_from es (k + 1) (drop (k + 1) judged)) e
-    ∙ append_assoc text (cond j.1 (arrow_line (arrow_of es k j.0)) []) (standing_from es (k + 1) (drop (k + 1) judged))
-    ∙ ap (λ t. text ++ t) (first_standing es k j.0 j.1 (drop (k + 1) judged))
-    ∙ sym (ap (λ l. text ++ standing_from es k l) (drop_given judged k j is)) ∙ h
-
--- the same, where the edges are known as those of a cycle
-pub standing_next : (es resolved : List Edge) (judged : List (Edge × Bool)) (k : ℕ) (d : Edge × Bool) (text more all : List ℕ) → es ≡ resolved → k < length judged
-    → text ++ standing_from es k (drop k judged) ≡ all
-    → more ≡ text ++ cond (get_or judged k d).1 (arrow_line (arrow_of resolved k (get_or judged k d).0)) []
-    → more ++ standing_from es (k + 1) (drop (k + 1) judged) ≡ all
-standing_next es resolved judged k d text more all e inside h m =
-    standing_more es judged k (get_or judged k d) text more all (slice_get-get_or judged k d inside) h
-    (subst (λ l. more ≡ text ++ cond (get_or judged k d).1 (arrow_line (arrow_of l k (get_or judged k d).0)) []) (sym e) m)
-
--- where no edge is left, the lines of all that stand are appended
-pub standing_all : (judged : List (Edge × Bool)) (k : ℕ) (old text : List ℕ) → length judged ≤ k
-    → text ++ standing_from (map (λ j. j.0) judged) k (drop k judged) ≡ old ++ standing_from (map (λ j. j.0) judged) 0 judged
-    → text ≡ old ++ standing_lines judged
-standing_all judged k old text h e =
-    let es = map (λ (j : Edge × Bool). j.0) judged in
-    sym (append-nil text) ∙ sym (ap (λ l. text ++ standing_from es k l) (drop_all k judged h)) ∙ e
-    ∙ ap (λ t. old ++ t) (sym (flat_map-map arrow_line (λ (j : ℕ × (Edge × Bool)). arrow_of es j.0 j.1.0) (standing_edges judged)))
+-- where no edge is left, all arrows are there
+pub arrows_all : (es : List Edge) (judged : List (Edge × Bool)) (k : ℕ) (found all : List Arrow) → length judged ≤ k
+    → found ++ arrows_from es k (drop k judged) ≡ all → found ≡ all
+arrows_all es judged k found all h e = sym (append-nil found) ∙ sym (ap (λ l. found ++ arrows_from es k l) (drop_all k judged h)) ∙ e
 
 -- a page that holds a short text alone
 pub short_page : (old page text : List ℕ) → old ≡ [] → page ≡ page_after old text → length text < LINE_ROOM → page ≡ text
@@ -154,28 +139,66 @@ few_more k false list h = omega (arith, length-append list [])
 pub initial_few : (k : ℕ) (b : Bool) (list more : List ℕ) → length list ≤ k → more ≡ list ++ cond b (k ∷ []) [] → length more ≤ k + 1
 initial_few k b list more h e = subst (λ l. length l ≤ k + 1) (sym e) (few_more k b list h)
 
--- the condition and whether its terms hold, appended piece by piece
-pub condition_appended : (condition : CondSeen) (answer : Bool) (old first second word : List ℕ) → first ≡ old ++ codes "  label=\""
-    → second ≡ first ++ flat_map quoted_byte (cond_text condition) → word ≡ answer_word answer
-    → second ++ (codes "\\ncondition " ++ word ++ codes "\"\n") ≡ old ++ condition_line condition answer
-unfolding condition_line
-condition_appended condition answer old first second word h k e = rw (k, h, e) (simp append_assoc)
+-- four texts, and then five more together
+four_and_five : (old l n m e s h t k u a b c d : List ℕ) → a ≡ old ++ l → b ≡ a ++ n → c ≡ b ++ m → d ≡ c ++ e
+    → d ++ (s ++ h ++ t ++ k ++ u) ≡ old ++ (l ++ n ++ m ++ e ++ s ++ h ++ t ++ k ++ u)
+four_and_five old l n m e s h t k u a b c d p q r v = rw (v, r, q, p) (simp append_assoc)
 
--- four texts, and then four more together
-four_and_four : (old l e n f m word s look a b c d : List ℕ) → a ≡ old ++ l → b ≡ a ++ e → c ≡ b ++ n → d ≡ c ++ f
-    → d ++ (m ++ word ++ s ++ look) ≡ old ++ (l ++ e ++ n ++ f ++ m ++ word ++ s ++ look)
-four_and_four old l e n f m word s look a b c d h k p q = rw (q, p, k, h) (simp append_assoc)
+-- two texts, and then five more together
+two_and_five : (old l n s h t k u a b : List ℕ) → a ≡ old ++ l → b ≡ a ++ n → b ++ (s ++ h ++ t ++ k ++ u) ≡ old ++ (l ++ n ++ s ++ h ++ t ++ k ++ u)
+two_and_five old l n s h t k u a b p q = rw (q, p) (simp append_assoc)
 
--- the line of an edge that stands, appended piece by piece
-pub standing_appended : (es : List Edge) (i : ℕ) (edge : Edge) (old a b c d word look : List ℕ) → a ≡ old ++ codes "  " → b ≡ a ++ access_name (event_name es i)
-    → c ≡ b ++ codes " -> " → d ≡ c ++ access_name (event_name es (event_after es i)) → word ≡ word_of edge → look ≡ kind_look (kind_of edge)
-    → d ++ (codes " [taillabel=\"" ++ word ++ codes "\", style=bold, " ++ look) ≡ old ++ arrow_line (arrow_of es i edge)
-unfolding arrow_line
-standing_appended es i edge old a b c d word look h k m n w l =
-    ap (λ t. d ++ (codes " [taillabel=\"" ++ t ++ codes "\", style=bold, " ++ look)) w
-    ∙ ap (λ t. d ++ (codes " [taillabel=\"" ++ word_of edge ++ codes "\", style=bold, " ++ t)) l
-    ∙ four_and_four old (codes "  ") (access_name (event_name es i)) (codes " -> ") (access_name (event_name es (event_after es i))) (codes " [taillabel=\"") (word_of edge)
-    (codes "\", style=bold, ") (kind_look (kind_of edge)) a b c d h k m n
+-- the caption, appended piece by piece
+pub caption_appended : (picture : PictureSeen) (old a b c d holds coherent : List ℕ) → a ≡ old ++ codes "  labeljust=c\n  label=\""
+    → b ≡ a ++ flat_map quoted_byte picture.name → c ≡ b ++ codes "\\n" → d ≡ c ++ flat_map quoted_byte (cond_text picture.condition)
+    → holds ≡ answer_word picture.holds → coherent ≡ answer_word picture.coherent
+    → d ++ (codes "\\ncondition " ++ holds ++ codes "\\ncoherent " ++ coherent ++ codes "\"\n") ≡ old ++ caption picture
+unfolding caption
+caption_appended picture old a b c d holds coherent h k l m p q =
+    ap (λ t. d ++ (codes "\\ncondition " ++ t ++ codes "\\ncoherent " ++ coherent ++ codes "\"\n")) p
+    ∙ ap (λ t. d ++ (codes "\\ncondition " ++ answer_word picture.holds ++ codes "\\ncoherent " ++ t ++ codes "\"\n")) q
+    ∙ four_and_five old (codes "  labeljust=c\n  label=\"") (flat_map quoted_byte picture.name) (codes "\\n") (flat_map quoted_byte (cond_text picture.condition))
+    (codes "\\ncondition ") (answer_word picture.holds) (codes "\\ncoherent ") (answer_word picture.coherent) (codes "\"\n") a b c d h k l m
+
+-- a word on an arrow, appended piece by piece
+pub on_appended : (relation : Relation) (word old a b distance colour : List ℕ)
+    → a ≡ old ++ codes ", taillabel=<<table border=\"0\" cellpadding=\"1\" cellspacing=\"0\"><tr><td bgcolor=\"white\">" → b ≡ a ++ word
+    → distance ≡ word_distance relation → colour ≡ relation_colour relation
+    → b ++ (codes "</td></tr></table>>, labeldistance=" ++ distance ++ codes ", labelangle=0, fontcolor=\"" ++ colour ++ codes "\"") ≡ old ++ word_on relation word
+unfolding word_on
+on_appended relation word old a b distance colour h k d c =
+    ap (λ t. b ++ (codes "</td></tr></table>>, labeldistance=" ++ t ++ codes ", labelangle=0, fontcolor=\"" ++ colour ++ codes "\"")) d
+    ∙ ap (λ t. b ++ (codes "</td></tr></table>>, labeldistance=" ++ word_distance relation ++ codes ", labelangle=0, fontcolor=\"" ++ t ++ codes "\"")) c
+    ∙ two_and_five old (codes ", taillabel=<<table border=\"0\" cellpadding=\"1\" cellspacing=\"0\"><tr><td bgcolor=\"white\">") word
+    (codes "</td></tr></table>>, labeldistance=") (word_distance relation) (codes ", labelangle=0, fontcolor=\"") (relation_colour relation) (codes "\"") a b h k
+
+-- nine texts, appended one after another
+nine_appended : (old l w m p n r k t u a b c d e f g h i : List ℕ) → a ≡ old ++ l → b ≡ a ++ w → c ≡ b ++ m → d ≡ c ++ p → e ≡ d ++ n → f ≡ e ++ w
+    → g ≡ f ++ (r ++ k ++ t) → h ≡ g ++ p → i ≡ h ++ u → i ≡ old ++ (l ++ w ++ m ++ p ++ n ++ w ++ r ++ k ++ t ++ p ++ u)
+nine_appended old l w m p n r k t u a b c d e f g h i q1 q2 q3 q4 q5 q6 q7 q8 q9 = rw (q9, q8, q7, q6, q5, q4, q3, q2, q1) (simp append_assoc)
+
+-- a word beside an arrow, appended piece by piece
+pub beside_appended : (relation : Relation) (word : List ℕ) (across down : ℕ) (old colour a b c d e f g h i : List ℕ) → colour ≡ relation_colour relation
+    → a ≡ old ++ codes "  \"" → b ≡ a ++ word → c ≡ b ++ codes "@" → d ≡ c ++ position_word across down → e ≡ d ++ codes "\" [label=\"" → f ≡ e ++ word
+    → g ≡ f ++ (codes "\", fontcolor=\"" ++ colour ++ codes "\", pos=\"") → h ≡ g ++ position_word across down → i ≡ h ++ codes "\"]\n"
+    → i ≡ old ++ word_beside relation word across down
+unfolding word_beside
+beside_appended relation word across down old colour a b c d e f g h i is q1 q2 q3 q4 q5 q6 q7 q8 q9 =
+    nine_appended old (codes "  \"") word (codes "@") (position_word across down) (codes "\" [label=\"") (codes "\", fontcolor=\"") (relation_colour relation)
+    (codes "\", pos=\"") (codes "\"]\n") a b c d e f g h i q1 q2 q3 q4 q5 q6
+    (q7 ∙ ap (λ t. f ++ (codes "\", fontcolor=\"" ++ t ++ codes "\", pos=\"")) is) q8 q9
+
+-- the lines of six relations and those of a seventh, appended one after another
+pub seven_appended : {X : Type 0} (f : X → List ℕ) (a b c d e g h : X) (old s t u v w y : List ℕ) → s ≡ old ++ f a → t ≡ s ++ f b → u ≡ t ++ f c → v ≡ u ++ f d
+    → w ≡ v ++ f e → y ≡ w ++ f g → y ++ f h ≡ old ++ flat_map f (a ∷ b ∷ c ∷ d ∷ e ∷ g ∷ h ∷ [])
+seven_appended f a b c d e g h old s t u v w y i j k l m n = rw (n, m, l, k, j, i) (simp (append_assoc, append-nil))
+
+-- the text of a graph, with what is drawn in it
+pub drawing_made : (picture : PictureSeen) (initial i2 i3 : List ℕ) (drawn d2 : List Drawn) (arrows a2 : List Arrow) (empty text : List ℕ)
+    → initial ≡ initial_places (length picture.places) picture.seen → i2 ≡ initial → drawn ≡ points_drawn picture.visits i2 picture.seen → i3 ≡ initial → d2 ≡ drawn
+    → arrows ≡ arrows_of picture.judged → a2 ≡ arrows → empty ≡ [] → text ≡ empty ++ lines_drawn picture i3 d2 a2 → text ≡ drawing_text picture
+unfolding drawing_text
+drawing_made picture initial i2 i3 drawn d2 arrows a2 empty text h1 h2 h3 h4 h5 h6 h7 h8 e = e ∙ rw (h8, h7, h6, h5, h3, h4, h2, h1) refl
 
 -- six texts, appended one after another
 pub six_appended : (old a b c d e f s t u v w : List ℕ) (x : List ℕ) → s ≡ old ++ a → t ≡ s ++ b → u ≡ t ++ c → v ≡ u ++ d → w ≡ v ++ e → x ≡ w ++ f

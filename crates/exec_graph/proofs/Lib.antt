@@ -1,4 +1,5 @@
-pub mod GraphLines
 pub mod Members
 pub mod DrawnLaws
 pub mod ArrowLaws
+pub mod GraphLines
+pub mod TieLaws

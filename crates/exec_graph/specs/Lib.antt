@@ -1,3 +1,4 @@
+pub mod Ties
 pub mod JudgedCycles
 pub mod Graphs
 pub mod GraphLaws

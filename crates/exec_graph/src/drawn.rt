@@ -1,7 +1,9 @@
-ghost use Rattle.std.specs.{Prelude.{◌≡◌, ◌+◌, ◌==◌, ◌≤◌, ◌++◌, ◌∷◌, [], cond, length, IfOk, OnOk}, List.{list_any}};
-ghost use Rattle.exec_graph.specs.Graphs.{access_drawn, initial_places, initial_write, is_followed, is_initial, is_reached, points_drawn, reads_initial, relates};
-ghost use Rattle.program_meaning.specs.{Accesses.{is_read}, Interleavings.{writes_to}};
+ghost use Rattle.std.specs.{Prelude.{◌≡◌, ◌+◌, ◌^◌, ◌<◌, ◌==◌, ◌&&◌, ◌≤◌, ◌++◌, ◌∷◌, [], cond, length, slice_get, IfOk, OnOk}, Int.{bit_at}, List.{list_any}};
+ghost use Rattle.exec_graph.specs.{Graphs.{access_among, depends, initial_places, initial_write, is_followed, is_initial, is_reached, loads_in, points_drawn, reads_initial, relates, share_thread, visits_of_runs}, Ties.{ties_if}};
+ghost use Rattle.program_meaning.specs.{Accesses.{got_from, is_read}, Interleavings.{writes_to}};
 
+use crate::ties::{Ties, loads_at, ties_at};
+use micro_ops::Trace;
 use program_meaning::{Access, SeenAccess, WriteAt};
 use relax_edges::Dir;
 use std::alloc::{AllocError, Global};
@@ -16,7 +18,7 @@ pub(crate) enum Point {
 }
 
 /// A write or a read of a graph.
-#[derive(Clone, Copy)]
+#[derive(Drop)]
 pub(crate) struct Drawn {
     pub(crate) point: Point,
     pub(crate) access: Access,
@@ -24,6 +26,9 @@ pub(crate) struct Drawn {
     pub(crate) source: Option<WriteAt>,
     /// The coherence position: 0 for the initial write and for what reads it.
     pub(crate) order: usize,
+    /// How many loads its thread has before it.
+    pub(crate) load: usize,
+    pub(crate) ties: Ties,
 }
 
 /// The relations that a graph shows.
@@ -37,15 +42,21 @@ pub(crate) enum Relation {
     Co,
     /// From-read.
     Fr,
+    /// An address dependency.
+    Addr,
+    /// A data dependency.
+    Data,
+    /// A control dependency.
+    Ctrl,
 }
 
-fn is_read(access: &Access) -> bool
+pub(crate) fn is_read(access: &Access) -> bool
     ensures { result ≡ is_read access.now }
 {
     access.dir == Dir::R
 }
 
-fn writes_to(place: u8, access: &Access) -> bool
+pub(crate) fn writes_to(place: u8, access: &Access) -> bool
     ensures { result ≡ writes_to place access.now }
 {
     access.dir == Dir::W && access.place == place
@@ -88,6 +99,31 @@ fn is_reached(source: Option<WriteAt>, place: u8, point: Point) -> bool
     }
 }
 
+/// Whether both points are accesses of one thread.
+fn share_thread(from: Point, to: Point) -> bool
+    ensures { result ≡ share_thread from to }
+{
+    match (from, to) {
+        (Point::At { thread, .. }, Point::At { thread: other, .. }) => thread == other,
+        _ => false,
+    }
+}
+
+/// Whether a mask names load number `load`.
+#[tactic(auto, using(crate::proofs::TieLaws::no_load))]
+fn has_load(mask: u64, load: usize) -> bool
+    ensures { result ≡ (bit_at mask load == 1) }
+{
+    load < 64 && mask >> load & 1 == 1
+}
+
+/// Whether an access of the same thread, with this mask, depends on the first, a read.
+fn depends(from: &Drawn, mask: u64, to: Point) -> bool
+    ensures { result ≡ depends from.now mask to }
+{
+    share_thread(from.point, to) && is_read(&from.access) && has_load(mask, from.load)
+}
+
 /// Whether a relation leads from the first to the second.
 pub(crate) fn relates(relation: Relation, from: &Drawn, to: &Drawn) -> bool
     ensures { result ≡ relates relation from.now to.now }
@@ -105,6 +141,9 @@ pub(crate) fn relates(relation: Relation, from: &Drawn, to: &Drawn) -> bool
                 && writes_to(from.access.place, &to.access)
                 && from.order < to.order
         }
+        Relation::Addr => depends(from, to.ties.address_mask(), to.point),
+        Relation::Data => depends(from, to.ties.data_mask(), to.point),
+        Relation::Ctrl => depends(from, to.ties.control_mask(), to.point),
     }
 }
 
@@ -155,7 +194,7 @@ pub(crate) fn initial_places(
 }
 
 /// The initial write of a location.
-fn initial_write(place: u8) -> Drawn
+fn initial_write(alloc: Global, place: u8) -> Drawn
     ensures { result ≡ initial_write place }
 {
     Drawn {
@@ -167,14 +206,38 @@ fn initial_write(place: u8) -> Drawn
         },
         source: None,
         order: 0,
+        load: 0,
+        ties: Ties::none(alloc),
+    }
+}
+
+/// How many of the first `number` accesses of a thread read, if there is the thread.
+#[tactic(auto, using(crate::proofs::TieLaws::run_there, crate::proofs::TieLaws::run_past))]
+fn loads_in(runs: &[Trace], thread: u8, number: usize) -> usize
+    ensures { result ≡ loads_in (slice_get (visits_of_runs runs.now) thread) number }
+{
+    match runs.get(usize::from(thread)) {
+        Some(run) => loads_at(run.items(), number),
+        None => 0,
+    }
+}
+
+/// What comes before access number `number` of a thread, if there is one.
+#[tactic(auto, using(crate::proofs::TieLaws::run_there, crate::proofs::TieLaws::run_past))]
+fn ties_in(alloc: Global, runs: &[Trace], thread: u8, number: usize) -> Result<Ties, AllocError>
+    ensures { IfOk result (λ ties. ties ≡ ties_if (got_from (slice_get (visits_of_runs runs.now) thread) number)) }
+{
+    match runs.get(usize::from(thread)) {
+        Some(run) => ties_at(alloc, run.items(), number),
+        None => Ok(Ties::none(alloc)),
     }
 }
 
 /// An access of a thread, as it is drawn.
-fn access_drawn(seen: &SeenAccess) -> Drawn
-    ensures { result ≡ access_drawn seen.now }
+fn access_drawn(alloc: Global, runs: &[Trace], seen: &SeenAccess) -> Result<Drawn, AllocError>
+    ensures { IfOk result (λ drawn. drawn ≡ access_among (visits_of_runs runs.now) seen.now) }
 {
-    Drawn {
+    Ok(Drawn {
         point: Point::At {
             thread: seen.thread,
             number: seen.number,
@@ -182,23 +245,26 @@ fn access_drawn(seen: &SeenAccess) -> Drawn
         access: seen.access,
         source: seen.source,
         order: seen.order,
-    }
+        load: loads_in(runs, seen.thread, seen.number),
+        ties: ties_in(alloc, runs, seen.thread, seen.number)?,
+    })
 }
 
 /// The initial writes of these locations, and then the accesses of the threads.
 pub(crate) fn points_drawn(
     alloc: Global,
+    runs: &[Trace],
     places: &[u8],
     seen: &[SeenAccess],
 ) -> Result<Vec<Drawn>, AllocError>
-    ensures { IfOk result (λ list. list.items ≡ points_drawn places.now seen.now) }
+    ensures { IfOk result (λ list. list.items ≡ points_drawn (visits_of_runs runs.now) places.now seen.now) }
 {
     let mut list = Vec::new(alloc);
     for place in places {
-        list.push(initial_write(*place))?;
+        list.push(initial_write(alloc, *place))?;
     }
     for access in seen {
-        list.push(access_drawn(access))?;
+        list.push(access_drawn(alloc, runs, access)?)?;
     }
     Ok(list)
 }

@@ -1,84 +1,42 @@
-ghost use Rattle.std.specs.{Prelude.{◌≡◌, ◌+◌, ◌<◌, ◌≤◌, ◌++◌, [], cond, IfOk, OnOk, length, map}, List.{enumerate_from, filter, flat_map}};
+ghost use Rattle.std.specs.{Prelude.{◌≡◌, ◌≤◌, ◌++◌, [], cond, count_by, IfOk, OnOk, length, slice_get}, List.{enumerate_from, filter, flat_map, list_all, position}};
 ghost use Rattle.list_laws.specs.Numbers.{upto};
-ghost use Rattle.diy_io.specs.Pieces.{joined_text};
 ghost use Rattle.final_cond.specs.{Conditions.{cond_view}, CondText.{cond_text}};
-ghost use Rattle.program_meaning.specs.Standing.{event_name};
 ghost use Rattle.relax_edges.specs.declared.TheConstants.{MAX_EDGES};
 ghost use Rattle.exec_graph.specs.JudgedCycles.{AreEdgesOf};
-ghost use Rattle.exec_graph.specs.Graphs.{access_line, access_name, access_word, answer_word, arrow_line, arrow_of, cluster_line, cluster_opening, column, condition_line, dir_word, drawing_text, initial_line, is_in_thread, kind_look, lap_word, letter_word, lines_drawn, mark_word, member_word, name_word, opening, pair_line, pair_lines, pairs_by, picture_seen, place_word, point_lines, point_word, position_word, quoted_byte, relates, relation_lines, relation_look, standing_lines};
+ghost use Rattle.exec_graph.specs.Graphs.{access_line, access_word, answer_word, arrows_of, caption, cluster_line, cluster_opening, cycle_lines, dashed_arrows, dir_word, drawing_text, edge_lines, home, initial_line, is_below, is_beyond, is_dashed, is_first_write, is_in_thread, is_observer, is_thin, lap_word, letter_word, lines_drawn, mark_word, member_word, no_drawing_text, observer_word, opening, pair_line, pairs_by, picture_seen, point_lines, quoted_byte, reads_if_in, relation_lines, standing_arrows, thin_lines, thread_or_first, words_opening};
 
-use crate::drawn::{Drawn, Point, Relation, initial_places, points_drawn, relates};
+use crate::arrows::{Arrow, arrows_of, is_dashed, is_thin};
+use crate::drawn::{Drawn, Relation, initial_places, is_read, points_drawn, writes_to};
+use crate::strokes::{column, place_word, push_edge, push_name, push_pair, push_pieces, row};
 use arch_trait::Places;
-use arrayvec::ArrayString;
 use cycle_resolve::Resolved;
 use diy_io::{NoMemory, Page};
 use final_cond::{Cond, put_cond};
 use itoa::Buffer;
+use micro_ops::Trace;
 use program_meaning::SeenAccess;
-use relax_edges::{Com, Dir, Edge, Kind, Mark};
+use relax_edges::{Dir, Edge, Mark};
 use std::alloc::Global;
 
 /// What the graph of an execution shows.
 #[derive(Clone, Copy)]
 pub struct Picture<'a> {
+    /// The name of the test.
+    pub name: &'a [u8],
     /// The names of the locations.
     pub places: &'a Places,
     /// How many threads there are.
     pub threads: u8,
     /// The accesses, thread by thread, each thread's in program order.
     pub seen: &'a [SeenAccess],
+    /// The runs of the threads, which say what the code has before each access.
+    pub runs: &'a [Trace],
     /// The edges of a cycle, in order, each with whether it stands; none if there is no cycle.
     pub judged: &'a [(Edge, bool)],
     pub cond: &'a Cond,
     /// Whether the terms of the condition hold in the final state.
     pub holds: bool,
-}
-
-/// Appends pieces one after another.
-#[tactic(auto, using(crate::proofs::GraphLines::piece_more))]
-fn push_pieces(pieces: &[&[u8]], text: &mut Vec<u8>) -> Result<(), NoMemory>
-    ensures { OnOk result (text.new.items ≡ text.old.items ++ joined_text pieces.now) }
-{
-    for piece in pieces {
-        text.extend_from_slice(piece)?;
-    }
-    Ok(())
-}
-
-/// Appends the name of an access: its thread and its number there.
-#[tactic(auto, unfolding(crate::specs::Graphs::name_word))]
-fn push_name(thread: u8, number: usize, text: &mut Vec<u8>) -> Result<(), NoMemory>
-    ensures { OnOk result (text.new.items ≡ text.old.items ++ name_word thread number) }
-{
-    let mut thread_digits = Buffer::new();
-    let thread = thread_digits.format(thread).as_bytes();
-    let mut number_digits = Buffer::new();
-    let number = number_digits.format(number).as_bytes();
-    push_pieces(&[b"\"", thread, b".", number, b"\""], text)
-}
-
-/// The name of a location, which is empty if there is no such location.
-#[tactic(auto, using(std::proofs::lemmas::List::get_or_past))]
-fn place_word(places: &Places, place: u8) -> &[u8]
-    ensures { result.now ≡ place_word places.now place }
-{
-    if place < places.len() {
-        places.get(place).as_str().as_bytes()
-    } else {
-        b""
-    }
-}
-
-/// Appends the name of a point.
-fn push_point(places: &Places, point: Point, text: &mut Vec<u8>) -> Result<(), NoMemory>
-    ensures { OnOk result (text.new.items ≡ text.old.items ++ point_word places.now point) }
-{
-    match point {
-        Point::Initial { place } => {
-            push_pieces(&[b"\"", place_word(places, place), b"\""], text)
-        }
-        Point::At { thread, number } => push_name(thread, number, text),
-    }
+    pub coherent: bool,
 }
 
 /// Appends the letter of an access, by its number among all accesses.
@@ -140,21 +98,70 @@ fn push_access_word(
     push_pieces(&[b"]=", value], text)
 }
 
-/// How far to the right the column of a thread is.
-fn column(thread: u8) -> u32
-    ensures { result ≡ column thread }
+/// Whether an access is the first write to a location in coherence order.
+fn is_first_write(place: u8, seen: &SeenAccess) -> bool
+    ensures { result ≡ is_first_write place seen.now }
 {
-    260 * u32::from(thread)
+    writes_to(place, &seen.access) && seen.order == 1
 }
 
-/// Appends the line of the initial write of a location, right of the column with this number.
+/// The number of the first write to a location in coherence order, among all accesses.
+fn first_write(seen: &[SeenAccess], place: u8) -> Option<usize>
+    ensures { result ≡ position (is_first_write place) seen.now }
+{
+    seen.iter().position(|access| is_first_write(place, access))
+}
+
+/// The thread of access number `k`, if there is one, and otherwise thread 0.
+fn thread_at(seen: &[SeenAccess], k: usize) -> u8
+    ensures { result ≡ thread_or_first (slice_get seen.now k) }
+{
+    match seen.get(k) {
+        Some(access) => access.thread,
+        None => 0,
+    }
+}
+
+/// The thread above which the initial write of a location is.
+fn home(seen: &[SeenAccess], place: u8) -> u8
+    ensures { result ≡ home seen.now place }
+{
+    match first_write(seen, place) {
+        Some(k) => thread_at(seen, k),
+        None => 0,
+    }
+}
+
+/// Whether the initial write of a location is above the same thread as that of `place`, and comes before it.
+fn is_below(seen: &[SeenAccess], place: u8, other: u8) -> bool
+    ensures { result ≡ is_below seen.now place other }
+{
+    other < place && home(seen, other) == home(seen, place)
+}
+
+/// Appends the line of the initial write of a location.
 #[tactic(auto, unfolding(crate::specs::Graphs::initial_line))]
-fn push_initial(places: &Places, number: u8, place: u8, text: &mut Vec<u8>) -> Result<(), NoMemory>
-    ensures { OnOk result (text.new.items ≡ text.old.items ++ initial_line places.now (number, place)) }
+fn push_initial(
+    places: &Places,
+    seen: &[SeenAccess],
+    shown: &[u8],
+    place: u8,
+    text: &mut Vec<u8>,
+) -> Result<(), NoMemory>
+    requires { length shown.now ≤ 255 }
+    ensures { OnOk result (text.new.items ≡ text.old.items ++ initial_line places.now seen.now shown.now place) }
 {
     let name = place_word(places, place);
-    let mut digits = Buffer::new();
-    let across = digits.format(column(number) + 230).as_bytes();
+    let below = shown
+        .iter()
+        .filter(|other| is_below(seen, place, **other))
+        .count();
+    let mut across_digits = Buffer::new();
+    let across = across_digits
+        .format(column(home(seen, place)) + 100)
+        .as_bytes();
+    let mut up_digits = Buffer::new();
+    let up = up_digits.format(50 * below as u128 + 90).as_bytes();
     push_pieces(
         &[
             b"  \"",
@@ -163,22 +170,12 @@ fn push_initial(places: &Places, number: u8, place: u8, text: &mut Vec<u8>) -> R
             name,
             b"]=0\", pos=\"",
             across,
-            b",90\"]\n",
+            b",",
+            up,
+            b"\"]\n",
         ],
         text,
     )
-}
-
-/// Appends the position of an access: in the column of its thread, 100 below the one before it.
-#[tactic(auto, unfolding(crate::specs::Graphs::position_word))]
-fn push_position(seen: &SeenAccess, text: &mut Vec<u8>) -> Result<(), NoMemory>
-    ensures { OnOk result (text.new.items ≡ text.old.items ++ position_word seen.now) }
-{
-    let mut across_digits = Buffer::new();
-    let across = across_digits.format(column(seen.thread) + 100).as_bytes();
-    let mut down_digits = Buffer::new();
-    let down = down_digits.format(seen.number).as_bytes();
-    push_pieces(&[across, b",-", down, b"00"], text)
 }
 
 /// Appends the line of an access, by its number among all accesses.
@@ -195,10 +192,11 @@ fn push_access(
     push_name(seen.thread, seen.number, text)?;
     text.extend_from_slice(b" [label=\"")?;
     push_access_word(places, number, seen, text)?;
-    text.extend_from_slice(b"\", pos=\"")?;
-    push_position(seen, text)?;
-    text.extend_from_slice(b"\"]\n")?;
-    Ok(())
+    let mut across_digits = Buffer::new();
+    let across = across_digits.format(column(seen.thread) + 100).as_bytes();
+    let mut down_digits = Buffer::new();
+    let down = down_digits.format(row(seen.number)).as_bytes();
+    push_pieces(&[b"\", pos=\"", across, b",-", down, b"\"]\n"], text)
 }
 
 /// Appends an access to the cluster of its thread.
@@ -212,17 +210,69 @@ fn push_member(seen: &SeenAccess, text: &mut Vec<u8>) -> Result<(), NoMemory>
     Ok(())
 }
 
-/// Appends the opening of the cluster of a thread with this many accesses.
+/// Whether a thread is one more than a cycle has.
+fn is_beyond(cycle: &Option<Resolved>, judged: &[(Edge, bool)], thread: u8) -> bool
+    requires { AreEdgesOf cycle.now judged.now }
+    ensures { result ≡ is_beyond judged.now thread }
+{
+    match cycle {
+        Some(resolved) => !judged.is_empty() && resolved.threads() <= thread,
+        None => false,
+    }
+}
+
+/// Whether an access is in another thread, or reads.
+fn reads_if_in(thread: u8, seen: &SeenAccess) -> bool
+    ensures { result ≡ reads_if_in thread seen.now }
+{
+    seen.thread != thread || is_read(&seen.access)
+}
+
+/// Whether a thread only reads.
+fn only_reads(thread: u8, seen: &[SeenAccess]) -> bool
+    ensures { result ≡ list_all (reads_if_in thread) seen.now }
+{
+    seen.iter().all(|access| reads_if_in(thread, access))
+}
+
+/// Whether a thread is an observer: it is one more than the cycle has, and only reads.
+fn is_observer(
+    cycle: &Option<Resolved>,
+    judged: &[(Edge, bool)],
+    seen: &[SeenAccess],
+    thread: u8,
+) -> bool
+    requires { AreEdgesOf cycle.now judged.now }
+    ensures { result ≡ is_observer judged.now seen.now thread }
+{
+    is_beyond(cycle, judged, thread) && only_reads(thread, seen)
+}
+
+/// What the frame of a thread says beside the thread's name.
+fn observer_word(observes: bool) -> &'static [u8]
+    ensures { result.now ≡ observer_word observes }
+{
+    if observes { b" (observer)" } else { b"" }
+}
+
+/// Appends the opening of the frame of a thread with this many accesses, which says this beside the thread's name.
 #[tactic(auto, unfolding(crate::specs::Graphs::cluster_opening))]
-fn push_cluster_opening(thread: u8, count: usize, text: &mut Vec<u8>) -> Result<(), NoMemory>
-    ensures { OnOk result (text.new.items ≡ text.old.items ++ cluster_opening thread count) }
+fn push_cluster_opening(
+    observer: &'static [u8],
+    thread: u8,
+    count: usize,
+    text: &mut Vec<u8>,
+) -> Result<(), NoMemory>
+    ensures { OnOk result (text.new.items ≡ text.old.items ++ cluster_opening observer.now thread count) }
 {
     let mut digits = Buffer::new();
     let name = digits.format(thread).as_bytes();
     let mut left_digits = Buffer::new();
     let left = left_digits.format(column(thread) + 10).as_bytes();
     let mut down_digits = Buffer::new();
-    let down = down_digits.format(count.saturating_sub(1)).as_bytes();
+    let down = down_digits
+        .format(row(count.saturating_sub(1)) + 35)
+        .as_bytes();
     let mut right_digits = Buffer::new();
     let right = right_digits.format(column(thread) + 190).as_bytes();
     push_pieces(
@@ -231,24 +281,33 @@ fn push_cluster_opening(thread: u8, count: usize, text: &mut Vec<u8>) -> Result<
             name,
             b" { label=\"P",
             name,
+            observer,
             b"\"; style=rounded; color=\"#bbbbbb\"; bb=\"",
             left,
             b",-",
             down,
-            b"35,",
+            b",",
             right,
-            b",50\";",
+            b",40\";",
         ],
         text,
     )
 }
 
-/// Appends the line of a thread: a cluster with its accesses.
-fn push_cluster(thread: u8, seen: &[SeenAccess], text: &mut Vec<u8>) -> Result<(), NoMemory>
-    ensures { OnOk result (text.new.items ≡ text.old.items ++ cluster_line seen.now thread) }
+/// Appends the line of a thread: a frame with its accesses.
+fn push_cluster(
+    cycle: &Option<Resolved>,
+    judged: &[(Edge, bool)],
+    seen: &[SeenAccess],
+    thread: u8,
+    text: &mut Vec<u8>,
+) -> Result<(), NoMemory>
+    requires { AreEdgesOf cycle.now judged.now }
+    ensures { OnOk result (text.new.items ≡ text.old.items ++ cluster_line judged.now seen.now thread) }
 {
+    let observer = observer_word(is_observer(cycle, judged, seen, thread));
     let count = seen.iter().filter(|access| access.thread == thread).count();
-    push_cluster_opening(thread, count, text)?;
+    push_cluster_opening(observer, thread, count, text)?;
     push_members(thread, seen, text)?;
     text.extend_from_slice(b" }\n")?;
     Ok(())
@@ -274,172 +333,139 @@ fn push_members(thread: u8, seen: &[SeenAccess], text: &mut Vec<u8>) -> Result<(
     Ok(())
 }
 
-/// How the arrows of a relation look.
-fn relation_look(relation: Relation) -> &'static [u8]
-    ensures { result.now ≡ relation_look relation }
-{
-    match relation {
-        Relation::Po => b" [taillabel=\"po\", labeldistance=3.5, labelangle=16]\n",
-        Relation::Rf => b" [headlabel=\"rf\", color=\"#b3261e\", fontcolor=\"#b3261e\"]\n",
-        Relation::Co => b" [headlabel=\"co\", color=\"#1a56a8\", fontcolor=\"#1a56a8\"]\n",
-        Relation::Fr => b" [headlabel=\"fr\", color=\"#8a5a00\", fontcolor=\"#8a5a00\"]\n",
-    }
-}
-
-/// Appends the line of a pair of a relation.
-#[tactic(auto, unfolding(crate::specs::Graphs::pair_line))]
-fn push_pair(
+/// Appends the lines of a pair, if it has a thin arrow of the relation.
+fn push_if_thin(
+    alloc: Global,
     places: &Places,
+    arrows: &[Arrow],
     relation: Relation,
     from: &Drawn,
     to: &Drawn,
     text: &mut Vec<u8>,
 ) -> Result<(), NoMemory>
-    ensures { OnOk result (text.new.items ≡ text.old.items ++ pair_line places.now relation (from.now, to.now)) }
+    ensures { OnOk result (text.new.items ≡ text.old.items ++ cond (is_thin arrows.now relation from.now to.now) (pair_line places.now relation (from.now, to.now)) []) }
 {
-    text.extend_from_slice(b"  ")?;
-    push_point(places, from.point, text)?;
-    text.extend_from_slice(b" -> ")?;
-    push_point(places, to.point, text)?;
-    text.extend_from_slice(relation_look(relation))?;
-    Ok(())
-}
-
-/// Appends the line of a pair, if the relation leads from the first to the second.
-fn push_if_pair(
-    places: &Places,
-    relation: Relation,
-    from: &Drawn,
-    to: &Drawn,
-    text: &mut Vec<u8>,
-) -> Result<(), NoMemory>
-    ensures { OnOk result (text.new.items ≡ text.old.items ++ cond (relates relation from.now to.now) (pair_line places.now relation (from.now, to.now)) []) }
-{
-    if relates(relation, from, to) {
-        return push_pair(places, relation, from, to, text);
+    if is_thin(arrows, relation, from, to) {
+        return push_pair(alloc, places, relation, from, to, text);
     }
     Ok(())
 }
 
-/// Appends the lines of the pairs of a relation that lead from this access or initial write.
-fn push_pairs_from(
+/// Appends the lines of the thin arrows of a relation that lead from this access or initial write.
+fn push_thin_from(
+    alloc: Global,
     places: &Places,
+    arrows: &[Arrow],
     relation: Relation,
     from: &Drawn,
     drawn: &[Drawn],
     text: &mut Vec<u8>,
 ) -> Result<(), NoMemory>
-    ensures { OnOk result (text.new.items ≡ text.old.items ++ flat_map (λ to. pair_line places.now relation (from.now, to)) (filter (relates relation from.now) drawn.now)) }
+    ensures { OnOk result (text.new.items ≡ text.old.items ++ flat_map (λ to. pair_line places.now relation (from.now, to)) (filter (is_thin arrows.now relation from.now) drawn.now)) }
 {
     for to in drawn {
-        push_if_pair(places, relation, from, to, text)?;
+        push_if_thin(alloc, places, arrows, relation, from, to, text)?;
     }
     Ok(())
 }
 
-/// Appends the lines of the pairs of a relation.
-fn push_pairs(
+/// Appends the lines of the thin arrows of a relation.
+fn push_thin(
+    alloc: Global,
     places: &Places,
+    arrows: &[Arrow],
+    drawn: &[Drawn],
     relation: Relation,
+    text: &mut Vec<u8>,
+) -> Result<(), NoMemory>
+    ensures { OnOk result (text.new.items ≡ text.old.items ++ thin_lines places.now arrows.now drawn.now relation) }
+{
+    for from in drawn {
+        push_thin_from(alloc, places, arrows, relation, from, drawn, text)?;
+    }
+    Ok(())
+}
+
+/// Appends the lines of the thin arrows of all relations.
+fn push_relations(
+    alloc: Global,
+    places: &Places,
+    arrows: &[Arrow],
     drawn: &[Drawn],
     text: &mut Vec<u8>,
 ) -> Result<(), NoMemory>
-    ensures { OnOk result (text.new.items ≡ text.old.items ++ pair_lines places.now relation (pairs_by (relates relation) drawn.now)) }
+    ensures { OnOk result (text.new.items ≡ text.old.items ++ relation_lines places.now arrows.now drawn.now) }
 {
-    for from in drawn {
-        push_pairs_from(places, relation, from, drawn, text)?;
+    push_thin(alloc, places, arrows, drawn, Relation::Po, text)?;
+    push_thin(alloc, places, arrows, drawn, Relation::Rf, text)?;
+    push_thin(alloc, places, arrows, drawn, Relation::Co, text)?;
+    push_thin(alloc, places, arrows, drawn, Relation::Fr, text)?;
+    push_thin(alloc, places, arrows, drawn, Relation::Addr, text)?;
+    push_thin(alloc, places, arrows, drawn, Relation::Data, text)?;
+    push_thin(alloc, places, arrows, drawn, Relation::Ctrl, text)
+}
+
+/// Appends the lines of an edge, if it stands.
+fn push_if_stands(places: &Places, arrow: &Arrow, text: &mut Vec<u8>) -> Result<(), NoMemory>
+    ensures { OnOk result (text.new.items ≡ text.old.items ++ cond arrow.now.stands (edge_lines places.now arrow.now) []) }
+{
+    if arrow.stands {
+        return push_edge(places, arrow, text);
     }
     Ok(())
 }
 
-/// Appends the lines of all relations.
-fn push_relations(places: &Places, drawn: &[Drawn], text: &mut Vec<u8>) -> Result<(), NoMemory>
-    ensures { OnOk result (text.new.items ≡ text.old.items ++ relation_lines places.now drawn.now) }
+/// Appends the lines of the edges that stand.
+fn push_standing(places: &Places, arrows: &[Arrow], text: &mut Vec<u8>) -> Result<(), NoMemory>
+    ensures { OnOk result (text.new.items ≡ text.old.items ++ flat_map (edge_lines places.now) (filter (λ arrow. arrow.stands) arrows.now)) }
 {
-    push_pairs(places, Relation::Po, drawn, text)?;
-    push_pairs(places, Relation::Rf, drawn, text)?;
-    push_pairs(places, Relation::Co, drawn, text)?;
-    push_pairs(places, Relation::Fr, drawn, text)
-}
-
-/// How the bold arrow of an edge looks, by the edge's kind.
-fn kind_look(kind: Kind) -> &'static [u8]
-    ensures { result.now ≡ kind_look kind }
-{
-    match kind {
-        Kind::Com { com, .. } => match com {
-            Com::Rf => b"labeldistance=4, color=\"#b3261e\", fontcolor=\"#b3261e\"]\n",
-            Com::Ws => b"labeldistance=4, color=\"#1a56a8\", fontcolor=\"#1a56a8\"]\n",
-            Com::Fr => b"labeldistance=4, color=\"#8a5a00\", fontcolor=\"#8a5a00\"]\n",
-        },
-        _ => b"labeldistance=5, labelangle=-40]\n",
+    for arrow in arrows {
+        push_if_stands(places, arrow, text)?;
     }
+    Ok(())
 }
 
-/// Appends the name of the access that is event `i` of a cycle.
-fn push_event(resolved: &Resolved, i: u8, text: &mut Vec<u8>) -> Result<(), NoMemory>
-    requires { i < length resolved.now }
-    ensures { OnOk result (text.new.items ≡ text.old.items ++ access_name (event_name resolved.now i)) }
-{
-    let event = resolved.event(i);
-    push_name(event.thread, usize::from(event.slot), text)
-}
-
-/// Appends the line of edge `i` of a cycle, which stands.
-#[tactic(auto, unfolding(crate::specs::Graphs::arrow_line))]
-fn push_standing(resolved: &Resolved, i: u8, edge: Edge, text: &mut Vec<u8>) -> Result<(), NoMemory>
-    requires { i < length resolved.now }
-    ensures { OnOk result (text.new.items ≡ text.old.items ++ arrow_line (arrow_of resolved.now i edge)) }
-{
-    text.extend_from_slice(b"  ")?;
-    push_event(resolved, i, text)?;
-    text.extend_from_slice(b" -> ")?;
-    push_event(resolved, resolved.event_after(i), text)?;
-    let mut word: ArrayString<16> = ArrayString::new();
-    edge.word(&mut word);
-    let word = word.as_str().as_bytes();
-    push_pieces(
-        &[
-            b" [taillabel=\"",
-            word,
-            b"\", style=bold, ",
-            kind_look(edge.kind()),
-        ],
-        text,
-    )
-}
-
-/// Appends the line of edge `i` of a cycle, if it stands.
-fn push_if_standing(
-    resolved: &Resolved,
-    i: u8,
-    judged: (Edge, bool),
+/// Appends the lines of an edge, if it doesn't stand, but both of its accesses are there.
+fn push_if_dashed(
+    places: &Places,
+    seen: &[SeenAccess],
+    arrow: &Arrow,
     text: &mut Vec<u8>,
 ) -> Result<(), NoMemory>
-    requires { i < length resolved.now }
-    ensures { OnOk result (text.new.items ≡ text.old.items ++ cond judged.1 (arrow_line (arrow_of resolved.now i judged.0)) []) }
+    ensures { OnOk result (text.new.items ≡ text.old.items ++ cond (is_dashed seen.now arrow.now) (edge_lines places.now arrow.now) []) }
 {
-    let (edge, stands) = judged;
-    if stands {
-        return push_standing(resolved, i, edge, text);
+    if is_dashed(seen, arrow) {
+        return push_edge(places, arrow, text);
     }
     Ok(())
 }
 
-/// Appends the lines of the edges of a cycle that stand.
-fn push_standing_edges(
-    resolved: &Resolved,
-    judged: &[(Edge, bool)],
+/// Appends the lines of the edges that don't stand, but both of whose accesses are there.
+fn push_dashed(
+    places: &Places,
+    seen: &[SeenAccess],
+    arrows: &[Arrow],
     text: &mut Vec<u8>,
 ) -> Result<(), NoMemory>
-    requires edges { map (λ j. j.0) judged.now ≡ resolved.now }
-    requires few { length judged.now ≤ MAX_EDGES }
-    ensures { OnOk result (text.new.items ≡ text.old.items ++ standing_lines judged.now) }
+    ensures { OnOk result (text.new.items ≡ text.old.items ++ flat_map (edge_lines places.now) (filter (is_dashed seen.now) arrows.now)) }
 {
-    for (i, edge) in judged.iter().enumerate() {
-        push_if_standing(resolved, i as u8, *edge, text)?;
+    for arrow in arrows {
+        push_if_dashed(places, seen, arrow, text)?;
     }
     Ok(())
+}
+
+/// Appends the lines of the edges of a cycle: those that stand, and those that don't.
+fn push_cycle(
+    places: &Places,
+    seen: &[SeenAccess],
+    arrows: &[Arrow],
+    text: &mut Vec<u8>,
+) -> Result<(), NoMemory>
+    ensures { OnOk result (text.new.items ≡ text.old.items ++ cycle_lines places.now seen.now arrows.now) }
+{
+    push_standing(places, arrows, text)?;
+    push_dashed(places, seen, arrows, text)
 }
 
 fn push_quoted_byte(byte: u8, text: &mut Vec<u8>) -> Result<(), NoMemory>
@@ -478,24 +504,35 @@ pub fn answer_word(answer: bool) -> &'static str
     if answer { "yes" } else { "no" }
 }
 
-/// Appends the condition, and whether its terms hold.
-#[tactic(auto, unfolding(crate::specs::Graphs::condition_line))]
-fn push_condition(cond: &Cond, answer: bool, text: &mut Vec<u8>) -> Result<(), NoMemory>
-    ensures { OnOk result (text.new.items ≡ text.old.items ++ condition_line (cond_view cond.now) answer) }
+/// Appends what is under the picture.
+#[tactic(auto, unfolding(crate::specs::Graphs::caption))]
+fn push_caption(picture: &Picture<'_>, text: &mut Vec<u8>) -> Result<(), NoMemory>
+    ensures { OnOk result (text.new.items ≡ text.old.items ++ caption (picture_seen picture.now)) }
 {
-    text.extend_from_slice(b"  label=\"")?;
-    push_condition_text(cond, text)?;
-    let answer = answer_word(answer).as_bytes();
-    push_pieces(&[b"\\ncondition ", answer, b"\"\n"], text)
+    text.extend_from_slice(b"  labeljust=c\n  label=\"")?;
+    push_quoted(picture.name, text)?;
+    text.extend_from_slice(b"\\n")?;
+    push_condition_text(picture.cond, text)?;
+    let holds = answer_word(picture.holds).as_bytes();
+    let coherent = answer_word(picture.coherent).as_bytes();
+    push_pieces(
+        &[b"\\ncondition ", holds, b"\\ncoherent ", coherent, b"\"\n"],
+        text,
+    )
 }
 
-/// Appends the lines of the initial writes that are drawn, from left to right.
-fn push_initials(places: &Places, shown: &[u8], text: &mut Vec<u8>) -> Result<(), NoMemory>
+/// Appends the lines of the initial writes that are drawn.
+fn push_initials(
+    places: &Places,
+    seen: &[SeenAccess],
+    shown: &[u8],
+    text: &mut Vec<u8>,
+) -> Result<(), NoMemory>
     requires { length shown.now ≤ 255 }
-    ensures { OnOk result (text.new.items ≡ text.old.items ++ flat_map (initial_line places.now) (enumerate_from 0 shown.now)) }
+    ensures { OnOk result (text.new.items ≡ text.old.items ++ flat_map (initial_line places.now seen.now shown.now) shown.now) }
 {
-    for (number, place) in shown.iter().enumerate() {
-        push_initial(places, number as u8, *place, text)?;
+    for place in shown {
+        push_initial(places, seen, shown, *place, text)?;
     }
     Ok(())
 }
@@ -511,29 +548,20 @@ fn push_accesses(places: &Places, seen: &[SeenAccess], text: &mut Vec<u8>) -> Re
 }
 
 /// Appends the lines of the threads.
-fn push_clusters(threads: u8, seen: &[SeenAccess], text: &mut Vec<u8>) -> Result<(), NoMemory>
-    ensures { OnOk result (text.new.items ≡ text.old.items ++ flat_map (cluster_line seen.now) (upto threads)) }
-{
-    for thread in 0..threads {
-        push_cluster(thread, seen, text)?;
-    }
-    Ok(())
-}
-
-/// Appends the lines of the edges of a cycle that stand, if there is a cycle.
-fn push_judged(
+fn push_clusters(
     cycle: &Option<Resolved>,
     judged: &[(Edge, bool)],
+    seen: &[SeenAccess],
+    threads: u8,
     text: &mut Vec<u8>,
 ) -> Result<(), NoMemory>
-    requires edges { AreEdgesOf cycle.now judged.now }
-    requires few { length judged.now ≤ MAX_EDGES }
-    ensures { OnOk result (text.new.items ≡ text.old.items ++ standing_lines judged.now) }
+    requires { AreEdgesOf cycle.now judged.now }
+    ensures { OnOk result (text.new.items ≡ text.old.items ++ flat_map (cluster_line judged.now seen.now) (upto threads)) }
 {
-    match cycle {
-        Some(resolved) => push_standing_edges(resolved, judged, text),
-        None => Ok(()),
+    for thread in 0..threads {
+        push_cluster(cycle, judged, seen, thread, text)?;
     }
+    Ok(())
 }
 
 /// Appends the opening of a graph: positions are given, and arrows are drawn around what is in their way.
@@ -541,51 +569,61 @@ fn push_opening(text: &mut Vec<u8>) -> Result<(), NoMemory>
     ensures { OnOk result (text.new.items ≡ text.old.items ++ opening) }
 {
     text.extend_from_slice(
-        b"digraph execution {\n  graph [layout=nop, splines=true, nodesep=0.35, fontname=\"sans-serif\", fontsize=11]\n",
+        b"digraph execution {\n  graph [layout=nop, splines=true, nodesep=0.35, fontname=\"sans-serif\", fontsize=11, labeljust=l]\n",
     )?;
     text.extend_from_slice(
         b"  node [shape=box, style=\"rounded,filled\", fillcolor=\"#f4f4f4\", fontname=\"sans-serif\", fontsize=11, width=0.95, height=0.3]\n",
     )?;
+    text.extend_from_slice(b"  edge [fontname=\"sans-serif\", fontsize=9]\n")?;
+    Ok(())
+}
+
+/// Appends how the words beside arrows look.
+fn push_words_opening(text: &mut Vec<u8>) -> Result<(), NoMemory>
+    ensures { OnOk result (text.new.items ≡ text.old.items ++ words_opening) }
+{
     text.extend_from_slice(
-        b"  edge [fontname=\"sans-serif\", fontsize=9, labeldistance=2.6, labelangle=-18]\n",
+        b"  node [shape=plaintext, style=\"\", width=0, height=0, margin=\"0.03,0.01\", fontsize=9]\n",
     )?;
     Ok(())
 }
 
 /// Appends the lines of what is drawn: the initial writes, the accesses, the threads.
 fn push_points(
-    places: &Places,
-    threads: u8,
-    initial: &[u8],
-    seen: &[SeenAccess],
-    text: &mut Vec<u8>,
-) -> Result<(), NoMemory>
-    requires { length initial.now ≤ 255 }
-    ensures { OnOk result (text.new.items ≡ text.old.items ++ point_lines places.now threads initial.now seen.now) }
-{
-    push_initials(places, initial, text)?;
-    push_accesses(places, seen, text)?;
-    push_clusters(threads, seen, text)
-}
-
-/// Appends a graph, with these initial writes and points.
-fn push_graph(
     picture: &Picture<'_>,
     cycle: &Option<Resolved>,
     initial: &[u8],
-    drawn: &[Drawn],
     text: &mut Vec<u8>,
 ) -> Result<(), NoMemory>
     requires initial { length initial.now ≤ 255 }
     requires edges { AreEdgesOf cycle.now picture.now.judged.now }
-    requires few { length picture.now.judged.now ≤ MAX_EDGES }
-    ensures { OnOk result (text.new.items ≡ text.old.items ++ lines_drawn (picture_seen picture.now) initial.now drawn.now) }
+    ensures { OnOk result (text.new.items ≡ text.old.items ++ point_lines (picture_seen picture.now) initial.now) }
+{
+    push_initials(picture.places, picture.seen, initial, text)?;
+    push_accesses(picture.places, picture.seen, text)?;
+    push_clusters(cycle, picture.judged, picture.seen, picture.threads, text)?;
+    push_words_opening(text)
+}
+
+/// Appends a graph, with these initial writes, points and arrows.
+fn push_graph(
+    alloc: Global,
+    picture: &Picture<'_>,
+    cycle: &Option<Resolved>,
+    initial: &[u8],
+    drawn: &[Drawn],
+    arrows: &[Arrow],
+    text: &mut Vec<u8>,
+) -> Result<(), NoMemory>
+    requires initial { length initial.now ≤ 255 }
+    requires edges { AreEdgesOf cycle.now picture.now.judged.now }
+    ensures { OnOk result (text.new.items ≡ text.old.items ++ lines_drawn (picture_seen picture.now) initial.now drawn.now arrows.now) }
 {
     push_opening(text)?;
-    push_points(picture.places, picture.threads, initial, picture.seen, text)?;
-    push_relations(picture.places, drawn, text)?;
-    push_judged(cycle, picture.judged, text)?;
-    push_condition(picture.cond, picture.holds, text)?;
+    push_points(picture, cycle, initial, text)?;
+    push_relations(alloc, picture.places, arrows, drawn, text)?;
+    push_cycle(picture.places, picture.seen, arrows, text)?;
+    push_caption(picture, text)?;
     text.extend_from_slice(b"}\n")?;
     Ok(())
 }
@@ -603,8 +641,23 @@ pub fn draw_graph(
     ensures { IfOk result (λ text. text.items ≡ drawing_text (picture_seen picture.now)) }
 {
     let initial = initial_places(alloc, picture.places.len(), picture.seen)?;
-    let drawn = points_drawn(alloc, &initial, picture.seen)?;
+    let drawn = points_drawn(alloc, picture.runs, &initial, picture.seen)?;
+    let arrows = arrows_of(alloc, cycle, picture.judged)?;
     let mut text = Vec::new(alloc);
-    push_graph(picture, cycle, &initial, &drawn, &mut text)?;
+    push_graph(alloc, picture, cycle, &initial, &drawn, &arrows, &mut text)?;
+    Ok(text)
+}
+
+/// The text of a graph that shows only the name of a test, and that an execution is no candidate of it.
+#[tactic(auto, unfolding(crate::specs::Graphs::no_drawing_text))]
+pub fn draw_none(alloc: Global, name: &[u8]) -> Result<Vec<u8>, NoMemory>
+    ensures { IfOk result (λ text. text.items ≡ no_drawing_text name.now) }
+{
+    let mut text = Vec::new(alloc);
+    text.extend_from_slice(
+        b"digraph execution {\n  none [shape=plaintext, fontname=\"sans-serif\", fontsize=11, label=\"",
+    )?;
+    push_quoted(name, &mut text)?;
+    text.extend_from_slice(b"\\ncandidate no\"]\n}\n")?;
     Ok(text)
 }

@@ -2,9 +2,12 @@
 //! them, and the edges of a cycle that stand.
 #![tactic(auto)]
 
+mod arrows;
 mod drawn;
 mod graph;
 mod law;
+mod strokes;
+mod ties;
 
-pub use graph::{Picture, answer_word, draw_graph};
+pub use graph::{Picture, answer_word, draw_graph, draw_none};
 pub use law::{drawn_edges, drawn_relations};

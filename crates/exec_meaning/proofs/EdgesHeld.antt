@@ -5,7 +5,7 @@ use Rattle.std.specs.Prelude.{◌↔◌, IsTrue, option_map}
 use Rattle.relax_edges.specs.{declared.kinds.Reach.TheVariants.Internal, declared.kinds.Com.TheVariants.Rf, declared.edge.Edge.Edge}
 use Rattle.relax_edges.specs.declared.edge.Edge.TheVariants as edges
 use Rattle.cycle_events.specs.Resolution.{IsResolved, edge_at, event_after}
-use Rattle.cycle_events.proofs.Around.{source_after}
+use Rattle.cycle_events.proofs.CycleRound.{source_after}
 use Rattle.program_meaning.specs.{declared.WriteAt.WriteAt, Accesses.{Access, Visit, at_name}, Executions.Execution, Programs.{Program, accesses_in, visits_in}}
 use Rattle.program_meaning.specs.Standing.{EdgeStands, NamedAccess, IsEvent, Stands, event_name}
 use Rattle.exec_meaning.specs.StandingEdges.{named, stands, stands_if}

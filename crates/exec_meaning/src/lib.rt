@@ -15,4 +15,5 @@ pub use coherent::is_coherent;
 pub use edges::edge_stands;
 pub use final_state::final_of;
 pub use program_meaning::{Access, Execution, Read, SeenAccess, WriteAt};
+pub use runs::candidate_runs;
 pub use seen::seen_accesses;

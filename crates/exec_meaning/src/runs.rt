@@ -59,8 +59,8 @@ pub(crate) fn run_all<A>(
     Ok(Some(traces))
 }
 
-/// The runs of all threads in a candidate execution, which end.
-pub(crate) fn candidate_runs<A>(
+/// The runs of all threads in a candidate execution, which end. It may return `NoMemory` instead.
+pub fn candidate_runs<A>(
     alloc: Global,
     test: &ReadTest<A>,
     exec: &Execution,

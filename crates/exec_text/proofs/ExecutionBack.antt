@@ -10,7 +10,7 @@ use Rattle.exec_text.specs.declared.errors.ExecKind.TheVariants.{BadThread, BadR
 use Rattle.exec_text.specs.ExecutionText.{access_named, line_read, reads_and_writes_read, each_line_read, place_head, read_named, thread_head}
 use Rattle.exec_text.specs.Written.{access_word, place_line, read_word, text_of_execution, thread_line}
 use Rattle.exec_text.specs.ExecutionReadBack.{AccessFits, ExecutionFits, ReadFits, ExecutionReadsBack}
-use Rattle.exec_text.proofs.Whole.{place_lines_read, read_as, short_read, thread_lines_read}
+use Rattle.exec_text.proofs.WholeExecutions.{place_lines_read, read_as, short_read, thread_lines_read}
 use Rattle.exec_text.proofs.WordsBack.{IsWord, access_back, access_is_word, place_is_word, read_back, read_is_word, thread_is_word}
 use Rattle.exec_text.proofs.LinesBack.{is_printed, line_back, line_printed, lines_back, lines_few}
 

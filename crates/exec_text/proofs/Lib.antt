@@ -1,7 +1,7 @@
 pub mod FirstLines
 pub mod LinesRead
 pub mod Growing
-pub mod Whole
+pub mod WholeExecutions
 pub mod Appending
 mod WrittenRows
 pub mod WordsBack

@@ -6,13 +6,13 @@ pub mod Lines
 pub mod Blocks
 pub mod Printed
 pub mod Scans
-pub mod Agreeing
+pub mod AgreeingFacts
 pub mod Orders
 pub mod Sums
 pub mod Alike
 pub mod Forms
-pub mod Said
-pub mod Whole
+pub mod LineFacts
+pub mod WholeTests
 pub mod Names
 pub mod Laws
 pub mod Represented

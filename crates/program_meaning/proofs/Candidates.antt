@@ -12,7 +12,7 @@ use Rattle.program_meaning.specs.Executions.{Execution, CanRead, AreReadsOf, IsO
 use Rattle.program_meaning.specs.Programs.{Program, IsCandidate, runs_of, accesses_in}
 use Rattle.program_meaning.specs.Deciding.{every, writes_by, writes_to, writes_there, writes_value, can_read, first_read_passes, are_reads, are_distinct, is_covered, thread_covered, is_order, reads_of, reads_fit, orders_fit, lists_fit, all_ended, is_candidate}
 use Rattle.program_meaning.proofs.{Names.{same_write-refl, same_write-true}, Runs.{accesses-count, all_ended_means, all_ended_from}}
-use Rattle.program_meaning.proofs.Every.{every_means, every_from, every_name, every_name_from}
+use Rattle.program_meaning.proofs.ElementTests.{every_means, every_from, every_name, every_name_from}
 
 -- an implication that holds passes its test
 pub implies : (a b : Bool) → (a ≡ true → b ≡ true) → (not a || b) ≡ true

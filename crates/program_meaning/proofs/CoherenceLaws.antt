@@ -7,7 +7,7 @@ use Rattle.relax_edges.specs.declared.kinds.Dir.{Dir}
 use Rattle.relax_edges.specs.declared.kinds.Dir.TheVariants as dirs
 use Rattle.program_meaning.specs.{Accesses.Access, Executions.Execution, Coherence.MayFollow, Coherence.IsCoherent, Coherence.coherence_place}
 use Rattle.program_meaning.specs.Deciding.{name, may_follow, agrees, agrees_later, thread_coheres, coheres}
-use Rattle.program_meaning.proofs.{Names.in_thread, Names.at_name_of, Every.every_means, Every.every_from, Candidates.implies}
+use Rattle.program_meaning.proofs.{Names.in_thread, Names.at_name_of, ElementTests.every_means, ElementTests.every_from, Candidates.implies}
 
 follow_means : (d : Dir) (m n : ℕ) → may_follow d m n ≡ true → MayFollow d m n
 follow_means dirs.R m n h = leb-true m n h

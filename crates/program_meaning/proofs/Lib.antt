@@ -1,5 +1,5 @@
 pub mod Names
-pub mod Every
+pub mod ElementTests
 pub mod Runs
 pub mod Candidates
 pub mod CoherenceLaws

@@ -10,7 +10,7 @@ use Rattle.cycle_events.specs.{declared.errors.ResolveError.ResolveError, Resolu
 use Rattle.cycle_events.proofs.{Rotations.refused_alike as resolution_refused_alike, Rotations.resolves_alike, Turning.resolution_resolved}
 use Rattle.arch_trait.specs.{declared.step.Step.Step, Threads.Puts}
 use Rattle.tests_force_cycles.specs.{CycleSteps.cycle_steps, TestOf.plain}
-use Rattle.tests_force_cycles.proofs.Everywhere.{position_none}
+use Rattle.tests_force_cycles.proofs.ListElements.{position_none}
 use Rattle.test_maker.specs.declared.refusal.Refusal.{Refusal}
 use Rattle.test_maker.specs.Refusals.{foreign_edge, need_refusal, unobserved_need, is_crowded, crowded_thread, resolved_refusal, refusal_of}
 use Rattle.test_maker.specs.declared.refusal.Refusal.TheVariants as refusals

@@ -9,7 +9,7 @@ use Rattle.cycle_events.specs.Values.{is_observed, write_count}
 use Rattle.arch_trait.specs.{declared.link.Link.TheVariants.Plain, declared.step.Step.Step, Links.edge_link, Threads.shape_of}
 use Rattle.accesses_force_cycles.proofs.Lists.{map-map}
 use Rattle.tests_force_cycles.specs.{CycleSteps.{cycle_steps, event_link, event_step, observer_steps, observing, thread_steps}, TestOf.plain}
-use Rattle.tests_force_cycles.proofs.{Everywhere.all_from, StepsAt.{by_steps, observer_steps_at, thread_steps_at}}
+use Rattle.tests_force_cycles.proofs.{ListElements.all_from, StepsAt.{by_steps, observer_steps_at, thread_steps_at}}
 use Rattle.rotations_are_alike.proofs.{Alike.{Alike, ThreadFrom}, Parts.events_below, Shapes.{StepAlike, shape_alike}}
 use Rattle.rotations_are_alike.proofs.Values.{entered_alike, located_alike, observed_alike, spot_from}
 

@@ -5,7 +5,7 @@ use Rattle.std.proofs.{lemmas.Bool.lt-ltb, lemmas.Bool.le-ltb, Math.Nat.mod-eq_o
 use Rattle.relax_edges.specs.declared.edge.Edge.{Edge}
 use Rattle.list_laws.proofs.Cases.{by_less}
 use Rattle.cycle_events.specs.Resolution.{external_count, move_count, edge_at, ends_outside, event_after, location_of, slot_of, events_in, IsResolved}
-use Rattle.cycle_events.proofs.{Arcs.location_below, Around.by_after, Around.after_below}
+use Rattle.cycle_events.proofs.{Arcs.location_below, CycleRound.by_after, CycleRound.after_below}
 use Rattle.accesses_force_cycles.proofs.Lists.{map-map}
 use Rattle.cycle_events.proofs.Rotations.{edge_first, edge_second, external_count-append, move_count-append, ended_back, renumbered}
 use Rattle.rotations_are_alike.proofs.{Parts.events_first, Parts.events_second, Parts.events_below, Alike.Alike, Alike.ThreadFrom}

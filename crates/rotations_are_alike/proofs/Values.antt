@@ -10,9 +10,9 @@ use Rattle.list_laws.proofs.{Cases.{by_test, by_same}, Finds.{any_upto, any_upto
 use Rattle.cycle_events.specs.Resolution.{move_count, edge_at, event_before, event_after, location_of, IsResolved}
 use Rattle.cycle_events.specs.Values.{edge_into, is_write_at, value_of, write_count, is_inner_entry, is_observed, first_need, observer_need}
 use Rattle.cycle_events.specs.Entries.{inner_entry}
-use Rattle.cycle_events.proofs.{Locations.location_first, Arcs.{leaving, location_below, several_locations}, Along.{is_write, value_after, value_at_end}}
+use Rattle.cycle_events.proofs.{Locations.location_first, Arcs.{leaving, location_below, several_locations}, ValuesAlongEdges.{is_write, value_after, value_at_end}}
 use Rattle.cycle_events.proofs.Entries.{inner_found, no_inner_entry, no_need_more}
-use Rattle.cycle_events.proofs.Around.{by_after, after_below, after_before, before_after, before_below, moves_within}
+use Rattle.cycle_events.proofs.CycleRound.{by_after, after_below, after_before, before_after, before_below, moves_within}
 use Rattle.rotations_are_alike.proofs.Alike.{Alike}
 
 -- from a number up to another below n

@@ -1,6 +1,6 @@
 -- The laws of this crate.
 use Rattle.sc_and_interleavings.proofs.Vocabulary.{◌<◌, List, length, arith, count_by-le-length, Edge, is_external, IsResolved, WriteAt, Execution, Program, IsCandidate, accesses_in, AllStand, WritesWithin, Lives, Precedes, IsKept, KeepsEach, KeptOrdersForbid, SequentialIsCoherent, StandingIsNotSequential}
-use Rattle.sc_and_interleavings.proofs.{Places.held, CoherenceLaws.candidates_are_sc_per_location, Sequential.sequential_per_location, Around.{all_stand_cycle, lives_without_cycle, program_order_keeps}}
+use Rattle.sc_and_interleavings.proofs.{Places.held, CoherenceLaws.candidates_are_sc_per_location, Sequential.sequential_per_location, RelationCycles.{all_stand_cycle, lives_without_cycle, program_order_keeps}}
 
 -- a sequentially consistent candidate is coherent per location
 pub sequential_is_coherent : SequentialIsCoherent

@@ -10,15 +10,15 @@ pub mod Filtered
 pub mod RunReads
 pub mod MadeReads
 pub mod Lines
-pub mod Rising
+pub mod InterleavingSteps
 pub mod Made
-pub mod Around
+pub mod RelationCycles
 pub mod InterleavingLaws
 pub mod Sorting
 pub mod Listed
-pub mod Coming
+pub mod AccessOrder
 pub mod Line
-pub mod Back
+pub mod NoCycleOfInterleavings
 pub mod SequentialLaws
 mod SequentialExamples
 pub mod Distances

@@ -1,6 +1,6 @@
 -- The execution that an interleaving makes is one of its threads, and of its program where it is one of a program.
 use Rattle.sc_and_interleavings.proofs.Vocabulary.{◌≡◌, ℕ, ◌+◌, true, List, map, Option, Some, None, slice_get, take, refl, sym, ◌∙◌, ap, subst, arith, count_by, filter, option_and_then, slice_get_within, upto, length-map-upto, slice_get-map-upto, WriteAt, Access, read, write, is_read, at_name, CanRead, AreReadsOf, IsOrderOf, IsExecutionOf, value_of_access, name, IsInterleaving, GivesValues, writes_in, latest, accesses_on, at_name_of, rank_filter, before, reads_from, made_by, InterleavingsMakeExecutions}
-use Rattle.sc_and_interleavings.proofs.{Filtered.found, Rising.made_sequential, Lines.{to_place, passes, passed, before_is, latest_at}}
+use Rattle.sc_and_interleavings.proofs.{Filtered.found, InterleavingSteps.made_sequential, Lines.{to_place, passes, passed, before_is, latest_at}}
 use Rattle.sc_and_interleavings.proofs.MadeReads.{are_reads_from, thread_reads, reads_counted, same_runs}
 
 -- a read can read the last write before it

@@ -2,7 +2,7 @@
 -- of an observer comes right after the write that it reads.
 use Rattle.sc_and_interleavings.proofs.Vocabulary.{◌≡◌, ℕ, ◌+◌, ◌<◌, ◌≤◌, true, List, [], ◌∷◌, length, Option, Some, None, slice_get, refl, sym, ◌∙◌, ap, arith, ObsMode, Edge, source_of, is_diff, by_same, unrank_upto, IsResolved, after_below, edge_at, event_access, event_after, event_at_name, kind_of, thread_of, slot_of, location_of, external_count, move_count, value_of, write_at, is_write, is_observed, WriteAt, Access, read, write, at_name, order_place, order_at, source_at, event_name, IsNumbering, cycle_accesses, intended, observed_locations, EventAt, LoadAt, by_origin, resolves, moves, intended_is_execution, place_is_value, Resolves, later_slot, write_event, WritesWithin, EachLinkCloses, OthersAreKept, PrecedesBut, IsWriteTo, ReadsFrom, CoherenceOrder, IsBefore, FromRead, StepBy, ByPo, ByRf, ByCo, ByFr, IsPathBy, thread_up}
 use Rattle.sc_and_interleavings.proofs.{Places.{Held, held, place_in}, Distances.{distance, distance_beside, further_by_value, further_than_write}}
-use Rattle.sc_and_interleavings.proofs.{Around.ordering_inside, Levels.WriteOf}
+use Rattle.sc_and_interleavings.proofs.{RelationCycles.ordering_inside, Levels.WriteOf}
 use Rattle.relax_edges.specs.declared.kinds.Dir.TheVariants as dirs
 
 -- the rank of an access: twice the distance of its event, or one more than that of the write that an observer's read reads

@@ -6,7 +6,7 @@ pub use Rattle.std.proofs.lemmas.Option.{slice_get_past, slice_get_within}
 pub use Rattle.std.specs.{List.count_by, List.filter, List.filter_map, List.find, List.list_all, Option.option_and_then}
 pub use Rattle.std.specs.Prelude.{if◌then◌else◌, nat_lt, unwrap_or, ◌⊎◌}
 pub use Rattle.accesses_force_cycles.proofs.Accesses.{EventAt, LoadAt, by_origin, event_at_name, observer_thread, thread_accesses}
-pub use Rattle.accesses_force_cycles.proofs.{AllStand.access_of_visit, Bridge.moves, Bridge.resolves}
+pub use Rattle.accesses_force_cycles.proofs.{AllStand.access_of_visit, ResolvedFacts.moves, ResolvedFacts.resolves}
 pub use Rattle.accesses_force_cycles.proofs.IntendedExists.{intended_is_execution, last_of_order}
 pub use Rattle.accesses_force_cycles.proofs.IntendedOrders.{gives_writes, place_is_value, place_of_value}
 pub use Rattle.accesses_force_cycles.proofs.Lists.{Got, got_below, got_map, image_of, length-filter_map-upto, rank_filter, same_below, same_by_gets, slice_get-filter_map-upto}
@@ -15,9 +15,9 @@ pub use Rattle.accesses_force_cycles.proofs.Orders.{Holds, found_at, order_by_st
 pub use Rattle.accesses_force_cycles.proofs.Resolves.{IsWrite, Resolves, later_slot, written_by}
 pub use Rattle.accesses_force_cycles.proofs.WriteEvents.{NthWrite, more_than, nth_write, ordered_write-is, rank_below, write_event}
 pub use Rattle.accesses_force_cycles.specs.Joining.{EndsAsAsked, MakesAccesses, ReadsAsAsked, accesses_filled, value_taken, values_left, values_read}
-pub use Rattle.cycle_events.proofs.{Along.value_at_end, Along.values_grow, Along.values_up, Arcs.leaving}
-pub use Rattle.cycle_events.proofs.Around.{after_before, after_below, before_below, by_after}
-pub use Rattle.cycle_events.proofs.{Locations.moves_most, Locations.moves_on, Locations.moves_up, Threads.thread_up, Ways.by_way, Ways.only_on_way}
+pub use Rattle.cycle_events.proofs.{ValuesAlongEdges.value_at_end, ValuesAlongEdges.values_grow, ValuesAlongEdges.values_up, Arcs.leaving}
+pub use Rattle.cycle_events.proofs.CycleRound.{after_before, after_below, before_below, by_after}
+pub use Rattle.cycle_events.proofs.{Locations.moves_most, Locations.moves_on, Locations.moves_up, Threads.thread_up, TurnedRound.by_way, TurnedRound.only_on_way}
 pub use Rattle.cycle_events.specs.Resolution.{IsResolved, edge_at, event_after, event_before, events_in, external_count, location_of, move_count, moves_before, slot_of, thread_of}
 pub use Rattle.cycle_events.specs.Values.{is_observed, is_write, value_of, way_place, write_at, write_count}
 pub use Rattle.list_laws.proofs.{Cases.by_less, Cases.by_option, Cases.by_same, Cases.by_test, Numbers.length-map-upto, Numbers.slice_get-map-upto}
@@ -27,7 +27,7 @@ pub use Rattle.micro_ops.specs.Machine.{Effect, ThreadState, step}
 pub use Rattle.micro_ops.specs.Running.{At, OnRun, Outcome, Past, Point, Run, Stuck, Wants, add_item, beginning, exec, go, is_load, led, outcome, run_ended, runs}
 pub use Rattle.micro_ops.specs.{declared.operation.Item.Item, declared.operation.Micro.Micro}
 pub use Rattle.program_meaning.proofs.{Candidates.candidate_means, Candidates.writes_there_means, Candidates.writes_to_from, CoherenceLaws.coheres_means}
-pub use Rattle.program_meaning.proofs.{Every.every_name, Names.GotFrom, Names.at_name_of, Names.got_from_list, Names.same_write-refl, Names.same_write-true}
+pub use Rattle.program_meaning.proofs.{ElementTests.every_name, Names.GotFrom, Names.at_name_of, Names.got_from_list, Names.same_write-refl, Names.same_write-true}
 pub use Rattle.program_meaning.proofs.Runs.{accesses-count}
 pub use Rattle.program_meaning.specs.Accesses.{Access, Barred, accesses_of, at_name, got_from, is_read, read, reads_among, reads_before, reads_by, visits_from, visits_of, write}
 pub use Rattle.program_meaning.specs.Coherence.{IsCoherent, MayFollow, coherence_place, final_value, last_write, named_by, order_at, order_place, placed_by, source_at, value_of_access}

@@ -6,7 +6,7 @@ use Rattle.program_meaning.specs.Intended.{IsNumbering, cycle_accesses, intended
 use Rattle.program_meaning.specs.Standing.{event_name}
 use Rattle.program_meaning.proofs.Names.{GotFrom}
 use Rattle.accesses_force_cycles.specs.Joining.{EndsAsAsked, IsOutcome, MakesAccesses, ReadsAsAsked, accesses_filled, values_read}
-use Rattle.accesses_force_cycles.proofs.{Bridge.resolves, Laws.all_edges_stand_law, Laws.an_outcome_law, Resolves.{Resolves}}
+use Rattle.accesses_force_cycles.proofs.{ResolvedFacts.resolves, Laws.all_edges_stand_law, Laws.an_outcome_law, Resolves.{Resolves}}
 use Rattle.accesses_force_cycles.proofs.{Numbering.{Numbers, location_of_number, numbering_onto}, WriteEvents.{WriteEvent, write_event, rank_below}}
 use Rattle.sc_and_interleavings.proofs.{InterleavingLaws.standing_is_not_sequential, SequentialMade.{Filled, filled_from, writes_to_own}}
 use Rattle.states_fix_executions.specs.CycleStates.{CyclesAreDecided, CyclesAreRebuilt, SettlesCycle, StarredIsRelaxed, asked_end, starred}

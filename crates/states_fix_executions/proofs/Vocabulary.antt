@@ -19,7 +19,7 @@ pub use Rattle.program_meaning.specs.Interleavings.{accesses_on, runs_on, writes
 pub use Rattle.program_meaning.specs.Programs.{IsCandidate, IsCoherentIn, Program, Thread, accesses_in, made_in, run_of, runs_of, visits_in}
 pub use Rattle.program_meaning.specs.SeenAccesses.{seen_access, seen_accesses, seen_in, seen_in_thread}
 pub use Rattle.program_meaning.specs.{declared.WriteAt.WriteAt, declared.seen.SeenAccess.SeenAccess}
-pub use Rattle.sc_and_interleavings.proofs.Coming.{Leads, acyclic, comes, comes_by, earlier_comes, key, lesser_comes}
+pub use Rattle.sc_and_interleavings.proofs.AccessOrder.{Leads, acyclic, comes, comes_by, earlier_comes, key, lesser_comes}
 pub use Rattle.sc_and_interleavings.proofs.{InterleavingLaws.sequential_is_coherent, Places.Held, Places.held, Places.place_in}
 pub use Rattle.sc_and_interleavings.specs.{Along.values_in, CoherenceLaws.WritesWithin}
 pub use Rattle.sc_and_interleavings.specs.Relations.{CoherenceOrder, FromRead, IsBefore, IsReadOf, IsWriteTo, ReadsFrom}

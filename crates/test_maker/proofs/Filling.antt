@@ -6,7 +6,7 @@ use Rattle.relax_edges.specs.{declared.TheConstants.MAX_EDGES, declared.edge.Edg
 use Rattle.list_laws.specs.Numbers.{upto}
 use Rattle.list_laws.proofs.{Numbers.length-map-upto, Ranks.{length-filter-upto, rank_upto, filter_upto_yes, filter_upto_no}}
 use Rattle.cycle_events.specs.{Resolution.{IsResolved, edge_at, external_count, move_count, slot_of}, Values.{is_observed, write_count}}
-use Rattle.cycle_events.proofs.{Threads.slot-zero, Along.write_count_most, ValueLaws.threads_and_observers}
+use Rattle.cycle_events.proofs.{Threads.slot-zero, ValuesAlongEdges.write_count_most, ValueLaws.threads_and_observers}
 use Rattle.program_meaning.specs.Intended.{observed_locations}
 use Rattle.arch_trait.specs.Links.{edge_link}
 use Rattle.tests_force_cycles.specs.CycleSteps.{event_link}

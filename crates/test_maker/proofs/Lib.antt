@@ -1,7 +1,7 @@
 pub mod HavingTests
 pub mod Filling
 pub mod Ranges
-pub mod Forcing
+pub mod TestsForced
 pub mod Growing
 pub mod Rooms
 pub mod Naming

@@ -10,7 +10,7 @@ use Rattle.micro_ops.specs.{declared.operation.Micro.Micro, Running.{labels_of, 
 use Rattle.micro_ops.specs.declared.operation.Micro.TheVariants as ops
 use Rattle.arch_trait.specs.{declared.code.Code.Code, declared.step.Step.Step, Codes.{IsFormedCode, is_within, thread_code_of}, Laws.{InOrder, IsArch}}
 use Rattle.arch_trait.specs.{Links.branches, Writing.{label_below, place_below}, PlaceNames.letters, Threads.{Puts, branches_in, compiled, shape_of, visits}}
-use Rattle.arch_trait.proofs.{Whole.is_formed, Taking.in_order_le, Tables.length-letters}
+use Rattle.arch_trait.proofs.{WholeRuns.is_formed, Taking.in_order_le, Tables.length-letters}
 use Rattle.litmus_text.specs.{Tests.IsPrintable, declared.test.Test.Test}
 use Rattle.tests_force_cycles.specs.{CycleSteps.cycle_steps, TestOf.plain}
 use Rattle.tests_force_cycles.proofs.StepsFit.{steps_fit, steps_placed}

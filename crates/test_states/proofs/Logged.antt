@@ -14,8 +14,8 @@ use Rattle.accesses_force_cycles.proofs.{Lists.{got_below, got_map, image_of, sa
 use Rattle.sc_and_interleavings.specs.Along.{values_in}
 use Rattle.tests_force_cycles.specs.{CycleSteps.{cycle_steps, numbers_read}, FinalStates.final_state, TestHeadline.{FindsRegisters, HasCode}}
 use Rattle.tests_force_cycles.specs.TestOf.{is_named_location, last_term, last_terms, load_term, load_terms, plain, thread_terms}
-use Rattle.tests_force_cycles.proofs.{Everywhere.{all_from, all_gets}, Making.{candidate_enough, candidate_lists}, PlaceNames.{AreNamed, place_found}}
-use Rattle.tests_force_cycles.proofs.{Meeting.{ShowsRegisters, terms_from_threads, terms_of_thread}, Terms.{loads-count, reads-count}, ThreadRuns.{DidThread, did_thread}}
+use Rattle.tests_force_cycles.proofs.{ListElements.{all_from, all_gets}, AccessesMade.{candidate_enough, candidate_lists}, PlaceNames.{AreNamed, place_found}}
+use Rattle.tests_force_cycles.proofs.{ConditionMet.{ShowsRegisters, terms_from_threads, terms_of_thread}, Terms.{loads-count, reads-count}, ThreadRuns.{DidThread, did_thread}}
 use Rattle.tests_force_cycles.proofs.TestCodes.{are_codes, cycle_codes, cycle_program, loads_below, numbers_kept, steps_numbered}
 use Rattle.states_fix_executions.specs.States.{EndsIn, EndsWith}
 use Rattle.test_states.specs.LoggedStates.{logged_end, logged_loads, logged_state}

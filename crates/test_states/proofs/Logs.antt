@@ -8,11 +8,11 @@ use Rattle.final_cond.specs.{Conditions.{AtPlace, CondSeen, LeftSeen, TermSeen},
 use Rattle.arch_trait.specs.{Laws.IsArch, PlaceNames.location_name, SeenTests.TestSeen, Threads.Puts}
 use Rattle.program_meaning.specs.{Executions.Execution, Intended.{IsNumbering, intended}, Programs.{IsCandidate, Program, accesses_in}}
 use Rattle.accesses_force_cycles.specs.Joining.{MakesAccesses}
-use Rattle.accesses_force_cycles.proofs.{Bridge.resolves, Numbering.location_of_number}
+use Rattle.accesses_force_cycles.proofs.{ResolvedFacts.resolves, Numbering.location_of_number}
 use Rattle.sc_and_interleavings.specs.{CoherenceLaws.WritesWithin}
 use Rattle.sc_and_interleavings.proofs.{InterleavingLaws.{sequential_is_coherent, standing_is_not_sequential}, SequentialMade.writes_to_own}
 use Rattle.tests_force_cycles.specs.{FinalStates.final_state, TestOf.{test_of}, TestPrograms.test_program, TestHeadline.{Forces, HasCode, IsRenumbered}}
-use Rattle.tests_force_cycles.proofs.{Making.makes, TestCodes.{are_codes, cycle_codes, cycle_program}}
+use Rattle.tests_force_cycles.proofs.{AccessesMade.makes, TestCodes.{are_codes, cycle_codes, cycle_program}}
 use Rattle.tests_force_cycles.proofs.Headline.{renumbered_force_law, renumbered_names, renumbered_numbers, renumbered_program}
 use Rattle.states_fix_executions.specs.States.{EndsIn, FinalState, HasVerdict, Impossible, Incoherent, Relaxed, Sequential, SomeEnding, Verdict}
 use Rattle.states_fix_executions.specs.{CycleStates.SettlesCycle, Listed.verdict_of, Rebuilt.{rebuilt, verdict_looked}}

@@ -15,9 +15,9 @@ use Rattle.accesses_force_cycles.proofs.{Needs.served_if_valued, Laws.{all_edges
 use Rattle.tests_force_cycles.specs.{CycleSteps.cycle_steps, TestPrograms.test_program, FinalStates.{final_state, IsAskedFor}}
 use Rattle.tests_force_cycles.specs.TestOf.{plain, last_terms, load_terms, test_of}
 use Rattle.tests_force_cycles.specs.TestHeadline.{HasCode, HasTest, FindsRegisters, IsRenumbered, TestsForce, RenumberedForce, TestsAsk}
-use Rattle.tests_force_cycles.proofs.{Everywhere.position_none, TestCodes.{cycle_codes, cycle_program, are_codes}, Tying.tied_up, Meeting.IsMet}
+use Rattle.tests_force_cycles.proofs.{ListElements.position_none, TestCodes.{cycle_codes, cycle_program, are_codes}, MarksAndLinks.tied_up, ConditionMet.IsMet}
 use Rattle.tests_force_cycles.proofs.PlaceNames.{AreNamed, letter_at, names_differ, locations_few}
-use Rattle.tests_force_cycles.proofs.{Making.{makes, makes_enough, intended_enough, intended_ends}, Asking.{reads_asked, asked_met, ends_asked, asked_ends}}
+use Rattle.tests_force_cycles.proofs.{AccessesMade.{makes, makes_enough, intended_enough, intended_ends}, TestOutcomes.{reads_asked, asked_met, ends_asked, asked_ends}}
 
 -- an execution of the program of a cycle's test that the test asks for
 pub record IsAsked (a : Puts) (register_name : ℕ → List ℕ) (es : List Edge) (mode : ObsMode) (number : ℕ → ℕ) (names : List (List ℕ)) (register_number : List ℕ → Option ℕ) (x : Execution) : Type 0 where

@@ -10,7 +10,7 @@ use Rattle.arch_trait.specs.PlaceNames.{location_name, letters, number_in}
 use Rattle.arch_trait.proofs.Tables.{location_new}
 use Rattle.program_meaning.specs.Intended.{IsNumbering}
 use Rattle.accesses_force_cycles.proofs.Numbering.{numbering_onto}
-use Rattle.tests_force_cycles.proofs.Everywhere.{position_none, position_first}
+use Rattle.tests_force_cycles.proofs.ListElements.{position_none, position_first}
 
 -- place l of the names of locations is that of location l
 pub letter_at : (n l : ℕ) → l < n → slice_get (letters n) l ≡ Some (location_name l)

@@ -12,8 +12,8 @@ use Rattle.list_laws.specs.Numbers.{upto}
 use Rattle.list_laws.proofs.Numbers.{length-upto, length-map-upto, slice_get-upto}
 use Rattle.cycle_events.specs.Resolution.{IsResolved, edge_at, move_count, event_before, event_after, events_in, thread_of, slot_of, location_of}
 use Rattle.cycle_events.specs.Values.{value_of, write_count}
-use Rattle.cycle_events.proofs.{Threads.{slot-zero, slot_out, slot_of_event}, Around.{after_below, source_after, internal_follows}, Arcs.location_below}
-use Rattle.cycle_events.proofs.{Sizes.{only_in_slot, thread_has_events, thread_size_most}, Along.{value_most, write_count_most}, ValueLaws.observed_writes}
+use Rattle.cycle_events.proofs.{Threads.{slot-zero, slot_out, slot_of_event}, CycleRound.{after_below, source_after, internal_follows}, Arcs.location_below}
+use Rattle.cycle_events.proofs.{Sizes.{only_in_slot, thread_has_events, thread_size_most}, ValuesAlongEdges.{value_most, write_count_most}, ValueLaws.observed_writes}
 use Rattle.arch_trait.specs.{declared.step.Step.Step, declared.link.Link.Link, declared.link.Link.TheVariants.Plain}
 use Rattle.arch_trait.specs.{Links.{kind_link, edge_link, depends_on_load, is_data}, Threads.{FitStep, FitSteps, is_load_dir}}
 use Rattle.tests_force_cycles.proofs.{EdgeMarks.has_edge, StepsAt.by_steps}

@@ -6,7 +6,7 @@ use Rattle.relax_edges.specs.{declared.kinds.ObsMode.ObsMode, declared.edge.Edge
 use Rattle.cycle_events.specs.Resolution.{IsResolved, move_count}
 use Rattle.arch_trait.specs.{declared.step.Step.Step, Codes.{AllBelow, MakesSteps}, Threads.{Puts, ThreadCode, compiled}, Laws.IsArch}
 use Rattle.arch_trait.specs.PlaceRenumbering.{step_at, renumbered}
-use Rattle.arch_trait.proofs.{Whole.{makes_steps, is_formed}, Renumbered.renumbered_makes}
+use Rattle.arch_trait.proofs.{WholeRuns.{makes_steps, is_formed}, Renumbered.renumbered_makes}
 use Rattle.program_meaning.specs.Programs.{Program}
 use Rattle.accesses_force_cycles.proofs.Lists.{got_map, image_of, map_same, map-map}
 use Rattle.tests_force_cycles.specs.{CycleSteps.{cycle_steps, numbers_read}, TestOf.plain, TestPrograms.program_of, TestHeadline.HasCode}

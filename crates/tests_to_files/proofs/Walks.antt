@@ -11,7 +11,7 @@ use Rattle.arch_trait.specs.{Threads.Puts, Writing.Writing}
 use Rattle.diy_io.specs.Shelf.{ShelfSeen}
 use Rattle.tests_to_files.specs.{declared.names.Closed.Closed, declared.wanted.Wanted.Wanted, ListingEnds.{WritesAll, StopsAtAll}}
 use Rattle.tests_to_files.specs.{ListedFiles.{all_path, count_line}, Keeping.{HasGone, NamesAll, StopsNaming}, Plans.{HaveTests, plan_of, is_sought, IsPlanned}}
-use Rattle.tests_to_files.proofs.{Going.{names_put, names_stop}, Wanting.{answers_too, listed_alike, writes_too, stops_all_too}}
+use Rattle.tests_to_files.proofs.{FileSteps.{names_put, names_stop}, WantedCycles.{answers_too, listed_alike, writes_too, stops_all_too}}
 
 -- the normal form of a normal form is itself
 pub least_again : (u : List Edge) (last : Option (List Edge)) → IsNormal u → MatchOption last ⊥ (λ v. IsLeast u v) → last ≡ Some u

@@ -8,7 +8,7 @@ use Rattle.edge_algebra_laws.proofs.{Ordering.follows_irreflexive, Rotating.{nor
 use Rattle.cycle_enum_laws.specs.Listing.{IsOneOf, AreRising}
 use Rattle.diy_io.specs.Shelf.{Files, with_file}
 use Rattle.diycross7_cycles.specs.{Choices.crossed, Laws.AreApart}
-use Rattle.diycross7_cycles.proofs.Crossing.{crosses_all}
+use Rattle.diycross7_cycles.proofs.CrossedCycles.{crosses_all}
 use Rattle.tests_to_files.specs.{ListedFiles.{last_number, file_of, path_of, all_path, file_lines, test_files}, Putting.with_files}
 use Rattle.tests_to_files_laws.specs.OwnFiles.{DifferentHaveOwnFiles, ListedAreDifferent, CrossedAreDifferent}
 use Rattle.tests_to_files_laws.proofs.{Stems.{paths, never_all}, Written.{NotThere, holds}}

@@ -11,7 +11,8 @@ use Rattle.bytes_force_cycles.proofs.BackLaws.{reads_back}
 use Rattle.co_tests.specs.{CutResolution.cut_open, CoherenceTests.HasCoherenceTest, CoherenceTests.coherence_test_of, CoherenceTests.incoherent_execution}
 use Rattle.co_tests.specs.{CoRefusals.coherence_text, Incoherence.BytesShowIncoherence}
 use Rattle.co_tests.specs.Shape.{HasShape}
-use Rattle.co_tests.proofs.{Asked.HasLoopCode, Printed.has_code, Readable.readable, Values.one_move}
+use Rattle.co_tests.proofs.{ConditionMet.HasLoopCode, Printed.has_code, Readable.readable, Values.one_move}
+use Rattle.exec_meaning.proofs.RunLaws.{candidate_count}
 use Rattle.two_runs.specs.IntendedRuns.{IsRunOf}
 use Rattle.two_runs.proofs.{CutRuns.cut_small, ReadAgain.one_reading, ReadAgain.run_read, ShownLaws.run_intended}
 
@@ -36,6 +37,7 @@ pub is_coherence_run : (a : Puts) (arch : ArchName) (w : Writing) (name : List â
 is_coherence_run a arch w name es test run laws back cells single named has u reads is = record {
   reads = reads;
   run_is = is;
+  threads = candidate_count test run candidate;
   places = candidate.execution.write_lists;
   run_reads =
       run_read arch w name (coherence_test_of a (name_in w.registers) es) (cut_open es) Avoid None plain test run (cut_small es code.loop_of.loop)

@@ -7,11 +7,11 @@ use Rattle.arch_trait.specs.{Laws.IsArch, Threads.Puts}
 use Rattle.program_meaning.specs.{Accesses.Access, Executions.Execution, Coherence.final_value, Programs.Program}
 use Rattle.program_meaning.specs.Intended.{IsNumbering, cycle_accesses, intended}
 use Rattle.accesses_force_cycles.specs.{Exchange.exchanged, Laws.IsUndecided}
-use Rattle.accesses_force_cycles.proofs.{AllStand.joined_stand, Bridge.resolves, Laws.no_condition_serves_law, Needs.refused_entry, Resolves.Resolves}
+use Rattle.accesses_force_cycles.proofs.{AllStand.joined_stand, ResolvedFacts.resolves, Laws.no_condition_serves_law, Needs.refused_entry, Resolves.Resolves}
 use Rattle.tests_force_cycles.specs.{FinalStates.final_state, TestHeadline.HasCode}
-use Rattle.tests_force_cycles.proofs.{Headline.{renumbered_numbers, renumbered_program}, TestCodes.{cycle_codes, cycle_program, are_codes}, Tying.tied_up}
+use Rattle.tests_force_cycles.proofs.{Headline.{renumbered_numbers, renumbered_program}, TestCodes.{cycle_codes, cycle_program, are_codes}, MarksAndLinks.tied_up}
 use Rattle.two_runs.specs.Undecided.{NoneTells, Undecided, TestsUndecided}
-use Rattle.two_runs.proofs.{Breaking.edge_breaks, Carried.{IsCarried, carried}, States.{end_alike, one_state}}
+use Rattle.two_runs.proofs.{BrokenEdges.edge_breaks, CarriedExecutions.{IsCarried, carried}, States.{end_alike, one_state}}
 
 -- whatever holds of the final state of the first execution holds of that of the second
 pub none_tells : (p : Program) (names : List (List ℕ)) (register_number : List ℕ → Option ℕ) (es : List Edge) (edge : ℕ) (one two : Execution) (C : (LeftSeen → Option Value) → Type 0) → NoneTells p names register_number es edge one two → C (final_state p names register_number one) → C (final_state p names register_number two)

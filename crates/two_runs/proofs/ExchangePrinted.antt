@@ -7,7 +7,7 @@ use Rattle.arch_trait.specs.{Cells.{WritesCells, MakesOneAccess}, Laws.IsArch, P
 use Rattle.arch_trait.specs.{Writing.{Writing, WritesBack, name_in}, SeenTests.TestSeen}
 use Rattle.litmus_text.specs.{TestReadsBack.TestReadsBack, Reread.reread, TestReading.TestRead, TestText.test_text}
 use Rattle.bytes_force_cycles.proofs.{BackLaws.reads_back, Readable.readable}
-use Rattle.bytes_force_cycles.proofs.Rereading.{reread_test, reread_renumbered, by_table, threads_numbered, number_of_location, numbered_same, intended_same}
+use Rattle.bytes_force_cycles.proofs.RereadTests.{reread_test, reread_renumbered, by_table, threads_numbered, number_of_location, numbered_same, intended_same}
 use Rattle.program_meaning.specs.{Executions.Execution, Programs.Program, Intended.{intended, location_numbered}}
 use Rattle.accesses_force_cycles.specs.Exchange.{exchanged, exchanged_order}
 use Rattle.accesses_force_cycles.proofs.Lists.{map_same}

@@ -7,8 +7,8 @@ use Rattle.relax_edges.specs.{declared.kinds.ObsMode.ObsMode, declared.edge.Edge
 use Rattle.list_laws.specs.Numbers.{upto}
 use Rattle.list_laws.proofs.Numbers.{get_or-upto, length-map-upto, length-upto}
 use Rattle.cycle_events.specs.{Resolution.{IsResolved, events_in, external_count, location_of, move_count, thread_of}, Values.{value_of, write_at, write_count}}
-use Rattle.cycle_events.proofs.{Arcs.thread_below, Sizes.{external_and_moves, thread_size_most}, Threads.slot_most, Along.value_most}
-use Rattle.cycle_events.proofs.{Along.write_count_most, ValueLaws.threads_and_observers, Writes.write_of as number_written}
+use Rattle.cycle_events.proofs.{Arcs.thread_below, Sizes.{external_and_moves, thread_size_most}, Threads.slot_most, ValuesAlongEdges.value_most}
+use Rattle.cycle_events.proofs.{ValuesAlongEdges.write_count_most, ValueLaws.threads_and_observers, Writes.write_of as number_written}
 use Rattle.text_parts.specs.Names.{is_place_name}
 use Rattle.litmus_text.specs.declared.limits.TheConstants.{MAX_ACCESSES}
 use Rattle.program_meaning.specs.{declared.WriteAt.WriteAt, Accesses.is_read, Standing.event_name}

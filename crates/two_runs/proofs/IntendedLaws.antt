@@ -10,6 +10,7 @@ use Rattle.tests_force_cycles.specs.{TestHeadline.HasTest, TestOf.test_of}
 use Rattle.bytes_force_cycles.specs.{PrintedHeadline.{BytesForce, PrintedForce}, Readings.{program_read, place_in_test}}
 use Rattle.test_maker.specs.{CycleText.cycle_text, Refusals.{foreign_edge, refusal_of, resolved_refusal}}
 use Rattle.test_maker.proofs.{HavingTests.neither, OfArch.resolved_turned}
+use Rattle.exec_meaning.proofs.RunLaws.{candidate_count}
 use Rattle.two_runs.specs.{IntendedRuns.{IsRead, IsRunOf, intended_by}, Runs.{numbers_by, run_by}}
 use Rattle.two_runs.proofs.{ReadAgain.{one_reading, read_again}, ShownLaws.run_intended}
 
@@ -46,6 +47,7 @@ unfolding cycle_text
 is_run a w name cycle mode test run laws back cells single named has u reads made = record {
   reads = reads;
   run_is = is;
+  threads = candidate_count test run candidate;
   places = candidate.execution.write_lists;
   run_reads = read_again a w name (turned cycle) mode None (numbers_by test.places) test run laws back cells single has.code named reads candidate made;
 }

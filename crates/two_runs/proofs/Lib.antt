@@ -11,7 +11,7 @@ pub mod IntendedLaws
 pub mod CutRuns
 pub mod CoherenceLaws
 pub mod States
-pub mod Carried
-pub mod Breaking
+pub mod CarriedExecutions
+pub mod BrokenEdges
 pub mod ExchangeLaws
 pub mod ExchangePrinted

@@ -10,7 +10,7 @@ use Rattle.arch_trait.specs.{Writing.{Writing, WritesBack, name_in}, SeenTests.T
 use Rattle.arch_trait.proofs.Tables.{length-letters, location_new}
 use Rattle.litmus_text.specs.{declared.errors.TextError.TextError, TestReadsBack.{TestReadsBack, is_in}, Printable.IsTestName, Reread.reread}
 use Rattle.litmus_text.specs.{TestReading.{TestRead, test_read}, TestText.test_text}
-use Rattle.bytes_force_cycles.proofs.{BackLaws.{reads_back, numbered_in}, Readable.readable, Rereading.got_is}
+use Rattle.bytes_force_cycles.proofs.{BackLaws.{reads_back, numbered_in}, Readable.readable, RereadTests.got_is}
 use Rattle.program_meaning.specs.{declared.WriteAt.WriteAt, Executions.Execution, Intended.location_numbered, Programs.IsCandidate}
 use Rattle.exec_meaning.proofs.RunLaws.{candidate_count}
 use Rattle.exec_text.specs.{ExecutionText.execution_read, ExecutionReadBack.ExecutionFits, Written.text_of_execution}

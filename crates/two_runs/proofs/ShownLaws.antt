@@ -13,7 +13,7 @@ use Rattle.litmus_text.specs.{declared.errors.TextError.TextError, declared.erro
 use Rattle.litmus_text.specs.declared.errors.ReadError.TheVariants as errors
 use Rattle.program_meaning.specs.{Executions.Execution, Intended.{intended, location_numbered, location_order, write_of}}
 use Rattle.accesses_force_cycles.specs.Exchange.{exchanged, exchanged_order}
-use Rattle.accesses_force_cycles.proofs.{Bridge.resolves, Needs.refused_entry}
+use Rattle.accesses_force_cycles.proofs.{ResolvedFacts.resolves, Needs.refused_entry}
 use Rattle.tests_force_cycles.specs.{TestHeadline.HasCode, TestOf.test_of}
 use Rattle.bytes_force_cycles.specs.Readings.{program_read, place_in_test}
 use Rattle.two_runs.specs.{Undecided.{BytesUndecided, NoneTells, PrintedUndecided, Undecided}, IntendedRuns.IsRead}

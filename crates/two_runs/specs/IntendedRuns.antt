@@ -17,10 +17,11 @@ abbrev pub IsRead : ArchName → Writing → List ℕ → Type 0
 IsRead arch w text = (test : TestRead) × (test_read arch w text ≡ Ok test)
 
 -- A text is read as a test, and an execution is the one that is meant for this test. The text of the execution, with the locations of
--- the test, is read as that execution, which has an order of writes for each location of the test.
+-- the test, is read as that execution, which has reads for each thread and an order of writes for each location of the test.
 pub record IsRunOf (arch : ArchName) (w : Writing) (text : List ℕ) (meant : TestRead → Execution) (test : TestRead) (run : Execution) : Type 0 where
   pub reads : test_read arch w text ≡ Ok test
   pub run_is : run ≡ meant test
+  pub threads : length run.reads ≡ length test.threads
   pub places : length run.orders ≡ length test.places
   pub run_reads : execution_read (length test.threads) test.places (text_of_execution test.places run) ≡ Ok run
 

@@ -2,7 +2,7 @@
 use Rattle.std.proofs.Common.{◌∙◌, sym, ap}
 use Rattle.test_maker.specs.Refusals.{foreign_edge}
 use Rattle.test_maker.proofs.HavingTests.{not_foreign}
-use Rattle.co_tests.proofs.Making.{made_has_test}
+use Rattle.co_tests.proofs.CoherenceTestParts.{made_has_test}
 use Rattle.co_tests.proofs.maker.co_test_into.Goals as goal
 
 pub make_of_arch-requires : goal.make_of_arch-requires

@@ -5,7 +5,7 @@ use Rattle.cycle_events.specs.Resolution.{external_count, turned}
 use Rattle.test_maker.specs.Made.{AreOfArch}
 use Rattle.co_tests.specs.{CoherenceTests.writes_in, CoRefusals.is_no_coherence}
 use Rattle.co_tests.specs.Shape.{HasShape}
-use Rattle.co_tests.proofs.Making.{all_turned, no_reason, turned_shape}
+use Rattle.co_tests.proofs.CoherenceTestParts.{all_turned, no_reason, turned_shape}
 use Rattle.co_tests.proofs.maker.make_of_arch.Goals as goal
 
 pub make_turned-requires-clause-shape : goal.make_turned-requires-clause-shape

@@ -1,7 +1,7 @@
 -- That `make_turned` makes the coherence test of a turned cycle.
 use Rattle.std.proofs.Common.{◌≡◌, ◌∙◌, sym, true, false}
 use Rattle.co_tests.specs.CutResolution.{is_ordering}
-use Rattle.co_tests.proofs.{Cuts.loop_at, Making.made_printable, Making.made_turned, Making.none_found}
+use Rattle.co_tests.proofs.{Cuts.loop_at, CoherenceTestParts.made_printable, CoherenceTestParts.made_turned, CoherenceTestParts.none_found}
 use Rattle.co_tests.proofs.maker.make_turned.Goals as goal
 
 pub unreachable-requires : goal.unreachable-requires

@@ -1,6 +1,6 @@
 -- One slot more is filled: a link with the next word, another edge as it is.
 use Rattle.std.proofs.Common.{sym, ◌∙◌}
-use Rattle.cycle_names.proofs.Steps.{fill_link, fill_plain}
+use Rattle.cycle_names.proofs.NameSteps.{fill_link, fill_plain}
 use Rattle.cycle_names.proofs.read.+fill_each.Goals as goal
 
 pub returns-in_ok-link_with-in-len1-up : goal.returns-in_ok-link_with-in-len1-up

@@ -1,5 +1,5 @@
 -- One word more is read: where it spells no edge or there is no room, nothing is.
-use Rattle.cycle_names.proofs.{Vocabulary.{refl, sym, arith, eqb-true, Ok, Err, NotAName}, Steps.{spell_none, spell_full, spell_last, spell_more}}
+use Rattle.cycle_names.proofs.{Vocabulary.{refl, sym, arith, eqb-true, Ok, Err, NotAName}, NameSteps.{spell_none, spell_full, spell_last, spell_more}}
 use Rattle.cycle_names.proofs.read.+read_words.Goals as goal
 
 pub returns-in_default : goal.returns-in_default

@@ -1,6 +1,6 @@
 -- The first edge that joins what the slot joins, with the word, is the link, and without one there is no link.
 use Rattle.std.proofs.Common.{sym, ◌∙◌, arith}
-use Rattle.cycle_names.proofs.Steps.{link_found, link_at, link_missing, link_seen}
+use Rattle.cycle_names.proofs.NameSteps.{link_found, link_at, link_missing, link_seen}
 use Rattle.cycle_names.proofs.read.link_with.Goals as goal
 
 pub returns-then-is_link : goal.returns-then-is_link

@@ -2,8 +2,8 @@
 use Rattle.std.proofs.Common.{subst, Ok}
 use Rattle.diy_words.specs.{declared.request.Request.Request, Given.GivesTask, Requests.asked_of}
 use Rattle.diy_tools.specs.{KeptRequests.{edges_kept, folder_kept, named_kept, refused_why}, ArchMachines.machine_of}
-use Rattle.diy_tools.proofs.{Coherent.coherence_answered, Executed.{execution_answered, loop_answered}, Needing.needs_answered, Running.{check_answered, name_answered}}
-use Rattle.diy_tools.proofs.Shows.{runs_idle}
+use Rattle.diy_tools.proofs.{Coherent.coherence_answered, ExecutionAnswers.{execution_answered, loop_answered}, NeedsAnswers.needs_answered, RunAnswers.{check_answered, name_answered}}
+use Rattle.diy_tools.proofs.WhyAnswers.{runs_idle}
 use Rattle.diy_tools.proofs.tools.answer.Goals as goal
 
 pub returns-in-Ok-Name-clause-answers : goal.returns-in-Ok-Name-clause-answers

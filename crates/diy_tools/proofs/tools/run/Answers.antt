@@ -1,5 +1,5 @@
 -- That the claims of `run` follow from what it answers.
-use Rattle.diy_tools.proofs.{Caused.answers_caused, Caused.answers_memory, Completed.answers_complete, Forced.answers_force, Limits.answers_limited}
+use Rattle.diy_tools.proofs.{Causes.answers_caused, Causes.answers_memory, Completeness.answers_complete, ForcedTests.answers_force, Limits.answers_limited}
 use Rattle.diy_tools.proofs.tools.run.Goals as goal
 
 pub returns-clause-complete : goal.returns-clause-complete

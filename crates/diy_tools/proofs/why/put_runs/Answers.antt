@@ -3,7 +3,7 @@ use Rattle.std.proofs.Common.{subst}
 use Rattle.std.specs.Option.{option_map}
 use Rattle.tests_to_files.specs.Putting.{PutFiles}
 use Rattle.diy_tools.specs.WhyAnswers.{why_line}
-use Rattle.diy_tools.proofs.Shows.{files_are, line_after}
+use Rattle.diy_tools.proofs.WhyAnswers.{files_are, line_after}
 use Rattle.diy_tools.proofs.why.put_runs.Goals as goal
 
 pub returns-in-Ok-clause-written : goal.returns-in-Ok-clause-written

@@ -3,7 +3,7 @@ use Rattle.std.proofs.Common.{◌≡◌, ◌<◌, ◌+◌, ◌-◌, ◌++◌, le
 use Rattle.std.specs.Prelude.{OnOk}
 use Rattle.relax_edges.specs.declared.TheConstants.{MAX_EDGES}
 use Rattle.diycross7_cycles.specs.{Choices.is_accepted, CrossingSteps.{chosen_first, keep_accepted}}
-use Rattle.diycross7_cycles.proofs.{Accepting.accepted_few, Choosing.{chosen_end, chosen_step, chosen_skip, cut_back, chosen_empty, chosen_split}}
+use Rattle.diycross7_cycles.proofs.{AcceptedLists.accepted_few, Choosing.{chosen_end, chosen_step, chosen_skip, cut_back, chosen_empty, chosen_split}}
 use Rattle.diycross7_cycles.proofs.choose.+choose.Goals.{then-is_ok+in_ok-choose-in-len1-up, else-is_ok}
 use Rattle.diycross7_cycles.proofs.choose.+choose.Goals as goal
 

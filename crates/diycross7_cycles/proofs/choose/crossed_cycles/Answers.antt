@@ -3,7 +3,7 @@ use Rattle.std.proofs.Common.{◌≡◌, true, rules, sym, ap, subst, ◌∙◌}
 use Rattle.std.specs.Prelude.{All, None}
 use Rattle.test_maker.specs.Refusals.{refusal_of}
 use Rattle.diycross7_cycles.specs.Choices.{crossed}
-use Rattle.diycross7_cycles.proofs.{Choosing.crossed_chosen, Choosing.crossed_empty, Crossing.crossed_have_tests}
+use Rattle.diycross7_cycles.proofs.{Choosing.crossed_chosen, Choosing.crossed_empty, CrossedCycles.crossed_have_tests}
 use Rattle.diycross7_cycles.proofs.{choose.crossed_cycles.Goals.then-not-has_empty+in_ok-choose, choose.crossed_cycles.Goals.else-not-has_empty}
 use Rattle.diycross7_cycles.proofs.choose.crossed_cycles.Goals as goal
 

@@ -6,4 +6,4 @@ use Rattle.exec_graph.specs.Graphs.{cluster_line}
 use Rattle.exec_graph.proofs.graph.push_clusters.Given as goal
 
 abbrev pub invariant-loop-thread : goal.invariant-loop-thread
-invariant-loop-thread l = l.text.items ≡ l.fn.text.items ++ flat_map (cluster_line l.seen) (upto l.thread)
+invariant-loop-thread l = l.text.items ≡ l.fn.text.items ++ flat_map (cluster_line l.judged l.seen) (upto l.thread)

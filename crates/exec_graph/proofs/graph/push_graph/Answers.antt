@@ -5,6 +5,6 @@ use Rattle.exec_graph.proofs.graph.push_graph.Goals as goal
 pub returns : goal.returns
 returns c =
     six_appended c.args.text.now.items _ _ _ _ _ _ c.push_opening.new.text.items c.push_points.new.text.items c.push_relations.new.text.items
-    c.push_judged.new.text.items c.push_condition.new.text.items c.extend_from_slice.new.self.items
-    c.in_ok-push_opening.ensures c.in_ok-push_points.ensures c.in_ok-push_relations.ensures c.in_ok-push_judged.ensures
-    c.in_ok-push_condition.ensures c.in_ok-extend_from_slice.ensures.items
+    c.push_cycle.new.text.items c.push_caption.new.text.items c.extend_from_slice.new.self.items
+    c.in_ok-push_opening.ensures c.in_ok-push_points.ensures c.in_ok-push_relations.ensures c.in_ok-push_cycle.ensures
+    c.in_ok-push_caption.ensures c.in_ok-extend_from_slice.ensures.items

@@ -1,10 +1,8 @@
--- The loop over what is drawn: the text and the lines that are left make up the whole.
-use Rattle.std.proofs.Common.{◌≡◌, ◌++◌, drop}
-use Rattle.std.specs.List.{enumerate_from, flat_map}
+-- The loop over the initial writes: the lines of those so far are appended.
+use Rattle.std.proofs.Common.{◌≡◌, ◌++◌, take}
+use Rattle.std.specs.List.{flat_map}
 use Rattle.exec_graph.specs.Graphs.{initial_line}
 use Rattle.exec_graph.proofs.graph.push_initials.Given as goal
 
-abbrev pub invariant-loop-number : goal.invariant-loop-number
-invariant-loop-number l =
-    l.text.items ++ flat_map (initial_line l.places) (enumerate_from l.number (drop l.number l.shown))
-    ≡ l.fn.text.items ++ flat_map (initial_line l.places) (enumerate_from 0 l.shown)
+abbrev pub invariant-loop-place : goal.invariant-loop-place
+invariant-loop-place l = l.text.items ≡ l.fn.text.items ++ flat_map (initial_line l.places l.seen l.shown) (take l.place-index l.shown)

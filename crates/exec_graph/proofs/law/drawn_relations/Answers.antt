@@ -1,5 +1,5 @@
 -- The laws of what is drawn.
-use Rattle.exec_graph.proofs.DrawnLaws.{co_pairs_law, ends_law, fr_pairs_law, nodes_law}
+use Rattle.exec_graph.proofs.DrawnLaws.{ends_law, nodes_law, thin_arrows_law}
 use Rattle.exec_graph.proofs.law.drawn_relations.Goals as goal
 
 pub returns-clause-nodes : goal.returns-clause-nodes
@@ -8,8 +8,5 @@ returns-clause-nodes c = nodes_law
 pub returns-clause-ends : goal.returns-clause-ends
 returns-clause-ends c = ends_law
 
-pub returns-clause-co : goal.returns-clause-co
-returns-clause-co c = co_pairs_law
-
-pub returns-clause-fr : goal.returns-clause-fr
-returns-clause-fr c = fr_pairs_law
+pub returns-clause-thin : goal.returns-clause-thin
+returns-clause-thin c = thin_arrows_law

@@ -3,7 +3,7 @@ use Rattle.std.proofs.{Common.{◌∙◌, Ok, sym, subst}, lemmas.Result.err_fro
 use Rattle.std.specs.Prelude.{IfOk}
 use Rattle.cycle_events.specs.Resolution.{IsResolved}
 use Rattle.arch_trait.specs.Writing.{name_in}
-use Rattle.test_maker.proofs.{Forcing.made_forces, HavingTests.made_has_test, Located.need_located, Reasons.{is_valued, made_seen}}
+use Rattle.test_maker.proofs.{TestsForced.made_forces, HavingTests.made_has_test, Located.need_located, Reasons.{is_valued, made_seen}}
 use Rattle.test_maker.proofs.maker.make_into.Goals as goal
 
 pub returns-in_err-as_ref-2-clause-located : goal.returns-in_err-as_ref-2-clause-located

@@ -1,5 +1,5 @@
 -- That `next_made` gives the next cycle of a walk that has a test.
-use Rattle.tests_to_files.proofs.PassingOver.{passes_none, passes_one, passes_to, passes_all}
+use Rattle.tests_to_files.proofs.WalkTakenOn.{passes_none, passes_one, passes_to, passes_all}
 use Rattle.tests_to_files.proofs.listing.next_made.Goals as goal
 
 pub loop-cycle-init : goal.loop-cycle-init

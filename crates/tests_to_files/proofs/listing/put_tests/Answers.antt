@@ -4,7 +4,7 @@ use Rattle.diy_io.specs.SinkLaws.{on_err}
 use Rattle.cycle_enum_laws.specs.Listing.{IsAnswer}
 use Rattle.cycle_enum.specs.Walking.{Lists}
 use Rattle.tests_to_files.specs.Plans.{HaveTests, folder_of, named_text}
-use Rattle.tests_to_files.proofs.{Going.{goes_first, goes_on, goes_stop, goes_end}, Walks.{tested_as, went_on, went_further}}
+use Rattle.tests_to_files.proofs.{FileSteps.{goes_first, goes_on, goes_stop, goes_end}, Walks.{tested_as, went_on, went_further}}
 use Rattle.tests_to_files.proofs.listing.put_tests.Goals as goal
 
 pub loop-cycle-init : goal.loop-cycle-init

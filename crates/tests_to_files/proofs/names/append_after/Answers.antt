@@ -4,7 +4,7 @@ use Rattle.diy_io.specs.SinkLaws.{on_err}
 use Rattle.cycle_enum_laws.specs.Listing.{IsAnswer}
 use Rattle.cycle_enum.specs.Walking.{Lists}
 use Rattle.tests_to_files.specs.{Keeping.Naming, Plans.HaveTests, Putting.Filling}
-use Rattle.tests_to_files.proofs.Going.{naming_none, naming_first, naming_written, naming_more, naming_done, naming_stop}
+use Rattle.tests_to_files.proofs.FileSteps.{naming_none, naming_first, naming_written, naming_more, naming_done, naming_stop}
 use Rattle.tests_to_files.proofs.Shelves.{filling_begun, filling_more, filling_part, closed_ok, closed_err, ok_so, err_so}
 use Rattle.tests_to_files.proofs.Walks.{least_again, tested_as, went_on}
 use Rattle.tests_to_files.proofs.names.append_after.Goals as goal

@@ -1,5 +1,5 @@
 -- That `next_accepted` gives the next cycle of a walk that has a test.
-use Rattle.tests_to_files.proofs.PassingOver.{passes_none, passes_one, passes_to, passes_all}
+use Rattle.tests_to_files.proofs.WalkTakenOn.{passes_none, passes_one, passes_to, passes_all}
 use Rattle.tests_to_files.proofs.names.next_accepted.Goals as goal
 
 pub loop-cycle-init : goal.loop-cycle-init

@@ -1,7 +1,7 @@
 -- The value at a place of an order is that of a write of the location.
 use Rattle.std.proofs.Common.{◌≡◌, ◌≤◌, sym, ◌∙◌, ap, arith}
 use Rattle.cycle_events.specs.{declared.event.Event.Event, Resolution.{IsResolved, location_of}, Values.write_count}
-use Rattle.cycle_events.proofs.Along.{value_most, write_count_most}
+use Rattle.cycle_events.proofs.ValuesAlongEdges.{value_most, write_count_most}
 use Rattle.two_runs.proofs.CycleOrders.{swapped_most}
 use Rattle.two_runs.proofs.orders.value_there.Goals as goal
 

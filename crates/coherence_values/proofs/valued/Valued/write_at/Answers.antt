@@ -2,7 +2,7 @@
 use Rattle.std.proofs.Common.{◌≡◌, ◌+◌, ◌==◌, ◌&&◌, length, Some, None, sym, ◌∙◌, ap, arith}
 use Rattle.list_laws.proofs.{Cases.by_less, Finds.{find_upto_first, find_upto_none}}
 use Rattle.cycle_events.specs.{Resolution.IsResolved, Values.{Valuation, is_write_at, value_of, write_at}}
-use Rattle.cycle_events.proofs.{Along.write_count_most, Writes.write_number}
+use Rattle.cycle_events.proofs.{ValuesAlongEdges.write_count_most, Writes.write_number}
 use Rattle.coherence_values.proofs.valued.Valued.write_at.Goals as goal
 
 pub overflow_add-k : goal.overflow_add-k

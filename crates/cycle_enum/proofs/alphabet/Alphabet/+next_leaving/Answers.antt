@@ -4,7 +4,7 @@ use Rattle.relax_edges.specs.declared.order.TheConstants.{EDGES}
 use Rattle.edge_algebra_laws.proofs.RankLaws.{rank_below}
 use Rattle.cycle_enum_laws.specs.Search.{OccursIn}
 use Rattle.cycle_enum.specs.Letters.{IsFirstLetter}
-use Rattle.cycle_enum.proofs.Passing.{next_leaving}
+use Rattle.cycle_enum.proofs.EdgesPassedOver.{next_leaving}
 use Rattle.cycle_enum.proofs.alphabet.Alphabet.+next_leaving.Goals as goal
 
 pub overflow_add-letter : goal.overflow_add-letter

@@ -3,7 +3,7 @@ use Rattle.std.proofs.Common.{◌≡◌, ◌∷◌, [], ◌&&◌, arith}
 use Rattle.relax_edges.specs.{declared.edge.Edge.Edge, EdgeTable.{same_dir, same_mark, source_of, source_mark}}
 use Rattle.edge_algebra_laws.specs.Composable.{last_joins}
 use Rattle.edge_algebra_laws.proofs.Composing.{last_joins_at}
-use Rattle.cycle_enum.proofs.Passing.{next_follows, next_joined}
+use Rattle.cycle_enum.proofs.EdgesPassedOver.{next_follows, next_joined}
 use Rattle.cycle_enum.proofs.alphabet.Alphabet.next_letter.Goals as goal
 
 pub returns-in-len1-up-clause-next : goal.returns-in-len1-up-clause-next

@@ -2,7 +2,7 @@
 use Rattle.std.proofs.Common.{◌≤◌, length}
 use Rattle.relax_edges.specs.declared.TheConstants.{MAX_EDGES}
 use Rattle.cycle_enum_laws.specs.Search.{IsListCandidate}
-use Rattle.cycle_enum_laws.proofs.Raising.{Popped}
+use Rattle.cycle_enum_laws.proofs.GrowingLists.{Popped}
 use Rattle.cycle_enum.proofs.alphabet.Alphabet.raise.Given as goal
 
 abbrev pub invariant-loop-last : goal.invariant-loop-last

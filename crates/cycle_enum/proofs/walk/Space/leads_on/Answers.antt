@@ -1,7 +1,7 @@
 -- Where the answer is no, no listed cycle begins with the list.
 use Rattle.std.proofs.Common.{rules, IsFalse}
 use Rattle.cycle_enum_laws.specs.{Listing.IsMadeOf, Search.LeadsNowhere}
-use Rattle.cycle_enum_laws.proofs.Nowhere.{unmade_nowhere}
+use Rattle.cycle_enum_laws.proofs.DroppedPrefixes.{unmade_nowhere}
 use Rattle.cycle_enum.proofs.walk.Space.leads_on.Goals as goal
 
 pub returns-then-not-may_begin-clause-refused : goal.returns-then-not-may_begin-clause-refused

@@ -2,7 +2,7 @@
 use Rattle.std.proofs.{Common.{◌≡◌, ◌<◌, ◌⊎◌, [], List, inl, inr, length, refl, sym, arith, rules, IsTrue}, lemmas.List.append-nil}
 use Rattle.relax_edges.specs.declared.edge.Edge.{Edge}
 use Rattle.cycle_enum_laws.specs.Asked.{KeptWhole}
-use Rattle.cycle_enum_laws.proofs.Raising.{cut_whole}
+use Rattle.cycle_enum_laws.proofs.GrowingLists.{cut_whole}
 use Rattle.cycle_enum.specs.Walking.{KeepsList, Lists}
 use Rattle.cycle_enum.proofs.Composing.{cycle_joined}
 use Rattle.cycle_enum.proofs.walk.Space.put_last.Goals as goal

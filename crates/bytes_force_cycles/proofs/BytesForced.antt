@@ -1,0 +1,66 @@
+-- The printed bytes of a readable test of a cycle force the cycle.
+use Rattle.std.proofs.Common.{◌≡◌, ℕ, List, length, refl, sym, ◌∙◌, subst}
+use Rattle.relax_edges.specs.{declared.kinds.ArchName.ArchName, declared.kinds.ObsMode.ObsMode, declared.edge.Edge.Edge}
+use Rattle.final_cond.specs.States.{Meets}
+use Rattle.cycle_events.specs.Resolution.{move_count}
+use Rattle.arch_trait.specs.{Laws.IsArch, PlaceNames.{letters, number_in}, Threads.Puts, Writing.{Writing, WritesBack, name_in}}
+use Rattle.litmus_text.specs.{TestReadsBack.TestReadsBack, Reread.reread, TestReading.TestRead, TestText.test_text}
+use Rattle.program_meaning.specs.{Executions.Execution, Intended.intended, Programs.{Program, IsCandidate, IsCoherentIn}, Standing.AllStand}
+use Rattle.tests_force_cycles.specs.{FinalStates.{final_state, IsAskedFor}, TestHeadline.{HasTest, IsRenumbered, Forces}, TestPrograms.test_program}
+use Rattle.tests_force_cycles.specs.TestOf.{test_of}
+use Rattle.tests_force_cycles.proofs.{Headline.renumbered_force_law, RegisterNames.registers_found}
+use Rattle.bytes_force_cycles.specs.{PrintedHeadline.BytesForce, Readings.{program_read, place_in_test, ReadingAsks}}
+use Rattle.bytes_force_cycles.proofs.NoInterleaving.{WritesInside, NotInOrder, test_writes_within, not_in_order, interleaving_ends}
+use Rattle.bytes_force_cycles.proofs.RereadTests.{by_table, reread_test, reread_renumbered, threads_numbered, number_of_location, intended_same}
+
+-- the bytes of a test that reads back force the cycle
+pub bytes_force : (a : Puts) (arch : ArchName) (w : Writing) (name : List ℕ) (es : List Edge) (mode : ObsMode) → IsArch a → WritesBack a w → HasTest a es mode
+    → TestReadsBack arch w name (test_of a (name_in w.registers) es mode) → BytesForce arch w (test_text arch w name (test_of a (name_in w.registers) es mode)) es mode
+bytes_force a arch w name es mode laws back t r = record {
+  test = test;
+  reads = r.read;
+  asks = refl;
+  no_interleaving = λ values line h. interleaving_ends w test values line h refl none;
+  not_sequential = none;
+  stand = stands;
+  only = λ x asked. forced.only x (asked_for x asked) ∙ same;
+  exists = subst (ReadingAsks w test) same (asks (intended es mode number) forced.exists);
+}
+  where
+    test : TestRead
+    test = reread r.table name (test_of a (name_in w.registers) es mode)
+
+    number : ℕ → ℕ
+    number = by_table r.table (letters (move_count es))
+
+    renumbered : IsRenumbered (test_of a (name_in w.registers) es mode) (reread_test r.table (test_of a (name_in w.registers) es mode)) number
+    renumbered = reread_renumbered a (name_in w.registers) es mode r.table laws t.code (record { once = r.once; inside = r.among }) r.codes r.links
+
+    forced : Forces (reread_test r.table (test_of a (name_in w.registers) es mode)) (number_in w.registers) es mode number
+    forced = renumbered_force_law a (name_in w.registers) (number_in w.registers) es mode (reread_test r.table (test_of a (name_in w.registers) es mode)) number laws (registers_found a w back) t renumbered
+
+    same : intended es mode number ≡ intended es mode (place_in_test test)
+    same = intended_same es mode number (place_in_test test) (λ l h. number_of_location r.table (move_count es) l h)
+
+    program_is : test_program (reread_test r.table (test_of a (name_in w.registers) es mode)) ≡ program_read test
+    program_is = λ i. record { places = length r.table; threads = threads_numbered r.table (letters (move_count es)) (test_of a (name_in w.registers) es mode).threads i }
+
+    asked_for : (x : Execution) → ReadingAsks w test x → IsAskedFor (reread_test r.table (test_of a (name_in w.registers) es mode)) (number_in w.registers) x
+    asked_for x asked = record {
+      candidate = subst (λ (p : Program). IsCandidate p x) (sym program_is) asked.candidate;
+      coherent = subst (λ (p : Program). IsCoherentIn p x) (sym program_is) asked.coherent;
+      meets = subst (λ (p : Program). Meets (final_state p r.table (number_in w.registers) x) test.cond) (sym program_is) asked.meets;
+    }
+
+    asks : (x : Execution) → IsAskedFor (reread_test r.table (test_of a (name_in w.registers) es mode)) (number_in w.registers) x → ReadingAsks w test x
+    asks x asked = record {
+      candidate = subst (λ (p : Program). IsCandidate p x) program_is asked.candidate;
+      coherent = subst (λ (p : Program). IsCoherentIn p x) program_is asked.coherent;
+      meets = subst (λ (p : Program). Meets (final_state p r.table (number_in w.registers) x) test.cond) program_is asked.meets;
+    }
+
+    stands : (x : Execution) → ReadingAsks w test x → AllStand es (program_read test) x
+    stands x asked = subst (λ (p : Program). AllStand es p x) program_is (forced.stand x (asked_for x asked))
+
+    none : NotInOrder w test
+    none = not_in_order w test es t.code.resolved (λ x. subst (WritesInside x) program_is (test_writes_within a (name_in w.registers) es mode (reread_test r.table (test_of a (name_in w.registers) es mode)) number laws t renumbered x)) stands

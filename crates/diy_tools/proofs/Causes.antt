@@ -1,0 +1,388 @@
+-- The cause of a status, and which tools may want memory, from what is answered.
+use Rattle.std.proofs.Common.{◌≡◌, ◌<◌, ◌+◌, ◌^◌, ℕ, List, [], ◌∷◌, length, Option, Some, None, Ok, Err, refl, sym, ap, subst, arith, inl, inr, ◌∙◌}
+use Rattle.std.specs.Prelude.{Result, ◌⊎◌}
+use Rattle.relax_edges.specs.{declared.edge.Edge.Edge, declared.kinds.ArchName.ArchName}
+use Rattle.cycles_from_lines.specs.declared.errors.LinesError.TheVariants as lines
+use Rattle.cycles_from_lines.specs.{declared.errors.NormError.NormError, declared.errors.ClassifyError.ClassifyError, Classified.Classifies}
+use Rattle.cycles_from_lines.specs.Normed.{Norms, name_line}
+use Rattle.cycles_from_lines.specs.declared.errors.NormError.TheVariants as norms
+use Rattle.cycles_from_lines.specs.declared.errors.ClassifyError.TheVariants as classifies
+use Rattle.tests_from_files.specs.declared.classified_errors.FilesEnd.{FilesEnd}
+use Rattle.tests_from_files.specs.declared.classified_errors.FilesEnd.TheVariants as classing
+use Rattle.tests_from_files.specs.declared.classified_errors.FileKind.TheVariants as kinds
+use Rattle.exec_check.specs.declared.checked_errors.CheckEnd.{CheckEnd}
+use Rattle.exec_check.specs.declared.checked_errors.CheckEnd.TheVariants as checking
+use Rattle.exec_check.specs.declared.checked_errors.CheckedKind.TheVariants as checked
+use Rattle.diy_io.specs.{Count.{Rose, count_of}, Shelf.ShelfSeen, Taken.SourceSeen, Wrote.{SinkSeen, WroteAll, WrotePart}}
+use Rattle.diy_words.specs.{declared.usage.Usage.Usage, declared.usage.UsageKind.TheVariants.UnknownName, declared.request.Demo.Demo}
+use Rattle.diy_words.specs.declared.request.Check.{Check}
+use Rattle.diy_words.specs.declared.request.ExecutionForm.{ExecutionForm}
+use Rattle.diy_words.specs.Requests.{Task, TestTask, WhyTask, ListTask, Sought, asked_of, AsksTest, AsksWhy, AsksCoherence, CoherenceTask, AsksName, AsksList, AsksFamilies, AsksSum, AsksCross, AsksDemo, AsksCheck, AsksExecution, AsksCoherenceExecution, AsksNeeds, AsksLines, OfEdges, OfName, OfLines, CrossTask}
+use Rattle.tests_to_files.specs.{declared.ending.ListingEnd.ListingEnd, ListingEnds.{StopsAtTest, StopsAtAll}, Plans.{IsPlanned, planned_text}}
+use Rattle.tests_to_files.specs.declared.ending.ListingEnd.TheVariants as listings
+use Rattle.msum7_files.specs.declared.sum_end.SumEnd.{SumEnd}
+use Rattle.msum7_files.specs.declared.sum_end.SumEnd.TheVariants as sums
+use Rattle.program_meaning.specs.Executions.{Execution}
+use Rattle.litmus_text.specs.TestReading.{TestRead}
+use Rattle.two_runs.specs.{IntendedRuns.intended_by, CoherenceRuns.incoherent_by}
+use Rattle.diy_tools.specs.{Devices.{OutAlone, Devices, DevicesSeen, devices}, ExecutionAnswers.{PrintsRun, AnswersRun}, NeedsAnswers.needs_asked}
+use Rattle.diy_tools.specs.{ListAnswers.{AnswersListed, EndsAsked, plan_asked}, ArchMachines.{Machine, machine_of}, Memory.{MayWantMemory, NeverWantsMemory}}
+use Rattle.run_status.specs.{declared.status.Status.Status, declared.status.Device.TheVariants.{Input, Out, Shelf}}
+use Rattle.diy_tools.specs.{Refused.refused_list}
+use Rattle.diy_tools.specs.{Statuses.{norm_status, classify_status, listing_status}, PrintAnswers.{AnswersEdges, Prints}}
+use Rattle.diy_tools.specs.{TestAnswers.{asked_text, test_name, test_refused}, WhyAnswers.{AnswersRuns, WritesRuns, why_unshown}}
+use Rattle.diy_tools.specs.{CoherenceAnswers.{coherence_refused, incoherent_text}, NameAnswers.{AnswersName, AnswersSought}}
+use Rattle.diy_tools.specs.{FamilyAnswers.{AnswersClassify, EndsFamilies, files_status}, CrossAnswers.{AnswersCross, EndsCrossed}, DemoAnswers.demo_asked}
+use Rattle.diy_tools.specs.{CheckAnswers.{EndsCheck, check_status}, SumAnswers.{EndsInput, EndsSum, sum_status}, Answers.{Answers, AnswersAsked}}
+use Rattle.diy_tools.specs.Causes.{Causes, CausesAsked, RoseFar}
+use Rattle.test_maker.specs.declared.refusal.Refusal.{Refusal}
+use Rattle.run_status.specs.declared.status.Status.TheVariants as statuses
+use Rattle.run_status.specs.declared.status.TextKind.TheVariants as texts
+use Rattle.diy_tools.proofs.CountedLogs.{file_opened, file_far, input_far}
+
+-- devices that are the same one by one are the same
+same_devices : (old new : Devices) → new.input ≡ old.input → new.out ≡ old.out → new.shelf ≡ old.shelf → new ≡ old
+same_devices old new input out shelf =
+    ap (λ (i : SourceSeen). devices (i, new.out, new.shelf)) input
+    ∙ (ap (λ (o : SinkSeen). devices (old.input, o, new.shelf)) out ∙ ap (λ (s : ShelfSeen). devices (old.input, old.out, s)) shelf)
+
+-- a count of bytes that rose by more than 2^40
+rose_far : (old new taken : ℕ) → new ≡ count_of (old + taken) → 2 ^ 40 < taken → RoseFar old new
+rose_far old new taken e far = omega arith
+
+-- a text is printed, whole or in part
+pub by_print : (G : Status → Type 0) (text : List ℕ) (status : Status) (before after : SinkSeen) → Prints text status before after
+    → (WroteAll before after text → G statuses.Done) → (WrotePart before after text → G (statuses.WriteFault Out)) → G status
+by_print G text statuses.Done before after h all part = all h
+by_print G text (statuses.WriteFault Out) before after h all part = part h
+by_print G text status before after h all part = absurd h
+
+-- the shelf failed in a listing
+either_failed : (listed : List Edge → Type 0) (folder : Option (List ℕ)) (text : List Edge → List ℕ) (given : Option (List Edge)) (old new : ShelfSeen)
+    → (StopsAtTest listed folder text given old new ⊎ StopsAtAll listed folder text given old new) → Rose old.faults new.faults
+either_failed listed folder text given old new (inl stop) = stop.part.faulted.fault
+either_failed listed folder text given old new (inr stop) = stop.part.faulted.fault
+
+-- a listing that ends with a failure of the shelf has raised its count of faults
+pub listing_failed : (asked : ListTask) (old new : ShelfSeen) (out after : SinkSeen)
+    → EndsAsked asked listings.ShelfFault old new out after → Rose old.faults new.faults
+listing_failed asked old new out after h =
+    either_failed (IsPlanned (plan_asked asked)) (plan_asked asked).folder (planned_text (plan_asked asked)) h.given old new h.ends.1
+
+-- the shelf failed where the tests of choices were written
+pub crossing_failed : (asked : CrossTask) (old new : ShelfSeen) (out after : SinkSeen)
+    → EndsCrossed asked listings.ShelfFault old new out after → Rose old.faults new.faults
+crossing_failed asked old new out after h = h.1.part.faulted.fault
+
+-- what norm7 is asked for
+abbrev named : ArchName → Sought → Result Task Usage
+named arch cycle = Ok (AsksName (record { arch = arch; cycle = cycle }))
+
+-- what classify7 is asked for
+abbrev pub of_files : ArchName → List ℕ → Result Task Usage
+of_files arch files = Ok (AsksFamilies (record { arch = arch; files = files }))
+
+module _ (old new : Devices) where
+  -- what holds of a status holds of one that is equal to it
+  of_status : (words : List (List ℕ)) (asked : Result Task Usage) (status other : Status) → status ≡ other
+      → CausesAsked words asked other old new → CausesAsked words asked status old new
+  of_status words asked status other e h = subst (λ (s : Status). CausesAsked words asked s old new) (sym e) h
+
+  test_caused : (words : List (List ℕ)) (asked : TestTask) (refused : Option Refusal) (status : Status) → test_refused asked ≡ refused
+      → new.input ≡ old.input → new.shelf ≡ old.shelf
+      → AnswersEdges refused (asked_text asked) status old.out new.out → CausesAsked words (Ok (AsksTest asked)) status old new
+  test_caused words asked (Some refusal) status e input shelf h =
+      of_status words (Ok (AsksTest asked)) status (statuses.Refused refusal) h.0 (e, same_devices old new input h.1 shelf)
+  test_caused words asked None status e input shelf h =
+      by_print (λ s. CausesAsked words (Ok (AsksTest asked)) s old new) (asked_text asked) status old.out new.out h
+      (λ wrote. (e, record { input = input; shelf = shelf; out = wrote }))
+      (λ wrote. (wrote.fault, (e, record { input = input; shelf = shelf; out = wrote })))
+
+  needs_caused : (words : List (List ℕ)) (asked : TestTask) (refused : Option Refusal) (status : Status) → test_refused asked ≡ refused
+      → new.input ≡ old.input → new.shelf ≡ old.shelf
+      → AnswersEdges refused (needs_asked asked) status old.out new.out → CausesAsked words (Ok (AsksNeeds asked)) status old new
+  needs_caused words asked (Some refusal) status e input shelf h =
+      of_status words (Ok (AsksNeeds asked)) status (statuses.Refused refusal) h.0 (e, same_devices old new input h.1 shelf)
+  needs_caused words asked None status e input shelf h =
+      by_print (λ s. CausesAsked words (Ok (AsksNeeds asked)) s old new) (needs_asked asked) status old.out new.out h
+      (λ wrote. (e, record { input = input; shelf = shelf; out = wrote }))
+      (λ wrote. (wrote.fault, (e, record { input = input; shelf = shelf; out = wrote })))
+
+  coherence_caused : (words : List (List ℕ)) (asked : CoherenceTask) (refused : Option Refusal) (status : Status) → coherence_refused asked ≡ refused
+      → new.input ≡ old.input → new.shelf ≡ old.shelf
+      → AnswersEdges refused (incoherent_text asked) status old.out new.out → CausesAsked words (Ok (AsksCoherence asked)) status old new
+  coherence_caused words asked (Some refusal) status e input shelf h =
+      of_status words (Ok (AsksCoherence asked)) status (statuses.Refused refusal) h.0 (e, same_devices old new input h.1 shelf)
+  coherence_caused words asked None status e input shelf h =
+      by_print (λ s. CausesAsked words (Ok (AsksCoherence asked)) s old new) (incoherent_text asked) status old.out new.out h
+      (λ wrote. (e, record { input = input; shelf = shelf; out = wrote }))
+      (λ wrote. (wrote.fault, (e, record { input = input; shelf = shelf; out = wrote })))
+
+  -- two executions are written, as far as the devices take them
+  runs_caused : (words : List (List ℕ)) (asked : WhyTask) (status : Status) → why_unshown asked ≡ None → new.input ≡ old.input
+      → WritesRuns (machine_of asked.arch) asked.folder (test_name asked.name asked.edges) asked.edges status old.shelf new.shelf old.out new.out
+      → CausesAsked words (Ok (AsksWhy asked)) status old new
+  runs_caused words asked statuses.Done none input h = (none, record { input = input; both = h })
+  runs_caused words asked (statuses.WriteFault Out) none input h = (h.written.1.fault, (none, record { input = input; both = h }))
+  runs_caused words asked (statuses.WriteFault Shelf) none input h = (h.written.0.part.faulted.fault, (none, record { input = input; both = h }))
+  runs_caused words asked status none input h = absurd h.written
+
+  why_caused : (words : List (List ℕ)) (asked : WhyTask) (refused : Option Refusal) (status : Status) → why_unshown asked ≡ refused → new.input ≡ old.input
+      → AnswersRuns (machine_of asked.arch) asked.folder (test_name asked.name asked.edges) refused asked.edges status old.shelf new.shelf old.out new.out
+      → CausesAsked words (Ok (AsksWhy asked)) status old new
+  why_caused words asked (Some refusal) status e input h =
+      of_status words (Ok (AsksWhy asked)) status (statuses.Refused refusal) h.0 (e, same_devices old new input h.2 h.1)
+  why_caused words asked None status e input (inl none) =
+      of_status words (Ok (AsksWhy asked)) status statuses.NoMemory none.0 (tt, record { out = none.2; files = ap (λ (s : ShelfSeen). s.files) none.1 })
+  why_caused words asked None status e input (inr h) = runs_caused words asked status e input h
+
+  -- an execution is printed, as far as standard output takes it
+  by_run : (G : Status → Type 0) (form : ExecutionForm) (m : Machine) (text : List ℕ) (meant : TestRead → Execution) (status : Status) → PrintsRun form m text meant status old.out new.out
+      → (PrintsRun form m text meant statuses.Done old.out new.out → G statuses.Done)
+      → (PrintsRun form m text meant (statuses.WriteFault Out) old.out new.out → G (statuses.WriteFault Out)) → G status
+  by_run G form m text meant statuses.Done h all part = all h
+  by_run G form m text meant (statuses.WriteFault Out) h all part = part h
+  by_run G form m text meant status h all part = absurd h.prints
+
+  -- the execution that a test asks for, or a coherence test does
+  run_caused : (words : List (List ℕ)) (asked : Result Task Usage) (form : ExecutionForm) (m : Machine) (refused : Option Refusal) (text : List ℕ) (meant : TestRead → Execution) (status : Status)
+      → new.input ≡ old.input → new.shelf ≡ old.shelf → MayWantMemory asked
+      → ((refusal : Refusal) → refused ≡ Some refusal → CausesAsked words asked (statuses.Refused refusal) old old)
+      → (refused ≡ None → OutAlone (PrintsRun form m text meant statuses.Done) old new → CausesAsked words asked statuses.Done old new)
+      → (refused ≡ None → OutAlone (PrintsRun form m text meant (statuses.WriteFault Out)) old new → CausesAsked words asked (statuses.WriteFault Out) old new)
+      → AnswersRun form m refused text meant status old.out new.out → CausesAsked words asked status old new
+  run_caused words asked form m (Some refusal) text meant status input shelf wants refuses all part h =
+      of_status words asked status (statuses.Refused refusal) h.0
+      (subst (λ (d : Devices). CausesAsked words asked (statuses.Refused refusal) old d) (sym (same_devices old new input h.1 shelf)) (refuses refusal refl))
+  run_caused words asked form m None text meant status input shelf wants refuses all part (inl none) =
+      of_status words asked status statuses.NoMemory none.0 (wants, record { out = none.1; files = ap (λ (s : ShelfSeen). s.files) shelf })
+  run_caused words asked form m None text meant status input shelf wants refuses all part (inr h) =
+      by_run (λ s. CausesAsked words asked s old new) form m text meant status h
+      (λ printed. all refl (record { input = input; shelf = shelf; out = printed }))
+      (λ printed. part refl (record { input = input; shelf = shelf; out = printed }))
+
+  -- the lines of a listing are written, as far as standard output takes them
+  listed_caused : (words : List (List ℕ)) (asked : ListTask) (status : Status) → OutAlone (AnswersListed asked status) old new
+      → CausesAsked words (Ok (AsksLines asked)) status old new
+  listed_caused words asked statuses.Done h = h
+  listed_caused words asked (statuses.WriteFault Out) h = (h.out.failed.part.fault, h)
+  listed_caused words asked status h = absurd h.out
+
+  edges_caused : (words : List (List ℕ)) (arch : ArchName) (edges : List Edge) (refused : Option Refusal) (status : Status) → refused_list arch edges ≡ refused
+      → new.input ≡ old.input → new.shelf ≡ old.shelf
+      → AnswersEdges refused (name_line edges) status old.out new.out → CausesAsked words (named arch (OfEdges edges)) status old new
+  edges_caused words arch edges (Some refusal) status e input shelf h =
+      of_status words (named arch (OfEdges edges)) status (statuses.Refused refusal) h.0 (e, same_devices old new input h.1 shelf)
+  edges_caused words arch edges None status e input shelf h =
+      by_print (λ s. CausesAsked words (named arch (OfEdges edges)) s old new) (name_line edges) status old.out new.out h
+      (λ wrote. record { shelf = shelf; both = (input, e, wrote) })
+      (λ wrote. (wrote.fault, record { shelf = shelf; both = (input, e, wrote) }))
+
+  name_caused : (words : List (List ℕ)) (arch : ArchName) (at : ℕ) (name : List ℕ) (status : Status) → new.input ≡ old.input → new.shelf ≡ old.shelf
+      → AnswersName arch at name status old.out new.out → CausesAsked words (named arch (OfName at name)) status old new
+  name_caused words arch at name status input shelf (inl none) =
+      of_status words (named arch (OfName at name)) status (statuses.Usage at UnknownName) none.1
+      ((refl, refl, none.0), same_devices old new input none.2 shelf)
+  name_caused words arch at name status input shelf (inr found) =
+      by_print (λ s. CausesAsked words (named arch (OfName at name)) s old new) (name_line found.cycle) status old.out new.out found.prints
+      (λ wrote. record { shelf = shelf; both = (input, record { cycle = found.cycle; named = found.named; prints = wrote }) })
+      (λ wrote. (wrote.fault, record { shelf = shelf; both = (input, record { cycle = found.cycle; named = found.named; prints = wrote }) }))
+
+  lines_caused : (words : List (List ℕ)) (arch : ArchName) (result : Result (Unit {0}) NormError) (status : Status) → new.shelf ≡ old.shelf
+      → status ≡ norm_status result → Norms arch old.input new.input old.out new.out result → CausesAsked words (named arch OfLines) status old new
+  lines_caused words arch (Ok x) status shelf e h = of_status words (named arch OfLines) status statuses.Done e (record { shelf = shelf; both = h })
+  lines_caused words arch (Err norms.OutFault) status shelf e h =
+      of_status words (named arch OfLines) status (statuses.WriteFault Out) e (h.wrote.fault, record { shelf = shelf; both = h })
+  lines_caused words arch (Err (norms.Lines (lines.Wrong line kind))) status shelf e h =
+      of_status words (named arch OfLines) status (statuses.BadText None line (texts.Line kind)) e (refl, (refl, record { shelf = shelf; both = h }))
+  lines_caused words arch (Err (norms.Lines (lines.TooMuch line))) status shelf e h =
+      of_status words (named arch OfLines) status (statuses.BadText None line texts.TooMuch) e
+      (rose_far old.input.taken new.input.taken (length h.read.text) h.read.took.counted h.read.many, inl (refl, record { shelf = shelf; both = h }))
+  lines_caused words arch (Err (norms.Lines lines.InputFault)) status shelf e h =
+      of_status words (named arch OfLines) status (statuses.ReadFault Input) e (h.read.fault, inl (refl, record { shelf = shelf; both = h }))
+
+  sought_caused : (words : List (List ℕ)) (arch : ArchName) (cycle : Sought) (status : Status) → new.shelf ≡ old.shelf
+      → AnswersSought arch cycle status old.input new.input old.out new.out → CausesAsked words (named arch cycle) status old new
+  sought_caused words arch (OfEdges edges) status shelf h = edges_caused words arch edges (refused_list arch edges) status refl h.0 shelf h.1
+  sought_caused words arch (OfName at name) status shelf h = name_caused words arch at name status h.0 shelf h.1
+  sought_caused words arch OfLines status shelf h = lines_caused words arch h.result status shelf h.status_is h.norms
+
+  list_caused : (words : List (List ℕ)) (asked : ListTask) (end : ListingEnd) (status : Status) → new.input ≡ old.input → status ≡ listing_status end
+      → EndsAsked asked end old.shelf new.shelf old.out new.out → CausesAsked words (Ok (AsksList asked)) status old new
+  list_caused words asked listings.Done status input e h = of_status words (Ok (AsksList asked)) status statuses.Done e (record { input = input; both = h })
+  list_caused words asked listings.OutFault status input e h =
+      of_status words (Ok (AsksList asked)) status (statuses.WriteFault Out) e (h.ends.line.fault, record { input = input; both = h })
+  list_caused words asked listings.ShelfFault status input e h =
+      of_status words (Ok (AsksList asked)) status (statuses.WriteFault Shelf) e
+      (listing_failed asked old.shelf new.shelf old.out new.out h, record { input = input; both = h })
+
+  crossed_caused : (words : List (List ℕ)) (asked : CrossTask) (end : ListingEnd) (status : Status) → new.input ≡ old.input → status ≡ listing_status end
+      → EndsCrossed asked end old.shelf new.shelf old.out new.out → CausesAsked words (Ok (AsksCross asked)) status old new
+  crossed_caused words asked listings.Done status input e h =
+      of_status words (Ok (AsksCross asked)) status statuses.Done e (record { input = input; both = h })
+  crossed_caused words asked listings.OutFault status input e h =
+      of_status words (Ok (AsksCross asked)) status (statuses.WriteFault Out) e (h.1.fault, record { input = input; both = h })
+  crossed_caused words asked listings.ShelfFault status input e h =
+      of_status words (Ok (AsksCross asked)) status (statuses.WriteFault Shelf) e
+      (crossing_failed asked old.shelf new.shelf old.out new.out h, record { input = input; both = h })
+
+  cross_caused : (words : List (List ℕ)) (asked : CrossTask) (status : Status) → new.input ≡ old.input
+      → AnswersCross asked status old.shelf new.shelf old.out new.out → CausesAsked words (Ok (AsksCross asked)) status old new
+  cross_caused words asked status input (inl none) =
+      of_status words (Ok (AsksCross asked)) status statuses.NoMemory none.0 (tt, record { out = none.2; files = ap (λ (s : ShelfSeen). s.files) none.1 })
+  cross_caused words asked status input (inr made) = crossed_caused words asked made.end status input made.status_is made.ends
+
+  demo_caused : (words : List (List ℕ)) (asked : Demo) (status : Status) → new.input ≡ old.input → new.shelf ≡ old.shelf
+      → Prints (demo_asked asked) status old.out new.out → CausesAsked words (Ok (AsksDemo asked)) status old new
+  demo_caused words asked status input shelf h =
+      by_print (λ s. CausesAsked words (Ok (AsksDemo asked)) s old new) (demo_asked asked) status old.out new.out h
+      (λ wrote. record { input = input; shelf = shelf; out = wrote })
+      (λ wrote. (wrote.fault, record { input = input; shelf = shelf; out = wrote }))
+
+  families_caused : (words : List (List ℕ)) (arch : ArchName) (result : Result (Unit {0}) ClassifyError) (status : Status) → new.shelf ≡ old.shelf
+      → status ≡ classify_status result → Classifies arch old.input new.input old.out new.out result
+      → CausesAsked words (of_files arch []) status old new
+  families_caused words arch (Ok x) status shelf e h = of_status words (of_files arch []) status statuses.Done e (record { shelf = shelf; both = h })
+  families_caused words arch (Err classifies.OutFault) status shelf e h =
+      of_status words (of_files arch []) status (statuses.WriteFault Out) e (h.wrote.fault, record { shelf = shelf; both = h })
+  families_caused words arch (Err (classifies.Lines (lines.Wrong line kind))) status shelf e h =
+      of_status words (of_files arch []) status (statuses.BadText None line (texts.Line kind)) e (refl, (refl, record { shelf = shelf; both = h }))
+  families_caused words arch (Err (classifies.Lines (lines.TooMuch line))) status shelf e h =
+      of_status words (of_files arch []) status (statuses.BadText None line texts.TooMuch) e
+      (rose_far old.input.taken new.input.taken (length h.0.read.text) h.0.read.took.counted h.0.read.many, inl (refl, record { shelf = shelf; both = h }))
+  families_caused words arch (Err (classifies.Lines lines.InputFault)) status shelf e h =
+      of_status words (of_files arch []) status (statuses.ReadFault Input) e (h.0.read.fault, inl (refl, record { shelf = shelf; both = h }))
+  families_caused words arch (Err classifies.NoMemory) status shelf e h =
+      of_status words (of_files arch []) status statuses.NoMemory e (tt, record { out = h.1; files = ap (λ (s : ShelfSeen). s.files) shelf })
+
+  -- classify7 over files
+  named_caused : (words : List (List ℕ)) (arch : ArchName) (file : ℕ) (files : List ℕ) (end : FilesEnd) (status : Status) → status ≡ files_status end
+      → EndsFamilies words arch (file ∷ files) end old new → CausesAsked words (of_files arch (file ∷ files)) status old new
+  named_caused words arch file files classing.Done status e h = of_status words (of_files arch (file ∷ files)) status statuses.Done e h
+  named_caused words arch file files classing.OutFault status e h =
+      of_status words (of_files arch (file ∷ files)) status (statuses.WriteFault Out) e (h.both.classified.wrote.fault, h)
+  named_caused words arch file files (classing.Wrong at line (kinds.Test kind)) status e h =
+      of_status words (of_files arch (file ∷ files)) status (statuses.BadText (Some at) line (texts.Test kind)) e (inl (h, record { out = h.both.classified.1; files = h.both.stay }))
+  named_caused words arch file files (classing.Wrong at line kinds.WrongArch) status e h =
+      of_status words (of_files arch (file ∷ files)) status (statuses.BadText (Some at) line texts.WrongArch) e (inl (h, record { out = h.both.classified.1; files = h.both.stay }))
+  named_caused words arch file files (classing.Wrong at line kinds.NoCycle) status e h =
+      of_status words (of_files arch (file ∷ files)) status (statuses.BadText (Some at) line texts.NoCycle) e (h, record { out = h.both.classified.1; files = h.both.stay })
+  named_caused words arch file files (classing.NoFile word) status e h =
+      of_status words (of_files arch (file ∷ files)) status (statuses.NoFile word) e (inr (inl (h, record { out = h.both.classified.1; files = h.both.stay })))
+  named_caused words arch file files classing.ShelfFault status e h =
+      of_status words (of_files arch (file ∷ files)) status (statuses.ReadFault Shelf) e
+      (h.both.classified.0.fault, inr (inl (h, record { out = h.both.classified.1; files = h.both.stay })))
+  named_caused words arch file files classing.NoMemory status e h =
+      of_status words (of_files arch (file ∷ files)) status statuses.NoMemory e (tt, record { out = h.both.classified; files = h.both.stay })
+
+  classify_caused : (words : List (List ℕ)) (arch : ArchName) (files : List ℕ) (status : Status) → AnswersClassify words arch files status old new
+      → CausesAsked words (of_files arch files) status old new
+  classify_caused words arch [] status h = families_caused words arch h.both.result status h.shelf h.both.status_is h.both.classifies
+  classify_caused words arch (file ∷ files) status h = named_caused words arch file files h.end status h.status_is h.ends
+
+  -- mcheck7
+  check_caused : (words : List (List ℕ)) (asked : Check) (end : CheckEnd) (status : Status) → status ≡ check_status end
+      → EndsCheck words asked end old new → CausesAsked words (Ok (AsksCheck asked)) status old new
+  check_caused words asked checking.Done status e h = of_status words (Ok (AsksCheck asked)) status statuses.Done e h
+  check_caused words asked checking.OutFault status e h =
+      of_status words (Ok (AsksCheck asked)) status (statuses.WriteFault Out) e (h.both.checked.wrote.fault, h)
+  check_caused words asked (checking.Wrong at line (checked.Test kind)) status e h =
+      of_status words (Ok (AsksCheck asked)) status (statuses.BadText (Some at) line (texts.Test kind)) e
+      (inr (h, record { out = h.both.checked.1; files = h.both.stay }))
+  check_caused words asked (checking.Wrong at line checked.WrongArch) status e h =
+      of_status words (Ok (AsksCheck asked)) status (statuses.BadText (Some at) line texts.WrongArch) e
+      (inr (h, record { out = h.both.checked.1; files = h.both.stay }))
+  check_caused words asked (checking.Wrong at line (checked.Exec kind)) status e h =
+      of_status words (Ok (AsksCheck asked)) status (statuses.BadText (Some at) line (texts.Exec kind)) e
+      (h, record { out = h.both.checked.1; files = h.both.stay })
+  check_caused words asked (checking.NoFile word) status e h =
+      of_status words (Ok (AsksCheck asked)) status (statuses.NoFile word) e
+      (inr (inr (h, record { out = h.both.checked.1; files = h.both.stay })))
+  check_caused words asked checking.ShelfFault status e h =
+      of_status words (Ok (AsksCheck asked)) status (statuses.ReadFault Shelf) e
+      (h.both.checked.0.fault, inr (inr (h, record { out = h.both.checked.1; files = h.both.stay })))
+  check_caused words asked checking.NoMemory status e h =
+      of_status words (Ok (AsksCheck asked)) status statuses.NoMemory e (tt, record { out = h.both.checked; files = h.both.stay })
+
+  files_caused : (tool log : List ℕ) (logs : List (List ℕ)) (end : SumEnd) (status : Status) → status ≡ sum_status end
+      → EndsSum (tool ∷ log ∷ logs) end old new → CausesAsked (tool ∷ log ∷ logs) (Ok AsksSum) status old new
+  files_caused tool log logs sums.Done status e h = of_status (tool ∷ log ∷ logs) (Ok AsksSum) status statuses.Done e h
+  files_caused tool log logs sums.OutFault status e h =
+      of_status (tool ∷ log ∷ logs) (Ok AsksSum) status (statuses.WriteFault Out) e (h.both.summed.wrote.fault, h)
+  files_caused tool log logs (sums.Wrong None line kind) status e h = absurd h.both.summed
+  files_caused tool log logs (sums.Wrong (Some file) line kind) status e h =
+      of_status (tool ∷ log ∷ logs) (Ok AsksSum) status (statuses.BadText (Some file) line (texts.Log kind)) e
+      (h, record { out = h.both.summed.1; files = h.both.files })
+  files_caused tool log logs (sums.TooMuch None line) status e h = absurd h.both.summed
+  files_caused tool log logs (sums.TooMuch (Some file) line) status e h =
+      of_status (tool ∷ log ∷ logs) (Ok AsksSum) status (statuses.BadText (Some file) line texts.TooMuch) e
+      (file_opened old.shelf new.shelf (tool ∷ log ∷ logs) 1 file line h.both.summed.0, file_far old.shelf new.shelf (tool ∷ log ∷ logs) 1 file line h.both.summed.0, (h, record { out = h.both.summed.1; files = h.both.files }))
+  files_caused tool log logs (sums.NoFile word) status e h =
+      of_status (tool ∷ log ∷ logs) (Ok AsksSum) status (statuses.NoFile word) e
+      (inl (h.both.summed.0, (h, record { out = h.both.summed.1; files = h.both.files })))
+  files_caused tool log logs sums.InputFault status e h = absurd h.both.summed
+  files_caused tool log logs sums.ShelfFault status e h =
+      of_status (tool ∷ log ∷ logs) (Ok AsksSum) status (statuses.ReadFault Shelf) e
+      (h.both.summed.0.fault, inl (h, record { out = h.both.summed.1; files = h.both.files }))
+  files_caused tool log logs sums.NoMemory status e h =
+      of_status (tool ∷ log ∷ logs) (Ok AsksSum) status statuses.NoMemory e (tt, record { out = h.both.summed; files = h.both.files })
+
+  input_caused : (words : List (List ℕ)) (end : SumEnd) (status : Status) → status ≡ sum_status end
+      → (EndsInput end old new → EndsSum words end old new) → EndsInput end old new → CausesAsked words (Ok AsksSum) status old new
+  input_caused words sums.Done status e ends h = of_status words (Ok AsksSum) status statuses.Done e (ends h)
+  input_caused words sums.OutFault status e ends h = of_status words (Ok AsksSum) status (statuses.WriteFault Out) e (h.both.wrote.fault, ends h)
+  input_caused words (sums.Wrong None line kind) status e ends h =
+      of_status words (Ok AsksSum) status (statuses.BadText None line (texts.Log kind)) e
+      (ends h, record { out = h.both.1; files = ap (λ (s : ShelfSeen). s.files) h.shelf })
+  input_caused words (sums.Wrong (Some file) line kind) status e ends h = absurd h.both
+  input_caused words (sums.TooMuch None line) status e ends h =
+      of_status words (Ok AsksSum) status (statuses.BadText None line texts.TooMuch) e (
+        input_far old.input new.input [] h.both.0.log h.both.0.bytes line h.both.0.taken h.both.0.is,
+        inr (ends h, record { out = h.both.1; files = ap (λ (s : ShelfSeen). s.files) h.shelf }),
+      )
+  input_caused words (sums.TooMuch (Some file) line) status e ends h = absurd h.both
+  input_caused words (sums.NoFile word) status e ends h = absurd h.both
+  input_caused words sums.InputFault status e ends h =
+      of_status words (Ok AsksSum) status (statuses.ReadFault Input) e
+      (h.both.0.fault, inr (ends h, record { out = h.both.1; files = ap (λ (s : ShelfSeen). s.files) h.shelf }))
+  input_caused words sums.ShelfFault status e ends h = absurd h.both
+  input_caused words sums.NoMemory status e ends h =
+      of_status words (Ok AsksSum) status statuses.NoMemory e (tt, record { out = h.both; files = ap (λ (s : ShelfSeen). s.files) h.shelf })
+
+  sum_caused : (words : List (List ℕ)) (end : SumEnd) (status : Status) → status ≡ sum_status end → EndsSum words end old new
+      → CausesAsked words (Ok AsksSum) status old new
+  sum_caused [] end status e h = input_caused [] end status e (λ ends. ends) h
+  sum_caused (tool ∷ []) end status e h = input_caused (tool ∷ []) end status e (λ ends. ends) h
+  sum_caused (tool ∷ log ∷ logs) end status e h = files_caused tool log logs end status e h
+
+  asked_caused : (words : List (List ℕ)) (asked : Result Task Usage) (status : Status)
+      → AnswersAsked words asked status old new → CausesAsked words asked status old new
+  asked_caused words (Err usage) status h = of_status words (Err usage) status (statuses.Usage usage.word usage.kind) h.0 ((refl, refl), h.1)
+  asked_caused words (Ok (AsksExecution form asked)) status h =
+      run_caused words (Ok (AsksExecution form asked)) form (machine_of asked.arch) (test_refused asked) (asked_text asked) (intended_by asked.edges asked.mode) status
+      h.input h.shelf tt (λ refusal e. (e, refl)) (λ none printed. (none, printed)) (λ none printed. (printed.out.prints.fault, (none, printed))) h.out
+  asked_caused words (Ok (AsksCoherenceExecution form asked)) status h =
+      run_caused words (Ok (AsksCoherenceExecution form asked)) form (machine_of asked.arch) (coherence_refused asked) (incoherent_text asked) (incoherent_by asked.edges)
+      status h.input h.shelf tt (λ refusal e. (e, refl)) (λ none printed. (none, printed)) (λ none printed. (printed.out.prints.fault, (none, printed))) h.out
+  asked_caused words (Ok (AsksNeeds asked)) status h = needs_caused words asked (test_refused asked) status refl h.input h.shelf h.out
+  asked_caused words (Ok (AsksLines asked)) status h = listed_caused words asked status h
+  asked_caused words (Ok (AsksTest asked)) status h = test_caused words asked (test_refused asked) status refl h.input h.shelf h.out
+  asked_caused words (Ok (AsksCoherence asked)) status h = coherence_caused words asked (coherence_refused asked) status refl h.input h.shelf h.out
+  asked_caused words (Ok (AsksWhy asked)) status h = why_caused words asked (why_unshown asked) status refl h.input h.both
+  asked_caused words (Ok (AsksName asked)) status h = sought_caused words asked.arch asked.cycle status h.shelf h.both
+  asked_caused words (Ok (AsksList asked)) status h = list_caused words asked h.both.end status h.input h.both.status_is h.both.ends
+  asked_caused words (Ok (AsksCross asked)) status h = cross_caused words asked status h.input h.both
+  asked_caused words (Ok (AsksDemo asked)) status h = demo_caused words asked status h.input h.shelf h.out
+  asked_caused words (Ok (AsksFamilies asked)) status h = classify_caused words asked.arch asked.files status h
+  asked_caused words (Ok AsksSum) status h = sum_caused words h.end status h.status_is h.ends
+  asked_caused words (Ok (AsksCheck asked)) status h = check_caused words asked h.end status h.status_is h.ends
+
+-- what is answered has its cause
+pub answers_caused : (words : List (List ℕ)) (status : Status) (old new : DevicesSeen) → Answers words status old new → Causes words status old new
+answers_caused words status old new h = asked_caused (devices old) (devices new) words (asked_of words) status h
+
+-- only a tool that may want memory says that there is none
+pub answers_memory : (words : List (List ℕ)) (status : Status) (old new : DevicesSeen) → Answers words status old new → NeverWantsMemory words status
+answers_memory words status old new h = λ e.
+    let cause : CausesAsked words (asked_of words) statuses.NoMemory (devices old) (devices new) =
+    subst (λ (s : Status). CausesAsked words (asked_of words) s (devices old) (devices new)) e (answers_caused words status old new h) in cause.0

@@ -1,0 +1,422 @@
+-- That what can be done is done, from what is answered.
+use Rattle.std.proofs.Common.{◌≡◌, ◌≤◌, ◌<◌, ◌+◌, ◌^◌, ◌++◌, ℕ, suc, Bool, true, List, [], ◌∷◌, length, get_or, Option, Some, None, Ok, Err, refl, sym, ap, subst, arith, inl, inr, ◌∙◌, length-append}
+use Rattle.std.proofs.{lemmas.Bool.and_parts, lemmas.Option.{slice_get-get_or, slice_get_within, get_or_from_slice_get, same_Some}}
+use Rattle.std.specs.{Prelude.{Result, ◌⊎◌, MatchOption, map, slice_get, slice_index_or, unwrap_or, is_ok}, List.list_all, Result.result_err}
+use Rattle.std.specs.Io.KnownBytes.{Consumes}
+use Rattle.relax_edges.specs.{declared.edge.Edge.Edge, declared.kinds.ArchName.ArchName}
+use Rattle.cycles_from_lines.specs.{declared.errors.LineKind.LineKind, declared.errors.LinesError.LinesError, declared.errors.NormError.NormError}
+use Rattle.cycles_from_lines.specs.{declared.errors.ClassifyError.ClassifyError, Classified.Classifies, Cycles.{is_sound, line_said}, Normed.{Norms, name_line}}
+use Rattle.cycles_from_lines.specs.LineReading.{ReadUpTo, ReadToFault, ReadToLimit, whole_of}
+use Rattle.cycles_from_lines.specs.declared.errors.LinesError.TheVariants as lines
+use Rattle.cycles_from_lines.specs.declared.errors.NormError.TheVariants as norms
+use Rattle.cycles_from_lines.specs.declared.errors.ClassifyError.TheVariants as classifies
+use Rattle.tests_from_files.specs.{declared.classified_errors.FileError.FileError, declared.classified_errors.FilesEnd.FilesEnd}
+use Rattle.tests_from_files.specs.FilesEnds.{AreNamed, FileWrong, FilesClassified, IsAtPlace, SayCycles, said_on}
+use Rattle.tests_from_files.specs.declared.classified_errors.FilesEnd.TheVariants as classing
+use Rattle.diy_io.specs.{Opened.{name_at, IsFile}, Count.Rose, Shelf.{Files, ShelfSeen}, Taken.SourceSeen, Wrote.SinkSeen}
+use Rattle.diy_io.specs.declared.source.TheConstants.{MAX_INPUT}
+use Rattle.tests_from_files.specs.FilesEnds as classed
+use Rattle.exec_check.specs.{declared.checked_errors.CheckEnd.CheckEnd, FilesChecked.{AreTestAndExecution, FilesChecked}, CheckedLaws.right_files_done}
+use Rattle.exec_check.specs.declared.checked_errors.CheckEnd.TheVariants as checking
+use Rattle.diy_words.specs.{declared.usage.Usage.Usage, declared.request.Demo.Demo, declared.request.Check.Check}
+use Rattle.diy_words.specs.declared.request.ExecutionForm.{ExecutionForm}
+use Rattle.diy_words.specs.Requests.{Task, ListTask, Sought, asked_of, AsksTest, AsksWhy, AsksCoherence, WhyTask, AsksName, AsksList, AsksFamilies, AsksSum, AsksCross, AsksDemo, AsksCheck, AsksExecution, AsksCoherenceExecution, AsksNeeds, AsksLines, OfEdges, OfName, OfLines, CrossTask}
+use Rattle.tests_to_files.specs.declared.ending.ListingEnd.{ListingEnd}
+use Rattle.tests_to_files.specs.declared.ending.ListingEnd.TheVariants as listings
+use Rattle.log_sum.specs.{declared.errors.LogError.LogError, Representing.logs_text}
+use Rattle.msum7_files.specs.{declared.sum_end.SumEnd.SumEnd, Logs.{IsText, IsShort, IsTooMuch, AreWholeLogs}}
+use Rattle.msum7_files.specs.SumEnds.{AreLogs, IsAtWord, FilesSummed, InputWrong, FileTooMuch, LogFileMissing}
+use Rattle.msum7_files.specs.declared.sum_end.SumEnd.TheVariants as sums
+use Rattle.msum7_files.specs.SumEnds as summed
+use Rattle.program_meaning.specs.Executions.{Execution}
+use Rattle.litmus_text.specs.TestReading.{TestRead}
+use Rattle.two_runs.specs.{IntendedRuns.intended_by, CoherenceRuns.incoherent_by}
+use Rattle.diy_tools.specs.{NeedsAnswers.needs_asked, ExecutionAnswers.AnswersRun, ListAnswers.{AnswersListed, EndsAsked}, ArchMachines.{Machine, machine_of}, Memory.MayWantMemory}
+use Rattle.run_status.specs.{declared.status.Status.Status, declared.status.Device.TheVariants.{Out, Shelf}}
+use Rattle.diy_tools.specs.{Devices.{Devices, DevicesSeen, devices}}
+use Rattle.diy_tools.specs.{Refused.refused_list, Statuses.{norm_status, classify_status, listing_status}, PrintAnswers.{AnswersEdges, Prints}}
+use Rattle.diy_tools.specs.{TestAnswers.{asked_text, test_name, test_refused}, WhyAnswers.{AnswersRuns, WritesRuns, why_unshown}}
+use Rattle.diy_tools.specs.{CoherenceAnswers.{coherence_refused, incoherent_text}, FamilyAnswers.{AnswersClassify, files_status, read_on}}
+use Rattle.diy_tools.specs.{NameAnswers.{AnswersName, AnswersSought}, CrossAnswers.{AnswersCross, EndsCrossed}, DemoAnswers.demo_asked}
+use Rattle.diy_tools.specs.{CheckAnswers.{check_status, shown_of}, SumAnswers.{EndsInput, EndsSum, sum_status}, Answers.{Answers, AnswersAsked}}
+use Rattle.diy_tools.specs.Complete.{Complete, CanBeDone, CanName, CanSum, CanClassify, AreRightTests, IsSoundText, IsRightLog, AreRightLogs, OfItsText, OfItsFiles, NoFaults, IsDone}
+use Rattle.test_maker.specs.declared.refusal.Refusal.{Refusal}
+use Rattle.diy_tools.proofs.{CountedLogs.long_taken, Causes.{by_print, listing_failed, crossing_failed, of_files}}
+use Rattle.run_status.specs.declared.status.Status.TheVariants as statuses
+
+-- what was taken of a source and what is left of it are a text that it can have
+whole_can : (old new : Option (List ℕ)) (text : List ℕ) → Consumes old new text → IsText old (text ++ unwrap_or new [])
+whole_can None new text h = tt
+whole_can (Some all) None text h = absurd h
+whole_can (Some all) (Some left) text h = h
+
+-- what holds of all holds of one among them
+all_at : {X : Type 0} (test : X → Bool) (before : List X) (x : X) (later : List X) → list_all test (before ++ x ∷ later) ≡ true → test x ≡ true
+all_at test [] x later h = (and_parts (test x) (list_all test later) h).0
+all_at test (b ∷ before) x later h = all_at test before x later (and_parts (test b) (list_all test (before ++ x ∷ later)) h).1
+
+-- a line without an error has none
+no_fault : {X : Type 0} (said : Result X LineKind) (kind : LineKind) → is_ok said ≡ true → result_err said ≡ Some kind → ⊥
+no_fault (Ok x) kind h e = cc e
+no_fault (Err error) kind h e = cc h
+
+-- a sound text is read to its end, where no error comes
+sound_fault : (arch : ArchName) (old new : SourceSeen) (cycles : List (List Edge)) (line : ℕ) (kind : LineKind)
+    → OfItsText old.left (IsSoundText arch) → ReadToFault arch old new cycles line kind → ⊥
+sound_fault arch old new cycles line kind sound h =
+    let whole = sound (whole_of h.text new) (whole_can old.left new.left h.text h.took.consumed) in
+    let all : list_all (is_sound arch) (h.before ++ h.first.line ∷ h.first.later) ≡ true =
+    subst (λ (ls : List (List ℕ)). list_all (is_sound arch) ls ≡ true) h.first.parts whole.sound in
+    no_fault (line_said arch h.first.line) kind (all_at (is_sound arch) h.before h.first.line h.first.later all) h.first.fault
+
+sound_limit : (arch : ArchName) (old new : SourceSeen) (cycles : List (List Edge)) (line : ℕ)
+    → OfItsText old.left (IsSoundText arch) → ReadToLimit arch old new cycles line → ⊥
+sound_limit arch old new cycles line sound h =
+    let few : length (h.text ++ unwrap_or new.left []) ≤ MAX_INPUT = (sound (whole_of h.text new) (whole_can old.left new.left h.text h.took.consumed)).short in
+    let many : MAX_INPUT < length h.text = h.many in
+    omega (arith, length-append h.text (unwrap_or new.left []))
+
+sound_stop : (arch : ArchName) (old new : SourceSeen) (cycles : List (List Edge)) (error : LinesError)
+    → OfItsText old.left (IsSoundText arch) → (Rose old.faults new.faults → ⊥) → ReadUpTo arch old new cycles error → ⊥
+sound_stop arch old new cycles (lines.Wrong line kind) sound none h = sound_fault arch old new cycles line kind sound h
+sound_stop arch old new cycles (lines.TooMuch line) sound none h = sound_limit arch old new cycles line sound h
+sound_stop arch old new cycles lines.InputFault sound none h = none h.fault
+
+-- a text is printed whole where standard output doesn't fail
+prints_done : (asked : Result Task Usage) (text : List ℕ) (status : Status) (before after : SinkSeen) → (Rose before.faults after.faults → ⊥)
+    → Prints text status before after → IsDone asked status
+prints_done asked text status before after none h =
+    by_print (IsDone asked) text status before after h (λ wrote. inl refl) (λ wrote. absurd (none wrote.fault))
+
+edges_done : (asked : Result Task Usage) (refused : Option Refusal) (text : List ℕ) (status : Status) (before after : SinkSeen)
+    → (Rose before.faults after.faults → ⊥) → refused ≡ None → AnswersEdges refused text status before after → IsDone asked status
+edges_done asked None text status before after none e h = prints_done asked text status before after none h
+edges_done asked (Some refusal) text status before after none e h = cc e
+
+lines_done : (asked : Result Task Usage) (arch : ArchName) (status : Status) (old new : Devices) (result : Result (Unit {0}) NormError) → NoFaults old new
+    → OfItsText old.input.left (IsSoundText arch) → status ≡ norm_status result → Norms arch old.input new.input old.out new.out result → IsDone asked status
+lines_done asked arch status old new (Ok x) none sound e h = inl e
+lines_done asked arch status old new (Err norms.OutFault) none sound e h = absurd (none.out h.wrote.fault)
+lines_done asked arch status old new (Err (norms.Lines error)) none sound e h =
+    absurd (sound_stop arch old.input new.input h.cycles error sound none.input h.read)
+
+sought_done : (asked : Result Task Usage) (arch : ArchName) (cycle : Sought) (status : Status) (old new : Devices) → NoFaults old new
+    → CanName arch cycle old → AnswersSought arch cycle status old.input new.input old.out new.out → IsDone asked status
+sought_done asked arch (OfEdges edges) status old new none can h =
+    edges_done asked (refused_list arch edges) (name_line edges) status old.out new.out none.out can h.1
+sought_done asked arch (OfName at name) status old new none can h = of_name h.1
+  where
+    of_name : AnswersName arch at name status old.out new.out → IsDone asked status
+    of_name (inl nobody) = absurd (can nobody.0)
+    of_name (inr found) = prints_done asked (name_line found.cycle) status old.out new.out none.out found.prints
+sought_done asked arch OfLines status old new none can h = lines_done asked arch status old new h.result none can h.status_is h.norms
+
+list_done : (asked : ListTask) (end : ListingEnd) (status : Status) (old new : Devices) → NoFaults old new → status ≡ listing_status end
+    → EndsAsked asked end old.shelf new.shelf old.out new.out → IsDone (Ok (AsksList asked)) status
+list_done asked listings.Done status old new none e h = inl e
+list_done asked listings.OutFault status old new none e h = absurd (none.out h.ends.line.fault)
+list_done asked listings.ShelfFault status old new none e h = absurd (none.shelf (listing_failed asked old.shelf new.shelf old.out new.out h))
+
+crossed_done : (asked : CrossTask) (end : ListingEnd) (status : Status) (old new : Devices) → NoFaults old new → status ≡ listing_status end
+    → EndsCrossed asked end old.shelf new.shelf old.out new.out → IsDone (Ok (AsksCross asked)) status
+crossed_done asked listings.Done status old new none e h = inl e
+crossed_done asked listings.OutFault status old new none e h = absurd (none.out h.1.fault)
+crossed_done asked listings.ShelfFault status old new none e h = absurd (none.shelf (crossing_failed asked old.shelf new.shelf old.out new.out h))
+
+-- two executions are written where nothing fails
+runs_done : (asked : WhyTask) (status : Status) (old new : Devices) → NoFaults old new
+    → WritesRuns (machine_of asked.arch) asked.folder (test_name asked.name asked.edges) asked.edges status old.shelf new.shelf old.out new.out → IsDone (Ok (AsksWhy asked)) status
+runs_done asked statuses.Done old new none h = inl refl
+runs_done asked (statuses.WriteFault Out) old new none h = absurd (none.out h.written.1.fault)
+runs_done asked (statuses.WriteFault Shelf) old new none h = absurd (none.shelf h.written.0.part.faulted.fault)
+runs_done asked status old new none h = absurd h.written
+
+why_done : (asked : WhyTask) (refused : Option Refusal) (status : Status) (old new : Devices) → NoFaults old new → refused ≡ None
+    → AnswersRuns (machine_of asked.arch) asked.folder (test_name asked.name asked.edges) refused asked.edges status old.shelf new.shelf old.out new.out
+    → IsDone (Ok (AsksWhy asked)) status
+why_done asked (Some refusal) status old new none e h = cc e
+why_done asked None status old new none e (inl wants) = inr (wants.0, tt)
+why_done asked None status old new none e (inr h) = runs_done asked status old new none h
+
+cross_done : (asked : CrossTask) (status : Status) (old new : Devices) → NoFaults old new
+    → AnswersCross asked status old.shelf new.shelf old.out new.out → IsDone (Ok (AsksCross asked)) status
+cross_done asked status old new none (inl wants) = inr (wants.0, tt)
+cross_done asked status old new none (inr made) = crossed_done asked made.end status old new none made.status_is made.ends
+
+demo_done : (asked : Demo) (status : Status) (before after : SinkSeen) → (Rose before.faults after.faults → ⊥)
+    → Prints (demo_asked asked) status before after → IsDone (Ok (AsksDemo asked)) status
+demo_done asked status before after none h =
+    by_print (λ s. IsDone (Ok (AsksDemo asked)) s) (demo_asked asked) status before after h (λ wrote. inl refl) (λ wrote. absurd (none wrote.fault))
+
+families_done : (arch : ArchName) (result : Result (Unit {0}) ClassifyError) (status : Status) (old new : Devices) → NoFaults old new
+    → OfItsText old.input.left (IsSoundText arch) → status ≡ classify_status result
+    → Classifies arch old.input new.input old.out new.out result → IsDone (of_files arch []) status
+families_done arch (Ok x) status old new none sound e h = inl e
+families_done arch (Err classifies.OutFault) status old new none sound e h = absurd (none.out h.wrote.fault)
+families_done arch (Err (classifies.Lines error)) status old new none sound e h =
+    absurd (sound_stop arch old.input new.input h.0.cycles error sound none.input h.0.read)
+families_done arch (Err classifies.NoMemory) status old new none sound e h = inr (e, tt)
+
+-- a text that a file has
+shown_file : (shown : Option Files) (files : Files) (name text : List ℕ) → shown ≡ Some files → IsFile shown name text → files name ≡ Some text
+shown_file shown files name text e h = let here : IsFile (Some files) name text = subst (λ (t : Option Files). IsFile t name text) e h in here
+
+-- the file of a place among places whose files say cycles is there, and says one
+record SaysAt (files : Files) (arch : ArchName) (name : List ℕ) : Type 0 where
+  text : List ℕ
+  there : files name ≡ Some text
+  cycle : List Edge
+  says : said_on (read_on arch) text ≡ Ok cycle
+
+says_at : (files : Files) (words : List (List ℕ)) (arch : ArchName) (place : ℕ) (before after : List ℕ) (texts : List (List ℕ)) (cycles : List (List Edge))
+    → AreNamed (Some files) words (before ++ place ∷ after) texts → SayCycles (read_on arch) texts cycles → SaysAt files arch (name_at words place)
+says_at files words arch place [] after (text ∷ texts) (cycle ∷ cycles) named say =
+    let first : said_on (read_on arch) text ≡ Ok cycle = cc say in
+    record { text = text; there = named.0; cycle = cycle; says = first }
+says_at files words arch place [] after (text ∷ texts) [] named say = cc say
+says_at files words arch place [] after [] cycles named say = absurd named
+says_at files words arch place (p ∷ before) after (text ∷ texts) (cycle ∷ cycles) named say =
+    let rest : map (said_on (read_on arch)) texts ≡ map Ok cycles = cc say in
+    says_at files words arch place before after texts cycles named.1 rest
+says_at files words arch place (p ∷ before) after (text ∷ texts) [] named say = cc say
+says_at files words arch place (p ∷ before) after [] cycles named say = absurd named
+
+module _ (words : List (List ℕ)) (files : Files) (arch : ArchName) (places : List ℕ) (right : AreRightTests files words arch places) where
+  right_at : (shown : Option Files) (place : ℕ) (texts : List (List ℕ)) → IsAtPlace (read_on arch) shown words places place texts → SaysAt files arch (name_at words place)
+  right_at shown place texts h =
+      says_at files words arch place h.before h.after right.texts right.cycles
+      (subst (λ (ps : List ℕ). AreNamed (Some files) words ps right.texts) h.parts right.read.named) right.read.say
+
+  tests_wrong : (old new : ShelfSeen) (place : ℕ) (error : FileError) → old.files ≡ Some files → FileWrong (read_on arch) old new words places place error → ⊥
+  tests_wrong old new place error e h =
+      let here = right_at old.files place h.texts h.place_is in
+      let same : Some here.text ≡ Some h.text = sym here.there ∙ shown_file old.files files (name_at words place) h.text e h.named in
+      let text : here.text ≡ h.text = cc same in
+      let both : Ok here.cycle ≡ Err error = sym here.says ∙ ap (said_on (read_on arch)) text ∙ h.fault in cc both
+
+  test_there : (old new : ShelfSeen) (place : ℕ) → old.files ≡ Some files → classed.FileMissing (read_on arch) old new words places place → ⊥
+  test_there old new place e h =
+      let here = right_at old.files place h.texts h.place_is in
+      let gone : files (name_at words place) ≡ None = absent old.files e h.absent in
+      let both : None ≡ Some here.text = sym gone ∙ here.there in cc both
+    where
+      absent : (shown : Option Files) → shown ≡ Some files → MatchOption shown (Rose old.faults new.faults) (λ there. there (name_at words place) ≡ None)
+          → files (name_at words place) ≡ None
+      absent shown e a =
+          let here : MatchOption (Some files) (Rose old.faults new.faults) (λ there. there (name_at words place) ≡ None) =
+          subst (λ (t : Option Files). MatchOption t (Rose old.faults new.faults) (λ there. there (name_at words place) ≡ None)) e a in here
+
+  tests_done : (status : Status) (old new : ShelfSeen) (before after : SinkSeen) (end : FilesEnd) → old.files ≡ Some files
+      → (Rose old.faults new.faults → ⊥) → (Rose before.faults after.faults → ⊥)
+      → status ≡ files_status end → FilesClassified (read_on arch) old new words places before after end → IsDone (of_files arch places) status
+  tests_done status old new before after classing.Done shown none none_out e h = inl e
+  tests_done status old new before after classing.OutFault shown none none_out e h = absurd (none_out h.wrote.fault)
+  tests_done status old new before after (classing.Wrong file line kind) shown none none_out e h = absurd (tests_wrong old new file _ shown h.0)
+  tests_done status old new before after (classing.NoFile word) shown none none_out e h = absurd (test_there old new word shown h.0)
+  tests_done status old new before after classing.ShelfFault shown none none_out e h = absurd (none h.0.fault)
+  tests_done status old new before after classing.NoMemory shown none none_out e h = inr (e, tt)
+
+named_done : (words : List (List ℕ)) (arch : ArchName) (places : List ℕ) (status : Status) (old new : ShelfSeen) (before after : SinkSeen) (end : FilesEnd)
+    (shown : Option Files) → old.files ≡ shown
+    → OfItsFiles shown (λ files. AreRightTests files words arch places) → (Rose old.faults new.faults → ⊥) → (Rose before.faults after.faults → ⊥)
+    → status ≡ files_status end → FilesClassified (read_on arch) old new words places before after end → IsDone (of_files arch places) status
+named_done words arch places status old new before after end None shown right none none_out e h = absurd right
+named_done words arch places status old new before after end (Some files) shown right none none_out e h =
+    tests_done words files arch places right status old new before after end shown none none_out e h
+
+classify_done : (words : List (List ℕ)) (arch : ArchName) (files : List ℕ) (status : Status) (old new : Devices) → NoFaults old new
+    → CanClassify words arch files old → AnswersClassify words arch files status old new → IsDone (of_files arch files) status
+classify_done words arch [] status old new none can h = families_done arch h.both.result status old new none can h.both.status_is h.both.classifies
+classify_done words arch (file ∷ files) status old new none can h =
+    named_done words arch (file ∷ files) status old.shelf new.shelf old.out new.out h.end old.shelf.files refl can none.shelf none.out h.status_is h.ends.both.classified
+
+-- mcheck7 checks right files
+check_ends : (asked : Check) (end : CheckEnd) (status : Status) → status ≡ check_status end → (end ≡ checking.Done) ⊎ (end ≡ checking.NoMemory)
+    → IsDone (Ok (AsksCheck asked)) status
+check_ends asked end status e (inl done) = inl (e ∙ ap check_status done)
+check_ends asked end status e (inr none) = inr (e ∙ ap check_status none, tt)
+
+check_done : (words : List (List ℕ)) (asked : Check) (status : Status) (old new : ShelfSeen) (before after : SinkSeen) (end : CheckEnd)
+    (shown : Option Files) → old.files ≡ shown
+    → OfItsFiles shown (λ files. AreTestAndExecution files asked.arch (machine_of asked.arch).writing words asked.test asked.execution)
+    → (Rose old.faults new.faults → ⊥) → (Rose before.faults after.faults → ⊥)
+    → status ≡ check_status end → FilesChecked (shown_of asked.form) asked.arch (machine_of asked.arch).writing old new words asked.test asked.execution before after end
+    → IsDone (Ok (AsksCheck asked)) status
+check_done words asked status old new before after end None shown right none none_out e h = absurd right
+check_done words asked status old new before after end (Some files) shown right none none_out e h =
+    check_ends asked end status e
+    (right_files_done (shown_of asked.form) asked.arch (machine_of asked.arch).writing old new words asked.test asked.execution before after end files h shown right none none_out)
+
+-- logs that have a sum have no error
+right_wrong : (logs others : List (List ℕ)) (error : LogError) → AreWholeLogs logs → logs ≡ others → logs_text others ≡ Err error → ⊥
+right_wrong logs others error right e h =
+    let all : Ok right.text ≡ Err error = sym right.is ∙ (ap logs_text e ∙ h) in cc
+
+-- the log of an input that has at most 2^40 bytes and no error
+log_wrong : (old new : SourceSeen) (error : LogError) → OfItsText old.left IsRightLog → InputWrong old new error → ⊥
+log_wrong old new error right h = right_wrong (h.log ∷ []) (h.log ∷ []) error (right h.log h.text).right refl (h.is.wrong [])
+
+-- a log of at most 2^40 bytes isn't too long
+short_log : (before : List (List ℕ)) (log bytes : List ℕ) (line : ℕ) → IsShort log → IsTooMuch before log bytes line → ⊥
+short_log before log bytes line short h =
+    let len : length log ≤ 2 ^ 40 = short in
+    let more : 2 ^ 40 < length bytes = long_taken before log bytes line h in
+    omega (arith, ap length h.up_to.parts, length-append bytes h.up_to.rest)
+
+input_done : (status : Status) (old new : Devices) (end : SumEnd) → NoFaults old new → OfItsText old.input.left IsRightLog → status ≡ sum_status end
+    → EndsInput end old new → IsDone (Ok AsksSum) status
+input_done status old new sums.Done none right e h = inl e
+input_done status old new sums.OutFault none right e h = absurd (none.out h.both.wrote.fault)
+input_done status old new (sums.Wrong None line kind) none right e h = absurd (log_wrong old.input new.input _ right h.both.0)
+input_done status old new (sums.Wrong (Some file) line kind) none right e h = absurd h.both
+input_done status old new (sums.TooMuch None line) none right e h =
+    absurd (short_log [] h.both.0.log h.both.0.bytes line (right h.both.0.log h.both.0.text).short h.both.0.is)
+input_done status old new (sums.TooMuch (Some file) line) none right e h = absurd h.both
+input_done status old new (sums.NoFile word) none right e h = absurd h.both
+input_done status old new sums.InputFault none right e h = absurd (none.input h.both.0.fault)
+input_done status old new sums.ShelfFault none right e h = absurd h.both
+input_done status old new sums.NoMemory none right e h = inr (e, tt)
+
+none_some : {X : Type 0} (x : X) → None ≡ Some x → ⊥
+none_some x e = cc e
+
+-- a list that begins as another one does, and then has an element
+splits : {X : Type 0} (before all : List X) (x : X) → ((k : ℕ) (y : X) → slice_get before k ≡ Some y → slice_get all k ≡ Some y)
+    → slice_get all (length before) ≡ Some x → (more : List X) × (all ≡ before ++ x ∷ more)
+splits [] [] x same here = absurd (none_some x here)
+splits [] (y ∷ all) x same here = (all, ap (λ z. z ∷ all) (same_Some y x here))
+splits (b ∷ before) [] x same here = absurd (none_some b (same 0 b refl))
+splits (b ∷ before) (y ∷ all) x same here =
+    let rest = splits before all x (λ k z h. same (suc k) z h) here in
+    let first = same_Some y b (same 0 b refl) in
+    (rest.0, ap (λ z. z ∷ all) first ∙ ap (λ zs. b ∷ zs) rest.1)
+
+module _ (words : List (List ℕ)) (files : Files) (right : AreRightLogs files words) where
+  -- at each place after the first word there is a log
+  at_word : (k : ℕ) → k < length right.logs → files (get_or words (1 + k) []) ≡ Some (get_or right.logs k [])
+  at_word k h =
+      right.are.named k (get_or words (1 + k) []) (get_or right.logs k [])
+      (slice_get-get_or words (1 + k) [] (omega (arith, right.all))) (slice_get-get_or right.logs k [] h)
+
+  -- the logs that a call found are those
+  same_logs : (shown : Option Files) (before : List (List ℕ)) → shown ≡ Some files → AreLogs shown words 1 before → length before ≤ length right.logs
+      → (k : ℕ) (log : List ℕ) → slice_get before k ≡ Some log → slice_get right.logs k ≡ Some log
+  same_logs shown before e are few k log h =
+      let inside : k < length before = slice_get_within before k log h in
+      let found : files (get_or words (1 + k) []) ≡ Some log =
+      shown_file shown files (get_or words (1 + k) []) log e
+      (are.named k (get_or words (1 + k) []) log (slice_get-get_or words (1 + k) [] (omega (arith, right.all))) h) in
+      let here : files (get_or words (1 + k) []) ≡ Some (get_or right.logs k []) = at_word k (omega arith) in
+      slice_get-get_or right.logs k [] (omega arith) ∙ (sym here ∙ found)
+
+  -- a place of a word, and the log that its file has
+  word_log : (shown : Option Files) (place : ℕ) (before : List (List ℕ)) (name : List ℕ) → IsAtWord shown words 1 place before name
+      → (length before < length right.logs) × (files name ≡ slice_get right.logs (length before))
+  word_log shown place before name h =
+      let within : place < length words = slice_get_within words place name h.word in
+      let inside : length before < length right.logs = omega (arith, h.count, right.all) in
+      let name_is : get_or words (1 + length before) [] ≡ name =
+      get_or_from_slice_get words (1 + length before) name [] (subst (λ (p : ℕ). slice_get words p ≡ Some name) h.count h.word) in (
+        inside,
+        subst (λ (n : List ℕ). files n ≡ slice_get right.logs (length before)) name_is
+            (at_word (length before) inside ∙ sym (slice_get-get_or right.logs (length before) [] inside)),
+      )
+
+  files_wrong : (old new : ShelfSeen) (place : ℕ) (error : LogError) → old.files ≡ Some files → summed.LogFileWrong old new words 1 place error → ⊥
+  files_wrong old new place error e h =
+      let spot = word_log old.files place h.before h.name h.place_is in
+      let parts = splits h.before right.logs h.log
+      (same_logs old.files h.before e h.place_is.are (omega (arith, spot.0)))
+      (sym spot.1 ∙ shown_file old.files files h.name h.log e h.text) in
+      right_wrong right.logs (h.before ++ h.log ∷ parts.0) error right.right parts.1 (h.is.wrong parts.0)
+
+  files_long : (old new : ShelfSeen) (place line : ℕ) → old.files ≡ Some files → FileTooMuch old new words 1 place line → ⊥
+  files_long old new place line e h =
+      let spot = word_log old.files place h.before h.name h.place_is in
+      let log_at : slice_get right.logs (length h.before) ≡ Some h.log = sym spot.1 ∙ shown_file old.files files h.name h.log e h.text in
+      let log_is : get_or right.logs (length h.before) [] ≡ h.log = get_or_from_slice_get right.logs (length h.before) h.log [] log_at in
+      let short : IsShort (slice_index_or right.logs (length h.before) []) = right.are.short (length h.before) [] spot.0 in
+      short_log h.before h.log h.bytes line (subst (λ (l : List ℕ). IsShort l) log_is short) h.is
+
+  file_there : (old new : ShelfSeen) (place : ℕ) → old.files ≡ Some files → LogFileMissing old new words 1 place → ⊥
+  file_there old new place e h =
+      let spot = word_log old.files place h.before h.name h.place_is in
+      let found : files h.name ≡ Some (get_or right.logs (length h.before) []) = spot.1 ∙ slice_get-get_or right.logs (length h.before) [] spot.0 in
+      let gone : files h.name ≡ None = absent old.files e h.absent in
+      let both : None ≡ Some (get_or right.logs (length h.before) []) = sym gone ∙ found in cc
+    where
+      absent : (shown : Option Files) → shown ≡ Some files → MatchOption shown (Rose old.faults new.faults) (λ there. there h.name ≡ None) → files h.name ≡ None
+      absent shown e a =
+          let here : MatchOption (Some files) (Rose old.faults new.faults) (λ there. there h.name ≡ None) =
+          subst (λ (t : Option Files). MatchOption t (Rose old.faults new.faults) (λ there. there h.name ≡ None)) e a in here
+
+  files_done : (status : Status) (old new : ShelfSeen) (before after : SinkSeen) (end : SumEnd) → old.files ≡ Some files
+      → (Rose old.faults new.faults → ⊥) → (Rose before.faults after.faults → ⊥)
+      → status ≡ sum_status end → FilesSummed old new words 1 before after end → IsDone (Ok AsksSum) status
+  files_done status old new before after sums.Done shown none none_out e h = inl e
+  files_done status old new before after sums.OutFault shown none none_out e h = absurd (none_out h.wrote.fault)
+  files_done status old new before after (sums.Wrong None line kind) shown none none_out e h = absurd h
+  files_done status old new before after (sums.Wrong (Some file) line kind) shown none none_out e h = absurd (files_wrong old new file _ shown h.0)
+  files_done status old new before after (sums.TooMuch None line) shown none none_out e h = absurd h
+  files_done status old new before after (sums.TooMuch (Some file) line) shown none none_out e h = absurd (files_long old new file line shown h.0)
+  files_done status old new before after (sums.NoFile word) shown none none_out e h = absurd (file_there old new word shown h.0)
+  files_done status old new before after sums.InputFault shown none none_out e h = absurd h
+  files_done status old new before after sums.ShelfFault shown none none_out e h = absurd (none h.0.fault)
+  files_done status old new before after sums.NoMemory shown none none_out e h = inr (e, tt)
+
+summed_done : (words : List (List ℕ)) (status : Status) (old new : ShelfSeen) (before after : SinkSeen) (end : SumEnd) (shown : Option Files) → old.files ≡ shown
+    → OfItsFiles shown (λ files. AreRightLogs files words) → (Rose old.faults new.faults → ⊥) → (Rose before.faults after.faults → ⊥)
+    → status ≡ sum_status end → FilesSummed old new words 1 before after end → IsDone (Ok AsksSum) status
+summed_done words status old new before after end None shown right none none_out e h = absurd right
+summed_done words status old new before after end (Some files) shown right none none_out e h =
+    files_done words files right status old new before after end shown none none_out e h
+
+-- an execution is printed where the edges aren't refused
+run_done : (asked : Result Task Usage) (form : ExecutionForm) (m : Machine) (refused : Option Refusal) (text : List ℕ) (meant : TestRead → Execution) (status : Status) (old new : SinkSeen)
+    → MayWantMemory asked → (Rose old.faults new.faults → ⊥) → refused ≡ None → AnswersRun form m refused text meant status old new → IsDone asked status
+run_done asked form m (Some refusal) text meant status old new wants none can h = cc can
+run_done asked form m None text meant status old new wants none can (inl empty) = inr (empty.0, wants)
+run_done asked form m None text meant statuses.Done old new wants none can (inr h) = inl refl
+run_done asked form m None text meant (statuses.WriteFault Out) old new wants none can (inr h) = absurd (none h.prints.fault)
+run_done asked form m None text meant status old new wants none can (inr h) = absurd h.prints
+
+listed_done : (asked : ListTask) (status : Status) (old new : SinkSeen) → (Rose old.faults new.faults → ⊥) → AnswersListed asked status old new
+    → IsDone (Ok (AsksLines asked)) status
+listed_done asked statuses.Done old new none h = inl refl
+listed_done asked (statuses.WriteFault Out) old new none h = absurd (none h.failed.part.fault)
+listed_done asked status old new none h = absurd h
+
+asked_done : (words : List (List ℕ)) (asked : Result Task Usage) (status : Status) (old new : Devices)
+    → AnswersAsked words asked status old new → CanBeDone words asked old → NoFaults old new → IsDone asked status
+asked_done words (Err usage) status old new h can none = absurd can
+asked_done words (Ok (AsksWhy asked)) status old new h can none = why_done asked (why_unshown asked) status old new none can h.both
+asked_done words (Ok (AsksExecution form asked)) status old new h can none =
+    run_done (Ok (AsksExecution form asked)) form (machine_of asked.arch) (test_refused asked) (asked_text asked) (intended_by asked.edges asked.mode) status old.out new.out tt none.out can h.out
+asked_done words (Ok (AsksCoherenceExecution form asked)) status old new h can none =
+    run_done (Ok (AsksCoherenceExecution form asked)) form (machine_of asked.arch) (coherence_refused asked) (incoherent_text asked) (incoherent_by asked.edges) status old.out new.out tt none.out can h.out
+asked_done words (Ok (AsksNeeds asked)) status old new h can none =
+    edges_done (Ok (AsksNeeds asked)) (test_refused asked) (needs_asked asked) status old.out new.out none.out can h.out
+asked_done words (Ok (AsksLines asked)) status old new h can none = listed_done asked status old.out new.out none.out h.out
+asked_done words (Ok (AsksTest asked)) status old new h can none =
+    edges_done (Ok (AsksTest asked)) (test_refused asked) (asked_text asked) status old.out new.out none.out can h.out
+asked_done words (Ok (AsksCoherence asked)) status old new h can none =
+    edges_done (Ok (AsksCoherence asked)) (coherence_refused asked) (incoherent_text asked) status old.out new.out none.out can h.out
+asked_done words (Ok (AsksName asked)) status old new h can none =
+    sought_done (Ok (AsksName asked)) asked.arch asked.cycle status old new none can h.both
+asked_done words (Ok (AsksList asked)) status old new h can none = list_done asked h.both.end status old new none h.both.status_is h.both.ends
+asked_done words (Ok (AsksCross asked)) status old new h can none = cross_done asked status old new none h.both
+asked_done words (Ok (AsksDemo asked)) status old new h can none = demo_done asked status old.out new.out none.out h.out
+asked_done words (Ok (AsksFamilies asked)) status old new h can none = classify_done words asked.arch asked.files status old new none can h
+asked_done words (Ok (AsksCheck asked)) status old new h can none =
+    check_done words asked status old.shelf new.shelf old.out new.out h.end old.shelf.files refl can none.shelf none.out h.status_is h.ends.both.checked
+asked_done words (Ok AsksSum) status old new h can none = of_words words can h.ends
+  where
+    of_words : (words : List (List ℕ)) → CanSum words old → EndsSum words h.end old new → IsDone (Ok AsksSum) status
+    of_words [] can ends = input_done status old new h.end none can h.status_is ends
+    of_words (tool ∷ []) can ends = input_done status old new h.end none can h.status_is ends
+    of_words (tool ∷ log ∷ logs) can ends =
+        summed_done (tool ∷ log ∷ logs) status old.shelf new.shelf old.out new.out h.end old.shelf.files refl can none.shelf none.out h.status_is ends.both.summed
+
+-- where what is asked for can be done and no count of faults rises, it is done
+pub answers_complete : (words : List (List ℕ)) (status : Status) (old new : DevicesSeen) → Answers words status old new → Complete words status old new
+answers_complete words status old new h = asked_done words (asked_of words) status (devices old) (devices new) h

@@ -1,0 +1,163 @@
+-- Which cycles a listing wants, and what its walk knows of that.
+use Rattle.std.proofs.Common.{◌≡◌, ◌<◌, ◌≤◌, ◌+◌, ◌&&◌, ◌||◌, nat_lt, nat_le, ℕ, ◌-◌, suc, Bool, true, false, cond, List, [], ◌∷◌, ◌++◌, length, get_or, Option, Some, None, refl, sym, ◌∙◌, ap, arith}
+use Rattle.std.proofs.{lemmas.Bool.{and_parts, and_from, or_right, leb-true, le-leb, lt-ltb}, lemmas.List.Sums.sum_by-append, lemmas.List.Folds.list_all-append}
+use Rattle.std.specs.{Prelude.{◌↔◌, is_none}, List.list_all}
+use Rattle.relax_edges.specs.{declared.edge.Edge.Edge, declared.kinds.ArchName.ArchName, declared.kinds.ObsMode.ObsMode, EdgeTable.{is_of_arch, is_external}}
+use Rattle.edge_algebra_laws.specs.Composable.{IsCycle}
+use Rattle.list_laws.proofs.Cases.{by_less}
+use Rattle.cycle_enum_laws.specs.Listing.{IsAnswer, IsListed}
+use Rattle.cycle_events.specs.Resolution.{external_count, resolution_of}
+use Rattle.arch_trait.specs.Threads.{Puts}
+use Rattle.test_maker.specs.{declared.refusal.Refusal.TheVariants.TooFewThreads, Refusals.{foreign_edge, resolved_refusal, refusal_of}}
+use Rattle.test_maker.proofs.HavingTests.{neither, not_foreign}
+use Rattle.diy_io.specs.Shelf.{ShelfSeen}
+use Rattle.tests_to_files.specs.Plans.{HaveTests, ends_in, ends_inside, ends_of_arch, has_few_threads, has_few_accesses, is_sought, is_wanted, may_lead}
+use Rattle.tests_to_files.specs.{InternalRuns.HasLongRun, WantedLaws.wanted_has_test, ListingEnds.{WritesAll, StopsAtTest, StopsAtAll}}
+use Rattle.tests_to_files.proofs.{RunLaws.long_run_crowds, FurtherCycles.{next_too, listed_too, all_too}}
+
+-- a cycle that is wanted has at most so many threads, and accesses in each
+wanted_few : (puts : Puts) (mode : ObsMode) (threads : ℕ) (accesses : Option ℕ) (cycle : List Edge) → is_wanted puts mode threads accesses cycle ≡ true
+    → (has_few_threads threads cycle ≡ true) × (has_few_accesses accesses cycle ≡ true)
+unfolding is_wanted
+wanted_few puts mode threads accesses cycle h =
+    and_parts (has_few_threads threads cycle) (has_few_accesses accesses cycle)
+    (and_parts (is_none (refusal_of puts cycle mode)) (has_few_threads threads cycle && has_few_accesses accesses cycle) h).1
+
+-- two are more than none
+pub two_are_some : (n : ℕ) → nat_le 2 n ≡ true → 0 < n
+two_are_some n h = let two : 2 ≤ n = leb-true 2 n h in omega (arith, two)
+
+-- a cycle that has a test has two threads
+tested_two : (puts : Puts) (mode : ObsMode) (cycle : List Edge) → refusal_of puts cycle mode ≡ None → nat_le 2 (external_count cycle) ≡ true
+tested_two puts mode cycle h =
+    by_less (external_count cycle) 2 (λ few. absurd (refused (lt-ltb (external_count cycle) 2 few))) (λ enough. le-leb 2 (external_count cycle) (omega (arith, enough)))
+  where
+    refused : nat_lt (external_count cycle) 2 ≡ true → ⊥
+    refused few =
+        let by : resolved_refusal puts (resolution_of cycle) mode ≡ Some TooFewThreads = rw few refl in
+        let none : resolved_refusal puts (resolution_of cycle) mode ≡ None = (neither (foreign_edge puts.name cycle) (resolved_refusal puts (resolution_of cycle) mode) h).1 in
+        let apart : Some TooFewThreads ≡ None = sym by ∙ none in
+        cc
+
+-- all its edges are of the architecture
+tested_of_arch : (puts : Puts) (mode : ObsMode) (cycle : List Edge) → refusal_of puts cycle mode ≡ None → list_all (λ e. is_of_arch e puts.name) cycle ≡ true
+tested_of_arch puts mode cycle none =
+    not_foreign puts cycle (neither (foreign_edge puts.name cycle) (resolved_refusal puts (resolution_of cycle) mode) none).0
+
+-- the last edge is one of all
+pub ends_at : (is_such : Edge → Bool) (u : List Edge) (d : Edge) → 0 < length u → ends_in is_such u ≡ is_such (get_or u (length u - 1) d)
+ends_at is_such [] d some = absurd (omega arith)
+ends_at is_such (x ∷ []) d some = refl
+ends_at is_such (x ∷ y ∷ u) d some =
+    let n : length (x ∷ y ∷ u) - 1 ≡ suc (length (y ∷ u) - 1) = omega arith in
+    rw n (ends_at is_such (y ∷ u) d (omega arith))
+
+ends_if_all : (arch : ArchName) (u : List Edge) → list_all (λ e. is_of_arch e arch) u ≡ true → ends_of_arch arch u ≡ true
+ends_if_all arch [] all = refl
+ends_if_all arch (x ∷ []) all = (and_parts (is_of_arch x arch) true all).0
+ends_if_all arch (x ∷ y ∷ u) all = ends_if_all arch (y ∷ u) (and_parts (is_of_arch x arch) (list_all (λ e. is_of_arch e arch) (y ∷ u)) all).1
+
+-- what is known of a cycle that is wanted if it has a test
+record Sought (arch : ArchName) (threads : ℕ) (accesses : Option ℕ) (u : List Edge) : Type 0 where
+  two : nat_le 2 (external_count u) ≡ true
+  of_arch : list_all (λ e. is_of_arch e arch) u ≡ true
+  few_threads : has_few_threads threads u ≡ true
+  few_accesses : has_few_accesses accesses u ≡ true
+
+sought_parts : (arch : ArchName) (threads : ℕ) (accesses : Option ℕ) (u : List Edge) → is_sought arch threads accesses u ≡ true → Sought arch threads accesses u
+unfolding is_sought
+sought_parts arch threads accesses u h =
+    let p = and_parts (nat_le 2 (external_count u)) ((list_all (λ e. is_of_arch e arch) u && has_few_threads threads u) && has_few_accesses accesses u) h in
+    let q = and_parts (list_all (λ e. is_of_arch e arch) u && has_few_threads threads u) (has_few_accesses accesses u) p.1 in
+    let r = and_parts (list_all (λ e. is_of_arch e arch) u) (has_few_threads threads u) q.0 in
+    record { two = p.0; of_arch = r.0; few_threads = r.1; few_accesses = q.1 }
+
+-- such a cycle may begin with each of its prefixes
+prefix_leads : (arch : ArchName) (threads : ℕ) (accesses : Option ℕ) (u r : List Edge) → Sought arch threads accesses (u ++ r) → may_lead arch threads u ≡ true
+unfolding may_lead
+prefix_leads arch threads accesses u r s =
+    let few : external_count (u ++ r) ≤ threads = leb-true (external_count (u ++ r)) threads s.few_threads in
+    let both : external_count (u ++ r) ≡ external_count u + external_count r = sum_by-append (λ e. cond (is_external e) 1 0) u r in
+    and_from (ends_of_arch arch u) (ends_inside u || has_few_threads threads u)
+    (ends_if_all arch u (and_parts (list_all (λ e. is_of_arch e arch) u) (list_all (λ e. is_of_arch e arch) r) (sym (list_all-append (λ e. is_of_arch e arch) u r) ∙ s.of_arch)).0)
+    (or_right (ends_inside u) (has_few_threads threads u) (le-leb (external_count u) threads (omega (arith, few, both))))
+
+-- no such cycle begins with edges with which none may
+pub refused_leads_none : (arch : ArchName) (threads : ℕ) (accesses : Option ℕ) (u r : List Edge) → may_lead arch threads u ≡ false → is_sought arch threads accesses (u ++ r) ≡ true → ⊥
+refused_leads_none arch threads accesses u r none h =
+    let yes : may_lead arch threads u ≡ true = prefix_leads arch threads accesses u r (sought_parts arch threads accesses (u ++ r) h) in cc
+
+-- nor with edges that have a long run
+pub long_run_leads_none : (arch : ArchName) (threads : ℕ) (accesses : Option ℕ) (u r : List Edge) → HasLongRun accesses u → is_sought arch threads accesses (u ++ r) ≡ true → ⊥
+long_run_leads_none arch threads accesses u r run h =
+    let p = sought_parts arch threads accesses (u ++ r) h in
+    long_run_crowds accesses u r (two_are_some (external_count (u ++ r)) p.two) run p.few_accesses
+
+-- a cycle that is wanted is one of those, and has a test
+sought_if_wanted : (puts : Puts) (mode : ObsMode) (threads : ℕ) (accesses : Option ℕ) (u : List Edge) → is_wanted puts mode threads accesses u ≡ true → is_sought puts.name threads accesses u ≡ true
+unfolding is_sought
+sought_if_wanted puts mode threads accesses u h =
+    let few = wanted_few puts mode threads accesses u h in
+    let none = wanted_has_test puts mode threads accesses u h in
+    and_from (nat_le 2 (external_count u)) ((list_all (λ e. is_of_arch e puts.name) u && has_few_threads threads u) && has_few_accesses accesses u)
+    (tested_two puts mode u none)
+    (and_from (list_all (λ e. is_of_arch e puts.name) u && has_few_threads threads u) (has_few_accesses accesses u)
+    (and_from (list_all (λ e. is_of_arch e puts.name) u) (has_few_threads threads u) (tested_of_arch puts mode u none) few.0) few.1)
+
+wanted_if_sought : (puts : Puts) (mode : ObsMode) (threads : ℕ) (accesses : Option ℕ) (u : List Edge) → is_sought puts.name threads accesses u ≡ true → refusal_of puts u mode ≡ None
+    → is_wanted puts mode threads accesses u ≡ true
+unfolding is_wanted
+wanted_if_sought puts mode threads accesses u h none =
+    let p = sought_parts puts.name threads accesses u h in
+    and_from (is_none (refusal_of puts u mode)) (has_few_threads threads u && has_few_accesses accesses u) (ap is_none none)
+    (and_from (has_few_threads threads u) (has_few_accesses accesses u) p.few_threads p.few_accesses)
+
+-- those of a walk's cycles that have a test are what a listing wants, where the walk lists what is wanted if it has one
+pub listed_alike : (puts : Puts) (mode : ObsMode) (threads : ℕ) (accesses : Option ℕ) (takes : List Edge → Type 0) (relaxes : List (List Edge)) (size : ℕ) (exact : Bool)
+    → ((u : List Edge) → IsCycle u → takes u ↔ (is_sought puts.name threads accesses u ≡ true))
+    → (u : List Edge) → HaveTests puts mode (IsListed takes relaxes size exact) u ↔ IsListed (λ v. is_wanted puts mode threads accesses v ≡ true) relaxes size exact u
+listed_alike puts mode threads accesses takes relaxes size exact same u = (
+  λ h. record {
+    cycle = h.0.cycle;
+    normal = h.0.normal;
+    limits = h.0.limits;
+    made = h.0.made;
+    taken = wanted_if_sought puts mode threads accesses u ((same u h.0.cycle).0 h.0.taken) h.1;
+  },
+  λ l. (
+    record {
+      cycle = l.cycle;
+      normal = l.normal;
+      limits = l.limits;
+      made = l.made;
+      taken = (same u l.cycle).1 (sought_if_wanted puts mode threads accesses u l.taken);
+    },
+    wanted_has_test puts mode threads accesses u l.taken,
+  ),
+)
+
+-- the next listed cycle, or that there is none, by another word for the listed cycles
+pub answers_too : (listed other : List Edge → Type 0) (same : (u : List Edge) → listed u ↔ other u) (last answer : Option (List Edge)) → IsAnswer listed last answer → IsAnswer other last answer
+answers_too listed other same last None none = λ v is h. none v ((same v).1 is) h
+answers_too listed other same last (Some u) n = next_too listed other (λ u. (same u).0) (λ u. (same u).1) last u n
+
+-- what a listing leaves, by another word for the listed cycles
+module _ (listed other : List Edge → Type 0) (same : (u : List Edge) → listed u ↔ other u) (folder : Option (List ℕ)) (text : List Edge → List ℕ) (given : Option (List Edge)) (a b : ShelfSeen) where
+  -- a listing that was written whole is so by the other word
+  pub writes_too : (SaysLine : List ℕ → Type 0) → WritesAll listed folder text given a b SaysLine → WritesAll other folder text given a b SaysLine
+  writes_too SaysLine w = record { cycles = w.cycles; all = all_too listed other (λ u. (same u).0) (λ u. (same u).1) given w.cycles w.all; files = w.files; line = w.line }
+
+  -- a listing that stopped at a test did so by the other word
+  pub stops_test_too : StopsAtTest listed folder text given a b → StopsAtTest other folder text given a b
+  stops_test_too s = record {
+    last = s.last;
+    cycles = s.cycles;
+    next = s.next;
+    so_far = listed_too listed other (λ u. (same u).0) (λ u. (same u).1) given s.last s.cycles s.so_far;
+    is_next = next_too listed other (λ u. (same u).0) (λ u. (same u).1) s.last s.next s.is_next;
+    part = s.part;
+  }
+
+  -- a listing that stopped at the file that names all did so by the other word
+  pub stops_all_too : StopsAtAll listed folder text given a b → StopsAtAll other folder text given a b
+  stops_all_too s = record { cycles = s.cycles; all = all_too listed other (λ u. (same u).0) (λ u. (same u).1) given s.cycles s.all; part = s.part }
