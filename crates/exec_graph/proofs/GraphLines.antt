@@ -8,7 +8,7 @@ use Rattle.diy_io.specs.{declared.page.TheConstants.LINE_ROOM, Page.page_after, 
 use Rattle.diy_io.proofs.PiecesLemmas.{joined_text_more}
 use Rattle.list_laws.specs.Numbers.{upto}
 use Rattle.relax_edges.specs.declared.edge.Edge.{Edge}
-use Rattle.exec_graph.specs.{declared.arrows.Arrow.Arrow, declared.drawn.{Drawn.Drawn, Relation.Relation}, Graphs.{PictureSeen, answer_word, arrow_of, arrows_of, caption, drawing_text, initial_places, lap_word, lines_drawn, pairs_by, points_drawn, quoted_byte, reads_initial, position_word, relation_colour, word_beside, word_distance, word_on}}
+use Rattle.exec_graph.specs.{declared.arrows.Arrow.Arrow, declared.strokes.Stroke.Stroke, declared.drawn.{Drawn.Drawn, Relation.Relation}, Graphs.{PictureSeen, answer_word, arrow_of, arrows_of, caption, drawing_text, initial_places, lap_word, lines_drawn, pairs_by, points_drawn, quoted_byte, reads_initial, position_word, relation_colour, word_beside, word_distance, word_on}}
 use Rattle.final_cond.specs.CondText.{cond_text}
 use Rattle.program_meaning.specs.declared.seen.SeenAccess.{SeenAccess}
 
@@ -161,16 +161,16 @@ caption_appended picture old a b c d holds coherent h k l m p q =
     (codes "\\ncondition ") (answer_word picture.holds) (codes "\\ncoherent ") (answer_word picture.coherent) (codes "\"\n") a b c d h k l m
 
 -- a word on an arrow, appended piece by piece
-pub on_appended : (relation : Relation) (word old a b distance colour : List ℕ)
+pub on_appended : (stroke : Stroke) (word old a b distance colour : List ℕ)
     → a ≡ old ++ codes ", taillabel=<<table border=\"0\" cellpadding=\"1\" cellspacing=\"0\"><tr><td bgcolor=\"white\">" → b ≡ a ++ word
-    → distance ≡ word_distance relation → colour ≡ relation_colour relation
-    → b ++ (codes "</td></tr></table>>, labeldistance=" ++ distance ++ codes ", labelangle=0, fontcolor=\"" ++ colour ++ codes "\"") ≡ old ++ word_on relation word
+    → distance ≡ word_distance stroke → colour ≡ relation_colour stroke.relation
+    → b ++ (codes "</td></tr></table>>, labeldistance=" ++ distance ++ codes ", labelangle=0, fontcolor=\"" ++ colour ++ codes "\"") ≡ old ++ word_on stroke word
 unfolding word_on
-on_appended relation word old a b distance colour h k d c =
+on_appended stroke word old a b distance colour h k d c =
     ap (λ t. b ++ (codes "</td></tr></table>>, labeldistance=" ++ t ++ codes ", labelangle=0, fontcolor=\"" ++ colour ++ codes "\"")) d
-    ∙ ap (λ t. b ++ (codes "</td></tr></table>>, labeldistance=" ++ word_distance relation ++ codes ", labelangle=0, fontcolor=\"" ++ t ++ codes "\"")) c
+    ∙ ap (λ t. b ++ (codes "</td></tr></table>>, labeldistance=" ++ word_distance stroke ++ codes ", labelangle=0, fontcolor=\"" ++ t ++ codes "\"")) c
     ∙ two_and_five old (codes ", taillabel=<<table border=\"0\" cellpadding=\"1\" cellspacing=\"0\"><tr><td bgcolor=\"white\">") word
-    (codes "</td></tr></table>>, labeldistance=") (word_distance relation) (codes ", labelangle=0, fontcolor=\"") (relation_colour relation) (codes "\"") a b h k
+    (codes "</td></tr></table>>, labeldistance=") (word_distance stroke) (codes ", labelangle=0, fontcolor=\"") (relation_colour stroke.relation) (codes "\"") a b h k
 
 -- nine texts, appended one after another
 nine_appended : (old l w m p n r k t u a b c d e f g h i : List ℕ) → a ≡ old ++ l → b ≡ a ++ w → c ≡ b ++ m → d ≡ c ++ p → e ≡ d ++ n → f ≡ e ++ w
@@ -200,7 +200,7 @@ pub drawing_made : (picture : PictureSeen) (initial i2 i3 : List ℕ) (drawn d2 
 unfolding drawing_text
 drawing_made picture initial i2 i3 drawn d2 arrows a2 empty text h1 h2 h3 h4 h5 h6 h7 h8 e = e ∙ rw (h8, h7, h6, h5, h3, h4, h2, h1) refl
 
--- six texts, appended one after another
-pub six_appended : (old a b c d e f s t u v w : List ℕ) (x : List ℕ) → s ≡ old ++ a → t ≡ s ++ b → u ≡ t ++ c → v ≡ u ++ d → w ≡ v ++ e → x ≡ w ++ f
-    → x ≡ old ++ (a ++ (b ++ (c ++ (d ++ (e ++ f)))))
-six_appended old a b c d e f s t u v w x h k l m n p = rw (p, n, m, l, k, h) (simp append_assoc)
+-- seven texts, appended one after another
+pub pieces_appended : (old a b c d e f g s t u v w x y : List ℕ) → s ≡ old ++ a → t ≡ s ++ b → u ≡ t ++ c → v ≡ u ++ d → w ≡ v ++ e → x ≡ w ++ f
+    → y ≡ x ++ g → y ≡ old ++ (a ++ (b ++ (c ++ (d ++ (e ++ (f ++ g))))))
+pieces_appended old a b c d e f g s t u v w x y h k l m n p q = rw (q, p, n, m, l, k, h) (simp append_assoc)

@@ -382,17 +382,27 @@ abbrev pub edge_style : Bool → Style
 edge_style true = Bold
 edge_style false = Dashed
 
--- how far from its source the word of an arrow is, in tens of points: that of coherence order is farther, since a write may have two arrows in
--- nearly one direction
-abbrev pub word_distance : Relation → List ℕ
-word_distance Co = codes "5"
-word_distance _ = codes "3.5"
+-- two points are accesses of threads that aren't beside each other
+abbrev pub are_apart : Point → Point → Bool
+are_apart (Initial place) to = false
+are_apart (At thread number) (Initial place) = false
+are_apart (At thread number) (At other next) = nat_lt (thread + 1) other || nat_lt (other + 1) thread
+
+-- how far from its source the word of an arrow is, in tens of points, between threads beside each other: that of coherence order is farther,
+-- since a write may have two arrows in nearly one direction
+abbrev pub near_distance : Relation → List ℕ
+near_distance Co = codes "5"
+near_distance _ = codes "3.5"
+
+-- how far from its source the word of an arrow is, in tens of points: farther on a long arrow, which may leave its source beside a short one
+abbrev pub word_distance : Stroke → List ℕ
+word_distance stroke = cond (are_apart stroke.from stroke.to) (codes "9") (near_distance stroke.relation)
 
 -- the word of an arrow, on it, near its source
-unfoldable pub word_on : Relation → List ℕ → List ℕ
-word_on relation word =
+unfoldable pub word_on : Stroke → List ℕ → List ℕ
+word_on stroke word =
     codes ", taillabel=<<table border=\"0\" cellpadding=\"1\" cellspacing=\"0\"><tr><td bgcolor=\"white\">" ++ word
-    ++ codes "</td></tr></table>>, labeldistance=" ++ word_distance relation ++ codes ", labelangle=0, fontcolor=\"" ++ relation_colour relation ++ codes "\""
+    ++ codes "</td></tr></table>>, labeldistance=" ++ word_distance stroke ++ codes ", labelangle=0, fontcolor=\"" ++ relation_colour stroke.relation ++ codes "\""
 
 -- a position, so many points right and down
 unfoldable pub position_word : ℕ → ℕ → List ℕ
@@ -405,9 +415,9 @@ word_beside relation word across down =
     ++ relation_colour relation ++ codes "\", pos=\"" ++ position_word across down ++ codes "\"]\n"
 
 -- what an arrow's word adds to the arrow's own line
-abbrev pub side_word : Relation → List ℕ → Side → List ℕ
-side_word relation word OnArrow = word_on relation word
-side_word relation word (Beside across down) = []
+abbrev pub side_word : Stroke → List ℕ → Side → List ℕ
+side_word stroke word OnArrow = word_on stroke word
+side_word stroke word (Beside across down) = []
 
 -- the line of an arrow's word, if it has one of its own
 abbrev pub side_line : Relation → List ℕ → Side → List ℕ
@@ -423,7 +433,7 @@ ends_word places stroke =
 -- the lines of an arrow with this word
 unfoldable pub stroke_lines : List (List ℕ) → Stroke → List ℕ → List ℕ
 stroke_lines places stroke word =
-    side_line stroke.relation word stroke.side ++ (ends_word places stroke ++ (side_word stroke.relation word stroke.side ++ codes "]\n"))
+    side_line stroke.relation word stroke.side ++ (ends_word places stroke ++ (side_word stroke word stroke.side ++ codes "]\n"))
 
 -- the thin arrow of a pair of a relation, whose word has this many bytes
 abbrev pub thin_stroke : Relation → Point → Point → ℕ → Stroke
@@ -492,10 +502,13 @@ thin_lines places arrows drawn relation = pair_lines places relation (thin_pairs
 abbrev pub relation_lines : List (List ℕ) → List Arrow → List Drawn → List ℕ
 relation_lines places arrows drawn = flat_map (thin_lines places arrows drawn) (Po ∷ Rf ∷ Co ∷ Fr ∷ Addr ∷ Data ∷ Ctrl ∷ [])
 
--- the lines of the edges of a cycle: those that stand, and those that don't
-abbrev pub cycle_lines : List (List ℕ) → List SeenAccess → List Arrow → List ℕ
-cycle_lines places seen arrows =
-    flat_map (edge_lines places) (filter (λ (a : Arrow). a.stands) arrows) ++ flat_map (edge_lines places) (filter (is_dashed seen) arrows)
+-- the lines of the edges of a cycle that stand
+abbrev pub standing_lines : List (List ℕ) → List Arrow → List ℕ
+standing_lines places arrows = flat_map (edge_lines places) (filter (λ (a : Arrow). a.stands) arrows)
+
+-- the lines of the edges of a cycle that don't stand, if both accesses are there
+abbrev pub dashed_lines : List (List ℕ) → List SeenAccess → List Arrow → List ℕ
+dashed_lines places seen arrows = flat_map (edge_lines places) (filter (is_dashed seen) arrows)
 
 -- what a graph shows: the name of the test, the names of the locations, how many threads there are, the accesses, what the code of each
 -- thread has before each of its accesses, the edges of a cycle, each with whether it stands, the condition, with whether its terms hold,
@@ -547,7 +560,9 @@ abbrev pub lines_drawn : PictureSeen → List ℕ → List Drawn → List Arrow 
 lines_drawn picture initial drawn arrows =
     opening
     ++ (point_lines picture initial
-    ++ (relation_lines picture.places arrows drawn ++ (cycle_lines picture.places picture.seen arrows ++ (caption picture ++ codes "}\n"))))
+    ++ (standing_lines picture.places arrows
+    ++ (relation_lines picture.places arrows drawn
+    ++ (dashed_lines picture.places picture.seen arrows ++ (caption picture ++ codes "}\n")))))
 
 -- the text of a graph
 unfoldable pub drawing_text : PictureSeen → List ℕ

@@ -3,7 +3,7 @@ ghost use Rattle.list_laws.specs.Numbers.{upto};
 ghost use Rattle.final_cond.specs.{Conditions.{cond_view}, CondText.{cond_text}};
 ghost use Rattle.relax_edges.specs.declared.TheConstants.{MAX_EDGES};
 ghost use Rattle.exec_graph.specs.JudgedCycles.{AreEdgesOf};
-ghost use Rattle.exec_graph.specs.Graphs.{access_line, access_word, answer_word, arrows_of, caption, cluster_line, cluster_opening, cycle_lines, dashed_arrows, dir_word, drawing_text, edge_lines, home, initial_line, is_below, is_beyond, is_dashed, is_first_write, is_in_thread, is_observer, is_thin, lap_word, letter_word, lines_drawn, mark_word, member_word, no_drawing_text, observer_word, opening, pair_line, pairs_by, picture_seen, point_lines, quoted_byte, reads_if_in, relation_lines, standing_arrows, thin_lines, thread_or_first, words_opening};
+ghost use Rattle.exec_graph.specs.Graphs.{access_line, access_word, answer_word, arrows_of, caption, cluster_line, cluster_opening, dashed_arrows, dashed_lines, dir_word, drawing_text, edge_lines, home, initial_line, is_below, is_beyond, is_dashed, is_first_write, is_in_thread, is_observer, is_thin, lap_word, letter_word, lines_drawn, mark_word, member_word, no_drawing_text, observer_word, opening, pair_line, pairs_by, picture_seen, point_lines, quoted_byte, reads_if_in, relation_lines, standing_arrows, standing_lines, thin_lines, thread_or_first, words_opening};
 
 use crate::arrows::{Arrow, arrows_of, is_dashed, is_thin};
 use crate::drawn::{Drawn, Relation, initial_places, is_read, points_drawn, writes_to};
@@ -417,7 +417,7 @@ fn push_if_stands(places: &Places, arrow: &Arrow, text: &mut Vec<u8>) -> Result<
 
 /// Appends the lines of the edges that stand.
 fn push_standing(places: &Places, arrows: &[Arrow], text: &mut Vec<u8>) -> Result<(), NoMemory>
-    ensures { OnOk result (text.new.items ≡ text.old.items ++ flat_map (edge_lines places.now) (filter (λ arrow. arrow.stands) arrows.now)) }
+    ensures { OnOk result (text.new.items ≡ text.old.items ++ standing_lines places.now arrows.now) }
 {
     for arrow in arrows {
         push_if_stands(places, arrow, text)?;
@@ -447,25 +447,12 @@ fn push_dashed(
     arrows: &[Arrow],
     text: &mut Vec<u8>,
 ) -> Result<(), NoMemory>
-    ensures { OnOk result (text.new.items ≡ text.old.items ++ flat_map (edge_lines places.now) (filter (is_dashed seen.now) arrows.now)) }
+    ensures { OnOk result (text.new.items ≡ text.old.items ++ dashed_lines places.now seen.now arrows.now) }
 {
     for arrow in arrows {
         push_if_dashed(places, seen, arrow, text)?;
     }
     Ok(())
-}
-
-/// Appends the lines of the edges of a cycle: those that stand, and those that don't.
-fn push_cycle(
-    places: &Places,
-    seen: &[SeenAccess],
-    arrows: &[Arrow],
-    text: &mut Vec<u8>,
-) -> Result<(), NoMemory>
-    ensures { OnOk result (text.new.items ≡ text.old.items ++ cycle_lines places.now seen.now arrows.now) }
-{
-    push_standing(places, arrows, text)?;
-    push_dashed(places, seen, arrows, text)
 }
 
 fn push_quoted_byte(byte: u8, text: &mut Vec<u8>) -> Result<(), NoMemory>
@@ -621,8 +608,9 @@ fn push_graph(
 {
     push_opening(text)?;
     push_points(picture, cycle, initial, text)?;
+    push_standing(picture.places, arrows, text)?;
     push_relations(alloc, picture.places, arrows, drawn, text)?;
-    push_cycle(picture.places, picture.seen, arrows, text)?;
+    push_dashed(picture.places, picture.seen, arrows, text)?;
     push_caption(picture, text)?;
     text.extend_from_slice(b"}\n")?;
     Ok(())

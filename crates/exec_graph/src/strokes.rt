@@ -1,6 +1,6 @@
 ghost use Rattle.std.specs.{Prelude.{◌≡◌, ◌++◌, [], length, OnOk}, List.{flat_map}};
 ghost use Rattle.diy_io.specs.Pieces.{joined_text};
-ghost use Rattle.exec_graph.specs.Graphs.{access_point, barrier_word, column, edge_lines, edge_side, edge_stroke, edge_style, ends_word, further_barrier, left_of_dependency, left_of_order, name_word, order_word, pair_line, pick_word, place_word, point_word, position_word, relation_colour, relation_word, right_of_order, row, side_line, side_word, stroke_lines, style_word, thin_side, thin_stroke, word_beside, word_distance, word_on};
+ghost use Rattle.exec_graph.specs.Graphs.{access_point, are_apart, barrier_word, column, edge_lines, edge_side, edge_stroke, edge_style, ends_word, further_barrier, left_of_dependency, left_of_order, name_word, near_distance, order_word, pair_line, pick_word, place_word, point_word, position_word, relation_colour, relation_word, right_of_order, row, side_line, side_word, stroke_lines, style_word, thin_side, thin_stroke, word_beside, word_distance, word_on};
 
 use crate::arrows::{Arrow, kind_relation};
 use crate::drawn::{Drawn, Point, Relation};
@@ -279,9 +279,21 @@ fn edge_side(relation: Relation, stands: bool, source: WriteAt, wide: usize) -> 
     }
 }
 
-/// How far from its source the word of an arrow is, in tens of points.
-fn word_distance(relation: Relation) -> &'static [u8]
-    ensures { result.now ≡ word_distance relation }
+/// Whether two points are accesses of threads that aren't beside each other.
+fn are_apart(from: Point, to: Point) -> bool
+    ensures { result ≡ are_apart from to }
+{
+    match (from, to) {
+        (Point::At { thread, .. }, Point::At { thread: other, .. }) => {
+            u32::from(thread) + 1 < u32::from(other) || u32::from(other) + 1 < u32::from(thread)
+        }
+        _ => false,
+    }
+}
+
+/// How far from its source the word of an arrow between threads beside each other is, in tens of points.
+fn near_distance(relation: Relation) -> &'static [u8]
+    ensures { result.now ≡ near_distance relation }
 {
     match relation {
         Relation::Co => b"5",
@@ -289,17 +301,28 @@ fn word_distance(relation: Relation) -> &'static [u8]
     }
 }
 
+/// How far from its source the word of an arrow is, in tens of points.
+fn word_distance(stroke: &Stroke) -> &'static [u8]
+    ensures { result.now ≡ word_distance stroke.now }
+{
+    if are_apart(stroke.from, stroke.to) {
+        b"9"
+    } else {
+        near_distance(stroke.relation)
+    }
+}
+
 /// Appends the word of an arrow that is on it.
 #[tactic(auto, unfolding(crate::specs::Graphs::word_on))]
-fn push_on(relation: Relation, word: &[u8], text: &mut Vec<u8>) -> Result<(), NoMemory>
-    ensures { OnOk result (text.new.items ≡ text.old.items ++ word_on relation word.now) }
+fn push_on(stroke: &Stroke, word: &[u8], text: &mut Vec<u8>) -> Result<(), NoMemory>
+    ensures { OnOk result (text.new.items ≡ text.old.items ++ word_on stroke.now word.now) }
 {
     text.extend_from_slice(
         b", taillabel=<<table border=\"0\" cellpadding=\"1\" cellspacing=\"0\"><tr><td bgcolor=\"white\">",
     )?;
     text.extend_from_slice(word)?;
-    let distance = word_distance(relation);
-    let colour = relation_colour(relation);
+    let distance = word_distance(stroke);
+    let colour = relation_colour(stroke.relation);
     push_pieces(
         &[
             b"</td></tr></table>>, labeldistance=",
@@ -349,16 +372,11 @@ fn push_beside(
 }
 
 /// Appends what an arrow's word adds to the arrow's own line.
-fn push_side_word(
-    relation: Relation,
-    word: &[u8],
-    side: Side,
-    text: &mut Vec<u8>,
-) -> Result<(), NoMemory>
-    ensures { OnOk result (text.new.items ≡ text.old.items ++ side_word relation word.now side) }
+fn push_side_word(stroke: &Stroke, word: &[u8], text: &mut Vec<u8>) -> Result<(), NoMemory>
+    ensures { OnOk result (text.new.items ≡ text.old.items ++ side_word stroke.now word.now stroke.now.side) }
 {
-    match side {
-        Side::OnArrow => push_on(relation, word, text),
+    match stroke.side {
+        Side::OnArrow => push_on(stroke, word, text),
         Side::Beside { .. } => Ok(()),
     }
 }
@@ -410,7 +428,7 @@ fn push_stroke(
 {
     push_side_line(stroke.relation, word, stroke.side, text)?;
     push_ends(places, stroke, text)?;
-    push_side_word(stroke.relation, word, stroke.side, text)?;
+    push_side_word(stroke, word, text)?;
     text.extend_from_slice(b"]\n")?;
     Ok(())
 }
