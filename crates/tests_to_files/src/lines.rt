@@ -21,7 +21,7 @@ use relax_edges::Edge;
 ///
 /// The listed cycles are those for which `list_tests` writes a file. No test is made, and the folder
 /// doesn't matter. If the sink fails, it has taken a prefix of the lines.
-#[tactic(auto, using(crate::proofs::Wanting::refused_leads_none, crate::proofs::Wanting::long_run_leads_none))]
+#[tactic(auto, using(crate::proofs::WantedCycles::refused_leads_none, crate::proofs::WantedCycles::long_run_leads_none))]
 pub fn write_listed<A: Arch, O: Sink>(listing: Listing, out: &mut O) -> Result<(), Failed>
     requires size { listing.limits.size ≤ MAX_EDGES }
     ensures { EndsLines (plan_in A.puts A.writing listing.entry) listing.entry.after (O.seen out.old) (O.seen out.new) result }

@@ -116,7 +116,7 @@ pub fn list_tests<A: Arch, H: Shelf, O: Sink>(
 
 /// Writes the files of a listing and the line on their number, as `list_tests` does. Each test is made in `test`.
 #[inline(never)]
-#[tactic(auto, using(crate::proofs::Wanting::refused_leads_none, crate::proofs::Wanting::long_run_leads_none))]
+#[tactic(auto, using(crate::proofs::WantedCycles::refused_leads_none, crate::proofs::WantedCycles::long_run_leads_none))]
 fn list_with<A: Arch, H: Shelf, O: Sink>(
     listing: Listing,
     test: &mut Test,

@@ -42,7 +42,7 @@ impl Wanted<'_> {
 
     /// Whether a cycle is a required one, if it has a test: its edges lead to two threads or more, but to no
     /// more than are allowed, no thread has too many accesses, and the edges are of the architecture.
-    #[tactic(auto, using(crate::proofs::Wanting::two_are_some), unfolding(crate::specs::Plans::is_sought))]
+    #[tactic(auto, using(crate::proofs::WantedCycles::two_are_some), unfolding(crate::specs::Plans::is_sought))]
     pub(crate) fn seeks<A: Arch>(&self, cycle: &Cycle) -> bool
         ensures { result ≡ is_sought A.puts.name self.now.threads self.now.accesses cycle.now }
     {
