@@ -37,13 +37,13 @@ returns-in-Ok-Why-clause-idle g c =
 
 pub returns-in-Ok-Execution-clause-answers : goal.returns-in-Ok-Execution-clause-answers
 returns-in-Ok-Execution-clause-answers g c =
-    execution_answered c.args.words.now c.in-Ok-Execution.request c.execution.result
+    execution_answered c.args.words.now c.in-Ok-Execution.form c.in-Ok-Execution.request c.execution.result
     (g.I.Source.seen c.args.input.now) (g.H.Shelf.seen c.args.shelf.now) (g.O.Sink.seen c.args.out.now) (g.O.Sink.seen c.execution.new.out)
     (subst (λ (r : Request). GivesTask (Ok r) (asked_of c.args.words.now)) c.in-Ok-Execution.field-0-is c.in-Ok-Execution.ensures.given) c.execution.ensures.answers
 
 pub returns-in-Ok-CoherenceExecution-clause-answers : goal.returns-in-Ok-CoherenceExecution-clause-answers
 returns-in-Ok-CoherenceExecution-clause-answers g c =
-    loop_answered c.args.words.now c.in-Ok-CoherenceExecution.request c.coherence_execution.result
+    loop_answered c.args.words.now c.in-Ok-CoherenceExecution.form c.in-Ok-CoherenceExecution.request c.coherence_execution.result
     (g.I.Source.seen c.args.input.now) (g.H.Shelf.seen c.args.shelf.now) (g.O.Sink.seen c.args.out.now) (g.O.Sink.seen c.coherence_execution.new.out)
     (subst (λ (r : Request). GivesTask (Ok r) (asked_of c.args.words.now)) c.in-Ok-CoherenceExecution.field-0-is c.in-Ok-CoherenceExecution.ensures.given)
     c.coherence_execution.ensures.answers
