@@ -113,7 +113,7 @@ where
     {
         match folder_of_list(name) {
             Some(folder) => {
-                let answer = self.begin_draft(folder);
+                let answer = begin_draft(&self.files, folder, &mut self.draft);
                 if answer.is_err() {
                     self.draft.clear();
                 }
@@ -121,30 +121,6 @@ where
             }
             None => fs::create(&self.files, name),
         }
-    }
-
-    // Creates the draft of the list of a folder, which has a name that no file has.
-    fn begin_draft(&mut self, folder: &str) -> io::Result<R::File>
-        ensures { self.new ≡ self.old }
-    {
-        self.draft.clear();
-        self.draft.push_str(folder)?;
-        self.draft.push_str(".")?;
-        self.draft.push_str(LIST)?;
-        for _ in 0..MOST_MARKS {
-            self.draft.push_str(MARK)?;
-            let mut options = OpenOptions::new();
-            let _ = options.write(true).create_new(true);
-            match options.open(&self.files, self.draft.as_str()) {
-                Ok(file) => return Ok(file),
-                Err(error) => {
-                    if error.kind() != ErrorKind::AlreadyExists {
-                        return Err(error);
-                    }
-                }
-            }
-        }
-        Err(Error::from(ErrorKind::AlreadyExists))
     }
 
     // Closes a file that was written, and gives it its name if it is a draft.
@@ -261,6 +237,28 @@ where
             Err(Failed) => Err(self.count_fault()),
         }
     }
+}
+
+// Creates the draft of the list of a folder, under a name that no file has, and notes this name.
+fn begin_draft<R: Files>(files: &R, folder: &str, draft: &mut String) -> io::Result<R::File> {
+    draft.clear();
+    draft.push_str(folder)?;
+    draft.push_str(".")?;
+    draft.push_str(LIST)?;
+    for _ in 0..MOST_MARKS {
+        draft.push_str(MARK)?;
+        let mut options = OpenOptions::new();
+        let _ = options.write(true).create_new(true);
+        match options.open(files, draft.as_str()) {
+            Ok(file) => return Ok(file),
+            Err(error) => {
+                if error.kind() != ErrorKind::AlreadyExists {
+                    return Err(error);
+                }
+            }
+        }
+    }
+    Err(Error::from(ErrorKind::AlreadyExists))
 }
 
 // What is before the list's name in a path whose last part that is.
