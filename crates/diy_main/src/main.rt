@@ -6,7 +6,7 @@ use diy_tools::run;
 use std::env;
 use std::io::ErrorKind;
 use std::process::ExitCode;
-use system_devices::{DirShelf, StdSink, StdSource, close_output};
+use system_devices::{DirShelf, StdSink, StdSource};
 
 /// The arguments after the program's name, or the status with which the program ends if it gets none:
 /// 4 if there is no memory for them, and 3 if the system fails to supply them for another reason.
@@ -50,17 +50,7 @@ fn main(rt: HostRuntime) -> ExitCode {
                 &mut err,
                 &mut shelf,
             );
-            ended(&rt, status.exit())
+            ExitCode::from(status.exit())
         }
     }
-}
-
-/// How the program ends, if the tool ended with an exit status. If everything was written, standard output is closed,
-/// which may show that it wasn't kept: then the status is 3, with the line of a write fault.
-fn ended(rt: &HostRuntime, exit: u8) -> ExitCode {
-    if exit == 0 && close_output().is_err() {
-        let _ = rt.eprintln("diy: write fault: out");
-        return ExitCode::from(3);
-    }
-    ExitCode::from(exit)
 }

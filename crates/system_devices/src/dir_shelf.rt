@@ -1,11 +1,10 @@
-ghost use Rattle.std.specs.Prelude.{◌≡◌, ◌+◌, ◌≤◌, ◌∷◌, ℕ, [], true, Err, None, Some, length, take, IsOk, IfOk, OnOk, OnErr};
+ghost use Rattle.std.specs.Prelude.{◌≡◌, ◌↔◌, ◌+◌, ◌≤◌, ◌∷◌, ℕ, [], Err, None, length, take, IsOk, IfOk, OnOk, OnErr};
 ghost use Rattle.diy_io.specs.declared.shelf.OpenError.TheVariants as open_errors;
 ghost use Rattle.diy_io.specs.Count.{next_count};
 ghost use Rattle.diy_io.specs.Shelf.{ShelfSeen, Idle, name_written, IsReading, IsWriting, IsBusy, Opened, NotThere, Stopped, Gave, Created, NotCreated, Appended, AppendedPart, Finished};
 ghost use Rattle.system_devices.specs.DirShelf.{dir_shelf_seen};
 
 use crate::again::{read_again, write_again};
-use crate::close::Close;
 use diy_io::{Failed, OpenError, Shelf};
 use std::alloc::{AllocError, Global};
 use std::fs::OpenOptions;
@@ -35,8 +34,9 @@ const MOST_MARKS: u32 = 100;
 ///
 /// It shows nothing of the files, since no program knows what becomes of them outside, and buffers
 /// no bytes. A call that a signal interrupts is made again. Counted as errors are each other error of
-/// the system in opening, creating, reading, writing and renaming a file and in closing one that was
-/// written, a missing file among them, a write that takes nothing, and a name for which there is no memory.
+/// the system in opening, creating, reading, writing and renaming a file, a missing file among them, a
+/// write that takes nothing, and a name for which there is no memory. An error in closing a file is not
+/// seen, since the standard library drops it.
 ///
 /// A file that is called `@all` is written under another name in its folder, and `finish` gives it its
 /// own: so it is whole, or as it was. If a call fails before that, what it wrote is removed.
@@ -66,10 +66,7 @@ impl<R: Files> Model for DirShelf<R> {
     } };
 }
 
-impl<R: Files> DirShelf<R>
-where
-    R::File: Close,
-{
+impl<R: Files> DirShelf<R> {
     /// A shelf over `files` that has no open file and has counted nothing. It allocates no memory
     /// before the first file.
     pub fn new(alloc: Global, files: R) -> DirShelf<R>
@@ -123,18 +120,12 @@ where
         }
     }
 
-    // Closes a file that was written, and gives it its name if it is a draft.
-    fn keep(&self, file: R::File) -> Result<(), Failed>
-        ensures { IsOk result → R.File.Close.close_fails file ≡ Some true → ⊥ }
-    {
-        file.close()?;
+    // Gives a draft its name, once its file is closed.
+    fn name_draft(&self) -> Result<(), Failed> {
         if self.draft.is_empty() {
             return Ok(());
         }
-        match fs::rename(&self.files, self.draft.as_str(), self.name.as_str()) {
-            Ok(()) => Ok(()),
-            Err(_) => Err(Failed),
-        }
+        judged(fs::rename(&self.files, self.draft.as_str(), self.name.as_str()))
     }
 
     // Begins to read a file. It fails only if there is no memory for the name.
@@ -164,10 +155,7 @@ where
     }
 }
 
-impl<R: Files> Shelf for DirShelf<R>
-where
-    R::File: Close,
-{
+impl<R: Files> Shelf for DirShelf<R> {
     ghost seen = { dir_shelf_seen };
 
     fn open_file(&mut self, name: &str) -> Result<(), OpenError> {
@@ -225,17 +213,24 @@ where
     }
 
     fn finish(&mut self) -> Result<(), Failed> {
-        let kept = match mem::replace(&mut self.file, AtFile::Closed) {
-            AtFile::Writing(file) => self.keep(file),
-            _ => Ok(()),
-        };
-        match kept {
+        self.file = AtFile::Closed;
+        match self.name_draft() {
             Ok(()) => {
                 self.draft.clear();
                 Ok(())
             }
             Err(Failed) => Err(self.count_fault()),
         }
+    }
+}
+
+// What the shelf says to an answer of the system: it fails exactly if the system did.
+fn judged(answer: io::Result<()>) -> Result<(), Failed>
+    ensures { IsOk result ↔ IsOk answer }
+{
+    match answer {
+        Ok(()) => Ok(()),
+        Err(_) => Err(Failed),
     }
 }
 
@@ -280,8 +275,5 @@ fn write_whole<W: Write>(file: &mut W, bytes: &[u8]) -> Result<(), Failed> {
             Ok(n) => rest = &rest[n..],
         }
     }
-    match file.flush() {
-        Ok(()) => Ok(()),
-        Err(_) => Err(Failed),
-    }
+    judged(file.flush())
 }

@@ -2,12 +2,10 @@
 #![tactic(auto)]
 
 mod again;
-mod close;
 mod dir_shelf;
 mod std_sink;
 mod std_source;
 
-pub use close::{Close, close_output};
 pub use dir_shelf::DirShelf;
 pub use std_sink::StdSink;
 pub use std_source::StdSource;
