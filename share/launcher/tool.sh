@@ -10,19 +10,34 @@ call_tool() {
         version) print_version; exit ;;
     esac
     [ "$1" != diy-gallery ] || call_gallery "$@"
+    # A limit on the size of a file is then an error of a write, and doesn't end the program without a word.
+    trap '' XFSZ
+    # With less memory than this, in kB, the stack may not have what it needs.
+    case $(ulimit -v) in [0-9] | [0-9][0-9] | [0-9][0-9][0-9] | [0-3][0-9][0-9][0-9] | 40[0-8][0-9] | 409[0-5]) no_memory ;; esac
     [ -t 2 ] && { true >&1; } 2>/dev/null || exec "$program" "$@"
     exec 9>&1
     said=$("$program" "$@" 2>&1 >&9 9>&-; status=$?; echo .; exit $status)
     status=$?
     exec 9>&-
     said=${said%.}
-    printf %s "$said" >&2
+    [ -z "$said" ] || printf %s "${said%?}" | show >&2
     case $status:$1 in
         0:msum7) shift && note_logs "$@" ;;
         0:*) ;;
         *) write_hint "$@" ;;
     esac
     exit "$status"
+}
+
+no_memory() {
+    echo 'diy: no memory' >&2
+    exit 4
+}
+
+# Writes what it reads as one line for a terminal, if it reads anything: no sign in it does more than show, and it has at most 2,000 bytes.
+show() {
+    LC_ALL=C tr '\000-\037\177' '[?*]' | LC_ALL=C sed "s/$(printf '\302')[$(printf '\200')-$(printf '\237')]/?/g" |
+        LC_ALL=C awk '{ print (length($0) > 2000 ? substr($0, 1, 1997) "..." : $0) }'
 }
 
 # Runs the script that makes the page, over the program.
@@ -52,6 +67,7 @@ find_request() {
 write_hint() {
     tool=$1 line=${said#diy: }
     line=${line%?}
+    name_places "$@"
     case $tool:$status:$line in
         diyone7:1:'refused '* | norm7:1:'refused '*)
             shift
@@ -68,7 +84,7 @@ write_hint() {
         *) kind=$line ;;
     esac
     pages=$(CDPATH='' cd -- "$pages" 2>/dev/null && pwd)
-    export kind first edges pages tool
+    export kind first edges pages tool file folder
     awk '
         function put(mark, value, before, at) {
             while (at = index(text, mark)) {
@@ -85,8 +101,26 @@ write_hint() {
             put("%first", ENVIRON["first"])
             put("%tool", ENVIRON["tool"])
             put("%pages", ENVIRON["pages"])
-            print "hint: " text
-        }' "$help/kinds" >&2
+            put("%file", ENVIRON["file"])
+            put("%folder", ENVIRON["folder"])
+            printf "%s", "hint: " text
+        }' "$help/kinds" | show >&2
+}
+
+# Sets the file that can't be read, as far as the words of a call show it, and the folder into which it writes.
+name_places() {
+    shift
+    file='a file that was named' folder='the current folder' before=''
+    for word in "$@"; do
+        case $before in
+            -o) folder=$word before='' && continue ;;
+            -arch | -name | -obs | -edges | -size | -nprocs | -accesses | -after | -from) before='' && continue ;;
+        esac
+        case $word in
+            -*) before=$word ;;
+            *) [ "$file" != 'a file that was named' ] || { [ ! -d "$word" ] && { [ ! -e "$word" ] || [ -r "$word" ]; }; } || file=$word ;;
+        esac
+    done
 }
 
 # Prints the edges among the words of diyone7 or norm7.

@@ -1,15 +1,17 @@
-ghost use Rattle.std.specs.Prelude.{◌≡◌, ◌+◌, ◌≤◌, ◌∷◌, ℕ, [], Err, None, length, take, IfOk, OnOk, OnErr};
+ghost use Rattle.std.specs.Prelude.{◌≡◌, ◌↔◌, ◌+◌, ◌≤◌, ◌∷◌, ℕ, [], Err, None, length, take, IsOk, IfOk, OnOk, OnErr};
 ghost use Rattle.diy_io.specs.declared.shelf.OpenError.TheVariants as open_errors;
 ghost use Rattle.diy_io.specs.Count.{next_count};
 ghost use Rattle.diy_io.specs.Shelf.{ShelfSeen, Idle, name_written, IsReading, IsWriting, IsBusy, Opened, NotThere, Stopped, Gave, Created, NotCreated, Appended, AppendedPart, Finished};
 ghost use Rattle.system_devices.specs.DirShelf.{dir_shelf_seen};
 
+use crate::again::{read_again, write_again};
 use diy_io::{Failed, OpenError, Shelf};
 use std::alloc::{AllocError, Global};
-use std::fs;
-use std::io::{ErrorKind, Read, Write};
+use std::fs::OpenOptions;
+use std::io::{Error, ErrorKind, Write};
 use std::marker::Model;
 use std::rt::Files;
+use std::{fs, io, mem};
 
 /// The file that is read or written.
 #[derive(Drop)]
@@ -19,16 +21,31 @@ pub(crate) enum AtFile<F> {
     Writing(F),
 }
 
+/// The name of the file that says which others are there. Nobody sees it before it is whole.
+const LIST: &str = "@all";
+
+// A draft's name is that of the list with a period before it and one of these or more after it, at most as many as this: a draft of a
+// call that was killed stays, and the next call takes the next name.
+const MARK: &str = "~";
+
+const MOST_MARKS: u32 = 100;
+
 /// A shelf over the files of the system, whose names are paths. It makes no folders.
 ///
 /// It shows nothing of the files, since no program knows what becomes of them outside, and buffers
-/// no bytes. Counted as errors are each error of the system in opening, creating, reading and writing
-/// a file, a missing file among them, a write that takes nothing, and a name for which there is no
-/// memory. `finish` never fails: an error of the system in closing a file is not seen.
+/// no bytes. A call that a signal interrupts is made again. Counted as errors are each other error of
+/// the system in opening, creating, reading, writing and renaming a file, a missing file among them, a
+/// write that takes nothing, and a name for which there is no memory. An error in closing a file is not
+/// seen, since the standard library drops it.
+///
+/// A file that is called `@all` is written under another name in its folder, and `finish` gives it its
+/// own: so it is whole, or as it was. If a call fails before that, what it wrote is removed.
 #[derive(Drop)]
 pub struct DirShelf<R: Files> {
     files: R,
-    name: Vec<u8>,
+    name: String,
+    // What the file that is written is called until its end, if it isn't its name.
+    draft: String,
     file: AtFile<R::File>,
     faults: u64,
     taken: u64,
@@ -36,12 +53,13 @@ pub struct DirShelf<R: Files> {
 }
 
 impl<R: Files> Model for DirShelf<R> {
+    ghost use Rattle.std.specs.Prelude.{string_bytes};
     ghost use Rattle.system_devices.specs.DirShelf.{DirShelfState, mode_seen};
 
     ghost Value = { DirShelfState };
 
     ghost view = { λ s. record {
-      mode = mode_seen s.name.items s.file;
+      mode = mode_seen (string_bytes s.name) s.file;
       faults = s.faults;
       taken = s.taken;
       opened = s.opened;
@@ -56,7 +74,8 @@ impl<R: Files> DirShelf<R> {
     {
         DirShelf {
             files,
-            name: Vec::new(alloc),
+            name: String::new(alloc),
+            draft: String::new(alloc),
             file: AtFile::Closed,
             faults: 0,
             taken: 0,
@@ -64,14 +83,49 @@ impl<R: Files> DirShelf<R> {
         }
     }
 
-    // Counts a failure, and closes the file.
+    // Counts a failure, closes the file, and removes it if it is a draft.
     fn count_fault(&mut self) -> Failed
         ensures failed { self.new ≡ record self.old { mode = Idle; faults = next_count self.old.faults } }
         ensures stopped { Stopped (dir_shelf_seen self.old) (dir_shelf_seen self.new) }
     {
         self.file = AtFile::Closed;
+        self.remove_draft();
         self.faults = self.faults.saturating_add(1);
         Failed
+    }
+
+    // Removes the draft, if there is one.
+    fn remove_draft(&mut self)
+        ensures { self.new ≡ self.old }
+    {
+        if !self.draft.is_empty() {
+            let _ = fs::remove_file(&self.files, self.draft.as_str());
+            self.draft.clear();
+        }
+    }
+
+    // Creates a file, or the draft of the list.
+    fn begin(&mut self, name: &str) -> io::Result<R::File>
+        ensures { self.new ≡ self.old }
+    {
+        match folder_of_list(name) {
+            Some(folder) => {
+                let answer = begin_draft(&self.files, folder, &mut self.draft);
+                if answer.is_err() {
+                    self.draft.clear();
+                }
+                answer
+            }
+            None => fs::create(&self.files, name),
+        }
+    }
+
+    // Gives a draft its name, once its file is closed.
+    fn name_draft(&self) -> Result<(), Failed> {
+        if self.draft.is_empty() {
+            return Ok(());
+        }
+        judged(fs::rename(&self.files, self.draft.as_str(), self.name.as_str()))
     }
 
     // Begins to read a file. It fails only if there is no memory for the name.
@@ -81,7 +135,7 @@ impl<R: Files> DirShelf<R> {
         ensures err { OnErr result (self.new ≡ self.old) }
     {
         self.name.clear();
-        self.name.extend_from_slice(name.as_bytes())?;
+        self.name.push_str(name)?;
         self.file = AtFile::Reading(file);
         self.taken = 0;
         self.opened = self.opened.saturating_add(1);
@@ -95,7 +149,7 @@ impl<R: Files> DirShelf<R> {
         ensures err { OnErr result (self.new ≡ self.old) }
     {
         self.name.clear();
-        self.name.extend_from_slice(name.as_bytes())?;
+        self.name.push_str(name)?;
         self.file = AtFile::Writing(file);
         Ok(())
     }
@@ -125,7 +179,7 @@ impl<R: Files> Shelf for DirShelf<R> {
 
     fn read(&mut self, buf: &mut [u8]) -> Result<usize, Failed> {
         let answer = match &mut self.file {
-            AtFile::Reading(file) => file.read(buf),
+            AtFile::Reading(file) => read_again(file, buf),
             _ => unreachable!(),
         };
         match answer {
@@ -138,7 +192,7 @@ impl<R: Files> Shelf for DirShelf<R> {
     }
 
     fn create(&mut self, name: &str) -> Result<(), Failed> {
-        match fs::create(&self.files, name) {
+        match self.begin(name) {
             Ok(file) => match self.write_to(name, file) {
                 Ok(()) => Ok(()),
                 Err(_) => Err(self.count_fault()),
@@ -160,7 +214,55 @@ impl<R: Files> Shelf for DirShelf<R> {
 
     fn finish(&mut self) -> Result<(), Failed> {
         self.file = AtFile::Closed;
-        Ok(())
+        match self.name_draft() {
+            Ok(()) => {
+                self.draft.clear();
+                Ok(())
+            }
+            Err(Failed) => Err(self.count_fault()),
+        }
+    }
+}
+
+// What the shelf says to an answer of the system: it fails exactly if the system did.
+fn judged(answer: io::Result<()>) -> Result<(), Failed>
+    ensures { IsOk result ↔ IsOk answer }
+{
+    match answer {
+        Ok(()) => Ok(()),
+        Err(_) => Err(Failed),
+    }
+}
+
+// Creates the draft of the list of a folder, under a name that no file has, and notes this name.
+fn begin_draft<R: Files>(files: &R, folder: &str, draft: &mut String) -> io::Result<R::File> {
+    draft.clear();
+    draft.push_str(folder)?;
+    draft.push_str(".")?;
+    draft.push_str(LIST)?;
+    for _ in 0..MOST_MARKS {
+        draft.push_str(MARK)?;
+        let mut options = OpenOptions::new();
+        let _ = options.write(true).create_new(true);
+        match options.open(files, draft.as_str()) {
+            Ok(file) => return Ok(file),
+            Err(error) => {
+                if error.kind() != ErrorKind::AlreadyExists {
+                    return Err(error);
+                }
+            }
+        }
+    }
+    Err(Error::from(ErrorKind::AlreadyExists))
+}
+
+// What is before the list's name in a path whose last part that is.
+fn folder_of_list(path: &str) -> Option<&str> {
+    let folder = path.strip_suffix(LIST)?;
+    if folder.is_empty() || folder.ends_with("/") {
+        Some(folder)
+    } else {
+        None
     }
 }
 
@@ -168,13 +270,10 @@ impl<R: Files> Shelf for DirShelf<R> {
 fn write_whole<W: Write>(file: &mut W, bytes: &[u8]) -> Result<(), Failed> {
     let mut rest = bytes;
     while !rest.is_empty() {
-        match file.write(rest) {
+        match write_again(file, rest) {
             Ok(0) | Err(_) => return Err(Failed),
             Ok(n) => rest = &rest[n..],
         }
     }
-    match file.flush() {
-        Ok(()) => Ok(()),
-        Err(_) => Err(Failed),
-    }
+    judged(file.flush())
 }

@@ -1,14 +1,16 @@
 ghost use Rattle.std.specs.{Prelude.{◌≡◌, ◌≤◌, ℕ, OnOk, OnErr}, Io.KnownBytes.{Appends}};
 ghost use Rattle.diy_io.specs.{Count.{next_count}, Wrote.{Wrote}};
 
+use crate::again::write_again;
 use diy_io::{Failed, Sink};
 use std::io::Write;
 
 /// A sink over a writer of the standard library.
 ///
 /// It shows nothing of the bytes, since no program knows what becomes of them outside. It buffers
-/// none: a write is complete once the writer has taken all of it and has flushed. An error of the
-/// writer, also of its flush, is counted, and so is a write that takes nothing.
+/// none: a write is complete once the writer has taken all of it and has flushed. A write that a
+/// signal interrupts is made again. Each other error of the writer, also of its flush, is counted, and
+/// so is a write that takes nothing.
 #[derive(Drop)]
 pub struct StdSink<W> {
     writer: W,
@@ -57,7 +59,7 @@ impl<W: Write> Sink for StdSink<W> {
     {
         let mut rest = bytes;
         while !rest.is_empty() {
-            match self.writer.write(rest) {
+            match write_again(&mut self.writer, rest) {
                 Ok(0) | Err(_) => return Err(self.count_fault()),
                 Ok(n) => rest = &rest[n..],
             }

@@ -1,13 +1,14 @@
 ghost use Rattle.std.specs.{Prelude.{◌≡◌, ℕ, OnErr}, Io.KnownBytes.{ReadConsumes}};
 ghost use Rattle.diy_io.specs.{Count.{next_count}, Taken.{GivesBytes}};
 
+use crate::again::read_again;
 use diy_io::{Failed, Source};
 use std::io::Read;
 
 /// A source over a reader of the standard library.
 ///
-/// It shows nothing of the bytes to come, since no program knows them. Each error of the reader is
-/// counted.
+/// It shows nothing of the bytes to come, since no program knows them. A read that a signal interrupts
+/// is made again; each other error of the reader is counted.
 #[derive(Drop)]
 pub struct StdSource<R> {
     reader: R,
@@ -44,7 +45,7 @@ impl<R: Read> Source for StdSource<R> {
         ensures read { ReadConsumes (R.remaining (reader_of self.old)) (R.remaining (reader_of self.new)) result buf.new }
         ensures one_fault { OnErr result (std_source_faults self.new ≡ next_count (std_source_faults self.old)) }
     {
-        match self.reader.read(buf) {
+        match read_again(&mut self.reader, buf) {
             Ok(count) => {
                 self.taken = self.taken.saturating_add(count as u64);
                 Ok(count)
