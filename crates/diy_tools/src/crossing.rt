@@ -18,7 +18,7 @@ use std::alloc::Global;
 use tests_to_files::put_cycles;
 
 /// Writes the tests of the choices of one relaxation for each position, each test in a file.
-#[tactic(auto, using(crate::proofs::Crossed::asks_choices, crate::proofs::Crossed::choices_answered, crate::proofs::Crossed::choices_unread))]
+#[tactic(auto, using(crate::proofs::CrossAnswers::asks_choices, crate::proofs::CrossAnswers::choices_answered, crate::proofs::CrossAnswers::choices_unread))]
 pub(crate) fn cross<H: Shelf, O: Sink>(
     alloc: Global,
     words: &Words,
@@ -39,7 +39,7 @@ pub(crate) fn cross<H: Shelf, O: Sink>(
 }
 
 /// Writes the tests of the choices from lists, on the requested architecture.
-#[tactic(auto, using(crate::proofs::Crossed::choices_on))]
+#[tactic(auto, using(crate::proofs::CrossAnswers::choices_on))]
 fn cross_places<H: Shelf, O: Sink>(
     alloc: Global,
     request: Cross,
@@ -57,7 +57,7 @@ fn cross_places<H: Shelf, O: Sink>(
 }
 
 /// Writes the tests of the choices from lists, on an architecture.
-#[tactic(auto, using(crate::proofs::Crossed::choices_written))]
+#[tactic(auto, using(crate::proofs::CrossAnswers::choices_written))]
 #[inline(never)]
 fn cross_on<A: Arch, H: Shelf, O: Sink>(
     alloc: Global,

@@ -22,7 +22,7 @@ use test_maker::Refusal;
 use two_runs::{CoherenceError, IntendedError, IntendedRun, coherence_run, intended_run};
 
 /// Prints the execution that the test of the requested cycle asks for, in a form.
-#[tactic(auto, using(crate::proofs::Executed::intended_on))]
+#[tactic(auto, using(crate::proofs::ExecutionAnswers::intended_on))]
 pub(crate) fn execution<O: Sink>(
     alloc: Global,
     form: ExecutionForm,
@@ -78,7 +78,7 @@ fn print_intended<A: Arch, O: Sink>(
 }
 
 /// Prints the execution that the coherence test of the requested cycle asks for.
-#[tactic(auto, using(crate::proofs::Executed::incoherent_on))]
+#[tactic(auto, using(crate::proofs::ExecutionAnswers::incoherent_on))]
 pub(crate) fn coherence_execution<O: Sink>(
     alloc: Global,
     form: ExecutionForm,

@@ -19,7 +19,7 @@ use tests_from_files::{FileKind, FilesEnd, classify_files};
 
 /// Prints the names of cycles by their families: those that are quoted in the files that the operands name, or
 /// those of the input's lines if there is no operand.
-#[tactic(auto, using(crate::proofs::Classed::asks_families))]
+#[tactic(auto, using(crate::proofs::FamilyAnswers::asks_families))]
 pub(crate) fn families<I: Source, O: Sink, H: Shelf>(
     alloc: Global,
     words: &Words,

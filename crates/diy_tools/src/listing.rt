@@ -14,7 +14,7 @@ use run_status::{Device, Status};
 use tests_to_files::{Listing, ListingEnd, list_tests, write_listed};
 
 /// Writes the tests of a listing, each in a file.
-#[tactic(auto, using(crate::proofs::Listed::list_answered))]
+#[tactic(auto, using(crate::proofs::ListingAnswers::list_answered))]
 pub(crate) fn list<H: Shelf, O: Sink>(request: Diy, shelf: &mut H, out: &mut O) -> Status
     requires idle { (H.seen shelf.old).mode ≡ Idle }
     requires form { HasForm (List request) }
@@ -27,7 +27,7 @@ pub(crate) fn list<H: Shelf, O: Sink>(request: Diy, shelf: &mut H, out: &mut O) 
 }
 
 /// Writes the lines of the cycles of a listing.
-#[tactic(auto, using(crate::proofs::Listed::lines_written, crate::proofs::Listed::lines_stopped))]
+#[tactic(auto, using(crate::proofs::ListingAnswers::lines_written, crate::proofs::ListingAnswers::lines_stopped))]
 pub(crate) fn list_lines<O: Sink>(request: Diy, out: &mut O) -> Status
     requires form { HasForm (Lines request) }
     ensures answers { AnswersListed (list_kept request.entry) result (O.seen out.old) (O.seen out.new) }
@@ -58,7 +58,7 @@ fn listing_of(request: Diy<'_>) -> Listing<'_>
 }
 
 /// Writes the lines of the cycles of a listing on an architecture.
-#[tactic(auto, using(crate::proofs::Listed::lines_on))]
+#[tactic(auto, using(crate::proofs::ListingAnswers::lines_on))]
 #[inline(never)]
 fn lines_on<O: Sink>(arch: ArchName, listing: Listing, out: &mut O) -> Result<(), Failed>
     requires size { listing.limits.size ≤ MAX_EDGES }
@@ -68,7 +68,7 @@ fn lines_on<O: Sink>(arch: ArchName, listing: Listing, out: &mut O) -> Result<()
 }
 
 /// Writes the tests of a listing on an architecture, each in a file.
-#[tactic(auto, using(crate::proofs::Listed::ends_on))]
+#[tactic(auto, using(crate::proofs::ListingAnswers::ends_on))]
 #[inline(never)]
 fn list_on<H: Shelf, O: Sink>(
     arch: ArchName,

@@ -21,7 +21,7 @@ use run_status::{Device, Status};
 use test_maker::{Refusal, make_into};
 
 /// Prints what suffices against the outcome of the test of the requested cycle.
-#[tactic(auto, using(crate::proofs::Needing::needed_on))]
+#[tactic(auto, using(crate::proofs::NeedsAnswers::needed_on))]
 pub(crate) fn needs<O: Sink>(request: &DiyOne, out: &mut O) -> Status
     requires form { HasForm (requests.Needs request.now) }
     ensures answers { AnswersNeeded (machine_of request.now.arch) request.now result (O.seen out.old) (O.seen out.new) }

@@ -9,7 +9,7 @@ use run_status::{Device, Status, TextKind};
 use std::alloc::Global;
 
 /// Sums the logs that the arguments after the first name, or the input if there are none.
-#[tactic(auto, using(crate::proofs::Summed::files_answered, crate::proofs::Summed::input_answered))]
+#[tactic(auto, using(crate::proofs::SumAnswers::files_answered, crate::proofs::SumAnswers::input_answered))]
 #[inline(never)]
 pub(crate) fn sum<I: Source, O: Sink, H: Shelf>(
     alloc: Global,

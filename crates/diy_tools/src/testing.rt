@@ -22,7 +22,7 @@ use run_status::{Device, Status};
 use test_maker::{Refusal, make_into};
 
 /// Prints the test that is asked for.
-#[tactic(auto, using(crate::proofs::Running::answered_on))]
+#[tactic(auto, using(crate::proofs::RunAnswers::answered_on))]
 pub(crate) fn diyone<O: Sink>(request: &DiyOne, out: &mut O) -> Status
     ensures answers { AnswersOne (machine_of request.now.arch) request.now result (O.seen out.old) (O.seen out.new) }
     ensures location { StatusNamesLocation result }
@@ -43,7 +43,7 @@ fn diyone_on<A: Arch, O: Sink>(request: &DiyOne, out: &mut O) -> Status
 }
 
 /// The cycle of an architecture that edges make, or why they make none.
-#[tactic(auto, using(crate::proofs::Running::named_refused))]
+#[tactic(auto, using(crate::proofs::RunAnswers::named_refused))]
 pub(crate) fn cycle_on<A: Arch>(list: &EdgeList) -> Result<Cycle, Refusal>
     ensures made { MakesCycle (refused_edges A.puts.name list.now) (edges_kept list.now) result }
     ensures location { IfErr result NamesLocation }

@@ -23,7 +23,7 @@ use two_runs::{TwoRuns, two_runs};
 
 /// Writes the test of a cycle without observers, and two executions of it that no condition on the final
 /// state distinguishes.
-#[tactic(auto, using(crate::proofs::Running::runs_on))]
+#[tactic(auto, using(crate::proofs::RunAnswers::runs_on))]
 pub(crate) fn why<H: Shelf, O: Sink>(
     alloc: Global,
     request: &Why,
