@@ -4,3 +4,6 @@ pub mod Marking
 pub mod EdgesPassedOver
 pub mod Ranking
 pub mod Repeating
+pub mod Ending
+pub mod SpreadLaws
+pub mod PassedOver

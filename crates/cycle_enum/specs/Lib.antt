@@ -3,3 +3,5 @@ pub mod Letters
 pub mod LetterMarks
 pub mod Walking
 pub mod Repeats
+pub mod Spreads
+pub mod Endings

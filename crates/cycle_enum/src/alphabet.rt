@@ -1,9 +1,10 @@
-ghost use Rattle.std.specs.{Prelude.{◌≡◌, ◌<◌, ◌≤◌, ◌↔◌, ◌∷◌, [], IsTrue, IsFalse, IfSome, length, map, option_map, true}, List.{AllByRecursion}};
+ghost use Rattle.std.specs.{Prelude.{◌≡◌, ◌<◌, ◌≤◌, ◌+◌, ◌↔◌, ◌∷◌, [], IsTrue, IsFalse, IfSome, length, map, option_map, true}, List.{AllByRecursion}};
 ghost use Rattle.relax_edges.specs.Order.{rank_of};
 ghost use Rattle.edge_algebra_laws.specs.Composable.{IsCycle, last_joins};
 ghost use Rattle.cycle_enum_laws.specs.{Listing.{IsMadeOf}, Search.{IsListCandidate, IsExtended, IsNextEdge, IsRaised, IsSingle, LeadsNowhere, OccursIn}};
-ghost use Rattle.cycle_enum.specs.Letters.{IsLetter, IsLetterFrom, OccursAndLeaves, least_rank};
+ghost use Rattle.cycle_enum.specs.{Endings.{EndsWithin}, Letters.{IsLetter, IsLetterFrom, OccursAndLeaves, least_rank}};
 
+use crate::endings::Endings;
 use crate::letter::Letter;
 use crate::letters::{Letters, Marks, are_marked, first_letters, marks_of};
 use crate::prefix::Prefix;
@@ -21,6 +22,7 @@ pub(crate) struct Alphabet {
     relaxes: Relaxes,
     marks: Marks,
     letters: Letters,
+    endings: Endings,
     /// Whether each relaxation has one edge, so that all lists of edges that occur are concatenations.
     all_single: bool,
 }
@@ -34,21 +36,24 @@ impl Model for Alphabet {
 
     ghost view = { λ a. a.relaxes };
 
-    ghost invariant = { λ a. IsAlphabet a.relaxes a.marks a.letters a.all_single };
+    ghost invariant = { λ a. IsAlphabet a.relaxes a.marks a.letters a.endings a.all_single };
 }
 
 impl Alphabet {
-    /// Finds the edges that occur in the relaxations.
-    pub(crate) fn of(relaxes: Relaxes) -> Alphabet
+    /// Finds the edges that occur in the relaxations, and how cycles of at most `size` edges end.
+    pub(crate) fn of(relaxes: Relaxes, size: u8) -> Alphabet
+        requires { size ≤ MAX_EDGES }
         ensures { result ≡ relaxes }
     {
         let marks = marks_of(relaxes.as_slice());
         let letters = first_letters(&marks);
+        let endings = Endings::of(relaxes.as_slice(), size);
         let all_single = are_single(relaxes.as_slice());
         Alphabet {
             relaxes,
             marks,
             letters,
+            endings,
             all_single,
         }
     }
@@ -128,6 +133,15 @@ impl Alphabet {
         ensures { IsFalse result → LeadsNowhere (IsMadeOf self.now) list.now }
     {
         self.all_single || may_occur(self.relaxes.as_slice(), list)
+    }
+
+    /// Whether a cycle may begin with a list and have `left` edges more, if these occur in the relaxations, two threads have
+    /// edges to another location, and at most `threads` edges lead to another thread.
+    pub(crate) fn may_end(&self, list: &[Edge], left: usize, threads: u8) -> bool
+        requires { length list.now ≤ MAX_EDGES }
+        ensures { IsFalse result → LeadsNowhere (EndsWithin self.now threads (length list.now + left)) list.now }
+    {
+        self.endings.may_end(list, left, threads)
     }
 
     /// Whether some rotation of a cycle, whose edges have these ranks, is a concatenation of relaxations.

@@ -2,12 +2,15 @@
 #![tactic(auto)]
 
 mod alphabet;
+mod endings;
 mod letter;
 mod letters;
 mod limits;
 mod prefix;
 mod relaxed;
+mod spread;
 mod walk;
 
 pub use limits::Limits;
+pub use spread::is_spread;
 pub use walk::Walk;

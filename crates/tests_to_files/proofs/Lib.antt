@@ -10,5 +10,6 @@ pub mod LineSteps
 pub mod WalkWithoutTests
 pub mod WalkTakenOn
 pub mod Texts
+pub mod SpreadThreads
 pub mod WantedCycles
 pub mod RunLaws

@@ -1,19 +1,20 @@
 -- Which cycles a listing wants, and what its walk knows of that.
 use Rattle.std.proofs.Common.{◌≡◌, ◌<◌, ◌≤◌, ◌+◌, ◌&&◌, ◌||◌, nat_lt, nat_le, ℕ, ◌-◌, suc, Bool, true, false, cond, List, [], ◌∷◌, ◌++◌, length, get_or, Option, Some, None, refl, sym, ◌∙◌, ap, arith}
-use Rattle.std.proofs.{lemmas.Bool.{and_parts, and_from, or_right, leb-true, le-leb, lt-ltb}, lemmas.List.Sums.sum_by-append, lemmas.List.Folds.list_all-append}
+use Rattle.std.proofs.{lemmas.Bool.{and_parts, and_from, or_right, leb-true, le-leb, le-ltb, lt-ltb}, lemmas.List.Sums.sum_by-append, lemmas.List.Folds.list_all-append}
 use Rattle.std.specs.{Prelude.{◌↔◌, is_none}, List.list_all}
 use Rattle.relax_edges.specs.{declared.edge.Edge.Edge, declared.kinds.ArchName.ArchName, declared.kinds.ObsMode.ObsMode, EdgeTable.{is_of_arch, is_external}}
 use Rattle.edge_algebra_laws.specs.Composable.{IsCycle}
-use Rattle.list_laws.proofs.Cases.{by_less}
+use Rattle.list_laws.proofs.Cases.{by_less, by_test}
+use Rattle.cycle_enum.specs.Spreads.{is_spread}
 use Rattle.cycle_enum_laws.specs.Listing.{IsAnswer, IsListed}
-use Rattle.cycle_events.specs.Resolution.{external_count, resolution_of}
+use Rattle.cycle_events.specs.Resolution.{external_count, is_coherence_only, resolution_of, turned}
 use Rattle.arch_trait.specs.Threads.{Puts}
-use Rattle.test_maker.specs.{declared.refusal.Refusal.TheVariants.TooFewThreads, Refusals.{foreign_edge, resolved_refusal, refusal_of}}
+use Rattle.test_maker.specs.{declared.refusal.Refusal.TheVariants.{CoherenceOnly, TooFewThreads}, Refusals.{foreign_edge, resolved_refusal, refusal_of}}
 use Rattle.test_maker.proofs.HavingTests.{neither, not_foreign}
 use Rattle.diy_io.specs.Shelf.{ShelfSeen}
 use Rattle.tests_to_files.specs.Plans.{HaveTests, ends_in, ends_inside, ends_of_arch, has_few_threads, has_few_accesses, is_sought, is_wanted, may_lead}
 use Rattle.tests_to_files.specs.{InternalRuns.HasLongRun, WantedLaws.wanted_has_test, ListingEnds.{WritesAll, StopsAtTest, StopsAtAll}}
-use Rattle.tests_to_files.proofs.{RunLaws.long_run_crowds, FurtherCycles.{next_too, listed_too, all_too}}
+use Rattle.tests_to_files.proofs.{SpreadThreads.spread_of_threads, RunLaws.long_run_crowds, FurtherCycles.{next_too, listed_too, all_too}}
 
 -- a cycle that is wanted has at most so many threads, and accesses in each
 wanted_few : (puts : Puts) (mode : ObsMode) (threads : ℕ) (accesses : Option ℕ) (cycle : List Edge) → is_wanted puts mode threads accesses cycle ≡ true
@@ -44,6 +45,18 @@ tested_of_arch : (puts : Puts) (mode : ObsMode) (cycle : List Edge) → refusal_
 tested_of_arch puts mode cycle none =
     not_foreign puts cycle (neither (foreign_edge puts.name cycle) (resolved_refusal puts (resolution_of cycle) mode) none).0
 
+-- two of its threads have edges to another location
+tested_spread : (puts : Puts) (mode : ObsMode) (cycle : List Edge) → refusal_of puts cycle mode ≡ None → is_spread cycle ≡ true
+tested_spread puts mode cycle h =
+    let two : 2 ≤ external_count cycle = leb-true 2 (external_count cycle) (tested_two puts mode cycle h) in
+    by_test (is_coherence_only (turned cycle))
+    (λ only.
+    let by : resolved_refusal puts (resolution_of cycle) mode ≡ Some CoherenceOnly = rw (le-ltb (external_count cycle) 2 two, only) refl in
+    let none : resolved_refusal puts (resolution_of cycle) mode ≡ None = (neither (foreign_edge puts.name cycle) (resolved_refusal puts (resolution_of cycle) mode) h).1 in
+    let apart : Some CoherenceOnly ≡ None = sym by ∙ none in
+    cc)
+    (λ spread. spread_of_threads cycle (omega (arith, two)) spread)
+
 -- the last edge is one of all
 pub ends_at : (is_such : Edge → Bool) (u : List Edge) (d : Edge) → 0 < length u → ends_in is_such u ≡ is_such (get_or u (length u - 1) d)
 ends_at is_such [] d some = absurd (omega arith)
@@ -59,6 +72,7 @@ ends_if_all arch (x ∷ y ∷ u) all = ends_if_all arch (y ∷ u) (and_parts (is
 
 -- what is known of a cycle that is wanted if it has a test
 record Sought (arch : ArchName) (threads : ℕ) (accesses : Option ℕ) (u : List Edge) : Type 0 where
+  spread : is_spread u ≡ true
   two : nat_le 2 (external_count u) ≡ true
   of_arch : list_all (λ e. is_of_arch e arch) u ≡ true
   few_threads : has_few_threads threads u ≡ true
@@ -67,10 +81,11 @@ record Sought (arch : ArchName) (threads : ℕ) (accesses : Option ℕ) (u : Lis
 sought_parts : (arch : ArchName) (threads : ℕ) (accesses : Option ℕ) (u : List Edge) → is_sought arch threads accesses u ≡ true → Sought arch threads accesses u
 unfolding is_sought
 sought_parts arch threads accesses u h =
-    let p = and_parts (nat_le 2 (external_count u)) ((list_all (λ e. is_of_arch e arch) u && has_few_threads threads u) && has_few_accesses accesses u) h in
+    let p = and_parts (is_spread u && nat_le 2 (external_count u)) ((list_all (λ e. is_of_arch e arch) u && has_few_threads threads u) && has_few_accesses accesses u) h in
+    let s = and_parts (is_spread u) (nat_le 2 (external_count u)) p.0 in
     let q = and_parts (list_all (λ e. is_of_arch e arch) u && has_few_threads threads u) (has_few_accesses accesses u) p.1 in
     let r = and_parts (list_all (λ e. is_of_arch e arch) u) (has_few_threads threads u) q.0 in
-    record { two = p.0; of_arch = r.0; few_threads = r.1; few_accesses = q.1 }
+    record { spread = s.0; two = s.1; of_arch = r.0; few_threads = r.1; few_accesses = q.1 }
 
 -- such a cycle may begin with each of its prefixes
 prefix_leads : (arch : ArchName) (threads : ℕ) (accesses : Option ℕ) (u r : List Edge) → Sought arch threads accesses (u ++ r) → may_lead arch threads u ≡ true
@@ -87,6 +102,14 @@ pub refused_leads_none : (arch : ArchName) (threads : ℕ) (accesses : Option �
 refused_leads_none arch threads accesses u r none h =
     let yes : may_lead arch threads u ≡ true = prefix_leads arch threads accesses u r (sought_parts arch threads accesses (u ++ r) h) in cc
 
+-- each such cycle has edges of two threads to another location
+pub sought_spread : (arch : ArchName) (threads : ℕ) (accesses : Option ℕ) (u : List Edge) → is_sought arch threads accesses u ≡ true → is_spread u ≡ true
+sought_spread arch threads accesses u h = (sought_parts arch threads accesses u h).spread
+
+-- and no more edges to another thread than are allowed
+pub sought_few : (arch : ArchName) (threads : ℕ) (accesses : Option ℕ) (u : List Edge) → is_sought arch threads accesses u ≡ true → external_count u ≤ threads
+sought_few arch threads accesses u h = leb-true (external_count u) threads (sought_parts arch threads accesses u h).few_threads
+
 -- nor with edges that have a long run
 pub long_run_leads_none : (arch : ArchName) (threads : ℕ) (accesses : Option ℕ) (u r : List Edge) → HasLongRun accesses u → is_sought arch threads accesses (u ++ r) ≡ true → ⊥
 long_run_leads_none arch threads accesses u r run h =
@@ -99,8 +122,8 @@ unfolding is_sought
 sought_if_wanted puts mode threads accesses u h =
     let few = wanted_few puts mode threads accesses u h in
     let none = wanted_has_test puts mode threads accesses u h in
-    and_from (nat_le 2 (external_count u)) ((list_all (λ e. is_of_arch e puts.name) u && has_few_threads threads u) && has_few_accesses accesses u)
-    (tested_two puts mode u none)
+    and_from (is_spread u && nat_le 2 (external_count u)) ((list_all (λ e. is_of_arch e puts.name) u && has_few_threads threads u) && has_few_accesses accesses u)
+    (and_from (is_spread u) (nat_le 2 (external_count u)) (tested_spread puts mode u none) (tested_two puts mode u none))
     (and_from (list_all (λ e. is_of_arch e puts.name) u && has_few_threads threads u) (has_few_accesses accesses u)
     (and_from (list_all (λ e. is_of_arch e puts.name) u) (has_few_threads threads u) (tested_of_arch puts mode u none) few.0) few.1)
 

@@ -9,7 +9,7 @@ use Rattle.cycle_names.specs.CycleNames.{name_of}
 use Rattle.cycle_events.specs.Resolution.{external_count, turned, events_in}
 use Rattle.arch_trait.specs.{Threads.Puts, Writing.Writing}
 use Rattle.test_maker.specs.{Refusals.refusal_of, CycleText.cycle_text}
-use Rattle.cycle_enum.specs.{declared.limits.Limits.Limits, Walking.Walking}
+use Rattle.cycle_enum.specs.{declared.limits.Limits.Limits, Spreads.is_spread, Walking.Walking}
 use Rattle.tests_to_files.specs.{ListedFiles.{path_of, file_of, test_files}, declared.listing.Listing.Listing, declared.wanted.Wanted.Wanted}
 
 -- a cycle has at most this many threads, observers not counted: at most this many of its edges lead to another thread
@@ -46,11 +46,12 @@ ends_inside = ends_in (λ edge. not (is_external edge))
 unfoldable pub may_lead : ArchName → ℕ → List Edge → Bool
 may_lead arch threads edges = ends_of_arch arch edges && (ends_inside edges || has_few_threads threads edges)
 
--- a cycle with a test is a required one: it has two threads or more, but no more than are allowed, all its edges are of the architecture,
--- and each of its threads has few enough accesses
+-- a cycle with a test is a required one: it has two threads or more, but no more than are allowed, two of them have edges to another
+-- location, all its edges are of the architecture, and each of its threads has few enough accesses
 unfoldable pub is_sought : ArchName → ℕ → Option ℕ → List Edge → Bool
 is_sought arch threads accesses cycle =
-    nat_le 2 (external_count cycle)
+    is_spread cycle
+    && nat_le 2 (external_count cycle)
     && ((list_all (λ edge. is_of_arch edge arch) cycle && has_few_threads threads cycle) && has_few_accesses accesses cycle)
 
 -- those of some cycles that have a test

@@ -69,11 +69,11 @@ impl<'a> Listing<'a> {
         take: P,
     ) -> Walk<K, J, P>
         requires size { self.limits.size ≤ MAX_EDGES }
-        requires knows { KnowsOf K.pre K.Fn.post J.pre J.Fn.post P.pre P.Fn.post keep fit take }
+        requires knows { KnowsOf K.pre K.Fn.post J.pre J.Fn.post P.pre P.Fn.post self.threads keep fit take }
         ensures begins { BeginsAfter self.entry.after result.last }
-        ensures walk { result ≡ record { relaxes = self.entry.relaxes; limits = self.entry.limits; keep = keep; fit = fit; take = take; last = result.last } }
+        ensures walk { result ≡ record { relaxes = self.entry.relaxes; limits = self.entry.limits; threads = self.entry.threads; keep = keep; fit = fit; take = take; last = result.last } }
     {
-        let mut walk = Walk::new(self.relaxes, self.limits, keep, fit, take);
+        let mut walk = Walk::new(self.relaxes, self.limits, self.threads, keep, fit, take);
         begin_after(&mut walk, &self.after);
         walk
     }
@@ -116,7 +116,7 @@ pub fn list_tests<A: Arch, H: Shelf, O: Sink>(
 
 /// Writes the files of a listing and the line on their number, as `list_tests` does. Each test is made in `test`.
 #[inline(never)]
-#[tactic(auto, using(crate::proofs::WantedCycles::refused_leads_none, crate::proofs::WantedCycles::long_run_leads_none))]
+#[tactic(auto, using(crate::proofs::WantedCycles::refused_leads_none, crate::proofs::WantedCycles::long_run_leads_none, crate::proofs::WantedCycles::sought_spread, crate::proofs::WantedCycles::sought_few))]
 fn list_with<A: Arch, H: Shelf, O: Sink>(
     listing: Listing,
     test: &mut Test,
@@ -170,7 +170,7 @@ fn list_walk<
     shelf: &mut H,
     out: &mut O,
 ) -> ListingEnd
-    requires knows { KnowsOf K.pre K.Fn.post J.pre J.Fn.post P.pre P.Fn.post walk.old.keep walk.old.fit walk.old.take }
+    requires knows { KnowsOf K.pre K.Fn.post J.pre J.Fn.post P.pre P.Fn.post walk.old.threads walk.old.keep walk.old.fit walk.old.take }
     requires sought { (cycle : List EdgeValue) → IsCycle cycle → Says P.Fn.post walk.old.take cycle true ↔ Seeks A.puts wanted.now cycle }
     requires folder { ForSome wanted.now.folder (λ folder. length folder.now ≤ MAX_FOLDER) }
     requires idle { (H.seen shelf.old).mode ≡ Idle }
@@ -206,7 +206,7 @@ fn put_tests<
     names: &mut Names,
     shelf: &mut H,
 ) -> Result<u128, Failed>
-    requires knows { KnowsOf K.pre K.Fn.post J.pre J.Fn.post P.pre P.Fn.post walk.old.keep walk.old.fit walk.old.take }
+    requires knows { KnowsOf K.pre K.Fn.post J.pre J.Fn.post P.pre P.Fn.post walk.old.threads walk.old.keep walk.old.fit walk.old.take }
     requires folder { ForSome wanted.now.folder (λ folder. length folder.now ≤ MAX_FOLDER) }
     requires idle { (H.seen shelf.old).mode ≡ Idle }
     requires no_lines { names.old.lines.items ≡ [] }
@@ -237,7 +237,7 @@ fn next_made<A: Arch, K: Fn(&[Edge]) -> bool, J: Fn(&[Edge]) -> bool, P: Fn(&Cyc
     test: &mut Test,
     table: &mut KeptTable,
 ) -> Option<Cycle>
-    requires knows { KnowsOf K.pre K.Fn.post J.pre J.Fn.post P.pre P.Fn.post walk.old.keep walk.old.fit walk.old.take }
+    requires knows { KnowsOf K.pre K.Fn.post J.pre J.Fn.post P.pre P.Fn.post walk.old.threads walk.old.keep walk.old.fit walk.old.take }
     ensures next { ArrivesOrEnds (HaveTests A.puts mode (Lists P.Fn.post walk.old)) walk.old walk.new result }
     ensures ready { IfSome result (λ cycle. IsReady A.NAME A.REGISTERS A.puts A.writing mode cycle test.new table.new) }
 {

@@ -5,6 +5,7 @@ ghost use Rattle.tests_to_files.specs.{Plans.{ends_inside, ends_of_arch, has_few
 
 use crate::runs::{has_few_accesses, stays_below};
 use arch_trait::Arch;
+use cycle_enum::is_spread;
 use edge_algebra::Cycle;
 use relax_edges::{Edge, ObsMode};
 
@@ -41,12 +42,14 @@ impl Wanted<'_> {
     }
 
     /// Whether a cycle is a required one, if it has a test: its edges lead to two threads or more, but to no
-    /// more than are allowed, no thread has too many accesses, and the edges are of the architecture.
+    /// more than are allowed, two threads have edges to another location, no thread has too many accesses, and
+    /// the edges are of the architecture.
     #[tactic(auto, using(crate::proofs::WantedCycles::two_are_some), unfolding(crate::specs::Plans::is_sought))]
     pub(crate) fn seeks<A: Arch>(&self, cycle: &Cycle) -> bool
         ensures { result ≡ is_sought A.puts.name self.now.threads self.now.accesses cycle.now }
     {
-        has_two_threads(cycle.edges())
+        is_spread(cycle.edges())
+            && has_two_threads(cycle.edges())
             && are_of_arch::<A>(cycle.edges())
             && has_few_threads(cycle.edges(), self.threads)
             && has_few_accesses(cycle.edges(), self.accesses)

@@ -1,12 +1,12 @@
 -- A list with which no listed cycle begins isn't listed, and the test is asked only where both pruners keep all prefixes.
-use Rattle.std.proofs.{Common.{[], length, refl, IsTrue}, lemmas.List.append-nil}
+use Rattle.std.proofs.{Common.{[], length, refl, rules, IsTrue}, lemmas.List.append-nil}
 use Rattle.edge_algebra_laws.proofs.Composing.{path_closed}
 use Rattle.cycle_enum_laws.proofs.Stepping.{kept_all}
 use Rattle.cycle_enum.specs.Walking.{KeepsList, Lists}
 use Rattle.cycle_enum.proofs.walk.Space.has_found.Goals as goal
 
 pub returns-then-not-leads_on-clause-other : goal.returns-then-not-leads_on-clause-other
-returns-then-not-leads_on-clause-other g c _ l = c.if-not-leads_on.ensures.refused refl [] (rw (append-nil c.args.list.now) l)
+returns-then-not-leads_on-clause-other g c _ l = c.if-not-leads_on.ensures.refused refl [] (rw (append-nil c.args.list.now) (record { is = l; long = c.requires.long }))
 
 pub returns-then-not-is_normal-clause-other : goal.returns-then-not-is_normal-clause-other
 returns-then-not-is_normal-clause-other g c _ l =
@@ -14,7 +14,7 @@ returns-then-not-is_normal-clause-other g c _ l =
 
 pub has_listed-requires-clause-cycle : goal.has_listed-requires-clause-cycle
 has_listed-requires-clause-cycle g c =
-    path_closed c.args.list.now (record { some = c.requires.some; few = c.requires.few; joined = c.edges.ensures.joined })
+    path_closed c.args.list.now (record { some = c.requires.some; few = search rules; joined = c.edges.ensures.joined })
     (rw c.edges.ensures.value at (c.if-not-closes.ensures.closed refl))
 
 pub has_listed-requires-clause-kept : goal.has_listed-requires-clause-kept

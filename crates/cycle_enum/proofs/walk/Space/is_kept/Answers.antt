@@ -3,7 +3,7 @@ use Rattle.std.proofs.Common.{refl}
 use Rattle.cycle_enum.proofs.walk.Space.is_kept.Goals as goal
 
 pub call-requires : goal.call-requires
-call-requires g c = rw (← c.self.view_is) at (c.requires.knows.keep.asked c.args.list.now c.requires.some c.requires.few c.args.list refl)
+call-requires g c = rw (← c.self.view_is) at (c.requires.knows.asks.keep.asked c.args.list.now c.requires.some c.requires.few c.args.list refl)
 
 pub call-requires-then-call : goal.call-requires-then-call
-call-requires-then-call g c = rw (← c.self.view_is) at (c.requires.knows.fit.asked c.args.list.now c.requires.some c.requires.few c.args.list refl)
+call-requires-then-call g c = rw (← c.self.view_is) at (c.requires.knows.asks.fit.asked c.args.list.now c.requires.some c.requires.few c.args.list refl)

@@ -4,9 +4,9 @@ use Rattle.cycle_enum.specs.Walking.{Says}
 use Rattle.cycle_enum.proofs.walk.Space.is_listed.Goals as goal
 
 pub call-requires : goal.call-requires
-call-requires g c = rw (← c.self.view_is) at (c.requires.knows.take.asked c.args.cycle.now c.edges-edges.ensures.composable c.requires.kept c.args.cycle refl)
+call-requires g c = rw (← c.self.view_is) at (c.requires.knows.asks.take.asked c.args.cycle.now c.edges-edges.ensures.composable c.requires.kept c.args.cycle refl)
 
 pub returns-clause-other : goal.returns-clause-other
 returns-clause-other g c h l =
     let s : Says g.P.Fn.post c.args.self.now.take c.args.cycle.now c.call.result = search rules in
-    cc (c.requires.knows.take.one_answer c.args.cycle.now true false l.cycle l.taken (rw h at s))
+    cc (c.requires.knows.asks.take.one_answer c.args.cycle.now true false l.cycle l.taken (rw h at s))

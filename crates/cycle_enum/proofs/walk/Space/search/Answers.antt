@@ -1,9 +1,10 @@
 -- Each step of the search leaves out no listed cycle, and what is found is the first.
 use Rattle.std.proofs.Common.{◌<◌, ◌≤◌, length, refl, rules}
-use Rattle.cycle_enum_laws.specs.Search.{IsListCandidate, IsExtended, IsRaised, LeadsNowhere}
+use Rattle.cycle_enum_laws.specs.Search.{IsListCandidate, IsExtended, IsRaised, LeadsNowhere, OfLength}
 use Rattle.cycle_enum_laws.proofs.{Counts.raised_falls, Counts.extended_falls, Candidates.raised_listed, Candidates.extended_listed}
-use Rattle.cycle_enum_laws.proofs.Stepping.{search_at_first, search_at_raised, search_at_extended, search_at_past, search_at_found}
+use Rattle.cycle_enum_laws.proofs.Stepping.{search_at_first, search_at_extended, search_at_past, search_at_found}
 use Rattle.cycle_enum.specs.Walking.{KeepsList, Lists}
+use Rattle.cycle_enum.proofs.PassedOver.{search_at_nowhere}
 use Rattle.cycle_enum.proofs.walk.Space.search.Goals as goal
 
 pub loop-self-init : goal.loop-self-init
@@ -17,9 +18,9 @@ loop-self-smaller-else-leads_on g c =
 pub loop-self-preserved-else-leads_on : goal.loop-self-preserved-else-leads_on
 loop-self-preserved-else-leads_on g c =
     let some : 0 < length c.loop-self.list = search rules in
-    let none : LeadsNowhere (Lists g.P.Fn.post c.args.self.now) c.loop-self.list = c.if-leads_on.ensures.refused refl in
+    let none : LeadsNowhere (OfLength c.args.len (Lists g.P.Fn.post c.args.self.now)) c.loop-self.list = c.if-leads_on.ensures.refused refl in
     let raised : IsRaised (IsListCandidate c.args.self.now.relaxes) c.loop-self.list c.raise.new.list = search rules in
-    search_at_raised _ _ c.args.len c.args.list.now c.loop-self.list c.raise.new.list c.loop-self.invariant some none (raised_listed _ _ _ _ _ _ raised)
+    search_at_nowhere _ _ c.args.len c.args.list.now c.loop-self.list c.raise.new.list c.loop-self.invariant some none (raised_listed _ _ _ _ _ _ raised)
 
 pub loop-self-smaller-then-leads_on : goal.loop-self-smaller-then-leads_on
 loop-self-smaller-then-leads_on g c =

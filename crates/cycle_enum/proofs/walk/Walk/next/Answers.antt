@@ -5,6 +5,9 @@ use Rattle.cycle_enum_laws.proofs.Counts.{later_falls}
 use Rattle.cycle_enum.specs.Walking.{Lists}
 use Rattle.cycle_enum.proofs.walk.Walk.next.Goals as goal
 
+pub returns-then-not-find-clause-next : goal.returns-then-not-find-clause-next
+returns-then-not-find-clause-next g c = rw (← c.self.view_is) (c.if-not-find.ensures.none refl)
+
 pub returns-clause-next : goal.returns-clause-next
 returns-clause-next g c =
     let next : IsNext (Lists g.P.Fn.post c.args.self.now) c.args.self.now.last c.find.new.list = rw (← c.self.view_is) (c.if-not-find.ensures.found refl) in
