@@ -4,5 +4,5 @@ use Rattle.log_sum.proofs.state_table.StateTable.is_written_at.Goals as goal
 
 pub returns-in-Some : goal.returns-in-Some
 returns-in-Some c =
-    written_at c.args.self.now.sums.entries c.args.i c.args.text.now c.as_slice.result.now c.in-Some.state.now c.in-Some.sum.now c.has.result c.args.self.now.are_written c.in-Some.ensures.entry
+    written_at c.args.self.now.sums.items c.args.i c.args.text.now c.as_slice.result.now c.in-Some.field-0.now.0 c.in-Some.field-0.now.1 c.has.result c.args.self.now.are_written _
     c.as_slice.ensures.value c.has.ensures
