@@ -8,7 +8,7 @@ use Rattle.std.specs.{declared.alloc.Global.Global, declared.cmp.Ordering.TheVar
 use Rattle.list_laws.proofs.Cases.{by_test}
 use Rattle.log_sum.specs.{declared.kinds.Mark.Mark, declared.spelling.Spelling.Spelling, declared.state_table.StateSum.StateSum, Summed.StateSummed}
 use Rattle.log_sum.specs.{LogStates.form_read, SummingSteps.known_state, StateSpelling.{is_spelled, IsSpelled, AddsText}}
-use Rattle.log_sum.specs.StateEntries.{sum_view, sum_in, state_view, state_at, states_view, and_state, placed_state, EntriesAreWritten, HasState}
+use Rattle.log_sum.specs.StateEntries.{sum_view, sum_in, is_kept, has_text, state_view, state_at, states_view, and_state, placed_state, EntriesAreWritten, HasState}
 use Rattle.log_sum.specs.TextPlaces.{set_value_at, index_among, places_view, ArePlaced}
 use Rattle.diy_io.specs.Count.{last_count}
 use Rattle.log_sum.proofs.OrderLaws.{ordered_known, ordered_put, ordered_sorted, same_states}
@@ -136,6 +136,15 @@ pub written_at : (es : List (Vec ℕ Global × StateSum)) (i : ℕ) (text form :
     → form ≡ key.items → b ≡ is_spelled form sum.spelling text → OnTrue b (HasState es text i)
 written_at es i text form key sum true h e is has = grind (arith, (spelled_read key.items text sum.spelling (h i key sum (sym e)) (rw is at (sym has))))
 written_at es i text form key sum false h e is has = tt
+
+-- a text that is kept for the state at an index is read as that state
+pub kept_written : (es : List (Vec ℕ Global × StateSum)) (i : ℕ) (text : List ℕ) (b : Bool) → EntriesAreWritten es → b ≡ has_text es i text → OnTrue b (HasState es text i)
+kept_written es i text b h e = by_entry (slice_get es i) refl b e
+  where
+    by_entry : (o : Option (Vec ℕ Global × StateSum)) → slice_get es i ≡ o → (b : Bool) → b ≡ is_kept o text → OnTrue b (HasState es text i)
+    by_entry None g true k = absurd (cc)
+    by_entry None g false k = tt
+    by_entry (Some x) g b k = written_at es i text x.0.items x.0 x.1 b h (sym g) refl k
 
 -- the mark and the count at an index are those that are known of its state
 record SumHere (es : List (Vec ℕ Global × StateSum)) (i : ℕ) : Type 0 where

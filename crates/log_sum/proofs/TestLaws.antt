@@ -1,6 +1,7 @@
 -- States as the code keeps them.
 use Rattle.std.proofs.Common.{◌≡◌, ℕ, ◌+◌, ◌-◌, ◌<◌, ◌≤◌, List, [], ◌∷◌, Some, None, true, false, refl, sym, arith, min}
-use Rattle.std.specs.{Prelude.{Option, Ok, Err, cond, is_some, option_map, nat_lt}, Ordering.nat_cmp, Cmp.Lexicographic.slice_cmp, BTreeMap.insert_entry}
+use Rattle.std.specs.{Prelude.{Option, Ok, Err, cond, is_some, option_map, nat_lt}, Ordering.{nat_cmp, ordering_reverse}, Cmp.Lexicographic.slice_cmp, BTreeMap.insert_entry}
+use Rattle.std.specs.{declared.cmp.Ordering.Ordering, declared.cmp.Ordering.TheVariants.Equal}
 use Rattle.log_sum.specs.{declared.errors.LogKind.TheVariants.{MarkDiffers, SumTooLarge}, declared.kinds.Mark.Mark}
 use Rattle.log_sum.specs.{Facts.{Row, a_row, is_other, same_state_mark}, Summed.{Summed, StateSummed}}
 use Rattle.log_sum.specs.SummingSteps.{known_state, count_known, marked, with_marked, with_row, fact_to}
@@ -49,11 +50,18 @@ pub row_kept : (test : Summed) (row : Row) (states : List StateSummed) (kept : M
     → with_marked (record test { states = states }) row.mark (sum + row.count) ≡ with_row test row
 row_kept test row states kept sum e f g = (cc)
 
+-- a text compares as equal to itself
+own_reverse : (o : Ordering) → o ≡ ordering_reverse o → o ≡ Equal
+own_reverse o h = grind arith
+
+same_text : (k : List ℕ) → slice_cmp nat_cmp k k ≡ Equal
+same_text k = own_reverse (slice_cmp nat_cmp k k) (order.antisymm k k)
+
 -- a state that is inserted twice has what was inserted last
 insert_twice : (es : List StateSummed) (k : List ℕ) (v w : Mark × ℕ)
     → insert_entry (slice_cmp nat_cmp) (insert_entry (slice_cmp nat_cmp) es k v) k w ≡ insert_entry (slice_cmp nat_cmp) es k w
-insert_twice [] k v w = grind (arith, (order.refl k))
-insert_twice (e ∷ es) k v w = grind (arith, (insert_twice es k v w), (order.refl k))
+insert_twice [] k v w = grind (arith, (same_text k))
+insert_twice (e ∷ es) k v w = grind (arith, (insert_twice es k v w), (same_text k))
 
 -- a row of a state is the same to a test that has the state with its mark and no count
 abbrev with_states : Summed → List StateSummed → Summed
@@ -67,7 +75,7 @@ placed_row test row none =
       arith,
       (known_put test.states row.state (row.mark, 0) row.state),
       (insert_twice test.states row.state (row.mark, 0) (row.mark, min (0 + row.count) last_count)),
-      (order.refl row.state),
+      (same_text row.state),
     )
 
 pub placed_fact : (test : Summed) (row : Row) (states : List StateSummed) (known : Option (Mark × ℕ)) → known ≡ known_state test.states row.state

@@ -1,9 +1,9 @@
 -- States with their sums, as a table keeps them.
 -- Source: own.
-use Rattle.std.specs.Prelude.{◌≡◌, ◌+◌, ℕ, suc, cond, min, List, [], ◌∷◌, Option, Some, None, map, option_map, slice_get, is_some, Ok}
+use Rattle.std.specs.Prelude.{◌≡◌, ◌+◌, ℕ, Bool, false, suc, cond, min, List, [], ◌∷◌, Option, Some, None, map, option_map, slice_get, is_some, Ok}
 use Rattle.std.specs.{Ordering.nat_cmp, Cmp.Lexicographic.slice_cmp, BTreeMap.insert_entry, BTreeMap.is_at, List.IsDistinct, Map.{lookup, keys_of}, Str.bytes_eq}
 use Rattle.std.specs.{declared.vec.Vec.Vec, declared.alloc.Global.Global}
-use Rattle.log_sum.specs.{declared.kinds.Mark.Mark, declared.kinds.Mark.TheVariants.Plain, declared.state_table.StateSum.StateSum, LogStates.form_read, StateSpelling.IsSpelled}
+use Rattle.log_sum.specs.{declared.kinds.Mark.Mark, declared.kinds.Mark.TheVariants.Plain, declared.state_table.StateSum.StateSum, LogStates.form_read, StateSpelling.{IsSpelled, is_spelled}}
 use Rattle.log_sum.specs.{SummingSteps.known_state, Summed.StateSummed}
 use Rattle.diy_io.specs.Count.{last_count}
 
@@ -67,6 +67,15 @@ and_state entries state mark = cond (is_some (known_in entries state)) (states_v
 abbrev pub EntriesAreWritten : List (Vec ℕ Global × StateSum) → Type 0
 EntriesAreWritten entries =
     (i : ℕ) (key : Vec ℕ Global) (sum : StateSum) → slice_get entries i ≡ Some (key, sum) → IsSpelled key.items sum.spelling
+
+-- a text is among those that are kept for an entry
+abbrev pub is_kept : Option (Vec ℕ Global × StateSum) → List ℕ → Bool
+is_kept None text = false
+is_kept (Some entry) text = is_spelled entry.0.items entry.1.spelling text
+
+-- a text is among those that are kept for the state at an index
+abbrev pub has_text : List (Vec ℕ Global × StateSum) → ℕ → List ℕ → Bool
+has_text entries i text = is_kept (slice_get entries i) text
 
 -- the state that a text writes is the one at an index
 pub record HasState (entries : List (Vec ℕ Global × StateSum)) (text : List ℕ) (i : ℕ) : Type 0 where

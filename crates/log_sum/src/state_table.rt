@@ -1,7 +1,7 @@
 ghost use Rattle.std.specs.{Prelude.{◌≡◌, ℕ, [], Some, None, Ok, OnOk, IfOk, IfSome}, Bool.{OnTrue}};
 ghost use Rattle.log_sum.specs.{LogStates.{form_read}, StateSpelling.{IsSpelled}, TextPlaces.{AreApart, ArePlaced, IsIndexOrLast}};
 ghost use Rattle.std.proofs.Props.{props};
-ghost use Rattle.log_sum.specs.StateEntries.{EntriesAreWritten, ForStateAt, HasState, SeenMore, and_state, known_in, state_at, states_view, sum_in};
+ghost use Rattle.log_sum.specs.StateEntries.{EntriesAreWritten, ForStateAt, HasState, SeenMore, and_state, has_text, known_in, state_at, states_view, sum_in};
 
 use crate::kinds::Mark;
 use crate::spelling::Spelling;
@@ -107,6 +107,13 @@ impl StateTable {
     /// Whether the text is kept for the state at an index.
     fn is_written_at(&self, i: usize, text: &[u8]) -> bool
         ensures { OnTrue result (HasState self.now.sums.items text.now i) }
+    {
+        self.has_text(i, text)
+    }
+
+    /// Whether the text is among those that are kept for the state at an index.
+    fn has_text(&self, i: usize, text: &[u8]) -> bool
+        ensures { result ≡ has_text self.now.sums.items i text.now }
     {
         match self.sums.get(i) {
             Some((state, sum)) => sum.spelling.has(state.as_slice(), text),

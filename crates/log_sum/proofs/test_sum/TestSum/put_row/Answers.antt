@@ -16,5 +16,5 @@ returns c =
     let test = test_view c.args.self.now in
     let read = c.in_ok-read.ensures ∙ ap (λ x. Ok x) (sym c.form.ensures) in
     let same = placed_fact test (row_with c.form.result.now c.args.row.mark c.args.row.count) _ _ refl (c.in_ok-keep_text.ensures.states ∙ c.in_ok-i.ensures.states) in
-    subst (GivesOr _ c.add.result) (same ∙ ap (λ r. row_to test (row_of c.args.row.count c.args.row.mark r)) (sym read))
-    (c.add.ensures c.form.result.now (c.in_ok-keep_text.ensures.same c.in_ok-i.i ∙ c.in_ok-i.ensures.index))
+    subst (GivesOr _ c.add-2.result) (same ∙ ap (λ r. row_to test (row_of c.args.row.count c.args.row.mark r)) (sym read))
+    (c.add-2.ensures c.form.result.now (c.in_ok-keep_text.ensures.same c.in_ok-i.i ∙ c.in_ok-i.ensures.index))
