@@ -194,7 +194,6 @@ fed_represents kept files bytes fed =
       line = fed.reading.line ∙ input_line fed.seen files bytes fed.judged;
       held = fed.held;
       going = fed.going;
-      in_order = fed.in_order;
     }
 
 -- what represents an input has read it
@@ -219,7 +218,6 @@ represents_fed kept files bytes h = by_judged (input_judged files bytes) refl
           };
           held = h.held;
           going = h.going;
-          in_order = h.in_order;
         }
 
 -- a refusal is an error that the bytes so far show, at its line

@@ -1,77 +1,17 @@
 -- States with their sums, as a table keeps them.
 use Rattle.std.proofs.Common.{◌≡◌, ℕ, zero, suc, ◌+◌, ◌<◌, List, [], ◌∷◌, ◌++◌, Some, None, true, false, cond, length, refl, sym, ap, ◌∙◌, arith, subst}
-use Rattle.std.proofs.{lemmas.Map.Text.is_eq-slice_cmp, lemmas.Slice.Eq.bytes_eq-Decides}
-use Rattle.std.specs.Prelude.{Bool, ◌&&◌, Option, map, slice_get, option_map, T, position, is_some, min, Result, Ok, Err, OnOk, OnErr, MatchOption}
-use Rattle.std.specs.{Bool.OnTrue, Ordering.{nat_cmp, is_eq, is_lt}, Cmp.Lexicographic.slice_cmp, BTreeMap.insert_entry, FinMap.Entries.{is_sorted, below_all}}
-use Rattle.std.specs.{List.{IsDistinct, AllByRecursion}, Str.bytes_eq, Map.{lookup, lookup_key, keys_of, values_of}, declared.vec.Vec.Vec}
-use Rattle.std.specs.declared.alloc.Global.{Global}
-use Rattle.indexmap.specs.Layout.{set_value_at}
-use Rattle.indexmap.specs.IndexMap as indexed
-use Rattle.indexmap.proofs.MapLemmas.{Found-position, insert_entry-absent, absent_from_lookup}
+use Rattle.std.proofs.{lemmas.Map.Text.is_eq-slice_cmp, lemmas.Slice.Eq.bytes_eq-Decides, lemmas.List.length-map}
+use Rattle.std.specs.Prelude.{Bool, Option, map, slice_get, option_map, T, min, Ok}
+use Rattle.std.specs.{Bool.OnTrue, Ordering.{nat_cmp, is_eq}, Cmp.Lexicographic.slice_cmp, BTreeMap.insert_entry, FinMap.Entries.{is_sorted, below_all}}
+use Rattle.std.specs.{List.{IsDistinct, AllByRecursion}, List.Sorted.IsStrictlySortedBy, Str.bytes_eq, Map.{lookup, keys_of, values_of}, declared.vec.Vec.Vec}
+use Rattle.std.specs.{declared.alloc.Global.Global, declared.cmp.Ordering.TheVariants.Less}
+use Rattle.list_laws.proofs.Cases.{by_test}
 use Rattle.log_sum.specs.{declared.kinds.Mark.Mark, declared.spelling.Spelling.Spelling, declared.state_table.StateSum.StateSum, Summed.StateSummed}
 use Rattle.log_sum.specs.{LogStates.form_read, SummingSteps.known_state, StateSpelling.{is_spelled, IsSpelled, AddsText}}
-use Rattle.log_sum.specs.StateEntries.{sum_view, state_view, state_at, states_view, AreInOrder, EntriesAreWritten, HasState}
+use Rattle.log_sum.specs.StateEntries.{sum_view, sum_in, is_kept, has_text, state_view, state_at, states_view, and_state, placed_state, EntriesAreWritten, HasState}
+use Rattle.log_sum.specs.TextPlaces.{set_value_at, index_among, places_view, ArePlaced}
 use Rattle.diy_io.specs.Count.{last_count}
-use Rattle.log_sum.proofs.OrderLaws.{ordered_known, ordered_put, ordered_is}
-
--- what is looked up by a text, as the definitions see it
-pub entries_known : (test : Vec ℕ Global → Bool) (text : List ℕ) → ((k : Vec ℕ Global) → test k ≡ bytes_eq text k.items) → (es : List (Vec ℕ Global × StateSum))
-    → option_map sum_view (lookup test es) ≡ known_state (map state_view es) text
-entries_known test text same [] = refl
-entries_known test text same (e ∷ es) = grind (arith, (entries_known test text same es), is_eq-slice_cmp)
-
--- what is known of a text is what is looked up by it
-pub view_known : (test : Vec ℕ Global → Bool) (text : List ℕ) → ((k : Vec ℕ Global) → test k ≡ bytes_eq text k.items) → (es : List (Vec ℕ Global × StateSum))
-    → known_state (states_view es) text ≡ option_map sum_view (lookup test es)
-view_known test text same es = ordered_known (map state_view es) text ∙ sym (entries_known test text same es)
-
-none_some : {X : Type 0} (o : Option X) → false ≡ is_some o → o ≡ None
-none_some o h = grind arith
-
--- a text that isn't found isn't known
-pub view_missing : (test : Vec ℕ Global → Bool) (text : List ℕ) → ((k : Vec ℕ Global) → test k ≡ bytes_eq text k.items) → (es : List (Vec ℕ Global × StateSum))
-    → false ≡ is_some (lookup test es) → known_state (states_view es) text ≡ None
-view_missing test text same es h = view_known test text same es ∙ ap (option_map sum_view) (none_some (lookup test es) h)
-
--- the key at an index
-record KeyAt (es : List (Vec ℕ Global × StateSum)) (i : ℕ) : Type 0 where
-  key : Vec ℕ Global
-  state_is : slice_get (keys_of es) i ≡ Some key
-  state : state_at es i ≡ Some key.items
-
-key_at : (es : List (Vec ℕ Global × StateSum)) (i : ℕ) → i < length es → KeyAt es i
-key_at [] i h = absurd (omega arith)
-key_at (e ∷ es) zero h = record { key = e.0; state_is = refl; state = refl }
-key_at (e ∷ es) (suc i) h = let k = key_at es i (omega arith) in record { key = k.key; state_is = k.state_is; state = k.state }
-
-key_passes : (test : Vec ℕ Global → Bool) (es : List (Vec ℕ Global × StateSum)) (key : Vec ℕ Global) → lookup_key test es ≡ Some key → test key ≡ true
-key_passes test [] key h = absurd (cc)
-key_passes test (e ∷ es) key h = grind (arith, (key_passes test es key))
-
--- a state is found by its text
-pub state_found : (test : Vec ℕ Global → Bool) (text : List ℕ) → ((k : Vec ℕ Global) → test k ≡ bytes_eq text k.items) → (es : List (Vec ℕ Global × StateSum)) (i : ℕ)
-    → Some i ≡ position test (keys_of es) → state_at es i ≡ Some text
-state_found test text same es i h =
-    let found = Found-position test es i (sym h) in
-    let k = key_at es i found.within in
-    let passes : test k.key ≡ true = key_passes test es k.key (found.key ∙ k.state_is) in
-    k.state ∙ ap Some (sym ((bytes_eq-Decides text k.key.items).0 (sym (same k.key) ∙ passes)))
-
--- the state of an entry is its key
-pub at_entry : (es : List (Vec ℕ Global × StateSum)) (i : ℕ) (key : Vec ℕ Global) (sum : StateSum) → Some (key, sum) ≡ slice_get es i → state_at es i ≡ Some key.items
-at_entry es i key sum h = ap (option_map (λ (e : Vec ℕ Global × StateSum). e.0.items)) (sym h)
-
-below_written : (x : List ℕ) (es : List (Vec ℕ Global × StateSum)) (i : ℕ) (w : StateSum) → below_all (slice_cmp nat_cmp) x (map state_view (set_value_at es i w)) ≡ below_all (slice_cmp nat_cmp) x (map state_view es)
-below_written x (e ∷ es) (suc i) w = ap (λ b. is_lt (slice_cmp nat_cmp x e.0.items) && b) (below_written x es i w)
-below_written x es i w = grind arith
-
-sorted_written : (es : List (Vec ℕ Global × StateSum)) (i : ℕ) (w : StateSum) → is_sorted (slice_cmp nat_cmp) (map state_view (set_value_at es i w)) ≡ is_sorted (slice_cmp nat_cmp) (map state_view es)
-sorted_written (e ∷ es) (suc i) w = grind (arith, (sorted_written es i w), below_written)
-sorted_written es i w = grind arith
-
--- states that are in order stay so where a sum is changed
-pub order_written : (es : List (Vec ℕ Global × StateSum)) (i : ℕ) (w : StateSum) → AreInOrder es → AreInOrder (set_value_at es i w)
-order_written es i w h = subst T (sym (sorted_written es i w)) h
+use Rattle.log_sum.proofs.OrderLaws.{ordered_known, ordered_put, ordered_sorted, same_states}
 
 -- the texts that are kept of states are read as these where a sum is changed to one whose texts are
 pub written_again : (es : List (Vec ℕ Global × StateSum)) (i : ℕ) (v w : StateSum) → slice_get (values_of es) i ≡ Some v
@@ -180,41 +120,12 @@ pub view_added : (es : List (Vec ℕ Global × StateSum)) (i count total : ℕ) 
 view_added es i count total v text known d g sum h is =
     grind (arith, (known_at es i text v d h (sym g)), (view_written es i (record v { count = total }) text d h))
 
--- a text is found at its state's index, or isn't known
-pub found_or_not : (test : Vec ℕ Global → Bool) (text : List ℕ) → ((k : Vec ℕ Global) → test k ≡ bytes_eq text k.items) → (es : List (Vec ℕ Global × StateSum)) (r : Option ℕ)
-    → r ≡ position test (keys_of es) → is_some r ≡ is_some (lookup test es) → MatchOption r (known_state (states_view es) text ≡ None) (λ i. state_at es i ≡ Some text)
-found_or_not test text same es None h g = view_missing test text same es g
-found_or_not test text same es (Some i) h g = state_found test text same es i h
-
--- the sum of the state at an index
-pub sum_known : (es : List (Vec ℕ Global × StateSum)) (i : ℕ) (key : Vec ℕ Global) (sum : StateSum) (text : List ℕ) → Some (key, sum) ≡ slice_get es i → lookup (λ (k : Vec ℕ Global). bytes_eq key.items k.items) es ≡ Some sum
-    → state_at es i ≡ Some text → known_state (states_view es) text ≡ Some (sum_view sum)
-sum_known es i key sum text h g e =
-    let same : Some key.items ≡ Some text = sym (at_entry es i key sum h) ∙ e in
-    let is : key.items ≡ text = cc in
-    ap (known_state (states_view es)) (sym is) ∙ view_known (λ (k : Vec ℕ Global). bytes_eq key.items k.items) key.items (λ k. refl) es ∙ ap (option_map sum_view) g
-
--- a state that isn't known has no key
-none_known : (o : Option StateSum) → option_map sum_view o ≡ None → o ≡ None
-none_known o h = grind arith
-
--- a state that is put is new, so it goes last
-put_last : (es : List (Vec ℕ Global × StateSum)) (key : Vec ℕ Global) (w : StateSum) → known_state (states_view es) key.items ≡ None
-    → indexed.insert_entry (λ (x y : Vec ℕ Global). bytes_eq x.items y.items) es key w ≡ es ++ (key, w) ∷ []
-put_last es key w h =
-    let none = none_known (lookup (λ (k : Vec ℕ Global). bytes_eq key.items k.items) es) (sym (view_known (λ (k : Vec ℕ Global). bytes_eq key.items k.items) key.items (λ k. refl) es) ∙ h) in
-    insert_entry-absent (λ (x y : Vec ℕ Global). bytes_eq x.items y.items) key w es (absent_from_lookup (λ (k : Vec ℕ Global). bytes_eq key.items k.items) es none)
-
--- a new state that is put to the table is inserted
-pub view_put : (es more : List (Vec ℕ Global × StateSum)) (key : Vec ℕ Global) (w : StateSum) → more ≡ indexed.insert_entry (λ (x y : Vec ℕ Global). bytes_eq x.items y.items) es key w → known_state (states_view es) key.items ≡ None
-    → states_view more ≡ insert_entry (slice_cmp nat_cmp) (states_view es) key.items (sum_view w)
-view_put es more key w e h = ap states_view (e ∙ put_last es key w h) ∙ view_more es key w h
-
--- the table's texts are read as its states after a new state was put, or wasn't for want of memory
-pub written_put : {X Y : Type 0} (es more : List (Vec ℕ Global × StateSum)) (key : Vec ℕ Global) (w : StateSum) → known_state (states_view es) key.items ≡ None → IsSpelled key.items w.spelling → EntriesAreWritten es
-    → (r : Result X Y) → OnOk r (more ≡ indexed.insert_entry (λ (x y : Vec ℕ Global). bytes_eq x.items y.items) es key w) → OnErr r (more ≡ es) → EntriesAreWritten more
-written_put es more key w none shown h (Ok x) e g = subst EntriesAreWritten (sym (e ∙ put_last es key w none)) (written_more es key w shown h)
-written_put es more key w none shown h (Err x) e g = subst EntriesAreWritten (sym g) h
+-- no entries are written
+pub none_written : (es : List (Vec ℕ Global × StateSum)) → es ≡ [] → EntriesAreWritten es
+none_written es e = subst EntriesAreWritten (sym e) nothing
+  where
+    nothing : EntriesAreWritten []
+    nothing i key sum h = grind arith
 
 -- a text that is kept of a state is read as that state
 spelled_read : (state text : List ℕ) (spelling : Spelling) → IsSpelled state spelling → is_spelled state spelling text ≡ true → form_read text ≡ Ok state
@@ -226,6 +137,96 @@ pub written_at : (es : List (Vec ℕ Global × StateSum)) (i : ℕ) (text form :
 written_at es i text form key sum true h e is has = grind (arith, (spelled_read key.items text sum.spelling (h i key sum (sym e)) (rw is at (sym has))))
 written_at es i text form key sum false h e is has = tt
 
--- entries in byte order are as the definitions see them
-pub in_order_view : (es : List (Vec ℕ Global × StateSum)) → AreInOrder es → states_view es ≡ map state_view es
-in_order_view es h = ordered_is (map state_view es) h
+-- a text that is kept for the state at an index is read as that state
+pub kept_written : (es : List (Vec ℕ Global × StateSum)) (i : ℕ) (text : List ℕ) (b : Bool) → EntriesAreWritten es → b ≡ has_text es i text → OnTrue b (HasState es text i)
+kept_written es i text b h e = by_entry (slice_get es i) refl b e
+  where
+    by_entry : (o : Option (Vec ℕ Global × StateSum)) → slice_get es i ≡ o → (b : Bool) → b ≡ is_kept o text → OnTrue b (HasState es text i)
+    by_entry None g true k = absurd (cc)
+    by_entry None g false k = tt
+    by_entry (Some x) g b k = written_at es i text x.0.items x.0 x.1 b h (sym g) refl k
+
+-- the mark and the count at an index are those that are known of its state
+record SumHere (es : List (Vec ℕ Global × StateSum)) (i : ℕ) : Type 0 where
+  sum : StateSum
+  at_index : slice_get (values_of es) i ≡ Some sum
+  is : sum_in es i ≡ sum_view sum
+
+sum_here : (es : List (Vec ℕ Global × StateSum)) (i : ℕ) (text : List ℕ) → state_at es i ≡ Some text → SumHere es i
+sum_here [] i text h = absurd (cc)
+sum_here (e ∷ es) zero text h = record { sum = e.1; at_index = refl; is = refl }
+sum_here (e ∷ es) (suc i) text h = let s = sum_here es i text h in record { sum = s.sum; at_index = s.at_index; is = s.is }
+
+pub sum_known : (es : List (Vec ℕ Global × StateSum)) (i : ℕ) (text : List ℕ) → IsDistinct (λ (x y : Vec ℕ Global). bytes_eq x.items y.items) (keys_of es) → state_at es i ≡ Some text
+    → known_state (states_view es) text ≡ Some (sum_in es i)
+sum_known es i text d h = let s = sum_here es i text h in known_at es i text s.sum d h s.at_index ∙ ap (λ x. Some x) (sym s.is)
+
+-- what is known of a text is what is at its index
+further : (e : Vec ℕ Global × StateSum) (es : List (Vec ℕ Global × StateSum)) (o : Option ℕ) → option_map (sum_in (e ∷ es)) (option_map suc o) ≡ option_map (sum_in es) o
+further e es None = refl
+further e es (Some i) = refl
+
+known_index : (text : List ℕ) (es : List (Vec ℕ Global × StateSum)) → known_state (map state_view es) text ≡ option_map (sum_in es) (index_among text es)
+known_index text [] = refl
+known_index text (e ∷ es) =
+    by_test (bytes_eq text e.0.items)
+    (λ f. rw (is_eq-slice_cmp text e.0.items, f) refl)
+    (λ f. rw (is_eq-slice_cmp text e.0.items, f) (known_index text es ∙ sym (further e es (index_among text es))))
+
+-- a text without an index isn't known
+pub known_none : (text : List ℕ) (es : List (Vec ℕ Global × StateSum)) → index_among text es ≡ None → known_state (states_view es) text ≡ None
+known_none text es h = ordered_known (map state_view es) text ∙ known_index text es ∙ ap (option_map (sum_in es)) h
+
+-- a text with an index is known
+pub known_some : (text : List ℕ) (es : List (Vec ℕ Global × StateSum)) (i : ℕ) → index_among text es ≡ Some i → known_state (states_view es) text ≡ Some (sum_in es i)
+known_some text es i h = ordered_known (map state_view es) text ∙ known_index text es ∙ ap (option_map (sum_in es)) h
+
+-- a state that has an index is among the states
+pub state_stays : (es : List (Vec ℕ Global × StateSum)) (text : List ℕ) (mark : Mark) (i : ℕ) → index_among text es ≡ Some i → and_state es text mark ≡ states_view es
+state_stays es text mark i h = rw (known_some text es i h) refl
+
+-- a state without an index is put to the others
+pub state_put : (es : List (Vec ℕ Global × StateSum)) (key : Vec ℕ Global) (w : StateSum) (text : List ℕ) (mark : Mark) → key.items ≡ text → w.mark ≡ mark → w.count ≡ 0 → index_among text es ≡ None
+    → states_view (es ++ (key, w) ∷ []) ≡ and_state es text mark
+state_put es key w text mark e f g none = grind (arith, (view_more es key w), (known_none text es none))
+
+-- the states of a map in byte order are the states
+below_placed : (es : List (Vec ℕ Global × StateSum)) (x : List ℕ) (places : List (Vec ℕ Global × ℕ)) → AllByRecursion (λ (y : Vec ℕ Global). slice_cmp nat_cmp x y.items ≡ Less) (keys_of places)
+    → below_all (slice_cmp nat_cmp) x (map (placed_state es) (places_view places)) ≡ true
+below_placed es x [] h = refl
+below_placed es x (p ∷ places) h = rw (h.0, below_placed es x places h.1) refl
+
+placed_sorted : (es : List (Vec ℕ Global × StateSum)) (places : List (Vec ℕ Global × ℕ)) → IsStrictlySortedBy (λ (x y : Vec ℕ Global). slice_cmp nat_cmp x.items y.items) (keys_of places)
+    → is_sorted (slice_cmp nat_cmp) (map (placed_state es) (places_view places)) ≡ true
+unfolding IsStrictlySortedBy
+placed_sorted es [] h = refl
+placed_sorted es (p ∷ places) h = rw (below_placed es p.0.items places h.0, placed_sorted es places h.1) refl
+
+placed_known : (es : List (Vec ℕ Global × StateSum)) (places : List (List ℕ × ℕ)) (text : List ℕ)
+    → known_state (map (placed_state es) places) text ≡ option_map (sum_in es) (lookup (λ k. is_eq (slice_cmp nat_cmp text k)) places)
+placed_known es [] text = refl
+placed_known es (p ∷ places) text =
+    by_test (is_eq (slice_cmp nat_cmp text p.0))
+    (λ f. rw f refl)
+    (λ f. rw f (placed_known es places text))
+
+pub placed_view : (es : List (Vec ℕ Global × StateSum)) (places : List (Vec ℕ Global × ℕ)) → ArePlaced es places → IsStrictlySortedBy (λ (x y : Vec ℕ Global). slice_cmp nat_cmp x.items y.items) (keys_of places)
+    → map (placed_state es) (places_view places) ≡ states_view es
+placed_view es places h s =
+    same_states (map (placed_state es) (places_view places)) (states_view es) (subst T (sym (placed_sorted es places s)) tt) (ordered_sorted (map state_view es))
+    (λ text. placed_known es (places_view places) text ∙ ap (option_map (sum_in es)) (h text) ∙ sym (known_index text es) ∙ sym (ordered_known (map state_view es) text))
+
+-- the same, by what the map has
+placed_map : (es : List (Vec ℕ Global × StateSum)) (places : List (Vec ℕ Global × ℕ)) → map (λ (p : Vec ℕ Global × ℕ). placed_state es (p.0.items, p.1)) places ≡ map (placed_state es) (places_view places)
+placed_map es [] = refl
+placed_map es (p ∷ places) = ap (λ t. placed_state es (p.0.items, p.1) ∷ t) (placed_map es places)
+
+pub placed_entries : (es : List (Vec ℕ Global × StateSum)) (places : List (Vec ℕ Global × ℕ)) → ArePlaced es places → IsStrictlySortedBy (λ (x y : Vec ℕ Global). slice_cmp nat_cmp x.items y.items) (keys_of places)
+    → map (λ (p : Vec ℕ Global × ℕ). placed_state es (p.0.items, p.1)) places ≡ states_view es
+placed_entries es places h s = placed_map es places ∙ placed_view es places h s
+
+-- and as many
+pub placed_many : (es : List (Vec ℕ Global × StateSum)) (places : List (Vec ℕ Global × ℕ)) → ArePlaced es places → IsStrictlySortedBy (λ (x y : Vec ℕ Global). slice_cmp nat_cmp x.items y.items) (keys_of places)
+    → length places ≡ length (states_view es)
+placed_many es places h s =
+    sym (length-map places (λ (p : Vec ℕ Global × ℕ). (p.0.items, p.1))) ∙ sym (length-map (places_view places) (placed_state es)) ∙ ap length (placed_view es places h s)

@@ -130,9 +130,9 @@ last_text seen line h f = grind arith
 
 -- the answer to the end of a file is that of the reading
 pub end_answered : (new : Kept) (files : List (List ℕ)) (bytes : List ℕ) (seen : LogSeen) → files_judged nothing_seen (files ++ bytes ∷ []) ≡ end_judged seen → new.held ≡ [] → new.refusal ≡ None
-    → (r : Result (Unit {0}) Fault) → JudgedTo new.progress (end_judged seen) r → OnOk r (new.in_order ≡ true) → EndTo new files bytes r
+    → (r : Result (Unit {0}) Fault) → JudgedTo new.progress (end_judged seen) r → EndTo new files bytes r
 unfolding unended
-end_answered new files bytes seen e held going r h o = grind (arith, nothing_more)
+end_answered new files bytes seen e held going r h = grind (arith, nothing_more)
 
 -- a last line that is wrong
 pub last_answered : (new : Kept) (files : List (List ℕ)) (bytes line : List ℕ) (seen : LogSeen) → files_judged nothing_seen (files ++ bytes ∷ []) ≡ (last_judged seen line >>= end_judged)

@@ -13,7 +13,7 @@ pub mod OrderLaws
 pub mod LeftLaws
 pub mod SetLaws
 pub mod EntryLaws
-pub mod SortLaws
+pub mod TextPlaceLaws
 pub mod PrintLaws
 pub mod PlaceLaws
 pub mod RepresentingLaws

@@ -3,7 +3,7 @@ use Rattle.std.proofs.Common.{◌≡◌, ◌⊎◌, ℕ, List, [], ◌∷◌, �
 use Rattle.std.specs.Prelude.{Result}
 use Rattle.text_parts.specs.{Lines.whole_lines, ReadingSteps.◌>>=◌}
 use Rattle.log_sum.specs.{Facts.Entry, SumText.sum_text, declared.errors.LogError.LogError, LogReading.{LogSeen, input_judged}}
-use Rattle.log_sum.specs.Representing.{Kept, Represents, IsBetweenLogs, ShowsFault, ShowsNone, sum_table, facts_so_far, kept_text, logs_text, SumOrFault}
+use Rattle.log_sum.specs.Representing.{Kept, Represents, ShowsFault, ShowsNone, sum_table, facts_so_far, kept_text, logs_text, SumOrFault}
 use Rattle.log_sum.proofs.{PrintLaws.sum_is, StayLaws.file_more, Grammar.{judged_text, text_fault}, CarryLaws.{fault_shown, none_shown}}
 
 -- nothing has been said so far where nothing has come
@@ -42,7 +42,3 @@ fault_stays files bytes rest error h = λ after more. ap (λ log. logs_text (fil
 pub end_fault_stays : (files more : List (List ℕ)) (bytes : List ℕ) (error : LogError)
     → logs_text (files ++ bytes ∷ []) ≡ Err error → logs_text (files ++ bytes ∷ more) ≡ Err error
 end_fault_stays files more bytes error e = grind (arith, judged_text, text_fault, file_more)
-
--- between two logs the states of each test are in byte order
-pub between_in_order : (kept : Kept) → IsBetweenLogs kept → kept.in_order ≡ true
-between_in_order kept between = between.represents.in_order refl

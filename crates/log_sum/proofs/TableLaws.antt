@@ -215,48 +215,7 @@ test_begun p eq entries es key name t kind new same_p same_eq s missing w r =
       any_before,
     )
 
--- a test written in the place of one that the definitions see as the same
-pub unseen_write : (es : List (Vec ℕ Global × TestSum)) (i : ℕ) (t u : TestSum) → slice_get (values_of es) i ≡ Some t → test_view u ≡ test_view t → map named_view (set_value_at es i u) ≡ map named_view es
-unseen_write (x ∷ es) (suc i) t u h e = ap (λ rest. named_view x ∷ rest) (unseen_write es i t u h e)
-unseen_write es i t u h e = grind arith
-
--- the states of the tests below an index are in byte order
-abbrev pub OrderedBelow : List (Vec ℕ Global × TestSum) → ℕ → Type 0
-OrderedBelow es i = (j : ℕ) (test : Vec ℕ Global × TestSum) → j < i → slice_get es j ≡ Some test → test.1.states.in_order ≡ true
-
--- a test that is in order, written at an index, takes the order one index further
-pub ordered_written : (es : List (Vec ℕ Global × TestSum)) (i : ℕ) (u : TestSum) → u.states.in_order ≡ true → OrderedBelow es i → OrderedBelow (set_value_at es i u) (i + 1)
-ordered_written [] i u h below j test l e = absurd (cc)
-ordered_written (x ∷ es) zero u h below zero test l e = let f : ◌≡◌ {A = Vec ℕ Global × TestSum} (x.0, u) test = cc in ap (λ (t : Vec ℕ Global × TestSum). t.1.states.in_order) (sym f) ∙ h
-ordered_written (x ∷ es) zero u h below (suc j) test l e = absurd (omega arith)
-ordered_written (x ∷ es) (suc i) u h below zero test l e = below zero test (omega arith) e
-ordered_written (x ∷ es) (suc i) u h below (suc j) test l e = ordered_written es i u h (λ k t m f. below (suc k) t (omega arith) f) j test (omega arith) e
-
--- tests that are in order up to their number are all in order
-pub all_ordered : (es : List (Vec ℕ Global × TestSum)) → OrderedBelow es (length es) → list_all (λ (test : Vec ℕ Global × TestSum). test.1.states.in_order) es ≡ true
-all_ordered [] below = refl
-all_ordered (x ∷ es) below = rw (below zero x (omega arith) refl) (all_ordered es (λ j test l e. below (suc j) test (omega arith) e))
-
--- a write at an index keeps the number of tests
-pub same_many : (es : List (Vec ℕ Global × TestSum)) (i : ℕ) (u : TestSum) → length (set_value_at es i u) ≡ length es
-same_many (x ∷ es) (suc i) u = ap suc (same_many es i u)
-same_many es i u = grind arith
-
--- an index below the number of tests has a test
-pub there_below : (es : List (Vec ℕ Global × TestSum)) (i : ℕ) → i < length es → slice_get (values_of es) i ≡ None → ⊥
-there_below (x ∷ es) (suc i) l h = there_below es i (omega arith) h
-there_below es i l h = grind arith
-
--- a test whose states were sorted is seen as before
-pub same_view : (test : TestSum) (states : StateTable) → states_view states.sums.entries ≡ states_view test.states.sums.entries → test_view (record test { states = states }) ≡ test_view test
-same_view test states e = ap (λ (s : List StateSummed). record (test_view test) { states = s }) e
-
 -- an answer to a row, written to the table
 pub row_answered : (entries : List Entry) (es : List (Vec ℕ Global × TestSum)) (i : ℕ) (name : List ℕ) (t u : TestSum) (new : Table) → IsTestAt entries es i name t
     → new.tests.entries ≡ set_value_at es i u → new.running ≡ i → (read : Result Row LogKind) (r : Result (Unit {0}) Fault) → GivesOr (λ _. test_view u) r (row_to (test_view t) read) → RowPut entries name read new r
 row_answered entries es i name t u new s w k read r g = grind (arith, fact_answered)
-
--- the first of tests whose states are in byte order, and the others
-pub ordered_first : (tests rest : List (Vec ℕ Global × TestSum)) (test : Vec ℕ Global × TestSum) → tests ≡ test ∷ rest → list_all (λ (t : Vec ℕ Global × TestSum). t.1.states.in_order) tests ≡ true
-    → (test.1.states.in_order ≡ true) × (list_all (λ (t : Vec ℕ Global × TestSum). t.1.states.in_order) rest ≡ true)
-ordered_first tests rest test e h = grind arith

@@ -1,10 +1,13 @@
 -- States as the code keeps them.
-use Rattle.std.proofs.Common.{◌≡◌, ℕ, ◌+◌, ◌-◌, ◌<◌, ◌≤◌, List, Some, None, true, false, refl, sym, arith, min}
-use Rattle.std.specs.{Prelude.{Option, Ok, Err, option_map, nat_lt}, Ordering.nat_cmp, Cmp.Lexicographic.slice_cmp, BTreeMap.insert_entry}
+use Rattle.std.proofs.Common.{◌≡◌, ℕ, ◌+◌, ◌-◌, ◌<◌, ◌≤◌, List, [], ◌∷◌, Some, None, true, false, refl, sym, arith, min}
+use Rattle.std.specs.{Prelude.{Option, Ok, Err, cond, is_some, option_map, nat_lt}, Ordering.{nat_cmp, ordering_reverse}, Cmp.Lexicographic.slice_cmp, BTreeMap.insert_entry}
+use Rattle.std.specs.{declared.cmp.Ordering.Ordering, declared.cmp.Ordering.TheVariants.Equal}
 use Rattle.log_sum.specs.{declared.errors.LogKind.TheVariants.{MarkDiffers, SumTooLarge}, declared.kinds.Mark.Mark}
 use Rattle.log_sum.specs.{Facts.{Row, a_row, is_other, same_state_mark}, Summed.{Summed, StateSummed}}
 use Rattle.log_sum.specs.SummingSteps.{known_state, count_known, marked, with_marked, with_row, fact_to}
 use Rattle.diy_io.specs.Count.{last_count}
+use Rattle.log_sum.proofs.OrderLaws.{known_put}
+use Rattle.text_parts.proofs.OrderLaws.{order}
 
 -- a row whose mark isn't that of its state has that error
 pub row_other : (test : Summed) (row : Row) (known : Option (Mark × ℕ)) → known ≡ known_state test.states row.state
@@ -46,3 +49,36 @@ pub row_kept : (test : Summed) (row : Row) (states : List StateSummed) (kept : M
     → kept ≡ (row.mark, min (count_known (known_state test.states row.state) + row.count) last_count) → sum ≡ marked test row.mark
     → with_marked (record test { states = states }) row.mark (sum + row.count) ≡ with_row test row
 row_kept test row states kept sum e f g = (cc)
+
+-- a text compares as equal to itself
+own_reverse : (o : Ordering) → o ≡ ordering_reverse o → o ≡ Equal
+own_reverse o h = grind arith
+
+same_text : (k : List ℕ) → slice_cmp nat_cmp k k ≡ Equal
+same_text k = own_reverse (slice_cmp nat_cmp k k) (order.antisymm k k)
+
+-- a state that is inserted twice has what was inserted last
+insert_twice : (es : List StateSummed) (k : List ℕ) (v w : Mark × ℕ)
+    → insert_entry (slice_cmp nat_cmp) (insert_entry (slice_cmp nat_cmp) es k v) k w ≡ insert_entry (slice_cmp nat_cmp) es k w
+insert_twice [] k v w = grind (arith, (same_text k))
+insert_twice (e ∷ es) k v w = grind (arith, (insert_twice es k v w), (same_text k))
+
+-- a row of a state is the same to a test that has the state with its mark and no count
+abbrev with_states : Summed → List StateSummed → Summed
+with_states test states = record test { states = states }
+
+pub placed_row : (test : Summed) (row : Row) → known_state test.states row.state ≡ None
+    → fact_to (with_states test (insert_entry (slice_cmp nat_cmp) test.states row.state (row.mark, 0))) (a_row row) ≡ fact_to test (a_row row)
+unfolding fact_to
+placed_row test row none =
+    grind (
+      arith,
+      (known_put test.states row.state (row.mark, 0) row.state),
+      (insert_twice test.states row.state (row.mark, 0) (row.mark, min (0 + row.count) last_count)),
+      (same_text row.state),
+    )
+
+pub placed_fact : (test : Summed) (row : Row) (states : List StateSummed) (known : Option (Mark × ℕ)) → known ≡ known_state test.states row.state
+    → states ≡ cond (is_some known) test.states (insert_entry (slice_cmp nat_cmp) test.states row.state (row.mark, 0)) → fact_to (with_states test states) (a_row row) ≡ fact_to test (a_row row)
+placed_fact test row states None e h = rw h (placed_row test row (sym e))
+placed_fact test row states (Some known) e h = rw h refl

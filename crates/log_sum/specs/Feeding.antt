@@ -68,15 +68,14 @@ pub record IsAtSeen (progress : SumProgress) (seen : LogSeen) : Type 0 where
   pub test : IsRunning seen.place progress.tests progress.test seen.test
   pub line : progress.line ≡ seen.line
 
--- whole files and the bytes so far of one more were read without an error: what is kept is what they give, the summer isn't finished, and
--- between two files the states of each test are in byte order
+-- whole files and the bytes so far of one more were read without an error: what is kept is what they give, and the
+-- summer isn't finished
 pub record IsFed (kept : Kept) (files : List (List ℕ)) (bytes : List ℕ) : Type 0 where
   pub seen : LogSeen
   pub judged : input_judged files bytes ≡ Ok seen
   pub reading : IsAtSeen kept.progress seen
   pub held : kept.held ≡ unended bytes
   pub going : kept.refusal ≡ None
-  pub in_order : bytes ≡ [] → kept.in_order ≡ true
 
 -- the reading is as far as what was seen, and each state has one mark
 pub record FollowsSeen (progress : SumProgress) (seen : LogSeen) : Type 0 where

@@ -15,6 +15,7 @@ pub mod Representing
 pub mod Feeding
 pub mod StateSpelling
 pub mod StateEntries
+pub mod TextPlaces
 pub mod SummingSteps
 pub mod SumText
 pub mod SumPieces

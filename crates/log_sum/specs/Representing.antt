@@ -1,6 +1,6 @@
 -- What a summer keeps, and which input this represents.
 -- Source: own.
-use Rattle.std.specs.Prelude.{◌≡◌, ◌⊎◌, ℕ, ◌+◌, Bool, true, List, [], ◌∷◌, ◌++◌, map, slice_get, Option, Some, None, option_map, Result, Ok, Err, IfErr}
+use Rattle.std.specs.Prelude.{◌≡◌, ◌⊎◌, ℕ, ◌+◌, List, [], ◌∷◌, ◌++◌, map, slice_get, Option, Some, None, option_map, Result, Ok, Err, IfErr}
 use Rattle.std.specs.List.{flat_map}
 use Rattle.diy_io.specs.{Count.count_of, Sink.line_feed_count}
 use Rattle.log_sum.specs.{declared.errors.LogError.LogError, declared.errors.SumError.SumError, declared.errors.SumError.TheVariants.{Log, NoMemory}}
@@ -16,11 +16,9 @@ pub record SumProgress : Type 0 where
   pub test : ℕ
   pub line : ℕ
 
--- how far the reading is, whether the states of each test are in byte order, the bytes of the running line so far, and
--- what a finished summer returns
+-- how far the reading is, the bytes of the running line so far, and what a finished summer returns
 pub record Kept : Type 0 where
   pub progress : SumProgress
-  pub in_order : Bool
   pub held : List ℕ
   pub refusal : Option SumError
 
@@ -63,7 +61,7 @@ IsInside (Some block) progress = (progress.place ≡ block.1) × (test_name_at p
 
 -- what is kept represents whole files and the bytes so far of one more: they show no error; the tests have the facts of the files and
 -- of the lines that have ended, and the reading is at the position where these end, at the number of the running line; the bytes of this
--- line are held; the summer isn't finished; and between two files the states of each test are in byte order
+-- line are held; and the summer isn't finished
 pub record Represents (kept : Kept) (files : List (List ℕ)) (bytes : List ℕ) : Type 0 where
   pub no_fault : ShowsNone files bytes
   pub before : List Entry
@@ -73,7 +71,6 @@ pub record Represents (kept : Kept) (files : List (List ℕ)) (bytes : List ℕ)
   pub line : kept.progress.line ≡ running_line bytes
   pub held : kept.held ≡ unended bytes
   pub going : kept.refusal ≡ None
-  pub in_order : bytes ≡ [] → kept.in_order ≡ true
 
 -- a summer that isn't finished is between two logs: what it keeps represents whole logs, and nothing was fed since
 pub record IsBetweenLogs (kept : Kept) : Type 0 where

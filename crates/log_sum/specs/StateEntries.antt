@@ -1,14 +1,24 @@
 -- States with their sums, as a table keeps them.
 -- Source: own.
-use Rattle.std.specs.{Prelude.{◌≡◌, ◌+◌, ℕ, T, min, List, [], ◌∷◌, Option, Some, map, option_map, slice_get, Ok}, Ordering.nat_cmp, Cmp.Lexicographic.slice_cmp}
-use Rattle.std.specs.{BTreeMap.insert_entry, FinMap.Entries.is_sorted, declared.vec.Vec.Vec, declared.alloc.Global.Global}
-use Rattle.log_sum.specs.{declared.kinds.Mark.Mark, declared.state_table.StateSum.StateSum, LogStates.form_read, StateSpelling.IsSpelled}
+use Rattle.std.specs.Prelude.{◌≡◌, ◌+◌, ℕ, Bool, false, suc, cond, min, List, [], ◌∷◌, Option, Some, None, map, option_map, slice_get, is_some, Ok}
+use Rattle.std.specs.{Ordering.nat_cmp, Cmp.Lexicographic.slice_cmp, BTreeMap.insert_entry, BTreeMap.is_at, List.IsDistinct, Map.{lookup, keys_of}, Str.bytes_eq}
+use Rattle.std.specs.{declared.vec.Vec.Vec, declared.alloc.Global.Global}
+use Rattle.log_sum.specs.{declared.kinds.Mark.Mark, declared.kinds.Mark.TheVariants.Plain, declared.state_table.StateSum.StateSum, LogStates.form_read, StateSpelling.{IsSpelled, is_spelled}}
 use Rattle.log_sum.specs.{SummingSteps.known_state, Summed.StateSummed}
 use Rattle.diy_io.specs.Count.{last_count}
 
 -- a state's mark and count
 abbrev pub sum_view : StateSum → Mark × ℕ
 sum_view sum = (sum.mark, sum.count)
+
+-- the mark and count of an entry; plain and 0 if there is none
+abbrev pub sum_or : Option (Vec ℕ Global × StateSum) → Mark × ℕ
+sum_or None = (Plain, 0)
+sum_or (Some entry) = sum_view entry.1
+
+-- the mark and count of the state at an index; plain and 0 if there is none
+abbrev pub sum_in : List (Vec ℕ Global × StateSum) → ℕ → Mark × ℕ
+sum_in entries i = sum_or (slice_get entries i)
 
 -- a state with its mark and count
 abbrev pub state_view : Vec ℕ Global × StateSum → StateSummed
@@ -39,9 +49,9 @@ with_state entries state known = insert_entry (slice_cmp nat_cmp) (states_view e
 abbrev pub ForStateAt : List (Vec ℕ Global × StateSum) → ℕ → (List ℕ → Type 0) → Type 0
 ForStateAt entries i Holds = (state : List ℕ) → state_at entries i ≡ Some state → Holds state
 
--- the state at an index has this mark and count
-abbrev pub IsSumAt : List (Vec ℕ Global × StateSum) → ℕ → Mark × ℕ → Type 0
-IsSumAt entries i sum = ForStateAt entries i (λ state. known_in entries state ≡ Some sum)
+-- a state of a map, with the mark and count that the entries have at its index
+abbrev pub placed_state : List (Vec ℕ Global × StateSum) → List ℕ × ℕ → StateSummed
+placed_state entries place = (place.0, sum_in entries place.1)
 
 -- the state at an index was seen this many more times: its mark stays, and its count stops at the greatest count
 abbrev pub SeenMore : List (Vec ℕ Global × StateSum) → List (Vec ℕ Global × StateSum) → ℕ → ℕ → Type 0
@@ -49,14 +59,23 @@ SeenMore old new i count =
     (state : List ℕ) (known : Mark × ℕ) → state_at old i ≡ Some state → known_in old state ≡ Some known
     → states_view new ≡ with_state old state (known.0, min (known.1 + count) last_count)
 
--- the states are in byte order, each once
-abbrev pub AreInOrder : List (Vec ℕ Global × StateSum) → Type 0
-AreInOrder entries = T (is_sorted (slice_cmp nat_cmp) (map state_view entries))
+-- the states of entries, and this one with this mark and no count, unless it is among them
+abbrev pub and_state : List (Vec ℕ Global × StateSum) → List ℕ → Mark → List StateSummed
+and_state entries state mark = cond (is_some (known_in entries state)) (states_view entries) (with_state entries state (mark, 0))
 
 -- the texts that are kept for each state are read as that state
 abbrev pub EntriesAreWritten : List (Vec ℕ Global × StateSum) → Type 0
 EntriesAreWritten entries =
     (i : ℕ) (key : Vec ℕ Global) (sum : StateSum) → slice_get entries i ≡ Some (key, sum) → IsSpelled key.items sum.spelling
+
+-- a text is among those that are kept for an entry
+abbrev pub is_kept : Option (Vec ℕ Global × StateSum) → List ℕ → Bool
+is_kept None text = false
+is_kept (Some entry) text = is_spelled entry.0.items entry.1.spelling text
+
+-- a text is among those that are kept for the state at an index
+abbrev pub has_text : List (Vec ℕ Global × StateSum) → ℕ → List ℕ → Bool
+has_text entries i text = is_kept (slice_get entries i) text
 
 -- the state that a text writes is the one at an index
 pub record HasState (entries : List (Vec ℕ Global × StateSum)) (text : List ℕ) (i : ℕ) : Type 0 where

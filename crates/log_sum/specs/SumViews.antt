@@ -1,6 +1,6 @@
 -- What the values of the code mean to the definitions.
 -- Source: own.
-use Rattle.std.specs.{Prelude.{◌≡◌, ℕ, Bool, List, Some, Result, Ok, Err, map, option_map}, List.list_all, Borrow.Bor}
+use Rattle.std.specs.{Prelude.{◌≡◌, ℕ, List, Some, Result, Ok, Err, map, option_map}, Borrow.Bor}
 use Rattle.log_sum.specs.declared.{errors.LogKind.LogKind, errors.Fault.Fault, lines.Row.Row as RowCode, lines.Said.Said as SaidCode}
 use Rattle.log_sum.specs.{declared.kinds.Verdict.Verdict, declared.test_sum.TestSum.TestSum, declared.table.Table.Table, declared.reading.Reading.Reading}
 pub use Rattle.log_sum.specs.LineFaults.{IsLineFault}
@@ -66,7 +66,7 @@ test_view test = record {
   always_validated = test.always_validated;
   starred = test.starred;
   plain = test.plain;
-  states = states_view test.states.sums.entries;
+  states = states_view test.states.sums.items;
 }
 
 -- the result for a fact of a test: the test has the fact too, or the fact has this error, or there was no memory
@@ -80,10 +80,6 @@ named_view test = (test.0.items, test_view test.1)
 -- the tests of a table as the definitions see them
 abbrev pub tests_view : Table → List (List ℕ × Summed)
 tests_view table = map named_view table.tests.entries
-
--- the states of each test are known to be in byte order
-abbrev pub are_in_order : Table → Bool
-are_in_order table = list_all (λ test. test.1.states.in_order) table.tests.entries
 
 -- how far a reading is, as the definitions see it
 abbrev pub progress_view : Reading → SumProgress

@@ -1,10 +1,9 @@
-ghost use Rattle.std.specs.{Prelude.{◌≡◌, ◌++◌, [], true}, List.{flat_map}};
+ghost use Rattle.std.specs.{Prelude.{◌≡◌, ◌++◌, []}, List.{flat_map}};
 ghost use Rattle.diy_io.specs.Page.{Sends};
 ghost use Rattle.log_sum.specs.{SumViews.{test_view}, Summed.{is_validated, some_or}};
 ghost use Rattle.log_sum.specs.SumText.{sum_kind_word, mark_sign, verdict_word, verdict_end, how_often, filling, head_text, state_line, sum_verdict_text, claim_text, hash_text, condition_text, observation_text, summed_text};
 
 use crate::kinds::{Kind, Mark};
-use crate::state_table::StateSum;
 use crate::test_sum::TestSum;
 use diy_io::{Failed, Page, Sink};
 use itoa::Buffer;
@@ -89,11 +88,10 @@ fn print_head<O: Sink>(
     page: &mut Page,
     out: &mut O,
 ) -> Result<(), Failed>
-    requires { test.now.states.in_order ≡ true }
     ensures { Sends (O.seen out.old) page.old (O.seen out.new) page.new (head_text name.now (test_view test.now)) result }
 {
     let mut count = Buffer::new();
-    let count = count.format(test.states.sums.len()).as_bytes();
+    let count = count.format(test.states.places.len()).as_bytes();
     let kind = kind_word(test.kind);
     page.send_pieces(
         &[
@@ -111,24 +109,26 @@ fn print_head<O: Sink>(
 
 fn print_state<O: Sink>(
     form: &[u8],
-    state: &StateSum,
+    mark: Mark,
+    count: u64,
     page: &mut Page,
     out: &mut O,
 ) -> Result<(), Failed>
-    ensures { Sends (O.seen out.old) page.old (O.seen out.new) page.new (state_line (form.now, (state.now.mark, state.now.count))) result }
+    ensures { Sends (O.seen out.old) page.old (O.seen out.new) page.new (state_line (form.now, (mark, count))) result }
 {
-    let mut count = Buffer::new();
-    let count = count.format(state.count).as_bytes();
-    let sign = filled_sign(count, state.mark);
+    let mut buffer = Buffer::new();
+    let count = buffer.format(count).as_bytes();
+    let sign = filled_sign(count, mark);
     page.send_pieces(&[count, sign, form, b"\n"], out)
 }
 
+/// Sends the lines of the states of a test, in byte order.
 fn print_states<O: Sink>(test: &TestSum, page: &mut Page, out: &mut O) -> Result<(), Failed>
-    requires { test.now.states.in_order ≡ true }
     ensures { Sends (O.seen out.old) page.old (O.seen out.new) page.new (flat_map state_line (test_view test.now).states) result }
 {
-    for (form, state) in &test.states.sums {
-        print_state(form.as_slice(), state, page, out)?;
+    for (form, i) in &test.states.places {
+        let (mark, count) = test.states.sum_at(*i);
+        print_state(form.as_slice(), mark, count, page, out)?;
     }
     Ok(())
 }
@@ -216,7 +216,6 @@ fn print_upper<O: Sink>(
     page: &mut Page,
     out: &mut O,
 ) -> Result<(), Failed>
-    requires { test.now.states.in_order ≡ true }
     ensures { Sends (O.seen out.old) page.old (O.seen out.new) page.new
         (head_text name.now (test_view test.now) ++ flat_map state_line (test_view test.now).states ++ sum_verdict_text (test_view test.now)) result }
 {
@@ -232,7 +231,6 @@ pub(crate) fn print_sum<O: Sink>(
     page: &mut Page,
     out: &mut O,
 ) -> Result<(), Failed>
-    requires { test.now.states.in_order ≡ true }
     ensures { Sends (O.seen out.old) page.old (O.seen out.new) page.new (summed_text name.now (test_view test.now)) result }
 {
     print_upper(name, test, page, out)?;

@@ -1,5 +1,5 @@
-ghost use Rattle.std.specs.Prelude.{◌≡◌, true, OnOk};
-ghost use Rattle.log_sum.specs.{SumViews.{said_read, row_code_said, are_in_order, progress_view}, LogReading.{LogSeen, nothing_seen, text_judged, end_judged}};
+ghost use Rattle.std.specs.Prelude.{◌≡◌};
+ghost use Rattle.log_sum.specs.{SumViews.{said_read, row_code_said, progress_view}, LogReading.{LogSeen, nothing_seen, text_judged, end_judged}};
 ghost use Rattle.log_sum.specs.Feeding.{RowPut, FollowsSeen, JudgedTo, SaidTo, ForRunningTest};
 
 use crate::errors::{Fault, LogKind};
@@ -46,14 +46,12 @@ impl Reading {
         Ok(())
     }
 
-    /// Ends a log, and puts the states of each test in byte order. `Truncated` inside a block.
+    /// Ends a log. `Truncated` inside a block.
     pub(crate) fn end(&mut self) -> Result<(), Fault>
-        ensures in_order { OnOk result (are_in_order self.new.table ≡ true) }
-        ensures ended { (seen : LogSeen) → FollowsSeen (progress_view self.old) seen → JudgedTo (progress_view self.new) (end_judged seen) result }
+        ensures { (seen : LogSeen) → FollowsSeen (progress_view self.old) seen → JudgedTo (progress_view self.new) (end_judged seen) result }
     {
         match self.place {
             Place::Outside => {
-                self.table.put_in_order()?;
                 self.line = 1;
                 Ok(())
             }

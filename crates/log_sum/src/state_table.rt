@@ -1,12 +1,13 @@
-ghost use Rattle.std.specs.{Prelude.{◌≡◌, ℕ, [], true, Some, None, OnOk, IfSome, MatchOption}, Bool.{OnTrue}};
-ghost use Rattle.log_sum.specs.StateSpelling.{IsSpelled};
-ghost use Rattle.log_sum.specs.StateEntries.{AreInOrder, EntriesAreWritten, HasState, IsSumAt, SeenMore, known_in, sum_view, state_at, states_view, with_state};
+ghost use Rattle.std.specs.{Prelude.{◌≡◌, ℕ, [], Some, None, Ok, OnOk, IfOk, IfSome}, Bool.{OnTrue}};
+ghost use Rattle.log_sum.specs.{LogStates.{form_read}, StateSpelling.{IsSpelled}, TextPlaces.{AreApart, ArePlaced, IsIndexOrLast}};
+ghost use Rattle.std.proofs.Props.{props};
+ghost use Rattle.log_sum.specs.StateEntries.{EntriesAreWritten, ForStateAt, HasState, SeenMore, and_state, has_text, known_in, state_at, states_view, sum_in};
 
 use crate::kinds::Mark;
 use crate::spelling::Spelling;
 use diy_io::NoMemory;
-use indexmap::IndexMap;
 use std::alloc::Global;
+use std::collections::BTreeMap;
 
 /// The mark of a state, and the sum of its counts.
 #[derive(Drop)]
@@ -20,44 +21,84 @@ pub(crate) struct StateSum {
 /// The states of a test by their printed forms.
 #[derive(Drop)]
 pub(crate) struct StateTable {
-    pub(crate) sums: IndexMap<Vec<u8>, StateSum>,
+    /// The states, in the order in which each was first seen.
+    pub(crate) sums: Vec<(Vec<u8>, StateSum)>,
+    /// The index of each state, in byte order. A search compares texts, so no choice of states makes it slow.
+    pub(crate) places: BTreeMap<Vec<u8>, usize>,
     /// The index after that of the state to which a count was last added, or 0 after the last index.
     next: usize,
-    /// Whether the states are known to be in byte order.
-    pub(crate) in_order: bool,
-    ghost are_written: { EntriesAreWritten sums.entries },
-    ghost are_in_order: { in_order ≡ true → AreInOrder sums.entries },
+    ghost are_written: { EntriesAreWritten sums.items },
+    ghost are_apart: { AreApart sums.items } by { Prim.hlevel props },
+    ghost are_placed: { ArePlaced sums.items places.entries },
+}
+
+/// A state with this printed form and mark, which a log wrote first by `text`, and no count.
+fn new_state(
+    alloc: Global,
+    form: &[u8],
+    text: &[u8],
+    mark: Mark,
+) -> Result<(Vec<u8>, StateSum), NoMemory>
+    requires { form_read text.now ≡ Ok form.now }
+    ensures form { IfOk result (λ state. state.0.items ≡ form.now) }
+    ensures mark { IfOk result (λ state. state.1.mark ≡ mark) }
+    ensures count { IfOk result (λ state. state.1.count ≡ 0) }
+    ensures written { IfOk result (λ state. IsSpelled form.now state.1.spelling) }
+{
+    let sum = StateSum {
+        mark,
+        count: 0,
+        spelling: Spelling::of_first(alloc, text, form)?,
+    };
+    Ok((Vec::from_slice(alloc, form)?, sum))
+}
+
+/// The index that a map has for a text, which is put with the index `last` if the map has none.
+fn index_or_last(
+    places: &mut BTreeMap<Vec<u8>, usize>,
+    key: Vec<u8>,
+    text: &[u8],
+    last: usize,
+) -> Result<usize, NoMemory>
+    requires { key.items ≡ text.now }
+    ensures { IsIndexOrLast places.old.entries places.new.entries text.now last result }
+{
+    match places.insert(key, last)? {
+        Some(known) => match places.get_mut(text) {
+            Some(place) => {
+                *place = known;
+                Ok(known)
+            }
+            None => Ok(known),
+        },
+        None => Ok(last),
+    }
 }
 
 impl StateTable {
     /// A table without states.
     #[tactic(auto, unfolding(crate::specs::StateEntries::ordered))]
     pub(crate) fn new(alloc: Global) -> StateTable
-        ensures { states_view result.sums.entries ≡ [] }
+        ensures { states_view result.sums.items ≡ [] }
     {
         StateTable {
-            sums: IndexMap::new(alloc),
+            sums: Vec::new(alloc),
+            places: BTreeMap::new(alloc),
             next: 0,
-            in_order: true,
         }
     }
 
-    /// The index of the state that a text writes, if this text is kept for a state.
-    ///
-    /// Logs of one test list its states in one order, so the two after the last one are tried before all others.
+    /// The index of the state that a text writes, if this text is kept for it and it is one of the two after the last one: logs of
+    /// one test list its states in one order.
     pub(crate) fn written_index(&self, text: &[u8]) -> Option<usize>
-        ensures { IfSome result (HasState self.now.sums.entries text.now) }
+        ensures { IfSome result (HasState self.now.sums.items text.now) }
     {
         if self.is_written_at(self.next, text) {
             return Some(self.next);
         }
         let second = self.next.saturating_add(1);
         if self.is_written_at(second, text) {
-            return Some(second);
-        }
-        let i = self.sums.get_index_of(text)?;
-        if self.is_written_at(i, text) {
-            Some(i)
+            Some(second)
         } else {
             None
         }
@@ -65,51 +106,56 @@ impl StateTable {
 
     /// Whether the text is kept for the state at an index.
     fn is_written_at(&self, i: usize, text: &[u8]) -> bool
-        ensures { OnTrue result (HasState self.now.sums.entries text.now i) }
+        ensures { OnTrue result (HasState self.now.sums.items text.now i) }
     {
-        match self.sums.get_index(i) {
+        self.has_text(i, text)
+    }
+
+    /// Whether the text is among those that are kept for the state at an index.
+    fn has_text(&self, i: usize, text: &[u8]) -> bool
+        ensures { result ≡ has_text self.now.sums.items i text.now }
+    {
+        match self.sums.get(i) {
             Some((state, sum)) => sum.spelling.has(state.as_slice(), text),
             None => false,
         }
     }
 
-    /// The index of a state, given by its printed form.
-    pub(crate) fn index_of(&self, state: &[u8]) -> Option<usize>
-        ensures { MatchOption result (known_in self.now.sums.entries state.now ≡ None) (λ i. state_at self.now.sums.entries i ≡ Some state.now) }
+    /// The mark and count of the state at an index; plain and 0 if there is none.
+    pub(crate) fn sum_at(&self, i: usize) -> (Mark, u64)
+        ensures { result ≡ sum_in self.now.sums.items i }
     {
-        self.sums.get_index_of(state)
-    }
-
-    /// The mark and count of the state at an index.
-    pub(crate) fn sum_at(&self, i: usize) -> Option<(Mark, u64)>
-        ensures { MatchOption result (state_at self.now.sums.entries i ≡ None) (IsSumAt self.now.sums.entries i) }
-    {
-        match self.sums.get_index(i) {
-            Some((_, sum)) => Some((sum.mark, sum.count)),
-            None => None,
+        match self.sums.get(i) {
+            Some((_, sum)) => (sum.mark, sum.count),
+            None => (Mark::Plain, 0),
         }
     }
 
     /// Adds a count to the state at an index; the sum stops at 2^64-1.
     pub(crate) fn add(&mut self, i: usize, count: u64)
-        ensures { SeenMore self.old.sums.entries self.new.sums.entries i count }
+        ensures { SeenMore self.old.sums.items self.new.sums.items i count }
     {
-        if let Some(sum) = self.sums.get_index_mut(i) {
-            sum.count = sum.count.saturating_add(count);
-        }
         self.next = self.index_after(i);
+        if i >= self.sums.len() {
+            return;
+        }
+        let sum = &mut self.sums[i].1;
+        sum.count = sum.count.saturating_add(count);
     }
 
-    /// Keeps a text that writes the state at an index, unless the state has one besides the first.
+    /// Keeps a text that writes the state at an index, unless it is kept already, or the state has one besides the first.
     pub(crate) fn keep_text(&mut self, alloc: Global, i: usize, text: &[u8]) -> Result<(), NoMemory>
-        requires { HasState self.old.sums.entries text.now i }
-        ensures states { states_view self.new.sums.entries ≡ states_view self.old.sums.entries }
-        ensures same { (j : ℕ) → state_at self.new.sums.entries j ≡ state_at self.old.sums.entries j }
+        requires { HasState self.old.sums.items text.now i }
+        ensures states { states_view self.new.sums.items ≡ states_view self.old.sums.items }
+        ensures same { (j : ℕ) → state_at self.new.sums.items j ≡ state_at self.old.sums.items j }
     {
-        match self.sums.get_index_mut(i) {
-            Some(sum) => sum.spelling.keep(alloc, text),
-            None => Ok(()),
+        if i >= self.sums.len() {
+            return Ok(());
         }
+        if self.is_written_at(i, text) {
+            return Ok(());
+        }
+        self.sums[i].1.spelling.keep(alloc, text)
     }
 
     /// The index after this one, or 0 if there is none.
@@ -118,26 +164,28 @@ impl StateTable {
         if next < self.sums.len() { next } else { 0 }
     }
 
-    /// Adds a state that the table doesn't have.
-    pub(crate) fn put(&mut self, state: Vec<u8>, sum: StateSum) -> Result<(), NoMemory>
-        requires new { known_in self.old.sums.entries state.items ≡ None }
-        requires written { IsSpelled state.items sum.spelling }
-        ensures { OnOk result (states_view self.new.sums.entries ≡ with_state self.old.sums.entries state.items (sum_view sum)) }
+    /// The index of the state with this printed form, which a log wrote by `text`. A new state goes last, with this mark and
+    /// no count.
+    pub(crate) fn index_or_new(
+        &mut self,
+        alloc: Global,
+        form: &[u8],
+        text: &[u8],
+        mark: Mark,
+    ) -> Result<usize, NoMemory>
+        requires { form_read text.now ≡ Ok form.now }
+        ensures index { IfOk result (λ i. state_at self.new.sums.items i ≡ Some form.now) }
+        ensures states { OnOk result (states_view self.new.sums.items ≡ and_state self.old.sums.items form.now mark) }
     {
-        self.in_order = false;
-        self.sums.insert(state, sum)?;
-        Ok(())
-    }
-
-    /// Puts the states in byte order.
-    pub(crate) fn put_in_order(&mut self) -> Result<(), NoMemory>
-        ensures states { states_view self.new.sums.entries ≡ states_view self.old.sums.entries }
-        ensures in_order { OnOk result (self.new.in_order ≡ true) }
-    {
-        if !self.in_order {
-            self.sums.sort_unstable_keys()?;
-            self.in_order = true;
+        let last = self.sums.len();
+        let key = Vec::from_slice(alloc, form)?;
+        let state = new_state(alloc, form, text, mark)?;
+        self.sums.reserve(1)?;
+        let i = index_or_last(&mut self.places, key, form, last)?;
+        if i < last {
+            return Ok(i);
         }
-        Ok(())
+        self.sums.push_reserved(state);
+        Ok(i)
     }
 }

@@ -27,13 +27,12 @@ pub struct Summer {
 
 impl Model for Summer {
     ghost use Rattle.std.specs.Prelude.{◌≤◌, length};
-    ghost use Rattle.log_sum.specs.{Representing.{Kept}, SumViews.{progress_view, are_in_order}};
+    ghost use Rattle.log_sum.specs.{Representing.{Kept}, SumViews.{progress_view}};
 
     ghost Value = { Kept };
 
     ghost view = { λ s. record {
       progress = progress_view s.reading;
-      in_order = are_in_order s.reading.table;
       held = s.held.items;
       refusal = s.refusal;
     } };
@@ -44,8 +43,7 @@ impl Model for Summer {
 impl Summer {
     /// A summer that has been fed nothing.
     pub fn new(alloc: Global) -> Result<Summer, NoMemory>
-        ensures represents { IfOk result (λ summer. Represents summer [] []) }
-        ensures in_order { IfOk result (λ summer. summer.in_order ≡ true) }
+        ensures { IfOk result (λ summer. Represents summer [] []) }
     {
         Ok(Summer {
             reading: Reading::new(alloc),
@@ -76,7 +74,6 @@ impl Summer {
     /// then, and returns it again.
     pub fn end_file(&mut self) -> Result<(), SumError>
         ensures ended { (files : List (List ℕ)) (bytes : List ℕ) → Represents self.old files bytes → EndedTo self.new files bytes result }
-        ensures in_order { OnOk result (self.new.in_order ≡ true) }
         ensures kept { IsKeptRefusal self.new result }
         ensures given_again { GivenAgain self.old self.new result }
     {
@@ -91,7 +88,6 @@ impl Summer {
     ///
     /// To be called between two logs: before the first, or after an `end_file` that returned `Ok`, with nothing fed
     /// since. It can't be called on a finished summer.
-    #[tactic(auto, using(crate::proofs::RepresentingLaws::between_in_order))]
     pub fn write_sum<O: Sink>(&self, out: &mut O) -> Result<(), Failed>
         requires { IsBetweenLogs self.now }
         ensures { Wrote (O.seen out.old) (O.seen out.new) (kept_text self.now) result }
@@ -111,7 +107,6 @@ impl Summer {
 
     /// Sends the texts of the tests, through the output buffer `page`.
     fn print_sums<O: Sink>(&self, page: &mut Page, out: &mut O) -> Result<(), Failed>
-        requires { self.now.in_order ≡ true }
         ensures { Sends (O.seen out.old) page.old (O.seen out.new) page.new (kept_text self.now) result }
     {
         for (name, test) in &self.reading.table.tests {
@@ -193,8 +188,7 @@ impl Summer {
 
     /// Reads a last line that no line feed ends, if there is one, and ends the log.
     fn end_line(&mut self) -> Result<(), Fault>
-        ensures in_order { OnOk result (self.new.in_order ≡ true) }
-        ensures ended { (files : List (List ℕ)) (bytes : List ℕ) → IsFed self.old files bytes → EndTo self.new files bytes result }
+        ensures { (files : List (List ℕ)) (bytes : List ℕ) → IsFed self.old files bytes → EndTo self.new files bytes result }
     {
         if !self.held.is_empty() {
             self.reading.judge(self.held.as_slice())?;

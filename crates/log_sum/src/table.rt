@@ -1,5 +1,5 @@
-ghost use Rattle.std.specs.Prelude.{◌≡◌, [], true, OnOk};
-ghost use Rattle.log_sum.specs.{SumViews.{row_code_said, tests_view, are_in_order}, Facts.{a_kind, a_condition, a_hash}};
+ghost use Rattle.std.specs.Prelude.{◌≡◌, []};
+ghost use Rattle.log_sum.specs.{SumViews.{row_code_said, tests_view}, Facts.{a_kind, a_condition, a_hash}};
 ghost use Rattle.log_sum.specs.Feeding.{FactPut, RowPut, ForEntries, ForRunningTest};
 
 use crate::errors::Fault;
@@ -7,7 +7,6 @@ use crate::kinds::{Kind, Verdict};
 use crate::lines::Row;
 use crate::states::StateReader;
 use crate::test_sum::TestSum;
-use diy_io::NoMemory;
 use indexmap::IndexMap;
 use std::alloc::Global;
 
@@ -61,19 +60,6 @@ impl Table {
             Some(test) => test.put_row(alloc, reader, row),
             None => Ok(()),
         }
-    }
-
-    /// Puts the states of each test in byte order.
-    pub(crate) fn put_in_order(&mut self) -> Result<(), NoMemory>
-        ensures tests { tests_view self.new ≡ tests_view self.old }
-        ensures in_order { OnOk result (are_in_order self.new ≡ true) }
-    {
-        for i in 0..self.tests.len() {
-            if let Some(test) = self.tests.get_index_mut(i) {
-                test.states.put_in_order()?;
-            }
-        }
-        Ok(())
     }
 
     /// Adds a condition to the running test, with the verdict of its block.

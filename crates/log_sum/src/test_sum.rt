@@ -1,13 +1,12 @@
-ghost use Rattle.std.specs.Prelude.{◌≡◌, None, Ok, IfOk};
+ghost use Rattle.std.specs.Prelude.{◌≡◌};
 ghost use Rattle.log_sum.specs.SumViews.{GivesParsed, GivesOr, TestTold, row_code_said, test_view};
-ghost use Rattle.log_sum.specs.{Facts.{same_kind, same_state_mark, a_kind, a_condition, a_hash, a_row, row_with}, LogStates.{form_read}};
-ghost use Rattle.log_sum.specs.{StateEntries.{ForStateAt}, SummingSteps.{fact_to, of_kind, known_state, row_to, with_verdict, marked, with_marked}};
+ghost use Rattle.log_sum.specs.{Facts.{same_kind, same_state_mark, a_kind, a_condition, a_hash, a_row, row_with}};
+ghost use Rattle.log_sum.specs.{StateEntries.{ForStateAt}, SummingSteps.{fact_to, of_kind, row_to, with_verdict, marked, with_marked}};
 
 use crate::errors::{Fault, LogKind};
 use crate::kinds::{Kind, Mark, Verdict};
 use crate::lines::Row;
-use crate::spelling::Spelling;
-use crate::state_table::{StateSum, StateTable};
+use crate::state_table::StateTable;
 use crate::states::StateReader;
 use std::alloc::Global;
 
@@ -147,23 +146,19 @@ impl TestSum {
             return self.add(i, row.mark, row.count);
         }
         reader.read(row.text)?;
-        match self.states.index_of(reader.form()) {
-            Some(i) => {
-                self.states.keep_text(alloc, i, row.text)?;
-                self.add(i, row.mark, row.count)
-            }
-            None => self.put_new(alloc, reader.form(), row),
-        }
+        let i = self
+            .states
+            .index_or_new(alloc, reader.form(), row.text, row.mark)?;
+        self.states.keep_text(alloc, i, row.text)?;
+        self.add(i, row.mark, row.count)
     }
 
     /// Adds a count to the state at an index, which must have this mark.
     fn add(&mut self, i: usize, mark: Mark, count: u64) -> Result<(), Fault>
-        ensures { ForStateAt self.old.states.sums.entries i (λ state. TestTold self.old self.new (a_row (row_with state mark count)) result) }
+        ensures { ForStateAt self.old.states.sums.items i (λ state. TestTold self.old self.new (a_row (row_with state mark count)) result) }
     {
         let sum = self.sum_of_mark(mark);
-        let Some((known, _)) = self.states.sum_at(i) else {
-            return Ok(());
-        };
+        let (known, _) = self.states.sum_at(i);
         if !same_mark(known, mark) {
             return Err(Fault::Wrong(LogKind::MarkDiffers));
         }
@@ -172,26 +167,6 @@ impl TestSum {
         }
         self.states.add(i, count);
         self.set_marked(mark, sum + count);
-        Ok(())
-    }
-
-    /// Adds a new state, which a row writes.
-    fn put_new(&mut self, alloc: Global, state: &[u8], row: Row<'_>) -> Result<(), Fault>
-        requires new { known_state (test_view self.old).states state.now ≡ None }
-        requires read { form_read row.text.now ≡ Ok state.now }
-        ensures { TestTold self.old self.new (a_row (row_with state.now row.entry.mark row.entry.count)) result }
-    {
-        let sum = self.sum_of_mark(row.mark);
-        if row.count > u64::MAX - sum {
-            return Err(Fault::Wrong(LogKind::SumTooLarge));
-        }
-        let known = StateSum {
-            mark: row.mark,
-            count: row.count,
-            spelling: Spelling::of_first(alloc, row.text, state)?,
-        };
-        self.states.put(Vec::from_slice(alloc, state)?, known)?;
-        self.set_marked(row.mark, sum + row.count);
         Ok(())
     }
 }

@@ -7,4 +7,4 @@ use Rattle.log_sum.proofs.print.print_state.Goals as goal
 pub returns : goal.returns
 returns g c =
     sends_same _ _ _ _ _ _ c.send_pieces.result c.send_pieces.ensures
-    (state_is c.args.form.now _ _ c.args.state.now.mark c.args.state.now.count (c.as_bytes-count.ensures.value ∙ c.format.ensures.text) c.filled_sign-sign.ensures)
+    (state_is c.args.form.now _ _ c.args.mark c.args.count (c.as_bytes-count.ensures.value ∙ c.format.ensures.text) c.filled_sign-sign.ensures)

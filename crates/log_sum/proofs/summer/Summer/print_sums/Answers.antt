@@ -3,7 +3,7 @@ use Rattle.std.proofs.Common.{◌≡◌, ℕ, List, ap, ◌∙◌, refl, map}
 use Rattle.std.specs.{List.list_all, Borrow.Bor, declared.vec.Vec.Vec, declared.alloc.Global.Global}
 use Rattle.diy_io.specs.PageLaws.{sent_nothing}
 use Rattle.log_sum.specs.{declared.test_sum.TestSum.TestSum, Representing.Kept, Summed.Summed, SumViews.{named_view, test_view}, SumText.summed_text}
-use Rattle.log_sum.proofs.{TableLaws.ordered_first, PrintLaws.{lines_go, lines_stop, covers_next, covers_this}}
+use Rattle.log_sum.proofs.PrintLaws.{lines_go, lines_stop, covers_next, covers_this}
 use Rattle.log_sum.proofs.summer.Summer.print_sums.Goals as goal
 
 abbrev shown : Bor (Vec ℕ Global) × Bor TestSum → List ℕ × Summed
@@ -18,14 +18,7 @@ loop-name-init g c = record {
   covers =
       let e : c.into_iter-name-iterator.result ≡ c.self.inside.reading.table.tests.entries = c.into_iter-name-iterator.ensures.into_iter_gives.0 in
       ap (map named_view) e ∙ ap (λ (k : Kept). k.progress.tests) c.self.view_is;
-  ordered =
-      let e : c.into_iter-name-iterator.result ≡ c.self.inside.reading.table.tests.entries = c.into_iter-name-iterator.ensures.into_iter_gives.0 in
-      ap (list_all (λ (test : Vec ℕ Global × TestSum). test.1.states.in_order)) e ∙ ap (λ (k : Kept). k.in_order) c.self.view_is ∙ c.requires;
 }
-
-pub print_sum-requires : goal.print_sum-requires
-print_sum-requires g c =
-    (ordered_first c.loop-name.name-iterator c.next.new.self (c.in-Some.name.now, c.in-Some.test.now) c.in-Some.ensures.steps c.loop-name.invariant.ordered).0
 
 pub loop-name-preserved : goal.loop-name-preserved
 loop-name-preserved g c = record {
@@ -33,9 +26,6 @@ loop-name-preserved g c = record {
       (ap (λ t. summed_text t (test_view c.in-Some.test.now)) c.as_slice.ensures.value);
   covers = covers_next shown named_view c.loop-name.yielded c.loop-name.name-iterator c.next.new.self (c.in-Some.name, c.in-Some.test)
       (c.in-Some.name.now, c.in-Some.test.now) c.args.self.now.progress.tests refl c.in-Some.ensures.steps c.loop-name.invariant.covers;
-  ordered =
-      (ordered_first c.loop-name.name-iterator c.next.new.self (c.in-Some.name.now, c.in-Some.test.now) c.in-Some.ensures.steps
-      c.loop-name.invariant.ordered).1;
 }
 
 pub returns-in_err-print_sum : goal.returns-in_err-print_sum
