@@ -1,0 +1,11 @@
+-- Answers.
+use Rattle.state_verdicts.proofs.verdict_of.verdict_of.Goals as goal
+
+pub all_accesses-requires : goal.all_accesses-requires
+all_accesses-requires g c = ?
+
+pub judged-requires : goal.judged-requires
+judged-requires g c = ?
+
+pub returns : goal.returns
+returns g c = ?
