@@ -6,3 +6,4 @@ pub mod Growing
 pub mod LoadWalks
 pub mod NameWalks
 pub mod RebuiltSteps
+pub mod OrderWalks

@@ -1,6 +1,6 @@
 -- What the loops over threads and locations rebuild.
 use Rattle.std.proofs.Common.{◌≡◌, ℕ, ◌+◌, ◌≤◌, ◌<◌, Bool, true, false, not, List, [], ◌∷◌, ◌++◌, length, map, drop, Option, Some, None, refl, sym, ap, subst, ◌∙◌, slice_get, arith}
-use Rattle.std.specs.List.{filter}
+use Rattle.std.specs.{List.filter, Prelude.{Result, OnOk, Ok, Err}}
 use Rattle.std.proofs.lemmas.List.{drop_all, length-map}
 use Rattle.list_laws.specs.Numbers.{upto}
 use Rattle.list_laws.proofs.Numbers.{length-upto, slice_get-upto}
@@ -16,6 +16,11 @@ reads_by_value threads accesses = map (source_by_value threads) (filter is_read 
 -- the order of a location
 abbrev pub order_given : List (List Access) → List (Option ℕ) → ℕ → List WriteAt
 order_given threads ends place = order_by_end threads place (end_at ends place)
+
+-- what follows from what a result says
+pub more_on_ok : {X E : Type 0} {P Q : Type 0} (r : Result X E) → (P → Q) → OnOk r P → OnOk r Q
+more_on_ok (Ok x) f h = f h
+more_on_ok (Err e) f h = tt
 
 -- a read is added
 pub read_step : (threads : List (List Access)) (accesses : List Access) (i : ℕ) (a : Access) (x y whole : Execution) (thread : ℕ) (r : ℕ × Option WriteAt)

@@ -44,16 +44,23 @@ pub(crate) fn names_of(alloc: Global, all: &[Accesses]) -> Result<Vec<WriteAt>, 
     Ok(names)
 }
 
+/// The first of these accesses that writes this value to this location.
+fn find_write(all: &[Accesses], names: &[WriteAt], place: u8, value: u32) -> Option<WriteAt>
+    ensures { result ≡ find (λ w. writes_value place value (at_name all.now w)) names.now }
+{
+    names
+        .iter()
+        .copied()
+        .find(|name| writes_value(all, place, value, *name))
+}
+
 /// What an access reads, found by its value: the first write of this value to its location, or none.
 pub(crate) fn source_of(all: &[Accesses], names: &[WriteAt], access: &Access) -> Read
     requires { names.now ≡ names_of all.now }
     ensures { result ≡ source_by_value all.now access.now }
 {
-    let Access { place, value, .. } = *access;
-    let write = names
-        .iter()
-        .find(|name| writes_value(all, place, value, **name));
-    (value, write.copied())
+    let write = find_write(all, names, access.place, access.value);
+    (access.value, write)
 }
 
 /// The writes to a location.

@@ -52,13 +52,8 @@ pub fn can_be_ordered(alloc: Global, seen: &[SeenAccess]) -> Result<bool, AllocE
     ensures { IfOk result (λ answer. answer ≡ can_be_ordered seen.now) }
 {
     let mut left = copied(alloc, seen)?;
-    for _ in 0..seen.len() {
-        match first_free(&left) {
-            Some(k) => {
-                left.remove(k);
-            }
-            None => return Ok(left.is_empty()),
-        }
+    while let Some(k) = first_free(&left) {
+        left.remove(k);
     }
     Ok(left.is_empty())
 }
