@@ -1,8 +1,8 @@
 -- How the loops over accesses list their names, and the writes among them.
-use Rattle.std.proofs.Common.{◌≡◌, ℕ, suc, ◌+◌, ◌≤◌, Bool, true, false, List, [], ◌∷◌, ◌++◌, length, drop, Option, Some, None, slice_get, refl, sym, ap, ◌∙◌, add-one, append_assoc, append-nil}
+use Rattle.std.proofs.Common.{◌≡◌, ℕ, suc, ◌+◌, ◌-◌, ◌≤◌, Bool, true, false, List, [], ◌∷◌, ◌++◌, length, take, drop, Option, Some, None, slice_get, refl, sym, ap, ◌∙◌, add-one, append_assoc, append-nil}
 use Rattle.std.specs.List.{filter, flat_map}
 use Rattle.std.proofs.lemmas.List.{drop_all}
-use Rattle.list_laws.proofs.Elements.{drop_given}
+use Rattle.list_laws.proofs.Elements.{drop_given, rest_from}
 use Rattle.program_meaning.specs.{declared.WriteAt.WriteAt, Accesses.{Access, at_name}, Deciding.{name, writes_there}, Interleavings.writes_in}
 use Rattle.states_fix_executions.specs.Listed.{names_from, names_of, thread_names}
 use Rattle.rebuilt_executions.specs.Settling.{has_own_value, have_own_values}
@@ -50,6 +50,12 @@ write_other all place names i w writes whole e f h =
 pub writes_end : (all : List (List Access)) (place : ℕ) (names : List WriteAt) (i : ℕ) (writes whole : List WriteAt) → length names ≤ i
     → writes ++ writes_in all place (drop i names) ≡ whole → writes ≡ whole
 writes_end all place names i writes whole l h = sym (append-nil writes) ∙ sym (ap (λ l. writes ++ writes_in all place l) (drop_all i names l)) ∙ h
+
+-- the answer for an access, as code asks for it
+pub own_answer : (all : List (List Access)) (names : List WriteAt) (i : ℕ) (w : WriteAt) (o : Option Access) (answer b : Bool) → o ≡ at_name all w
+    → answer ≡ has_own_value all o (take (length names - (i + 1)) (drop (i + 1) names)) → answer ≡ b → has_own_value all (at_name all w) (drop (i + 1) names) ≡ b
+own_answer all names i w o answer b e f g =
+    ap (λ p. has_own_value all p (drop (i + 1) names)) (sym e) ∙ ap (has_own_value all o) (sym (rest_from names (i + 1))) ∙ sym f ∙ g
 
 -- a write of its own value leaves the answer to the names after it
 pub own_step : (all : List (List Access)) (names : List WriteAt) (i : ℕ) (w : WriteAt) → slice_get names i ≡ Some w → has_own_value all (at_name all w) (drop (i + 1) names) ≡ true

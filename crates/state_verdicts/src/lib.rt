@@ -2,12 +2,12 @@
 //! can't be. The one execution that the state fixes is rebuilt and judged; nothing is searched.
 #![tactic(auto)]
 
+mod decided;
 mod judged;
 mod loads;
 mod places;
 mod registers;
 mod verdict;
-mod verdict_of;
 
+pub use decided::verdict_of;
 pub use verdict::Verdict;
-pub use verdict_of::verdict_of;

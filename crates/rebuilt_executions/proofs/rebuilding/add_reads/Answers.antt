@@ -21,7 +21,7 @@ loop-access-preserved c =
     let got = slice_get-get_or accesses i _ c.loop-access-test.true in
     elim c.if-is_read.branch [
       | then-is_read+in_ok-add_read w ↦
-          read_step all accesses i _ c.loop-access.exec c.if-is_read.exec _ c.args.thread _ got (sym c.is_read.ensures ∙ w.if-is_read.true) w.source_of.ensures
+          read_step all accesses i _ c.loop-access.exec c.if-is_read.exec _ c.args.thread _ got (sym c.is_read.ensures ∙ w.if-is_read.true) w.source_of-value.ensures
           (w.exec-is ∙ w.in_ok-add_read.ensures.ok) c.loop-access.invariant
       | else-is_read w ↦
           no_read_step all accesses i _ c.loop-access.exec c.if-is_read.exec _ c.args.thread got (sym c.is_read.ensures ∙ w.if-is_read.false)

@@ -1,5 +1,5 @@
 -- Answers.
-use Rattle.state_verdicts.proofs.verdict_of.verdict_of.Goals as goal
+use Rattle.state_verdicts.proofs.decided.verdict_of.Goals as goal
 
 pub all_accesses-requires : goal.all_accesses-requires
 all_accesses-requires g c = ?
