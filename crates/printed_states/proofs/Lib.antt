@@ -1,2 +1,0 @@
-pub mod Starred
-pub mod Interleaved

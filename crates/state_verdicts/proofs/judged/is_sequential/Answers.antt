@@ -1,5 +1,0 @@
--- Answers.
-use Rattle.state_verdicts.proofs.judged.is_sequential.Goals as goal
-
-pub returns : goal.returns
-returns g c = ?

@@ -1,5 +1,0 @@
--- Answers.
-use Rattle.state_verdicts.proofs.loads.thread_loads.Goals as goal
-
-pub returns : goal.returns
-returns g c = ?
