@@ -1,0 +1,38 @@
+-- The location has all writes that pass.
+use Rattle.std.proofs.{Common.{◌≡◌, Bool, drop, not, sym, ap, ◌∙◌, arith}, lemmas.Option.slice_get-get_or}
+use Rattle.std.specs.List.{filter}
+use Rattle.program_meaning.specs.declared.WriteAt.{WriteAt}
+use Rattle.states_fix_executions.specs.Rebuilt.{is_last}
+use Rattle.rebuilt_executions.proofs.{Growing.orders_count, RebuiltSteps.{write_step, no_write_step, writes_end}}
+use Rattle.rebuilt_executions.proofs.rebuilding.add_earlier.Goals.{then-not-is_last+in_ok-add_write, else-not-is_last}
+use Rattle.rebuilt_executions.proofs.rebuilding.add_earlier.Goals as goal
+
+pub add_write-requires : goal.add_write-requires
+add_write-requires c =
+    let p : WriteAt → Bool = (λ w. not (is_last c.args.all.now c.args.place c.args.end w)) in
+    omega (
+      arith,
+      c.requires,
+      orders_count c.args.exec.now c.loop-write.exec c.args.place (filter p c.args.writes.now)
+          (filter p (drop c.loop-write.write-index c.args.writes.now)) c.loop-write.invariant,
+    )
+
+pub loop-write-preserved : goal.loop-write-preserved
+loop-write-preserved c =
+    let p : WriteAt → Bool = (λ w. not (is_last c.args.all.now c.args.place c.args.end w)) in
+    let writes = c.args.writes.now in
+    let i = c.loop-write.write-index in
+    let got = slice_get-get_or writes i _ c.loop-write-test.true in
+    elim c.if-not-is_last.branch [
+      | then-not-is_last+in_ok-add_write w ↦
+          write_step p writes i _ c.loop-write.exec c.if-not-is_last.exec _ c.args.place got (ap not (sym c.is_last.ensures ∙ w.if-not-is_last.true))
+          (w.exec-is ∙ w.in_ok-add_write.ensures.ok) c.loop-write.invariant
+      | else-not-is_last w ↦
+          no_write_step p writes i _ c.loop-write.exec c.if-not-is_last.exec _ c.args.place got (ap not (sym c.is_last.ensures ∙ w.if-not-is_last.false))
+          w.exec-is c.loop-write.invariant
+    ]
+
+pub returns : goal.returns
+returns c =
+    writes_end (λ w. not (is_last c.args.all.now c.args.place c.args.end w)) c.args.writes.now c.loop-write.write-index c.loop-write.exec _ c.args.place
+    c.loop-write-test.false c.loop-write.invariant

@@ -1,0 +1,11 @@
+-- In the loop over the writes: with the writes that are left, the execution has all.
+use Rattle.std.proofs.Common.{◌≡◌, drop}
+use Rattle.std.specs.List.{filter}
+use Rattle.states_fix_executions.specs.Rebuilt.{is_last}
+use Rattle.rebuilt_executions.specs.Growing.{with_writes}
+use Rattle.rebuilt_executions.proofs.rebuilding.add_last.Given as goal
+
+abbrev pub invariant-loop-write : goal.invariant-loop-write
+invariant-loop-write l =
+    with_writes l.exec l.place (filter (is_last l.all l.place l.end) (drop l.write-index l.writes))
+    ≡ with_writes l.fn.exec l.place (filter (is_last l.all l.place l.end) l.writes)

@@ -1,0 +1,31 @@
+-- The location has all its writes, in their order.
+use Rattle.std.proofs.Common.{◌≡◌, ◌<◌, ◌++◌, length, not, sym, ap, subst, ◌∙◌, arith}
+use Rattle.std.specs.List.{filter}
+use Rattle.program_meaning.specs.{Executions.Execution, Interleavings.writes_in}
+use Rattle.states_fix_executions.specs.Rebuilt.{is_last}
+use Rattle.rebuilt_executions.specs.Growing.{with_writes}
+use Rattle.rebuilt_executions.proofs.{Growing.appended_length, RebuiltSteps.{more_on_ok, order_whole}}
+use Rattle.rebuilt_executions.proofs.rebuilding.add_order.Goals as goal
+
+pub add_last-requires : goal.add_last-requires
+add_last-requires c =
+    omega (
+      arith,
+      c.requires.place,
+      ap (λ (x : Execution). length x.orders) c.in_ok-add_earlier.ensures,
+      appended_length c.args.exec.now.orders c.args.place (filter (λ w. not (is_last c.args.all.now c.args.place c.args.end w)) c.deref.result.now),
+    )
+
+pub returns : goal.returns
+returns c =
+    let all = c.args.all.now in
+    let place = c.args.place in
+    let end = c.args.end in
+    let writes = c.in_ok-writes.writes.items in
+    let first = c.in_ok-add_earlier.ensures ∙ ap (λ l. with_writes c.args.exec.now place (filter (λ w. not (is_last all place end w)) l)) c.deref.ensures.value in
+    let is = c.in_ok-writes.ensures ∙ ap (writes_in all place) c.requires.names in
+    more_on_ok c.add_last.result
+    (λ put. order_whole all place end writes _ c.args.exec.now c.add_earlier.new.exec c.add_last.new.exec first
+    (put ∙ ap (λ l. with_writes c.add_earlier.new.exec place (filter (is_last all place end) l)) c.deref-2.ensures.value)
+    (ap (λ l. filter (λ w. not (is_last all place end w)) l ++ filter (is_last all place end) l) is))
+    c.add_last.ensures

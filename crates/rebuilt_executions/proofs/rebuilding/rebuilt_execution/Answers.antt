@@ -1,0 +1,23 @@
+-- The tests decide whether the execution is fixed.
+use Rattle.std.proofs.Common.{◌≡◌, true, false, sym, ap, ◌∙◌}
+use Rattle.rebuilt_executions.specs.Settling.{are_fixed}
+use Rattle.rebuilt_executions.proofs.Fixing.{fixed_from, fixed_means}
+use Rattle.rebuilt_executions.proofs.rebuilding.rebuilt_execution.Goals as goal
+
+pub returns-then-not-are_few : goal.returns-then-not-are_few
+returns-then-not-are_few c = λ s. let q : true ≡ false = sym (c.are_few.ensures.1 s.few) ∙ c.if-not-are_few.true in cc q
+
+pub returns-then-not-are_fixed : goal.returns-then-not-are_fixed
+returns-then-not-are_fixed c =
+    λ s. let t = fixed_from c.args.all.now c.args.ends.now (record { values = s.values; within = s.within; settled = s.settled }) in
+    let q : true ≡ false =
+    sym t ∙ ap (λ l. are_fixed c.args.all.now l c.args.ends.now) (sym (c.deref.ensures.value ∙ c.in_ok-names.ensures)) ∙ sym c.are_fixed.ensures
+    ∙ c.if-not-are_fixed.true in
+    cc q
+
+pub returns : goal.returns
+returns c =
+    let f = fixed_means c.args.all.now c.args.ends.now
+    (ap (λ l. are_fixed c.args.all.now l c.args.ends.now) (sym (c.deref.ensures.value ∙ c.in_ok-names.ensures)) ∙ sym c.are_fixed.ensures
+    ∙ c.if-not-are_fixed.false) in
+    (record { few = c.are_few.ensures.0 c.if-not-are_few.false; values = f.values; within = f.within; settled = f.settled }, c.in_ok-rebuilt.ensures)
