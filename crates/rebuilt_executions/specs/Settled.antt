@@ -11,6 +11,7 @@ abbrev pub given : Option (Option ℕ) → Option ℕ
 given None = None
 given (Some end) = end
 
+-- the final value of a location by its place, if it is given
 abbrev pub end_at : List (Option ℕ) → ℕ → Option ℕ
 end_at ends place = given (slice_get ends place)
 
