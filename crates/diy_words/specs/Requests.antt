@@ -3,15 +3,16 @@
 use Rattle.std.specs.{Prelude.{ℕ, ◌*◌, Bool, nat_lt, if◌then◌else◌, List, [], ◌∷◌, length, Option, Some, None, Result, Ok, Err}, Option.unwrap_or}
 use Rattle.relax_edges.specs.{declared.kinds.ArchName.ArchName, declared.kinds.ObsMode.ObsMode, declared.kinds.ObsMode.TheVariants.Accept}
 use Rattle.relax_edges.specs.declared.edge.Edge.{Edge}
+use Rattle.cycles_from_lines.specs.NamedCycles.{cycle_named}
 use Rattle.diy_words.specs.{declared.request.CheckForm.CheckForm, declared.request.CheckForm.TheVariants.{Verdict, Graph}, declared.usage.Usage.Usage}
 use Rattle.diy_words.specs.{declared.request.ExecutionForm.ExecutionForm, declared.request.ExecutionForm.TheVariants.{Text, Drawn}}
 use Rattle.diy_words.specs.{declared.request.Check.Check, declared.request.Demo.Demo, declared.request.TheConstants.MAX_CHOICES, declared.options.Tool.Tool}
-use Rattle.diy_words.specs.declared.usage.UsageKind.TheVariants.{UnknownTool, StrayWord, MissingArch, MissingEdges, MissingNumber, MissingFile, MissingWhy, TooManyChoices}
+use Rattle.diy_words.specs.declared.usage.UsageKind.TheVariants.{UnknownTool, UnknownName, StrayWord, MissingArch, MissingEdges, MissingNumber, MissingFile, MissingWhy, TooManyChoices}
 use Rattle.diy_words.specs.{Parts.{parts_of, tool_named}, Sayings.Saying, Gathered.{Gathered, gathered_of}, SaidInOrder.{sayings, said_all}}
 use Rattle.diy_words.specs.declared.options.Tool.TheVariants as tools
 
 -- what diyone7 is asked for without `-why` and `-co`: a test, the execution that it asks for, or what suffices against its outcome, under
--- the given name or that of its cycle
+-- the given name or that of its cycle; with `-from` the edges are the cycle that has the name
 pub record TestTask : Type 0 where
   pub arch : ArchName
   pub name : Option (List ℕ)
@@ -204,9 +205,31 @@ coherence_or_execution count given =
 abbrev pub one_asked : ℕ → Gathered → Result Task Usage
 one_asked count given = if given.co then coherence_or_execution count given else test_or_execution count given
 
+-- the request of diyone7, once its edges are chosen
+abbrev pub diyone_with : ℕ → Gathered → Result Task Usage
+diyone_with count given = if given.why then asks AsksWhy (why_asked count given) else one_asked count given
+
+-- the cycle that has the name at an index, as edges; no such cycle is an error
+abbrev pub named_edges : ℕ → Option (List Edge) → Result (List Edge) Usage
+named_edges at (Some cycle) = Ok cycle
+named_edges at None = Err (record { word = at; kind = UnknownName })
+
+-- the edges that diyone7 is given: those of the operands, or with `-from` those of the cycle of the architecture that has the name;
+-- together with `-from`, the first operand is stray
+abbrev pub edges_chosen : Option ArchName → Option (ℕ × List ℕ) → Option ℕ → List Edge → Result (List Edge) Usage
+edges_chosen None from operand edges = Ok edges
+edges_chosen (Some arch) None operand edges = Ok edges
+edges_chosen (Some arch) (Some from) None edges = named_edges from.0 (cycle_named arch from.1)
+edges_chosen (Some arch) (Some from) (Some operand) edges = Err (record { word = operand; kind = StrayWord })
+
+-- the request of diyone7 with these edges, or the error of their choice
+abbrev pub with_chosen : ℕ → Gathered → Result (List Edge) Usage → Result Task Usage
+with_chosen count given (Ok edges) = diyone_with count (record given { edges = edges })
+with_chosen count given (Err usage) = Err usage
+
 -- the request of diyone7
 abbrev pub diyone_asked : ℕ → Gathered → Result Task Usage
-diyone_asked count given = if given.why then asks AsksWhy (why_asked count given) else one_asked count given
+diyone_asked count given = with_chosen count given (edges_chosen given.arch given.from given.operand given.edges)
 
 -- the request of norm7
 abbrev pub norm_asked : ℕ → Gathered → Result NameTask Usage

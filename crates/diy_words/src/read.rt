@@ -1,6 +1,6 @@
 ghost use Rattle.std.specs.Prelude.{◌≡◌, ◌<◌, ◌+◌, ◌^◌, ℕ, List, Some, length, drop, IfOk};
 ghost use Rattle.diy_words.specs.declared.usage.UsageKind.TheVariants.{MissingArch, MissingWhy};
-ghost use Rattle.diy_words.specs.Requests.{asked_of, asked_for, asks, AsksWhy, AsksName, AsksFamilies, AsksCross, AsksDemo, AsksCheck, why_asked, test_or_execution, coherence_or_execution, list_or_lines, check_asked, one_asked, diyone_asked, norm_asked, cross_asked, families_with, demo_with};
+ghost use Rattle.diy_words.specs.Requests.{asked_of, asked_for, asks, AsksWhy, AsksName, AsksFamilies, AsksCross, AsksDemo, AsksCheck, why_asked, test_or_execution, coherence_or_execution, list_or_lines, check_asked, one_asked, diyone_asked, diyone_with, norm_asked, cross_asked, families_with, demo_with};
 ghost use Rattle.diy_words.specs.{Given.{GivesTask, HasForm, WithinWords}, CodeNotes.{Steps, GivesAtEnd, GivesFrom, IsPlain, IsOption, code_notes}};
 
 use crate::notes::{Notes, missing_value};
@@ -112,8 +112,18 @@ fn finish(tool: Tool, count: usize, notes: Notes<'_>) -> Result<Request<'_>, Usa
     }
 }
 
-fn finish_diyone(count: usize, notes: Notes<'_>) -> Result<Request<'_>, Usage>
+fn finish_diyone(count: usize, mut notes: Notes<'_>) -> Result<Request<'_>, Usage>
     ensures { GivesFrom (λ given. diyone_asked count given) (code_notes notes.entry) result }
+{
+    match notes.choose_edges() {
+        Ok(()) => finish_chosen(count, notes),
+        Err(usage) => Err(usage),
+    }
+}
+
+/// The request of diyone7 from notes whose edges are chosen.
+fn finish_chosen(count: usize, notes: Notes<'_>) -> Result<Request<'_>, Usage>
+    ensures { GivesFrom (λ given. diyone_with count given) (code_notes notes.entry) result }
 {
     if notes.why {
         finish_why(count, notes)
