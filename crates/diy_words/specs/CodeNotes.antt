@@ -37,6 +37,7 @@ code_notes notes = record {
     needs = notes.needs;
     lines = notes.lines;
     graph = notes.graph;
+    names = notes.names;
   };
   edges = notes.edges;
   choices = notes.choices;

@@ -34,12 +34,13 @@ pub record CoherenceTask : Type 0 where
   pub name : Option (List ℕ)
   pub edges : List Edge
 
--- the cycles whose names norm7 is asked for: the one that edges make; the one that has a name, which is the argument at an index; or those
--- of the lines of the input
+-- the cycles whose names norm7 is asked for: the one that edges make; the one that has a name, which is the argument at an index; those
+-- of the lines of the input; or those that the lines of the input name
 pub data Sought : Type 0 where
   OfEdges : List Edge → Sought
   OfName : ℕ → List ℕ → Sought
   OfLines : Sought
+  OfNames : Sought
 
 -- what norm7 is asked for: the names and the edges of cycles
 pub record NameTask : Type 0 where
@@ -128,6 +129,13 @@ named_with count (Some arch) None None edges = Ok (record { arch = arch; cycle =
 named_with count (Some arch) (Some from) None edges = Ok (record { arch = arch; cycle = OfName from.0 from.1 })
 named_with count (Some arch) None (Some operand) edges = Ok (record { arch = arch; cycle = OfEdges edges })
 named_with count (Some arch) (Some from) (Some operand) edges = Err (record { word = operand; kind = StrayWord })
+
+-- the request of norm7 with `-names` from what was given: the first operand is stray, and so is the name of `-from`
+abbrev pub names_with : ℕ → Option ArchName → Option (ℕ × List ℕ) → Option ℕ → Result NameTask Usage
+names_with count None _ _ = Err (record { word = count; kind = MissingArch })
+names_with count (Some arch) None None = Ok (record { arch = arch; cycle = OfNames })
+names_with count (Some arch) (Some from) None = Err (record { word = from.0; kind = StrayWord })
+names_with count (Some arch) _ (Some operand) = Err (record { word = operand; kind = StrayWord })
 
 -- the request of diy7 from what was given
 abbrev pub list_with : ℕ → Option ArchName → Option (List (List Edge)) → ℕ → Bool → ℕ → Option ℕ → ObsMode → Option (List Edge) → Option (List ℕ) → Result ListTask Usage
@@ -231,9 +239,17 @@ with_chosen count given (Err usage) = Err usage
 abbrev pub diyone_asked : ℕ → Gathered → Result Task Usage
 diyone_asked count given = with_chosen count given (edges_chosen given.arch given.from given.operand given.edges)
 
+-- the request of norm7 without `-names`, from all that is gathered
+abbrev pub name_asked : ℕ → Gathered → Result NameTask Usage
+name_asked count given = named_with count given.arch given.from given.operand given.edges
+
+-- the request of norm7 with `-names`
+abbrev pub names_asked : ℕ → Gathered → Result NameTask Usage
+names_asked count given = names_with count given.arch given.from given.operand
+
 -- the request of norm7
 abbrev pub norm_asked : ℕ → Gathered → Result NameTask Usage
-norm_asked count given = named_with count given.arch given.from given.operand given.edges
+norm_asked count given = if given.names then names_asked count given else name_asked count given
 
 -- the request of diy7
 abbrev pub diy_asked : ℕ → Gathered → Result ListTask Usage

@@ -62,6 +62,8 @@ pub struct Notes<'a> {
     pub lines: bool,
     /// Whether `-dot` was given.
     pub graph: bool,
+    /// Whether `-names` was given.
+    pub names: bool,
 }
 
 impl<'a> Notes<'a> {
@@ -97,6 +99,7 @@ impl<'a> Notes<'a> {
             needs: false,
             lines: false,
             graph: false,
+            names: false,
         }
     }
 
@@ -274,6 +277,10 @@ impl<'a> Notes<'a> {
                 Ok(())
             }
             Tool::Diy if text == "-list" => self.take_lines(at),
+            Tool::Norm if text == "-names" => {
+                self.names = true;
+                Ok(())
+            }
             Tool::Check if text == "-dot" => {
                 self.graph = true;
                 Ok(())
