@@ -1,0 +1,33 @@
+-- `TestSum::add` adds a count to a known state, or answers that its mark differs or that the sum is too large.
+use Rattle.std.proofs.Common.{ℕ, ◌+◌, ◌≤◌, ap, sym, ◌∙◌, refl, Some, Ok, arith, min}
+use Rattle.std.specs.Prelude.{nat_lt, not}
+use Rattle.log_sum.specs.{declared.kinds.Mark.Mark, Facts.row_with, SumViews.test_view}
+use Rattle.diy_io.specs.Count.{last_count}
+use Rattle.log_sum.proofs.{EntryLaws.sum_known, TestLaws.{row_other, row_large, row_put, too_large, not_large, known_kept, row_kept}}
+use Rattle.log_sum.proofs.test_sum.TestSum.add.Goals as goal
+
+pub returns-then-not-same_mark : goal.returns-then-not-same_mark
+returns-then-not-same_mark c = λ state test_at.
+    let states = c.args.self.now.states in
+    row_other (test_view c.args.self.now) (row_with state c.args.mark c.args.count) (Some c.sum_at.result)
+    (ap (λ x. Some x) c.sum_at.ensures ∙ sym (sum_known states.sums.items c.args.i state states.are_apart test_at)) (ap not (sym c.same_mark.ensures ∙ c.if-not-same_mark.true))
+
+pub returns-then-count-sum : goal.returns-then-count-sum
+returns-then-count-sum c = λ state test_at.
+    let states = c.args.self.now.states in
+    row_large (test_view c.args.self.now) (row_with state c.args.mark c.args.count) (Some c.sum_at.result)
+    (ap (λ x. Some x) c.sum_at.ensures ∙ sym (sum_known states.sums.items c.args.i state states.are_apart test_at)) (ap not (sym c.same_mark.ensures ∙ c.if-not-same_mark.false))
+    (ap (λ s. nat_lt last_count (s + c.args.count)) (sym c.sum_of_mark-sum.ensures) ∙ too_large c.sum_of_mark-sum.result c.args.count c.if-count-sum.true)
+
+pub returns : goal.returns
+returns c = λ state test_at.
+    let states = c.args.self.now.states in
+    let test = test_view c.args.self.now in
+    let row = row_with state c.args.mark c.args.count in
+    let known : Mark × ℕ = c.sum_at.result in
+    let small : c.sum_of_mark-sum.result ≤ last_count = omega arith in
+    let is = sum_known states.sums.items c.args.i state states.are_apart test_at ∙ ap (λ x. Some x) (sym c.sum_at.ensures) in
+    row_put test row (Some known) (sym is) (ap not (sym c.same_mark.ensures ∙ c.if-not-same_mark.false))
+    (ap (λ s. nat_lt last_count (s + c.args.count)) (sym c.sum_of_mark-sum.ensures) ∙ not_large c.sum_of_mark-sum.result c.args.count small c.if-count-sum.false)
+    ∙ ap Ok (sym (c.set_marked.ensures ∙ row_kept test row _ (known.0, min (known.1 + c.args.count) last_count) c.sum_of_mark-sum.result (c.add.ensures state known test_at is)
+    (known_kept known row (min (known.1 + c.args.count) last_count) _ (sym is) (sym c.same_mark.ensures ∙ c.if-not-same_mark.false) refl) c.sum_of_mark-sum.ensures))

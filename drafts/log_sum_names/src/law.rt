@@ -1,0 +1,20 @@
+ghost use Rattle.log_sum.specs.{Representing.{SumOrFault}, SumPieces.{SameAnswers}};
+
+/// A law: the same bytes give the same results and the same sum, in whatever pieces they come.
+///
+/// Two summers that were fed the same logs and the same bytes of one more return the same, also when
+/// that log ends, and have the same sum. If one returns an error of the log, one that was fed more bytes
+/// of the log returns it too. Only `NoMemory` may come instead of another result.
+#[tactic(auto, using(crate::proofs::PieceLaws::one_answer_in_pieces))]
+pub fn same_answers()
+    ensures { SameAnswers }
+{}
+
+/// A law: what is printed of whole logs is their sum, and the bytes so far of a log show an error or none.
+///
+/// So what a summer between two logs prints is the sum of the facts that the blocks of its logs state. If
+/// the bytes so far of a log show an error, this is the first error of the logs, whatever follows.
+#[tactic(auto, using(crate::proofs::RepresentingLaws::sum_or_fault))]
+pub fn sum_or_fault()
+    ensures { SumOrFault }
+{}

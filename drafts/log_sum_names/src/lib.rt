@@ -1,0 +1,22 @@
+//! The sum of the logs of litmus tests: the counts of equal states, added over all logs.
+#![tactic(auto)]
+
+mod counts;
+mod errors;
+mod kinds;
+mod law;
+mod lines;
+mod places;
+mod print;
+mod reading;
+mod spelling;
+mod state_table;
+mod states;
+mod summer;
+mod table;
+mod test_sum;
+
+pub use errors::{LogError, LogKind, SumError};
+pub use kinds::{Kind, Mark, Place, Verdict};
+pub use law::{same_answers, sum_or_fault};
+pub use summer::{MAX_LOG_LINE, Summer};
