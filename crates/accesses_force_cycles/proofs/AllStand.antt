@@ -1,5 +1,5 @@
 -- All edges of a cycle stand in a program that makes its accesses and marks and ties them as the edges say.
-use Rattle.accesses_force_cycles.proofs.Vocabulary.{◌≡◌, ℕ, suc, ◌+◌, ◌-◌, ◌<◌, ◌≤◌, List, [], ◌∷◌, length, map, Some, slice_get, refl, sym, ◌∙◌, ap, subst, arith, length-append, length-map, ObsMode, Edge, upto, length-map-upto, edge_at, external_count, event_after, events_in, after_below, write_count, WriteAt, Access, Visit, read, accesses_of, got_from, at_name, Execution, Program, visits_in, accesses_in, AccessAt, NamedAccess, access_at, IsEvent, Observes, HasEvents, AllStand, Joins, event_name, IsNumbering, event_access, event_at, observer_accesses, observed_locations, cycle_accesses, got_from_list, accesses-count, MeetsCondition, AreFree, IsTiedUp, AllJoin}
+use Rattle.accesses_force_cycles.proofs.Vocabulary.{◌≡◌, ℕ, suc, ◌+◌, ◌-◌, ◌<◌, ◌≤◌, List, [], ◌∷◌, length, map, Some, slice_get, refl, sym, ◌∙◌, ap, subst, arith, length-append, length-map, ObsMode, Edge, upto, length-map-upto, edge_at, external_count, event_after, events_in, after_below, write_count, WriteAt, Access, Visit, read, accesses_of, got_from, at_name, Execution, Program, visits_in, accesses_in, AccessAt, NamedAccess, access_at, IsEvent, Observes, HasEvents, AllStand, EdgeStands, Stands, Joins, event_name, IsNumbering, event_access, event_at, observer_accesses, observed_locations, cycle_accesses, got_from_list, accesses-count, MeetsCondition, AreFree, IsTiedUp, AllJoin}
 use Rattle.relax_edges.specs.declared.kinds.Dir.TheVariants as dirs
 use Rattle.accesses_force_cycles.proofs.{Lists.image_of, Lists.got_map, Accesses.thread_accesses, Accesses.observer_thread, Accesses.event_at_name}
 use Rattle.accesses_force_cycles.proofs.{EdgesJoin.edges_join, Resolves.Resolves, Resolves.EntersLast}
@@ -68,19 +68,37 @@ has_events es mode number p x r m f = record {
         let i = image_of (observer_accesses es number) (observed_locations es mode) (k - external_count es) (accesses_of visits) (sym (observer_thread es mode number k (k - external_count es) e) ∙ made k visits g) in
         loads_read es number i.element (accesses_of visits) j visit.access i.image (got_map (λ v. v.access) visits j visit q)
 
+-- an edge stands between its events in such a program, where it joins them
+joined_between : (es : List Edge) (mode : ObsMode) (number : ℕ → ℕ) (p : Program) (x : Execution) (i : ℕ) (e g : NamedAccess) → Resolves es
+    → accesses_in p x ≡ cycle_accesses es mode number → IsTiedUp es p x → i < length es → IsEvent es (visits_in p x) i e
+    → IsEvent es (visits_in p x) (event_after es i) g
+    → Joins (cycle_accesses es mode number) x (edge_at es i) (event_at es number i) (event_at es number (event_after es i))
+    → Stands (accesses_in p x) x (edge_at es i) e g
+joined_between es mode number p x i e g r m f h u v j = record {
+  joins = subst (λ (z : AccessAt × AccessAt × List (List Access)). Joins z.2 x (edge_at es i) z.0 z.1)
+      (λ t. (sym (is_event_at es mode number p x i e r m h u) t, sym (is_event_at es mode number p x (event_after es i) g r m (after_below es i h) v) t, sym m t))
+      j;
+  leaves_mark = f.marks i e h u;
+  enters_mark = f.marks (event_after es i) g (after_below es i h) v ∙ sym (r.marks i h);
+  ties = f.ties i e g h u v;
+}
+
 -- all edges stand in such a program, where each joins its events
 pub joined_stand : (es : List Edge) (mode : ObsMode) (number : ℕ → ℕ) (p : Program) (x : Execution) → Resolves es → accesses_in p x ≡ cycle_accesses es mode number → AllJoin es mode number x → IsTiedUp es p x → AllStand es p x
 joined_stand es mode number p x r m j f = record {
   events = has_events es mode number p x r m f;
-  stand = λ i e g h u v. record {
-    joins = subst (λ (z : AccessAt × AccessAt × List (List Access)). Joins z.2 x (edge_at es i) z.0 z.1)
-        (λ t. (sym (is_event_at es mode number p x i e r m h u) t, sym (is_event_at es mode number p x (event_after es i) g r m (after_below es i h) v) t, sym m t))
-        (j i h);
-    leaves_mark = f.marks i e h u;
-    enters_mark = f.marks (event_after es i) g (after_below es i h) v ∙ sym (r.marks i h);
-    ties = f.ties i e g h u v;
-  };
+  stand = λ i e g h u v. joined_between es mode number p x i e g r m f h u v (j i h);
 }
+
+-- an edge stands in such a program, where it joins its events
+pub joined_edge : (es : List Edge) (mode : ObsMode) (number : ℕ → ℕ) (p : Program) (x : Execution) (i : ℕ) → Resolves es
+    → accesses_in p x ≡ cycle_accesses es mode number → IsTiedUp es p x → i < length es
+    → Joins (cycle_accesses es mode number) x (edge_at es i) (event_at es number i) (event_at es number (event_after es i)) → EdgeStands es p x i
+joined_edge es mode number p x i r m f h j =
+    let v = has_events es mode number p x r m f in
+    let s = v.events i h in
+    let t = v.events (event_after es i) (after_below es i h) in
+    record { source = s.0; target = t.0; leaves = s.1; enters = t.1; stands = joined_between es mode number p x i s.0 t.0 r m f h s.1 t.1 j }
 
 -- all edges stand in such a program, where the execution meets the condition
 pub all_stand : (es : List Edge) (mode : ObsMode) (number : ℕ → ℕ) (p : Program) (x : Execution) → Resolves es → EntersLast es mode → IsNumbering es number → accesses_in p x ≡ cycle_accesses es mode number → MeetsCondition es mode number x → IsTiedUp es p x → AllStand es p x

@@ -5,7 +5,7 @@ use Rattle.accesses_force_cycles.proofs.{OnlyOne.only_the_intended, Resolves.{Re
 use Rattle.relax_edges.specs.declared.kinds.Dir.TheVariants as dirs
 
 -- along an edge that keeps the location, the value stays at a read and grows by one at a write
-value_along : (es : List Edge) (i : ℕ) → Resolves es → i < length es → sd_of (edge_at es i) ≡ Same → value_of es (event_after es i) ≡ value_of es i + written_by (target_of (edge_at es i))
+pub value_along : (es : List Edge) (i : ℕ) → Resolves es → i < length es → sd_of (edge_at es i) ≡ Same → value_of es (event_after es i) ≡ value_of es i + written_by (target_of (edge_at es i))
 value_along es i r h p = r.counts i h p ∙ ap (λ d. value_of es i + written_by d) (sym (r.enters i h))
 
 -- the write of a write event's value is the event
@@ -13,7 +13,7 @@ own_write : (es : List Edge) (i : ℕ) → Resolves es → i < length es → sou
 own_write es i r h d = grind arith
 
 -- along a reads-from edge the read reads the write
-reads_from : (es : List Edge) (mode : ObsMode) (number : ℕ → ℕ) (i : ℕ) → Resolves es → IsNumbering es number → i < length es → source_of (edge_at es i) ≡ dirs.W → target_of (edge_at es i) ≡ dirs.R → sd_of (edge_at es i) ≡ Same → source_at (cycle_accesses es mode number) (intended es mode number) (event_name es (event_after es i)) ≡ Some (event_name es i)
+pub reads_from : (es : List Edge) (mode : ObsMode) (number : ℕ → ℕ) (i : ℕ) → Resolves es → IsNumbering es number → i < length es → source_of (edge_at es i) ≡ dirs.W → target_of (edge_at es i) ≡ dirs.R → sd_of (edge_at es i) ≡ Same → source_at (cycle_accesses es mode number) (intended es mode number) (event_name es (event_after es i)) ≡ Some (event_name es i)
 reads_from es mode number i r n h d t p =
     grind (
       arith,

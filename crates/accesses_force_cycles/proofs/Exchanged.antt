@@ -1,12 +1,16 @@
 -- Where an external edge enters an inner write of a location without an observer, the exchanged execution is coherent and
--- has the reads and the final values of the intended one, but the edge doesn't stand in it.
-use Rattle.accesses_force_cycles.proofs.Vocabulary.{◌≡◌, ℕ, zero, suc, ◌+◌, ◌<◌, ◌≤◌, true, false, List, [], length, Some, slice_get, refl, sym, ◌∙◌, ap, subst, arith, add-one, ◌==◌, filter_map, option_and_then, cond-true, cond-false, eq-eqb, ne_eqb, slice_get_within, Dir, Same, Internal, External, Avoid, Edge, source_of, sd_of, reach_of, upto, by_same, by_less, unrank_upto, length-map-upto, length-upto, slice_get-upto, slice_get-map-upto, edge_at, move_count, thread_of, location_of, event_after, event_before, by_after, before_below, after_before, value_of, write_count, is_observed, edge_into, WriteAt, Access, at_name, IsExecutionOf, IsOrderOf, Joins, event_name, MayFollow, IsCoherent, order_at, coherence_place, last_write, value_of_access, final_value, IsNumbering, event_access, event_at, cycle_accesses, ordered_write, location_order, location_numbered, intended, MeetsCondition, swapped, exchanged_value, exchanged_order, exchanged}
+-- has the reads and the final values of the intended one, and joins the events of all edges but this one.
+use Rattle.accesses_force_cycles.proofs.Vocabulary.{◌≡◌, ℕ, zero, suc, ◌+◌, ◌<◌, ◌≤◌, true, false, List, [], length, Some, slice_get, refl, sym, ◌∙◌, ap, subst, arith, add-one, ◌==◌, filter_map, option_and_then, cond-true, cond-false, eq-eqb, ne_eqb, slice_get_within, Dir, Same, Internal, External, Avoid, Edge, source_of, sd_of, reach_of, upto, by_same, by_less, unrank_upto, length-map-upto, length-upto, slice_get-upto, slice_get-map-upto, edge_at, kind_of, target_of, source_at, move_count, thread_of, location_of, event_after, event_before, by_after, after_below, before_below, after_before, value_of, write_count, is_observed, edge_into, WriteAt, Access, at_name, IsExecutionOf, IsOrderOf, Joins, CommunicatesBy, ComesBefore, Kind, event_name, MayFollow, IsCoherent, order_at, coherence_place, last_write, value_of_access, final_value, IsNumbering, event_access, event_at, cycle_accesses, ordered_write, location_order, location_numbered, intended, MeetsCondition, swapped, exchanged_value, exchanged_order, exchanged}
 use Rattle.accesses_force_cycles.proofs.{Lists.image_of, Numbering.{Numbers, numbering_onto, location_of_number}, Accesses.{EventAt, by_origin, event_at_name}}
 use Rattle.accesses_force_cycles.proofs.{IntendedOrders.{intended_order, placed_write}, IntendedExists.{values_follow, last_of_order, intended_meets}}
-use Rattle.accesses_force_cycles.proofs.{Swaps.{swapped_here, swapped_before, follows_still}, IntendedReads.{IsPlaced, placed, reads-count, intended_are_reads}}
+use Rattle.accesses_force_cycles.proofs.{EdgesJoin.{intended_joins, reads_from, value_along}, Swaps.{swapped_here, swapped_before, rises_still, follows_still}, IntendedReads.{IsPlaced, placed, reads-count, intended_are_reads}}
 use Rattle.accesses_force_cycles.proofs.Rearranged.{Exchanges, order_under, place_under, order_under_is, last_under, empty_under}
 use Rattle.accesses_force_cycles.proofs.Resolves.{Resolves, InnerEntry, later_slot, written_by}
+use Rattle.cycle_events.proofs.CycleRound.{before_after}
+use Rattle.relax_edges.specs.EdgeTable.{kind_place, kind_source, kind_target}
 use Rattle.relax_edges.specs.declared.kinds.Dir.TheVariants as dirs
+use Rattle.relax_edges.specs.declared.kinds.Com.TheVariants as coms
+use Rattle.relax_edges.specs.declared.kinds.Kind.TheVariants as kinds
 
 -- at the event's location two values are exchanged, at the others none
 at_location : (es : List Edge) (event l : ℕ) → l ≡ location_of es event → exchanged_value es event l ≡ swapped (value_of es event)
@@ -219,6 +223,83 @@ falls_back es number event r n q p less = grind (arith, before_below, after_befo
 -- in the exchanged execution the edge into the write doesn't join its events
 pub exchanged_breaks : (es : List Edge) (number : ℕ → ℕ) (event : ℕ) → Resolves es → IsNumbering es number → InnerEntry es event → Joins (cycle_accesses es Avoid number) (exchanged es number event) (edge_at es (event_before es event)) (event_at es number (event_before es event)) (event_at es number event) → ⊥
 exchanged_breaks es number event r n q j = grind (arith, (falls_back es number event r n q))
+
+-- the coherence place of an event at another location than the entry's
+event_elsewhere : (es : List Edge) (number : ℕ → ℕ) (event i : ℕ) → Resolves es → IsNumbering es number → InnerEntry es event → i < length es
+    → (location_of es i ≡ location_of es event → ⊥)
+    → coherence_place (cycle_accesses es Avoid number) (exchanged es number event) (event_name es i) (event_access es number i) ≡ value_of es i
+event_elsewhere es number event i r n q h l =
+    place_exchanged es number event (event_name es i) (event_access es number i) r n q (event_at_name es Avoid number i r h)
+    (record { spot = location_of es i; below = r.location i; place_is = refl; within = r.within i h })
+    ∙ ap (λ (f : ℕ → ℕ). f (value_of es i)) (elsewhere es event (location_of es i) l)
+
+-- an edge other than the one into the entry leads to no write of the entry's value at its location
+others_apart : (es : List Edge) (event i : ℕ) → Resolves es → InnerEntry es event → i < length es → (i ≡ event_before es event → ⊥)
+    → source_of (edge_at es (event_after es i)) ≡ dirs.W → location_of es (event_after es i) ≡ location_of es event
+    → value_of es (event_after es i) ≡ value_of es event → ⊥
+others_apart es event i r q h other writes l v = by_value (value_of es event) refl
+  where
+    by_value : (n : ℕ) → value_of es event ≡ n → ⊥
+    by_value zero e = omega (arith, e, q.second)
+    by_value (suc k) e =
+        let a = r.found (location_of es event) k (event_after es i) (record { below = after_below es i h; writes = writes; location = l; value = v ∙ e }) in
+        let c = r.found (location_of es event) k event (record { below = q.below; writes = q.writes; location = refl; value = e }) in
+        let m : event_after es i ≡ event = cc (a, c) in
+        other (sym (before_after es i h) ∙ ap (event_before es) m)
+
+-- along such an edge into a write at the same location the coherence place grows
+others_before : (es : List Edge) (number : ℕ → ℕ) (event i : ℕ) → Resolves es → IsNumbering es number → InnerEntry es event → i < length es
+    → (i ≡ event_before es event → ⊥) → target_of (edge_at es i) ≡ dirs.W → sd_of (edge_at es i) ≡ Same
+    → ComesBefore (cycle_accesses es Avoid number) (exchanged es number event) (event_at es number i) (event_at es number (event_after es i))
+others_before es number event i r n q h other target same =
+    by_same (location_of es i) (location_of es event)
+    (λ l. subst (λ (z : ℕ × ℕ). z.0 < z.1)
+    (λ t. (sym (event_exchanged es number event i r n q h l) t, sym (event_exchanged es number event (event_after es i) r n q (after_below es i h) (keeps ∙ l)) t))
+    (rises_still (value_of es event) (value_of es i) (value_of es (event_after es i)) q.second grows
+    (λ u v. others_apart es event i r q h other (sym (r.enters i h) ∙ target) (keeps ∙ l) v)))
+    (λ d. subst (λ (z : ℕ × ℕ). z.0 < z.1)
+    (λ t. (sym (event_elsewhere es number event i r n q h d) t, sym (event_elsewhere es number event (event_after es i) r n q (after_below es i h) (λ e. d (sym keeps ∙ e))) t))
+    grows)
+  where
+    keeps : location_of es (event_after es i) ≡ location_of es i
+    keeps = r.keeps i h same
+
+    grows : value_of es i < value_of es (event_after es i)
+    grows = omega (arith, value_along es i r h same, ap written_by target)
+
+-- along a reads-from edge the read reads the write
+reads_still : (es : List Edge) (number : ℕ → ℕ) (event i : ℕ) → Resolves es → IsNumbering es number → i < length es → source_of (edge_at es i) ≡ dirs.W
+    → target_of (edge_at es i) ≡ dirs.R → sd_of (edge_at es i) ≡ Same
+    → source_at (cycle_accesses es Avoid number) (exchanged es number event) (event_name es (event_after es i)) ≡ Some (event_name es i)
+unfolding exchanged
+reads_still es number event i r n h d t p = reads_from es Avoid number i r n h d t p
+
+others_communicate : (es : List Edge) (number : ℕ → ℕ) (event i : ℕ) → Resolves es → IsNumbering es number → InnerEntry es event → i < length es
+    → (i ≡ event_before es event → ⊥) → (k : Kind) → kind_of (edge_at es i) ≡ k
+    → CommunicatesBy k (cycle_accesses es Avoid number) (exchanged es number event) (event_at es number i) (event_at es number (event_after es i))
+others_communicate es number event i r n q h other (kinds.Com coms.Rf reach) e =
+    reads_still es number event i r n h (ap kind_source e) (ap kind_target e) (ap kind_place e)
+others_communicate es number event i r n q h other (kinds.Com coms.Fr reach) e =
+    others_before es number event i r n q h other (ap kind_target e) (ap kind_place e)
+others_communicate es number event i r n q h other (kinds.Com coms.Ws reach) e =
+    others_before es number event i r n q h other (ap kind_target e) (ap kind_place e)
+others_communicate es number event i r n q h other (kinds.Po sd from to) e = tt
+others_communicate es number event i r n q h other (kinds.Fenced fence sd from to) e = tt
+others_communicate es number event i r n q h other (kinds.Dep kind sd to) e = tt
+others_communicate es number event i r n q h other (kinds.Data sd) e = tt
+
+-- in the exchanged execution each edge but the one into the write joins its events
+pub others_join : (es : List Edge) (number : ℕ → ℕ) (event i : ℕ) → Resolves es → IsNumbering es number → InnerEntry es event → i < length es
+    → (i ≡ event_before es event → ⊥)
+    → Joins (cycle_accesses es Avoid number) (exchanged es number event) (edge_at es i) (event_at es number i) (event_at es number (event_after es i))
+others_join es number event i r n q h other =
+    let j = intended_joins es Avoid number i r n h in record {
+      leaves = j.leaves;
+      enters = j.enters;
+      places = j.places;
+      communicates = others_communicate es number event i r n q h other (kind_of (edge_at es i)) refl;
+      reaches = j.reaches;
+    }
 
 -- the exchanged execution meets the condition of the mode avoid
 pub exchanged_meets : (es : List Edge) (number : ℕ → ℕ) (event : ℕ) → Resolves es → IsNumbering es number → InnerEntry es event → MeetsCondition es Avoid number (exchanged es number event)

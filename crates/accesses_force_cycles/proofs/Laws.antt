@@ -2,7 +2,7 @@
 use Rattle.accesses_force_cycles.proofs.Vocabulary.{arith, EdgesJoin, OnlyTheIntended, TheIntendedMeets, NoConditionServes, AllEdgesStand, OneOutcome, AnOutcome}
 use Rattle.accesses_force_cycles.proofs.{ResolvedFacts.resolves, Needs.{enters_last, refused_entry}, OnlyOne.only_the_intended, EdgesJoin.{edges_join, intended_joins}}
 use Rattle.accesses_force_cycles.proofs.{IntendedExists.intended_meets, Programs.{outcome_makes, outcome_meets, intended_outcome}, AllStand.all_stand}
-use Rattle.accesses_force_cycles.proofs.Exchanged.{reads_exchanged, exchanged_meets, exchanged_ends, exchanged_breaks}
+use Rattle.accesses_force_cycles.proofs.Exchanged.{reads_exchanged, exchanged_meets, exchanged_ends, exchanged_breaks, others_join}
 
 -- each edge joins its events in an execution that is coherent and meets the condition
 pub edges_join_law : EdgesJoin
@@ -19,7 +19,7 @@ the_intended_meets_law es mode number r n = intended_meets es mode number (resol
 -- where the mode avoid refuses a cycle, no condition could have served
 pub no_condition_serves_law : NoConditionServes
 no_condition_serves_law es number need r n o =
-    search (arith, resolves, refused_entry, intended_meets, exchanged_meets, reads_exchanged, exchanged_ends, intended_joins, exchanged_breaks)
+    search (arith, resolves, refused_entry, intended_meets, exchanged_meets, reads_exchanged, exchanged_ends, intended_joins, exchanged_breaks, others_join)
 
 -- all edges stand in each outcome of a program that makes, marks and ties the accesses of the cycle's test
 pub all_edges_stand_law : AllEdgesStand

@@ -11,7 +11,7 @@ pub swapped_before : (value v : ℕ) → v + 1 ≡ value → swapped value v ≡
 swapped_before value v h = grind arith
 
 -- values that are not exchanged with each other keep their order
-rises_still : (value u v : ℕ) → 1 < value → u < v → (u + 1 ≡ value → v ≡ value → ⊥) → swapped value u < swapped value v
+pub rises_still : (value u v : ℕ) → 1 < value → u < v → (u + 1 ≡ value → v ≡ value → ⊥) → swapped value u < swapped value v
 rises_still value u v h l d = grind arith
 
 -- accesses whose values are not exchanged with each other may still follow each other

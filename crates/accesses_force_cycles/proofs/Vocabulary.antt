@@ -35,7 +35,7 @@ pub use Rattle.program_meaning.specs.Deciding.{coheres, name}
 pub use Rattle.program_meaning.specs.Executions.{AreReadsOf, CanRead, Execution, IsExecutionOf, IsOrderOf, same_write}
 pub use Rattle.program_meaning.specs.Intended.{IsNumbering, event_access, event_at, event_read, observed_locations, observer_accesses, observer_reads, ordered_write, reads_in, write_of}
 pub use Rattle.program_meaning.specs.Programs.{HasEnded, Program, accesses_in, runs_of, visits_in}
-pub use Rattle.program_meaning.specs.Standing.{AccessAt, AllStand, ComesBefore, CommunicatesBy, HasEvents, IsEvent, Joins, NamedAccess, Observes, access_at, event_name}
+pub use Rattle.program_meaning.specs.Standing.{AccessAt, AllStand, EdgeStands, Stands, ComesBefore, CommunicatesBy, HasEvents, IsEvent, Joins, NamedAccess, Observes, access_at, event_name}
 pub use Rattle.program_meaning.specs.declared.WriteAt.{WriteAt}
 unfoldable pub use Rattle.program_meaning.specs.Intended.{cycle_accesses, intended, location_numbered, location_order}
 pub use Rattle.relax_edges.specs.EdgeTable.{is_diff, is_external, kind_of, reach_of, same_dir, sd_of, source_mark, source_of, target_mark, target_of}

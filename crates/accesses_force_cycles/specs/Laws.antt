@@ -32,7 +32,7 @@ TheIntendedMeets =
     MeetsCondition es mode number (intended es mode number)
 
 -- what a test without observers can observe is the same in two coherent executions: in the intended one all edges join their
--- events, in the exchanged one the edge before the event doesn't
+-- events, in the exchanged one all do but the edge before the event
 pub record IsUndecided (es : List Edge) (number : ℕ → ℕ) (event : ℕ) : Type 0 where
   pub first : MeetsCondition es Avoid number (intended es Avoid number)
   pub second : MeetsCondition es Avoid number (exchanged es number event)
@@ -40,6 +40,7 @@ pub record IsUndecided (es : List Edge) (number : ℕ → ℕ) (event : ℕ) : T
   pub ends : (place : ℕ) → place < move_count es → final_value (cycle_accesses es Avoid number) (exchanged es number event) place ≡ final_value (cycle_accesses es Avoid number) (intended es Avoid number) place
   pub joins : AllJoin es Avoid number (intended es Avoid number)
   pub breaks : Joins (cycle_accesses es Avoid number) (exchanged es number event) (edge_at es (event_before es event)) (event_at es number (event_before es event)) (event_at es number event) → ⊥
+  pub others : (i : ℕ) → i < length es → (i ≡ event_before es event → ⊥) → Joins (cycle_accesses es Avoid number) (exchanged es number event) (edge_at es i) (event_at es number i) (event_at es number (event_after es i))
 
 -- if the mode avoid refuses a cycle, no condition would have sufficed
 abbrev pub NoConditionServes : Type 0

@@ -7,3 +7,4 @@ pub mod ReadLaws
 pub mod NormLaws
 pub mod NameSetLaws
 pub mod TableLaws
+pub mod NamedCycles

@@ -5,7 +5,8 @@ use Rattle.std.proofs.{lemmas.Grind.flat_map-append, Math.Seq.take-add}
 use Rattle.std.specs.{Prelude.{unwrap_or, MatchOption}, Result.result_err, List.take_while, Io.KnownBytes.{Consumes, IsAtEnd, Keeps}}
 use Rattle.list_laws.proofs.Cases.{by_test}
 use Rattle.diy_io.specs.{declared.source.TheConstants.MAX_INPUT, Count.{Rose, count_of, last_count}, Sink.line_feed_count, Taken.{SourceSeen, Took}}
-use Rattle.relax_edges.specs.{declared.kinds.ArchName.ArchName, declared.edge.Edge.Edge}
+use Rattle.relax_edges.specs.declared.edge.Edge.{Edge}
+use Rattle.cycles_from_lines.specs.declared.line.LineForm.{LineForm}
 use Rattle.cycles_from_lines.specs.{declared.errors.LineKind.LineKind, declared.errors.LineKind.TheVariants.LineTooLong, declared.errors.LinesError.LinesError}
 use Rattle.cycles_from_lines.specs.{declared.reader.Found.Found, declared.reader.Found.TheVariants.{Next, Last}, declared.reader.Line.Line}
 use Rattle.cycles_from_lines.specs.Cycles.{line_said, line_fault, is_sound, are_sound, cycle_said, cycles_of, is_long_line}
@@ -81,43 +82,43 @@ took_counted a b x (inr h) counted =
     subst (Took a b) (sym h.none) (record { consumed = kept_consumes a.left b.left h.kept; counted = let e = h.taken_is in omega arith })
 
 -- a reader that has read nothing
-pub nothing_read : (arch : ArchName) (s : SourceSeen) → HasRead arch s s (record { pending = []; line = 1; taken = 0 }) []
-nothing_read arch s = record {
+pub nothing_read : (form : LineForm) (s : SourceSeen) → HasRead form s s (record { pending = []; line = 1; taken = 0 }) []
+nothing_read form s = record {
   given = [];
   took = inr (record { none = refl; kept = kept_same s.left; taken_is = refl });
   no_fault = refl;
   ended = unended_nil;
-  sound = ap (are_sound arch) ended_nil;
-  cycles_are = ap (cycles_of arch) (sym ended_nil);
+  sound = ap (are_sound form) ended_nil;
+  cycles_are = ap (cycles_of form) (sym ended_nil);
   line_is = ap (λ ls. length ls + 1) (sym ended_nil);
   taken_is = refl;
   few = omega arith;
 }
 
 -- soundness and cycles of lines one after another
-sound_both : (arch : ArchName) (xs ys : List (List ℕ)) → are_sound arch xs ≡ true → are_sound arch ys ≡ true → are_sound arch (xs ++ ys) ≡ true
-sound_both arch xs ys h k = list_all-append (is_sound arch) xs ys ∙ rw (h, k) refl
+sound_both : (form : LineForm) (xs ys : List (List ℕ)) → are_sound form xs ≡ true → are_sound form ys ≡ true → are_sound form (xs ++ ys) ≡ true
+sound_both form xs ys h k = list_all-append (is_sound form) xs ys ∙ rw (h, k) refl
 
-cycles_both : (arch : ArchName) (xs ys : List (List ℕ)) → cycles_of arch (xs ++ ys) ≡ cycles_of arch xs ++ cycles_of arch ys
-cycles_both arch xs ys = flat_map-append (λ line. cycle_said (line_said arch line)) xs ys
+cycles_both : (form : LineForm) (xs ys : List (List ℕ)) → cycles_of form (xs ++ ys) ≡ cycles_of form xs ++ cycles_of form ys
+cycles_both form xs ys = flat_map-append (λ line. cycle_said (line_said form line)) xs ys
 
-one_sound : (arch : ArchName) (line : List ℕ) (said : Option (List Edge)) → Ok said ≡ line_said arch line → are_sound arch (line ∷ []) ≡ true
-one_sound arch line said e = rw (sym e) refl
+one_sound : (form : LineForm) (line : List ℕ) (said : Option (List Edge)) → Ok said ≡ line_said form line → are_sound form (line ∷ []) ≡ true
+one_sound form line said e = rw (sym e) refl
 
 last_said : (said : Option (List Edge)) → cycle_said (Ok said) ++ [] ≡ last_cycle said
 last_said None = refl
 last_said (Some c) = refl
 
-one_cycle : (arch : ArchName) (line : List ℕ) (said : Option (List Edge)) → Ok said ≡ line_said arch line → cycles_of arch (line ∷ []) ≡ last_cycle said
-one_cycle arch line said e = rw (sym e) (last_said said)
+one_cycle : (form : LineForm) (line : List ℕ) (said : Option (List Edge)) → Ok said ≡ line_said form line → cycles_of form (line ∷ []) ≡ last_cycle said
+one_cycle form line said e = rw (sym e) (last_said said)
 
-one_fault : (arch : ArchName) (line : List ℕ) (kind : LineKind) → Err kind ≡ line_said arch line → line_fault arch line ≡ Some kind
-one_fault arch line kind e = ap result_err (sym e)
+one_fault : (form : LineForm) (line : List ℕ) (kind : LineKind) → Err kind ≡ line_said form line → line_fault form line ≡ Some kind
+one_fault form line kind e = ap result_err (sym e)
 
 -- a line that was given, without an error
-pub line_given : (arch : ArchName) (s t : SourceSeen) (r q : ReaderSeen) (cycles : List (List Edge)) (said : Option (List Edge)) →
-    HasRead arch s t r cycles → GivesLine arch r q (Ok said) → HasRead arch s t q (cycles ++ last_cycle said)
-line_given arch s t r q cycles said h g =
+pub line_given : (form : LineForm) (s t : SourceSeen) (r q : ReaderSeen) (cycles : List (List Edge)) (said : Option (List Edge)) →
+    HasRead form s t r cycles → GivesLine form r q (Ok said) → HasRead form s t q (cycles ++ last_cycle said)
+line_given form s t r q cycles said h g =
     let line = without_return g.bytes in
     let ended_line : ended_lines (g.bytes ++ 10 ∷ []) ≡ line ∷ [] = ended_cut g.bytes [] g.cut.without ∙ ap (λ t. line ∷ t) ended_nil in
     let ended_is : ended_lines (h.given ++ (g.bytes ++ 10 ∷ [])) ≡ ended_lines h.given ++ line ∷ [] =
@@ -130,22 +131,22 @@ line_given arch s t r q cycles said h g =
       took = subst (TookUpTo s t) bytes_are h.took;
       no_fault = h.no_fault;
       ended = unended_after h.given (g.bytes ++ 10 ∷ []) h.ended ∙ unended_cut g.bytes [] g.cut.without ∙ unended_nil;
-      sound = ap (are_sound arch) ended_is ∙ sound_both arch (ended_lines h.given) (line ∷ []) h.sound (one_sound arch line said g.says);
+      sound = ap (are_sound form) ended_is ∙ sound_both form (ended_lines h.given) (line ∷ []) h.sound (one_sound form line said g.says);
       cycles_are =
-          ap (λ t. t ++ last_cycle said) h.cycles_are ∙ ap (λ t. cycles_of arch (ended_lines h.given) ++ t) (sym (one_cycle arch line said g.says))
-          ∙ sym (cycles_both arch (ended_lines h.given) (line ∷ [])) ∙ ap (cycles_of arch) (sym ended_is);
+          ap (λ t. t ++ last_cycle said) h.cycles_are ∙ ap (λ t. cycles_of form (ended_lines h.given) ++ t) (sym (one_cycle form line said g.says))
+          ∙ sym (cycles_both form (ended_lines h.given) (line ∷ [])) ∙ ap (cycles_of form) (sym ended_is);
       line_is = let e = ap length ended_is in let f = length-append (ended_lines h.given) (line ∷ []) in omega (arith, e, f, g.line_is, h.line_is);
       taken_is = g.taken_is ∙ h.taken_is ∙ ap length bytes_are;
       few = subst (λ n. n ≤ MAX_INPUT) (sym g.taken_is) h.few;
     }
 
-took_pending : (arch : ArchName) (s t : SourceSeen) (r : ReaderSeen) (cycles : List (List Edge)) (h : HasRead arch s t r cycles) → 0 < length r.pending → Took s t (h.given ++ r.pending)
-took_pending arch s t r cycles h some = took_some s t (h.given ++ r.pending) h.took (omega (arith, some, length-append h.given r.pending))
+took_pending : (form : LineForm) (s t : SourceSeen) (r : ReaderSeen) (cycles : List (List Edge)) (h : HasRead form s t r cycles) → 0 < length r.pending → Took s t (h.given ++ r.pending)
+took_pending form s t r cycles h some = took_some s t (h.given ++ r.pending) h.took (omega (arith, some, length-append h.given r.pending))
 
 -- lines before an error
-fault_first : (arch : ArchName) (s t : SourceSeen) (r : ReaderSeen) (cycles : List (List Edge)) (line : List ℕ) (later : List (List ℕ)) (kind : LineKind) (h : HasRead arch s t r cycles) →
-    Took s t (h.given ++ r.pending) → lines_of (r.pending ++ unwrap_or t.left []) ≡ line ∷ later → line_fault arch line ≡ Some kind → ReadToFault arch s t cycles r.line kind
-fault_first arch s t r cycles line later kind h took e f = record {
+fault_first : (form : LineForm) (s t : SourceSeen) (r : ReaderSeen) (cycles : List (List Edge)) (line : List ℕ) (later : List (List ℕ)) (kind : LineKind) (h : HasRead form s t r cycles) →
+    Took s t (h.given ++ r.pending) → lines_of (r.pending ++ unwrap_or t.left []) ≡ line ∷ later → line_fault form line ≡ Some kind → ReadToFault form s t cycles r.line kind
+fault_first form s t r cycles line later kind h took e f = record {
   text = h.given ++ r.pending;
   before = ended_lines h.given;
   took = took;
@@ -165,20 +166,20 @@ fault_first arch s t r cycles line later kind h took e f = record {
 }
 
 -- a line that was given has an error
-pub fault_given : (arch : ArchName) (s t : SourceSeen) (r q : ReaderSeen) (cycles : List (List Edge)) (line : ℕ) (kind : LineKind) →
-    HasRead arch s t r cycles → GivesLine arch r q (Err kind) → line ≡ r.line → ReadToFault arch s t cycles line kind
-fault_given arch s t r q cycles line kind h g e =
+pub fault_given : (form : LineForm) (s t : SourceSeen) (r q : ReaderSeen) (cycles : List (List Edge)) (line : ℕ) (kind : LineKind) →
+    HasRead form s t r cycles → GivesLine form r q (Err kind) → line ≡ r.line → ReadToFault form s t cycles line kind
+fault_given form s t r q cycles line kind h g e =
     let number : r.line ≡ line = sym e in
     let some : 0 < length r.pending = omega (arith, ap length g.cut.parts, length-append g.bytes (10 ∷ q.pending)) in
-    subst (λ n. ReadToFault arch s t cycles n kind) number
-    (fault_first arch s t r cycles (without_return g.bytes) (lines_of (q.pending ++ unwrap_or t.left [])) kind h (took_pending arch s t r cycles h some)
+    subst (λ n. ReadToFault form s t cycles n kind) number
+    (fault_first form s t r cycles (without_return g.bytes) (lines_of (q.pending ++ unwrap_or t.left [])) kind h (took_pending form s t r cycles h some)
     (ap (λ b. lines_of (b ++ unwrap_or t.left [])) g.cut.parts ∙ ap lines_of (append_assoc g.bytes (10 ∷ q.pending) (unwrap_or t.left []))
     ∙ lines_cut g.bytes (q.pending ++ unwrap_or t.left []) g.cut.without)
-    (one_fault arch (without_return g.bytes) kind g.says))
+    (one_fault form (without_return g.bytes) kind g.says))
 
-long_fault : (arch : ArchName) (line : List ℕ) → is_long_line line ≡ true → line_fault arch line ≡ Some LineTooLong
+long_fault : (form : LineForm) (line : List ℕ) → is_long_line line ≡ true → line_fault form line ≡ Some LineTooLong
 unfolding line_said
-long_fault arch line h = rw h refl
+long_fault form line h = rw h refl
 
 some_long : (text : List ℕ) → is_long_line (without_return text) ≡ true → 0 < length text
 unfolding without_return
@@ -186,11 +187,11 @@ some_long [] h = cc h
 some_long (b ∷ text) h = omega arith
 
 -- a line that goes on is too long already
-pub long_given : (arch : ArchName) (s t : SourceSeen) (r : ReaderSeen) (cycles : List (List Edge)) →
-    HasRead arch s t r cycles → Without 10 r.pending → is_long_line (without_return r.pending) ≡ true → ReadToFault arch s t cycles r.line LineTooLong
-long_given arch s t r cycles h one long =
+pub long_given : (form : LineForm) (s t : SourceSeen) (r : ReaderSeen) (cycles : List (List Edge)) →
+    HasRead form s t r cycles → Without 10 r.pending → is_long_line (without_return r.pending) ≡ true → ReadToFault form s t cycles r.line LineTooLong
+long_given form s t r cycles h one long =
     let first = long_first r.pending (unwrap_or t.left []) one long in
-    fault_first arch s t r cycles first.line first.later LineTooLong h (took_pending arch s t r cycles h (some_long r.pending long)) first.is (long_fault arch first.line first.long)
+    fault_first form s t r cycles first.line first.later LineTooLong h (took_pending form s t r cycles h (some_long r.pending long)) first.is (long_fault form first.line first.long)
 
 -- how many bytes of a buffer are pending, where they are a line that isn't too long
 pub short_count : (buffer pending : List ℕ) (start end : ℕ) → take (end - start) (drop start buffer) ≡ pending → start ≤ end → end ≤ length buffer →
@@ -219,29 +220,29 @@ fills_after s t r q buffer middle room count f inside limit prefix pending line 
     }
 
 -- what has ended is what was given where no line feed is pending
-ended_given : (arch : ArchName) (s t : SourceSeen) (r : ReaderSeen) (cycles : List (List Edge)) (h : HasRead arch s t r cycles) →
+ended_given : (form : LineForm) (s t : SourceSeen) (r : ReaderSeen) (cycles : List (List Edge)) (h : HasRead form s t r cycles) →
     Without 10 r.pending → ended_lines (h.given ++ r.pending) ≡ ended_lines h.given
-ended_given arch s t r cycles h one =
+ended_given form s t r cycles h one =
     ended_after h.given r.pending h.ended ∙ ap (λ ls. ended_lines h.given ++ ls) (ended_none r.pending one) ∙ append-nil (ended_lines h.given)
 
-unended_given : (arch : ArchName) (s t : SourceSeen) (r : ReaderSeen) (cycles : List (List Edge)) (h : HasRead arch s t r cycles) →
+unended_given : (form : LineForm) (s t : SourceSeen) (r : ReaderSeen) (cycles : List (List Edge)) (h : HasRead form s t r cycles) →
     Without 10 r.pending → unended (h.given ++ r.pending) ≡ r.pending
-unended_given arch s t r cycles h one = unended_after h.given r.pending h.ended ∙ unended_all r.pending one
+unended_given form s t r cycles h one = unended_after h.given r.pending h.ended ∙ unended_all r.pending one
 
 -- the source stopped
-pub stopped_there : (arch : ArchName) (s t u : SourceSeen) (r : ReaderSeen) (cycles : List (List Edge)) →
-    HasRead arch s t r cycles → Without 10 r.pending → is_long_line (without_return r.pending) ≡ false → Stops t u → ReadToStop arch s u cycles
-stopped_there arch s t u r cycles h one short stop =
-    let ended = ended_given arch s t r cycles h one in
+pub stopped_there : (form : LineForm) (s t u : SourceSeen) (r : ReaderSeen) (cycles : List (List Edge)) →
+    HasRead form s t r cycles → Without 10 r.pending → is_long_line (without_return r.pending) ≡ false → Stops t u → ReadToStop form s u cycles
+stopped_there form s t u r cycles h one short stop =
+    let ended = ended_given form s t r cycles h one in
     record {
       text = h.given ++ r.pending;
       took = took_stays s t u (h.given ++ r.pending) h.took stop.took;
       few = subst (λ n. n ≤ MAX_INPUT) h.taken_is h.few;
       fault = subst (λ n. Rose n u.faults) h.no_fault stop.fault;
       never_falls = subst (λ n. n ≤ u.faults) h.no_fault stop.never_falls;
-      sound = ap (are_sound arch) ended ∙ h.sound;
-      short = ap (λ b. is_long_line (without_return b)) (unended_given arch s t r cycles h one) ∙ short;
-      cycles_are = h.cycles_are ∙ ap (cycles_of arch) (sym ended);
+      sound = ap (are_sound form) ended ∙ h.sound;
+      short = ap (λ b. is_long_line (without_return b)) (unended_given form s t r cycles h one) ∙ short;
+      cycles_are = h.cycles_are ∙ ap (cycles_of form) (sym ended);
     }
 
 take_prefix : (xs ys : List ℕ) → take (length xs) (xs ++ ys) ≡ xs
@@ -249,46 +250,46 @@ take_prefix [] ys = refl
 take_prefix (x ∷ xs) ys = ap (λ t. x ∷ t) (take_prefix xs ys)
 
 -- one byte more than is read
-pub past_limit : (arch : ArchName) (s t u : SourceSeen) (r : ReaderSeen) (cycles : List (List Edge)) (bytes : List ℕ) →
-    HasRead arch s t r cycles → Without 10 r.pending → is_long_line (without_return r.pending) ≡ false → r.taken ≡ MAX_INPUT →
-    Took t u bytes → 0 < length bytes → u.faults ≡ t.faults → ReadToLimit arch s u cycles r.line
-past_limit arch s t u r cycles bytes h one short full took some no_fault =
+pub past_limit : (form : LineForm) (s t u : SourceSeen) (r : ReaderSeen) (cycles : List (List Edge)) (bytes : List ℕ) →
+    HasRead form s t r cycles → Without 10 r.pending → is_long_line (without_return r.pending) ≡ false → r.taken ≡ MAX_INPUT →
+    Took t u bytes → 0 < length bytes → u.faults ≡ t.faults → ReadToLimit form s u cycles r.line
+past_limit form s t u r cycles bytes h one short full took some no_fault =
     let text = h.given ++ r.pending in
     let size : length text ≡ MAX_INPUT = sym h.taken_is ∙ full in
     let prefix : take MAX_INPUT (text ++ bytes) ≡ text = ap (λ n. take n (text ++ bytes)) (sym size) ∙ take_prefix text bytes in
-    let ended = ended_given arch s t r cycles h one in
+    let ended = ended_given form s t r cycles h one in
     record {
       text = text ++ bytes;
       took = took_then s t u text bytes h.took took;
       many = omega (arith, size, some, length-append text bytes);
       no_fault = no_fault ∙ h.no_fault;
-      sound = ap (λ b. are_sound arch (ended_lines b)) prefix ∙ ap (are_sound arch) ended ∙ h.sound;
-      short = ap (λ b. is_long_line (without_return (unended b))) prefix ∙ ap (λ b. is_long_line (without_return b)) (unended_given arch s t r cycles h one) ∙ short;
+      sound = ap (λ b. are_sound form (ended_lines b)) prefix ∙ ap (are_sound form) ended ∙ h.sound;
+      short = ap (λ b. is_long_line (without_return (unended b))) prefix ∙ ap (λ b. is_long_line (without_return b)) (unended_given form s t r cycles h one) ∙ short;
       line_is = h.line_is ∙ ap (λ ls. length ls + 1) (sym ended) ∙ ap (λ n. n + 1) (ended_count text) ∙ ap (λ b. line_feed_count b + 1) (sym prefix);
-      cycles_are = h.cycles_are ∙ ap (cycles_of arch) (sym ended) ∙ ap (λ b. cycles_of arch (ended_lines b)) (sym prefix);
+      cycles_are = h.cycles_are ∙ ap (cycles_of form) (sym ended) ∙ ap (λ b. cycles_of form (ended_lines b)) (sym prefix);
     }
 
 -- the end of the source
-lines_at_end : (arch : ArchName) (s t : SourceSeen) (r : ReaderSeen) (cycles : List (List Edge)) (h : HasRead arch s t r cycles) →
+lines_at_end : (form : LineForm) (s t : SourceSeen) (r : ReaderSeen) (cycles : List (List Edge)) (h : HasRead form s t r cycles) →
     Without 10 r.pending → lines_of (h.given ++ r.pending) ≡ ended_lines h.given ++ last_line r.pending
-lines_at_end arch s t r cycles h one =
+lines_at_end form s t r cycles h one =
     lines_after h.given r.pending h.ended ∙ ap (λ ls. ended_lines h.given ++ ls) (ap (λ ls. ls ++ last_line (unended r.pending)) (ended_none r.pending one) ∙ ap last_line (unended_all r.pending one))
 
-all_read : (arch : ArchName) (s t : SourceSeen) (r : ReaderSeen) (cycles more : List (List Edge)) →
-    HasRead arch s t r cycles → Without 10 r.pending → Ended t → are_sound arch (last_line r.pending) ≡ true → more ≡ cycles_of arch (last_line r.pending) →
-    ReadAll arch s t (cycles ++ more)
-all_read arch s t r cycles more h one at_end sound e =
-    let lines = lines_at_end arch s t r cycles h one in
+all_read : (form : LineForm) (s t : SourceSeen) (r : ReaderSeen) (cycles more : List (List Edge)) →
+    HasRead form s t r cycles → Without 10 r.pending → Ended t → are_sound form (last_line r.pending) ≡ true → more ≡ cycles_of form (last_line r.pending) →
+    ReadAll form s t (cycles ++ more)
+all_read form s t r cycles more h one at_end sound e =
+    let lines = lines_at_end form s t r cycles h one in
     record {
       text = h.given ++ r.pending;
       took = took_counted s t (h.given ++ r.pending) h.took at_end.counted;
       at_end = at_end.at_end;
       few = subst (λ n. n ≤ MAX_INPUT) h.taken_is h.few;
       no_fault = h.no_fault;
-      sound = ap (are_sound arch) lines ∙ sound_both arch (ended_lines h.given) (last_line r.pending) h.sound sound;
+      sound = ap (are_sound form) lines ∙ sound_both form (ended_lines h.given) (last_line r.pending) h.sound sound;
       cycles_are =
-          ap (λ cs. cs ++ more) h.cycles_are ∙ ap (λ cs. cycles_of arch (ended_lines h.given) ++ cs) e
-          ∙ sym (cycles_both arch (ended_lines h.given) (last_line r.pending)) ∙ ap (cycles_of arch) (sym lines);
+          ap (λ cs. cs ++ more) h.cycles_are ∙ ap (λ cs. cycles_of form (ended_lines h.given) ++ cs) e
+          ∙ sym (cycles_both form (ended_lines h.given) (last_line r.pending)) ∙ ap (cycles_of form) (sym lines);
     }
 
 some_last : (text : List ℕ) → 0 < length text → last_line text ≡ text ∷ []
@@ -296,42 +297,42 @@ some_last [] h = absurd (omega arith)
 some_last (b ∷ text) h = refl
 
 -- with one that says a cycle, or nothing
-pub said_last : (arch : ArchName) (s t : SourceSeen) (r : ReaderSeen) (cycles : List (List Edge)) (said : Option (List Edge)) →
-    HasRead arch s t r cycles → 0 < length r.pending → Ended t → Without 10 r.pending → Ok said ≡ line_said arch r.pending → ReadAll arch s t (cycles ++ last_cycle said)
-said_last arch s t r cycles said h some at_end one e =
+pub said_last : (form : LineForm) (s t : SourceSeen) (r : ReaderSeen) (cycles : List (List Edge)) (said : Option (List Edge)) →
+    HasRead form s t r cycles → 0 < length r.pending → Ended t → Without 10 r.pending → Ok said ≡ line_said form r.pending → ReadAll form s t (cycles ++ last_cycle said)
+said_last form s t r cycles said h some at_end one e =
     let line = some_last r.pending some in
-    all_read arch s t r cycles (last_cycle said) h one at_end
-    (ap (are_sound arch) line ∙ one_sound arch r.pending said e)
-    (sym (ap (cycles_of arch) line ∙ one_cycle arch r.pending said e))
+    all_read form s t r cycles (last_cycle said) h one at_end
+    (ap (are_sound form) line ∙ one_sound form r.pending said e)
+    (sym (ap (cycles_of form) line ∙ one_cycle form r.pending said e))
 
 none_left : (left : Option (List ℕ)) → IsAtEnd left → unwrap_or left [] ≡ []
 none_left None h = refl
 none_left (Some xs) h = h
 
 -- with one that has an error
-pub fault_last : (arch : ArchName) (s t : SourceSeen) (r : ReaderSeen) (cycles : List (List Edge)) (kind : LineKind) →
-    HasRead arch s t r cycles → 0 < length r.pending → Ended t → Without 10 r.pending → Err kind ≡ line_said arch r.pending → ReadToFault arch s t cycles r.line kind
-fault_last arch s t r cycles kind h some at_end one e =
-    fault_first arch s t r cycles r.pending [] kind h
-    (took_pending arch s t r cycles h some)
+pub fault_last : (form : LineForm) (s t : SourceSeen) (r : ReaderSeen) (cycles : List (List Edge)) (kind : LineKind) →
+    HasRead form s t r cycles → 0 < length r.pending → Ended t → Without 10 r.pending → Err kind ≡ line_said form r.pending → ReadToFault form s t cycles r.line kind
+fault_last form s t r cycles kind h some at_end one e =
+    fault_first form s t r cycles r.pending [] kind h
+    (took_pending form s t r cycles h some)
     (ap (λ b. lines_of (r.pending ++ b)) (none_left t.left at_end.at_end) ∙ ap lines_of (append-nil r.pending)
     ∙ ap (λ ls. ls ++ last_line (unended r.pending)) (ended_none r.pending one) ∙ ap last_line (unended_all r.pending one) ∙ some_last r.pending some)
-    (one_fault arch r.pending kind e)
+    (one_fault form r.pending kind e)
 
 -- sound lines come before the first line that has an error
-sound_prefix : (arch : ArchName) (xs ys : List (List ℕ)) → are_sound arch xs ≡ true → take_while (is_sound arch) (xs ++ ys) ≡ xs ++ take_while (is_sound arch) ys
-sound_prefix arch [] ys h = refl
-sound_prefix arch (x ∷ xs) ys h =
-    by_test (is_sound arch x)
-    (λ e. take_while-cons (is_sound arch) x (xs ++ ys) ∙ rw e (ap (λ ls. x ∷ ls) (sound_prefix arch xs ys (rw e at h))))
+sound_prefix : (form : LineForm) (xs ys : List (List ℕ)) → are_sound form xs ≡ true → take_while (is_sound form) (xs ++ ys) ≡ xs ++ take_while (is_sound form) ys
+sound_prefix form [] ys h = refl
+sound_prefix form (x ∷ xs) ys h =
+    by_test (is_sound form x)
+    (λ e. take_while-cons (is_sound form) x (xs ++ ys) ∙ rw e (ap (λ ls. x ∷ ls) (sound_prefix form xs ys (rw e at h))))
     (λ e. let k = rw e at h in absurd (cc))
 
 -- the cycles that were given come before the first error
-pub record Before (arch : ArchName) (s t : SourceSeen) (cycles : List (List Edge)) : Type 0 where
+pub record Before (form : LineForm) (s t : SourceSeen) (cycles : List (List Edge)) : Type 0 where
   pub text : List ℕ
   pub read : ReadSome s t text
   pub more : List (List Edge)
-  pub before : cycles_before arch (whole_of text t) ≡ cycles ++ more
+  pub before : cycles_before form (whole_of text t) ≡ cycles ++ more
 
 -- a list that ends with a cycle isn't empty
 pub no_cycles : (cycles : List (List Edge)) (cycle : List Edge) → cycles ++ cycle ∷ [] ≡ [] → ⊥
@@ -339,39 +340,39 @@ no_cycles [] cycle e = cc e
 no_cycles (c ∷ cycles) cycle e = cc e
 
 -- where a cycle was given, bytes were taken
-took_cycle : (arch : ArchName) (s t : SourceSeen) (r : ReaderSeen) (cycles : List (List Edge)) (h : HasRead arch s t r cycles) → (cycles ≡ [] → ⊥) → Took s t (h.given ++ r.pending)
-took_cycle arch s t r cycles h some = by_given h.given h.cycles_are (took_some s t (h.given ++ r.pending) h.took)
+took_cycle : (form : LineForm) (s t : SourceSeen) (r : ReaderSeen) (cycles : List (List Edge)) (h : HasRead form s t r cycles) → (cycles ≡ [] → ⊥) → Took s t (h.given ++ r.pending)
+took_cycle form s t r cycles h some = by_given h.given h.cycles_are (took_some s t (h.given ++ r.pending) h.took)
   where
-    by_given : (given : List ℕ) → cycles ≡ cycles_of arch (ended_lines given) → (0 < length (given ++ r.pending) → Took s t (h.given ++ r.pending)) → Took s t (h.given ++ r.pending)
-    by_given [] e k = absurd (some (e ∙ ap (cycles_of arch) ended_nil))
+    by_given : (given : List ℕ) → cycles ≡ cycles_of form (ended_lines given) → (0 < length (given ++ r.pending) → Took s t (h.given ++ r.pending)) → Took s t (h.given ++ r.pending)
+    by_given [] e k = absurd (some (e ∙ ap (cycles_of form) ended_nil))
     by_given (b ∷ given) e k = k (omega arith)
 
 -- the cycles that were given, if there are any, come before the first error of the source
-pub given_before : (arch : ArchName) (s t : SourceSeen) (r : ReaderSeen) (cycles : List (List Edge)) → HasRead arch s t r cycles → (cycles ≡ [] → ⊥) → Before arch s t cycles
-given_before arch s t r cycles h some =
+pub given_before : (form : LineForm) (s t : SourceSeen) (r : ReaderSeen) (cycles : List (List Edge)) → HasRead form s t r cycles → (cycles ≡ [] → ⊥) → Before form s t cycles
+given_before form s t r cycles h some =
     let later = lines_of (r.pending ++ unwrap_or t.left []) in
     record {
       text = h.given ++ r.pending;
-      read = record { took = took_cycle arch s t r cycles h some; few = subst (λ n. n ≤ MAX_INPUT) h.taken_is h.few; no_fault = h.no_fault };
-      more = cycles_of arch (take_while (is_sound arch) later);
+      read = record { took = took_cycle form s t r cycles h some; few = subst (λ n. n ≤ MAX_INPUT) h.taken_is h.few; no_fault = h.no_fault };
+      more = cycles_of form (take_while (is_sound form) later);
       before =
-          ap (λ b. cycles_before arch b) (append_assoc h.given r.pending (unwrap_or t.left []))
-          ∙ ap (λ ls. cycles_of arch (take_while (is_sound arch) ls)) (lines_after h.given (r.pending ++ unwrap_or t.left []) h.ended)
-          ∙ ap (cycles_of arch) (sound_prefix arch (ended_lines h.given) later h.sound)
-          ∙ cycles_both arch (ended_lines h.given) (take_while (is_sound arch) later)
-          ∙ ap (λ cs. cs ++ cycles_of arch (take_while (is_sound arch) later)) (sym h.cycles_are);
+          ap (λ b. cycles_before form b) (append_assoc h.given r.pending (unwrap_or t.left []))
+          ∙ ap (λ ls. cycles_of form (take_while (is_sound form) ls)) (lines_after h.given (r.pending ++ unwrap_or t.left []) h.ended)
+          ∙ ap (cycles_of form) (sound_prefix form (ended_lines h.given) later h.sound)
+          ∙ cycles_both form (ended_lines h.given) (take_while (is_sound form) later)
+          ∙ ap (λ cs. cs ++ cycles_of form (take_while (is_sound form) later)) (sym h.cycles_are);
     }
 
 -- the cycles of a source without an error come before its first error
-pub all_before : (arch : ArchName) (s t : SourceSeen) (cycles : List (List Edge)) → ReadAll arch s t cycles → Before arch s t cycles
-all_before arch s t cycles h = record {
+pub all_before : (form : LineForm) (s t : SourceSeen) (cycles : List (List Edge)) → ReadAll form s t cycles → Before form s t cycles
+all_before form s t cycles h = record {
   text = h.text;
   read = record { took = h.took; few = h.few; no_fault = h.no_fault };
   more = [];
   before =
-      ap (λ b. cycles_before arch (h.text ++ b)) (none_left t.left h.at_end) ∙ ap (cycles_before arch) (append-nil h.text)
-      ∙ ap (λ ls. cycles_of arch (take_while (is_sound arch) ls)) (sym (append-nil (lines_of h.text)))
-      ∙ ap (cycles_of arch) (sound_prefix arch (lines_of h.text) [] h.sound) ∙ ap (cycles_of arch) (append-nil (lines_of h.text))
+      ap (λ b. cycles_before form (h.text ++ b)) (none_left t.left h.at_end) ∙ ap (cycles_before form) (append-nil h.text)
+      ∙ ap (λ ls. cycles_of form (take_while (is_sound form) ls)) (sym (append-nil (lines_of h.text)))
+      ∙ ap (cycles_of form) (sound_prefix form (lines_of h.text) [] h.sound) ∙ ap (cycles_of form) (append-nil (lines_of h.text))
       ∙ sym h.cycles_are ∙ sym (append-nil cycles);
 }
 
@@ -405,13 +406,13 @@ buffer_left buffer pending bytes later start end next e cut n =
     ∙ sym (drop_take (drop start buffer) (length bytes + 1) (end - start)) ∙ ap (drop (length bytes + 1)) (sym e) ∙ after_is
 
 -- a line that was given is the next line
-pub given_next : (arch : ArchName) (r q : ReaderSeen) (cycle : Option (List Edge)) (line : Line) (said : Result (Option (List Edge)) LineKind) → line_said_by line cycle ≡ Some said → GivesLine arch r q said → GivesNext arch r q cycle line
-given_next arch r q cycle line said e h = subst (λ o. MatchOption o (Without 10 r.pending × (q ≡ r)) (λ said. GivesLine arch r q said)) (sym e) h
+pub given_next : (form : LineForm) (r q : ReaderSeen) (cycle : Option (List Edge)) (line : Line) (said : Result (Option (List Edge)) LineKind) → line_said_by line cycle ≡ Some said → GivesLine form r q said → GivesNext form r q cycle line
+given_next form r q cycle line said e h = subst (λ o. MatchOption o (Without 10 r.pending × (q ≡ r)) (λ said. GivesLine form r q said)) (sym e) h
 
 -- the line that is cut off the pending bytes is given
-pub given_line : (arch : ArchName) (r q : ReaderSeen) (bytes later : List ℕ) (said : Result (Option (List Edge)) LineKind) → CutsAtSign 10 r.pending bytes later → q.pending ≡ later →
-    said ≡ line_said arch (without_return bytes) → q.line ≡ r.line + 1 → q.taken ≡ r.taken → GivesLine arch r q said
-given_line arch r q bytes later said cut e says line taken = record { bytes = bytes; cut = subst (CutsAtSign 10 r.pending bytes) (sym e) cut; says = says; line_is = line; taken_is = taken }
+pub given_line : (form : LineForm) (r q : ReaderSeen) (bytes later : List ℕ) (said : Result (Option (List Edge)) LineKind) → CutsAtSign 10 r.pending bytes later → q.pending ≡ later →
+    said ≡ line_said form (without_return bytes) → q.line ≡ r.line + 1 → q.taken ≡ r.taken → GivesLine form r q said
+given_line form r q bytes later said cut e says line taken = record { bytes = bytes; cut = subst (CutsAtSign 10 r.pending bytes) (sym e) cut; says = says; line_is = line; taken_is = taken }
 
 -- a text that was read is not empty
 pub some_read : (buffer : List ℕ) (count : ℕ) → (count ≡ 0 → ⊥) → length buffer ≡ 1 → 0 < length (take count buffer)
@@ -437,9 +438,9 @@ ends_less old new (Ok Last) h = tt
 ends_less old new (Err error) h = tt
 
 -- what was found, by its cases
-pub found_next : (arch : ArchName) (s t : SourceSeen) (r : ReaderSeen) (cycles : List (List Edge)) (cycle : Option (List Edge)) (found : Found) → found ≡ Next → Continues arch s t r cycles cycle (Ok found) → HasRead arch s t r (cycles ++ last_cycle cycle)
-found_next arch s t r cycles cycle found e h = subst (λ f. Continues arch s t r cycles cycle (Ok f)) e h
+pub found_next : (form : LineForm) (s t : SourceSeen) (r : ReaderSeen) (cycles : List (List Edge)) (cycle : Option (List Edge)) (found : Found) → found ≡ Next → Continues form s t r cycles cycle (Ok found) → HasRead form s t r (cycles ++ last_cycle cycle)
+found_next form s t r cycles cycle found e h = subst (λ f. Continues form s t r cycles cycle (Ok f)) e h
 
 -- where the last line was found, the source was read to its end
-pub found_last : (arch : ArchName) (s t : SourceSeen) (r : ReaderSeen) (cycles : List (List Edge)) (cycle : Option (List Edge)) (found : Found) → found ≡ Last → Continues arch s t r cycles cycle (Ok found) → ReadAll arch s t (cycles ++ last_cycle cycle)
-found_last arch s t r cycles cycle found e h = subst (λ f. Continues arch s t r cycles cycle (Ok f)) e h
+pub found_last : (form : LineForm) (s t : SourceSeen) (r : ReaderSeen) (cycles : List (List Edge)) (cycle : Option (List Edge)) (found : Found) → found ≡ Last → Continues form s t r cycles cycle (Ok found) → ReadAll form s t (cycles ++ last_cycle cycle)
+found_last form s t r cycles cycle found e h = subst (λ f. Continues form s t r cycles cycle (Ok f)) e h

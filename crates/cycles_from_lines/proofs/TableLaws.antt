@@ -11,6 +11,7 @@ use Rattle.diy_io.specs.PageLaws.{sent_nothing, sent_same, sent_both, sent_part,
 use Rattle.relax_edges.specs.{declared.kinds.ArchName.ArchName, declared.edge.Edge.Edge}
 use Rattle.cycle_names.specs.{declared.family.Family.Family, Families.{all_families, family_word}, CycleNames.name_of, Rotations.family_of}
 use Rattle.cycle_names.specs.declared.family.Family.TheVariants as families
+use Rattle.cycles_from_lines.specs.declared.line.LineForm.TheVariants.{Edges}
 use Rattle.cycles_from_lines.specs.{declared.names.FamilyNames.FamilyNames, LineReading.ReadAll, KeptNames.names_in_set}
 use Rattle.cycles_from_lines.specs.LineSteps.{ReaderSeen, HasRead, last_cycle}
 use Rattle.cycles_from_lines.specs.Classified.{families_in_order, is_family, with_cycle_name, family_names, name_entry, family_text, families_text, ReadsPart, ClassifiedAll, ClassifiedPart}
@@ -212,26 +213,26 @@ unfolding family_names
 none_held table other e f n = map_push family_view table other ∙ rw (e, f, n) refl
 
 -- a source was read up to where there is no memory
-pub part_read : (arch : ArchName) (s t : SourceSeen) (r : ReaderSeen) (cycles : List (List Edge)) → HasRead arch s t r cycles → ReadsPart s t
+pub part_read : (arch : ArchName) (s t : SourceSeen) (r : ReaderSeen) (cycles : List (List Edge)) → HasRead (Edges arch) s t r cycles → ReadsPart s t
 part_read arch s t r cycles h = record { text = h.given ++ r.pending; took = h.took; few = subst (λ n. n ≤ MAX_INPUT) h.taken_is h.few; no_fault = h.no_fault }
 
 -- a source that was read to its end was read without an error
-pub whole_read : (arch : ArchName) (s t : SourceSeen) (cycles : List (List Edge)) → ReadAll arch s t cycles → ReadsPart s t
+pub whole_read : (arch : ArchName) (s t : SourceSeen) (cycles : List (List Edge)) → ReadAll (Edges arch) s t cycles → ReadsPart s t
 whole_read arch s t cycles h = record { text = h.text; took = inl h.took; few = h.few; no_fault = h.no_fault }
 
 -- the names of the cycles that were given are kept
 pub record Gathering (arch : ArchName) (first now : SourceSeen) (reader : ReaderSeen) (table : List FamilyEntry) : Type 0 where
   pub cycles : List (List Edge)
-  pub read : HasRead arch first now reader cycles
+  pub read : HasRead (Edges arch) first now reader cycles
   pub holds : HoldsCycles table cycles
 
 -- before anything is read, the names of no cycle are gathered
 pub nothing_gathered : (arch : ArchName) (s : SourceSeen) (r : ReaderSeen) (table : List FamilyEntry) → r ≡ record { pending = []; line = 1; taken = 0 } → HoldsCycles table [] → Gathering arch s s r table
-nothing_gathered arch s r table e h = subst (λ r. Gathering arch s s r table) (sym e) (record { cycles = []; read = nothing_read arch s; holds = h })
+nothing_gathered arch s r table e h = subst (λ r. Gathering arch s s r table) (sym e) (record { cycles = []; read = nothing_read (Edges arch) s; holds = h })
 
 -- the last one
 pub gathered_last : (arch : ArchName) (s t : SourceSeen) (cycles : List (List Edge)) (cycle : Option (List Edge)) (old new : List FamilyEntry) →
-    ReadAll arch s t (cycles ++ last_cycle cycle) → HoldsCycles old cycles → AddsLast old new cycle → GatheredFamilies arch s t new
+    ReadAll (Edges arch) s t (cycles ++ last_cycle cycle) → HoldsCycles old cycles → AddsLast old new cycle → GatheredFamilies arch s t new
 gathered_last arch s t cycles cycle old new h held adds = record { cycles = cycles ++ last_cycle cycle; read = h; holds = adds cycles held }
 
 -- no cycle is kept

@@ -6,6 +6,7 @@ use Rattle.diy_io.specs.{declared.source.TheConstants.MAX_INPUT, Taken.SourceSee
 use Rattle.relax_edges.specs.{declared.kinds.ArchName.ArchName, declared.edge.Edge.Edge}
 use Rattle.cycle_names.specs.{declared.family.Family.Family, declared.family.Family.TheVariants.Other, Families.{all_families, family_word}, CycleNames.name_of}
 use Rattle.cycle_names.specs.Rotations.{family_of}
+use Rattle.cycles_from_lines.specs.declared.line.LineForm.TheVariants.{Edges}
 use Rattle.cycles_from_lines.specs.{declared.errors.LinesError.LinesError, declared.errors.ClassifyError.ClassifyError}
 use Rattle.cycles_from_lines.specs.{declared.errors.ClassifyError.TheVariants.{Lines, OutFault, NoMemory}, LineReading.{ReadAll, ReadUpTo, TookUpTo}}
 
@@ -41,19 +42,19 @@ families_text cycles = flat_map (λ f. family_text f (family_names f cycles)) fa
 -- a source was read to its end, and the names of its cycles were written by their families
 pub record ClassifiedAll (arch : ArchName) (old new : SourceSeen) (before after : SinkSeen) : Type 0 where
   pub cycles : List (List Edge)
-  pub read : ReadAll arch old new cycles
+  pub read : ReadAll (Edges arch) old new cycles
   pub wrote : WroteAll before after (families_text cycles)
 
 -- a source was read to its end, and then the sink failed and took a prefix of what was to be written
 pub record ClassifiedPart (arch : ArchName) (old new : SourceSeen) (before after : SinkSeen) : Type 0 where
   pub cycles : List (List Edge)
-  pub read : ReadAll arch old new cycles
+  pub read : ReadAll (Edges arch) old new cycles
   pub wrote : WrotePart before after (families_text cycles)
 
 -- a source wasn't read to its end, for this reason
 pub record ReadsUpTo (arch : ArchName) (old new : SourceSeen) (error : LinesError) : Type 0 where
   pub cycles : List (List Edge)
-  pub read : ReadUpTo arch old new cycles error
+  pub read : ReadUpTo (Edges arch) old new cycles error
 
 -- a part of a source was read, without an error of the source and not beyond the limit
 pub record ReadsPart (old new : SourceSeen) : Type 0 where

@@ -6,8 +6,11 @@ use Rattle.relax_edges.specs.{declared.TheConstants.MAX_EDGES, declared.kinds.Ar
 use Rattle.edges_from_text.specs.{declared.read.Separators.TheVariants.Blanks, Spelled.{separates, text_edges}}
 use Rattle.edge_algebra.specs.{declared.errors.CycleError.CycleError, Compose.composed}
 use Rattle.cycle_names.specs.Laws.{are_of_arch}
-use Rattle.cycles_from_lines.specs.{declared.TheConstants.MAX_CYCLE_LINE, declared.errors.LineKind.LineKind}
-use Rattle.cycles_from_lines.specs.declared.errors.LineKind.TheVariants.{LineTooLong, UnknownEdge, Empty, TooLong, NotOfArch, DoesNotCompose}
+use Rattle.text_parts.specs.Words.{words}
+use Rattle.cycles_from_lines.specs.NamedCycles.{cycle_named}
+use Rattle.cycles_from_lines.specs.{declared.TheConstants.MAX_CYCLE_LINE, declared.errors.LineKind.LineKind, declared.line.LineForm.LineForm}
+use Rattle.cycles_from_lines.specs.declared.line.LineForm.TheVariants.{Edges, Names}
+use Rattle.cycles_from_lines.specs.declared.errors.LineKind.TheVariants.{LineTooLong, UnknownEdge, Empty, TooLong, NotOfArch, DoesNotCompose, UnknownName}
 
 -- a line is too long
 abbrev pub is_long_line : List ℕ → Bool
@@ -53,19 +56,33 @@ abbrev pub quoted_cycle : ArchName → Option (List ℕ) → Option (List Edge)
 quoted_cycle arch None = None
 quoted_cycle arch (Some text) = cycle_spelled arch text
 
+-- the cycle that has a name, or that no cycle has it
+abbrev pub named_made : Option (List Edge) → Result (Option (List Edge)) LineKind
+named_made (Some cycle) = Ok (Some cycle)
+named_made None = Err UnknownName
+
+-- the cycle of an architecture that has the first of some words as its name; nothing if there is no word
+abbrev pub first_named : ArchName → List (List ℕ) → Result (Option (List Edge)) LineKind
+first_named arch [] = Ok None
+first_named arch (name ∷ _) = named_made (cycle_named arch name)
+
+-- what a line says by its form: the cycle of its edges, which come after its label, or the cycle that its first word names
+abbrev pub form_said : LineForm → List ℕ → Result (Option (List Edge)) LineKind
+form_said (Edges arch) line = spelled_made arch (text_edges (without_label line))
+form_said (Names arch) line = first_named arch (words line)
+
 -- what a line of cycles says: its cycle, or nothing if it has only blanks, or the first error that it has
-unfoldable pub line_said : ArchName → List ℕ → Result (Option (List Edge)) LineKind
-line_said arch line =
-    cond (is_long_line line) (Err LineTooLong)
-    (cond (list_all (separates Blanks) line) (Ok None) (spelled_made arch (text_edges (without_label line))))
+unfoldable pub line_said : LineForm → List ℕ → Result (Option (List Edge)) LineKind
+line_said form line =
+    cond (is_long_line line) (Err LineTooLong) (cond (list_all (separates Blanks) line) (Ok None) (form_said form line))
 
 -- the error of a line, if it has one
-abbrev pub line_fault : ArchName → List ℕ → Option LineKind
-line_fault arch line = result_err (line_said arch line)
+abbrev pub line_fault : LineForm → List ℕ → Option LineKind
+line_fault form line = result_err (line_said form line)
 
 -- a line has no error
-abbrev pub is_sound : ArchName → List ℕ → Bool
-is_sound arch line = is_ok (line_said arch line)
+abbrev pub is_sound : LineForm → List ℕ → Bool
+is_sound form line = is_ok (line_said form line)
 
 -- the cycle that was said, if any, as a list
 abbrev pub cycle_said : Result (Option (List Edge)) LineKind → List (List Edge)
@@ -74,18 +91,18 @@ cycle_said (Ok None) = []
 cycle_said (Err _) = []
 
 -- no line has an error
-abbrev pub are_sound : ArchName → List (List ℕ) → Bool
-are_sound arch lines = list_all (is_sound arch) lines
+abbrev pub are_sound : LineForm → List (List ℕ) → Bool
+are_sound form lines = list_all (is_sound form) lines
 
 -- the cycles that lines say, in order
-abbrev pub cycles_of : ArchName → List (List ℕ) → List (List Edge)
-cycles_of arch lines = flat_map (λ line. cycle_said (line_said arch line)) lines
+abbrev pub cycles_of : LineForm → List (List ℕ) → List (List Edge)
+cycles_of form lines = flat_map (λ line. cycle_said (line_said form line)) lines
 
 -- the line with this number, counted from 1, has this error, and is the first that has one; these are the lines before it
-pub record FirstFault (arch : ArchName) (lines before : List (List ℕ)) (number : ℕ) (kind : LineKind) : Type 0 where
+pub record FirstFault (form : LineForm) (lines before : List (List ℕ)) (number : ℕ) (kind : LineKind) : Type 0 where
   pub line : List ℕ
   pub later : List (List ℕ)
   pub parts : lines ≡ before ++ line ∷ later
-  pub sound : are_sound arch before ≡ true
-  pub fault : line_fault arch line ≡ Some kind
+  pub sound : are_sound form before ≡ true
+  pub fault : line_fault form line ≡ Some kind
   pub number_is : number ≡ length before + 1

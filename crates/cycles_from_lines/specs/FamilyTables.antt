@@ -4,6 +4,7 @@ use Rattle.diy_io.specs.Taken.{SourceSeen}
 use Rattle.relax_edges.specs.{declared.kinds.ArchName.ArchName, declared.edge.Edge.Edge}
 use Rattle.cycle_names.specs.declared.family.Family.{Family}
 use Rattle.cycle_names.specs.declared.family.Family.TheVariants as families
+use Rattle.cycles_from_lines.specs.declared.line.LineForm.TheVariants.{Edges}
 use Rattle.cycles_from_lines.specs.{declared.errors.ClassifyError.ClassifyError, declared.errors.ClassifyError.TheVariants.{Lines, OutFault, NoMemory}}
 use Rattle.cycles_from_lines.specs.{declared.names.FamilyNames.FamilyNames, KeptNames.names_in_set, LineReading.ReadAll, LineSteps.last_cycle}
 use Rattle.cycles_from_lines.specs.Classified.{families_in_order, family_names, family_text, with_cycle_name, ReadsUpTo, ReadsPart}
@@ -65,7 +66,7 @@ AddsLast old new cycle = (cycles : List (List Edge)) → HoldsCycles old cycles 
 -- a source was read to its end, and the names of its cycles are kept
 pub record GatheredFamilies (arch : ArchName) (old new : SourceSeen) (table : List FamilyEntry) : Type 0 where
   pub cycles : List (List Edge)
-  pub read : ReadAll arch old new cycles
+  pub read : ReadAll (Edges arch) old new cycles
   pub holds : HoldsCycles table cycles
 
 -- the names of the cycles of a source are kept; or the source wasn't read to its end, or there was no memory

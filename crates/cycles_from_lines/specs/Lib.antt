@@ -7,3 +7,4 @@ pub mod LineSteps
 pub mod Classified
 pub mod KeptNames
 pub mod FamilyTables
+pub mod NamedCycles

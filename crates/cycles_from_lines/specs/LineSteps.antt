@@ -2,7 +2,8 @@
 use Rattle.std.specs.Prelude.{◌≡◌, ◌≤◌, ◌<◌, ◌==◌, ℕ, ◌+◌, ◌-◌, ◌*◌, true, false, List, [], ◌∷◌, ◌++◌, length, take, drop, Option, Some, None, Result, Ok, Err, All, MatchOption}
 use Rattle.std.specs.Io.KnownBytes.{IsAtEnd}
 use Rattle.diy_io.specs.{declared.source.TheConstants.MAX_INPUT, Count.{Rose, last_count}, Taken.{SourceSeen, Took}}
-use Rattle.relax_edges.specs.{declared.kinds.ArchName.ArchName, declared.edge.Edge.Edge}
+use Rattle.relax_edges.specs.declared.edge.Edge.{Edge}
+use Rattle.cycles_from_lines.specs.declared.line.LineForm.{LineForm}
 use Rattle.cycles_from_lines.specs.{declared.errors.LineKind.LineKind, declared.errors.LinesError.LinesError, declared.reader.Line.Line}
 use Rattle.cycles_from_lines.specs.{declared.reader.Found.Found, declared.reader.Found.TheVariants.{Next, Last}, Cycles.{line_said, are_sound, cycles_of}}
 use Rattle.cycles_from_lines.specs.LineReading.{ReadAll, ReadUpTo, TookUpTo, Untouched}
@@ -29,22 +30,22 @@ abbrev pub work : ReaderSeen → ℕ
 work reader = 2 * (MAX_INPUT - reader.taken) + length reader.pending
 
 -- a reader took bytes from a source: lines without an error that were given, whose cycles are these, and then the pending bytes
-pub record HasRead (arch : ArchName) (old new : SourceSeen) (reader : ReaderSeen) (cycles : List (List Edge)) : Type 0 where
+pub record HasRead (form : LineForm) (old new : SourceSeen) (reader : ReaderSeen) (cycles : List (List Edge)) : Type 0 where
   pub given : List ℕ
   pub took : TookUpTo old new (given ++ reader.pending)
   pub no_fault : new.faults ≡ old.faults
   pub ended : unended given ≡ []
-  pub sound : are_sound arch (ended_lines given) ≡ true
-  pub cycles_are : cycles ≡ cycles_of arch (ended_lines given)
+  pub sound : are_sound form (ended_lines given) ≡ true
+  pub cycles_are : cycles ≡ cycles_of form (ended_lines given)
   pub line_is : reader.line ≡ length (ended_lines given) + 1
   pub taken_is : reader.taken ≡ length (given ++ reader.pending)
   pub few : reader.taken ≤ MAX_INPUT
 
 -- a line that ends with a line feed was removed from the pending bytes, and says this
-pub record GivesLine (arch : ArchName) (old new : ReaderSeen) (said : Result (Option (List Edge)) LineKind) : Type 0 where
+pub record GivesLine (form : LineForm) (old new : ReaderSeen) (said : Result (Option (List Edge)) LineKind) : Type 0 where
   pub bytes : List ℕ
   pub cut : CutsAtSign 10 old.pending bytes new.pending
-  pub says : said ≡ line_said arch (without_return bytes)
+  pub says : said ≡ line_said form (without_return bytes)
   pub line_is : new.line ≡ old.line + 1
   pub taken_is : new.taken ≡ old.taken
 
@@ -55,8 +56,8 @@ line_said_by (lines.Wrong kind) cycle = Some (Err kind)
 line_said_by lines.Unended cycle = None
 
 -- the next line was given; or no line feed was pending, and nothing changed
-abbrev pub GivesNext : ArchName → ReaderSeen → ReaderSeen → Option (List Edge) → Line → Type 0
-GivesNext arch old new cycle line = MatchOption (line_said_by line cycle) (Without 10 old.pending × (new ≡ old)) (λ said. GivesLine arch old new said)
+abbrev pub GivesNext : LineForm → ReaderSeen → ReaderSeen → Option (List Edge) → Line → Type 0
+GivesNext form old new cycle line = MatchOption (line_said_by line cycle) (Without 10 old.pending × (new ≡ old)) (λ said. GivesLine form old new said)
 
 -- a source is at its end, as far as it shows that, and its count of bytes doesn't exceed the maximum
 pub record Ended (seen : SourceSeen) : Type 0 where
@@ -95,30 +96,30 @@ last_cycle None = []
 
 -- a line was read, whose cycle is this, and more may follow; or the source was read to its end, and this is the cycle of a last line; or
 -- it wasn't read to its end, for this reason
-abbrev pub Continues : ArchName → SourceSeen → SourceSeen → ReaderSeen → List (List Edge) → Option (List Edge) → Result Found LinesError → Type 0
-Continues arch old new reader cycles cycle (Ok Next) = HasRead arch old new reader (cycles ++ last_cycle cycle)
-Continues arch old new reader cycles cycle (Ok Last) = ReadAll arch old new (cycles ++ last_cycle cycle)
-Continues arch old new reader cycles cycle (Err error) = ReadUpTo arch old new cycles error
+abbrev pub Continues : LineForm → SourceSeen → SourceSeen → ReaderSeen → List (List Edge) → Option (List Edge) → Result Found LinesError → Type 0
+Continues form old new reader cycles cycle (Ok Next) = HasRead form old new reader (cycles ++ last_cycle cycle)
+Continues form old new reader cycles cycle (Ok Last) = ReadAll form old new (cycles ++ last_cycle cycle)
+Continues form old new reader cycles cycle (Err error) = ReadUpTo form old new cycles error
 
 -- a call reads on, whatever was read before
-abbrev pub ReadsOn : ArchName → SourceSeen → SourceSeen → ReaderSeen → ReaderSeen → Option (List Edge) → Result Found LinesError → Type 0
-ReadsOn arch old new before after cycle result =
-    (first : SourceSeen) (cycles : List (List Edge)) → HasRead arch first old before cycles → Continues arch first new after cycles cycle result
+abbrev pub ReadsOn : LineForm → SourceSeen → SourceSeen → ReaderSeen → ReaderSeen → Option (List Edge) → Result Found LinesError → Type 0
+ReadsOn form old new before after cycle result =
+    (first : SourceSeen) (cycles : List (List Edge)) → HasRead form first old before cycles → Continues form first new after cycles cycle result
 
 -- a source was read to its end, and this is the cycle of its last line, if it has one; or it wasn't, for this reason
-abbrev pub ReadToEnd : ArchName → SourceSeen → SourceSeen → List (List Edge) → Option (List Edge) → Result (Unit {0}) LinesError → Type 0
-ReadToEnd arch old new cycles cycle (Ok _) = ReadAll arch old new (cycles ++ last_cycle cycle)
-ReadToEnd arch old new cycles cycle (Err error) = ReadUpTo arch old new cycles error
+abbrev pub ReadToEnd : LineForm → SourceSeen → SourceSeen → List (List Edge) → Option (List Edge) → Result (Unit {0}) LinesError → Type 0
+ReadToEnd form old new cycles cycle (Ok _) = ReadAll form old new (cycles ++ last_cycle cycle)
+ReadToEnd form old new cycles cycle (Err error) = ReadUpTo form old new cycles error
 
 -- if the source is at its end, a call reads the last line, whatever was read before
-abbrev pub ReadsLast : ArchName → ReaderSeen → Option (List Edge) → Result (Unit {0}) LinesError → Type 0
-ReadsLast arch reader cycle result =
-    (first last : SourceSeen) (cycles : List (List Edge)) → HasRead arch first last reader cycles → Ended last → ReadToEnd arch first last cycles cycle result
+abbrev pub ReadsLast : LineForm → ReaderSeen → Option (List Edge) → Result (Unit {0}) LinesError → Type 0
+ReadsLast form reader cycle result =
+    (first last : SourceSeen) (cycles : List (List Edge)) → HasRead form first last reader cycles → Ended last → ReadToEnd form first last cycles cycle result
 
 -- the same, for a call that returns what it found
-abbrev pub FindsLast : ArchName → ReaderSeen → Option (List Edge) → Result Found LinesError → Type 0
-FindsLast arch reader cycle result =
-    (first last : SourceSeen) (cycles : List (List Edge)) → HasRead arch first last reader cycles → Ended last → Continues arch first last reader cycles cycle result
+abbrev pub FindsLast : LineForm → ReaderSeen → Option (List Edge) → Result Found LinesError → Type 0
+FindsLast form reader cycle result =
+    (first last : SourceSeen) (cycles : List (List Edge)) → HasRead form first last reader cycles → Ended last → Continues form first last reader cycles cycle result
 
 -- the result isn't a line that more may follow
 abbrev pub Ends : Result Found LinesError → Type 0
@@ -127,14 +128,14 @@ Ends (Ok Last) = Unit {0}
 Ends (Err error) = Unit {0}
 
 -- this many more bytes are pending, none only at the end of the source; or the source can't be read on, for this reason
-abbrev pub Refilled : ArchName → SourceSeen → SourceSeen → ReaderSeen → List (List Edge) → Result ℕ LinesError → Type 0
-Refilled arch old new reader cycles (Ok count) = HasRead arch old new reader cycles × (count ≡ 0 → Ended new)
-Refilled arch old new reader cycles (Err error) = ReadUpTo arch old new cycles error
+abbrev pub Refilled : LineForm → SourceSeen → SourceSeen → ReaderSeen → List (List Edge) → Result ℕ LinesError → Type 0
+Refilled form old new reader cycles (Ok count) = HasRead form old new reader cycles × (count ≡ 0 → Ended new)
+Refilled form old new reader cycles (Err error) = ReadUpTo form old new cycles error
 
 -- a call refills a reader, or returns why it can't, whatever was read before
 abbrev pub Refills : SourceSeen → SourceSeen → ReaderSeen → ReaderSeen → Result ℕ LinesError → Type 0
 Refills old new before after result =
-    (arch : ArchName) (first : SourceSeen) (cycles : List (List Edge)) → HasRead arch first old before cycles → Refilled arch first new after cycles result
+    (form : LineForm) (first : SourceSeen) (cycles : List (List Edge)) → HasRead form first old before cycles → Refilled form first new after cycles result
 
 -- if a line was found that more may follow, less is still to do
 abbrev pub LessToDo : ℕ → ℕ → Result Found LinesError → Type 0

@@ -2,8 +2,9 @@
 -- Source: own; the lines are those of norm7 of the herdtools suite.
 use Rattle.std.specs.{Prelude.{ℕ, List, [], ◌++◌, codes, Option, Some, None, Result, Ok, Err}, List.{join_by, flat_map}}
 use Rattle.diy_io.specs.{Taken.SourceSeen, Wrote.{SinkSeen, WroteAll, WrotePart}}
-use Rattle.relax_edges.specs.{declared.kinds.ArchName.ArchName, declared.edge.Edge.Edge, WordParts.word_of}
+use Rattle.relax_edges.specs.{declared.edge.Edge.Edge, WordParts.word_of}
 use Rattle.cycle_names.specs.{CycleNames.name_of, Rotations.named_rotation}
+use Rattle.cycles_from_lines.specs.declared.line.LineForm.{LineForm}
 use Rattle.cycles_from_lines.specs.{declared.errors.LinesError.LinesError, declared.errors.NormError.NormError}
 use Rattle.cycles_from_lines.specs.{declared.errors.NormError.TheVariants.{Lines, OutFault}, LineReading.{ReadAll, ReadUpTo, ReadSome, cycles_before, whole_of}}
 
@@ -27,26 +28,26 @@ WritesLast text before after (Err OutFault) = WrotePart before after text
 WritesLast text before after (Err (Lines _)) = ⊥
 
 -- a source was read to its end, and the lines of its cycles were written
-pub record NormedAll (arch : ArchName) (old new : SourceSeen) (before after : SinkSeen) : Type 0 where
+pub record NormedAll (form : LineForm) (old new : SourceSeen) (before after : SinkSeen) : Type 0 where
   pub cycles : List (List Edge)
-  pub read : ReadAll arch old new cycles
+  pub read : ReadAll form old new cycles
   pub wrote : WroteAll before after (name_lines cycles)
 
 -- a source wasn't read to its end, for this reason, and the lines of the cycles before were written
-pub record NormedUpTo (arch : ArchName) (old new : SourceSeen) (before after : SinkSeen) (error : LinesError) : Type 0 where
+pub record NormedUpTo (form : LineForm) (old new : SourceSeen) (before after : SinkSeen) (error : LinesError) : Type 0 where
   pub cycles : List (List Edge)
-  pub read : ReadUpTo arch old new cycles error
+  pub read : ReadUpTo form old new cycles error
   pub wrote : WroteAll before after (name_lines cycles)
 
 -- the sink failed, and took a prefix of the lines of these cycles: those before the first line with an error, in all that the source
 -- had as far as that is shown
-pub record NormedPart (arch : ArchName) (old new : SourceSeen) (before after : SinkSeen) : Type 0 where
+pub record NormedPart (form : LineForm) (old new : SourceSeen) (before after : SinkSeen) : Type 0 where
   pub text : List ℕ
   pub read : ReadSome old new text
-  pub wrote : WrotePart before after (name_lines (cycles_before arch (whole_of text new)))
+  pub wrote : WrotePart before after (name_lines (cycles_before form (whole_of text new)))
 
 -- the lines of all cycles of a source were written; or those before the reason why it wasn't read to its end; or the sink failed
-abbrev pub Norms : ArchName → SourceSeen → SourceSeen → SinkSeen → SinkSeen → Result (Unit {0}) NormError → Type 0
-Norms arch old new before after (Ok _) = NormedAll arch old new before after
-Norms arch old new before after (Err (Lines error)) = NormedUpTo arch old new before after error
-Norms arch old new before after (Err OutFault) = NormedPart arch old new before after
+abbrev pub Norms : LineForm → SourceSeen → SourceSeen → SinkSeen → SinkSeen → Result (Unit {0}) NormError → Type 0
+Norms form old new before after (Ok _) = NormedAll form old new before after
+Norms form old new before after (Err (Lines error)) = NormedUpTo form old new before after error
+Norms form old new before after (Err OutFault) = NormedPart form old new before after

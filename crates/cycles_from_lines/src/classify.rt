@@ -3,6 +3,7 @@ ghost use Rattle.std.specs.Prelude.{OnOk};
 
 use crate::errors::ClassifyError;
 use crate::families::Families;
+use crate::line::LineForm;
 use crate::reader::{Found, LineReader};
 use diy_io::{Failed, NoMemory, Sink, Source};
 use edge_algebra::Cycle;
@@ -10,7 +11,7 @@ use edges_from_text::EdgeList;
 use relax_edges::ArchName;
 use std::alloc::Global;
 
-/// Reads lines of cycles of an architecture, as `norm_lines` does, and then writes for each family
+/// Reads lines of edges of an architecture, as `norm_lines` does, and then writes for each family
 /// that has a cycle, in the order of `Family`, a line of its name and a colon, and the names of its
 /// cycles, each once and after two blanks, in byte order.
 ///
@@ -49,7 +50,7 @@ fn gather<I: Source>(
     let mut edges = EdgeList::new();
     let mut cycle = None;
     loop {
-        match reader.next_found(arch, input, &mut edges, &mut cycle) {
+        match reader.next_found(LineForm::Edges(arch), input, &mut edges, &mut cycle) {
             Ok(Found::Next) => match put_said(&mut families, &cycle) {
                 Ok(()) => {}
                 Err(NoMemory) => return Err(ClassifyError::NoMemory),

@@ -1,7 +1,7 @@
 use thiserror::Error;
 
 /// What is wrong with a line of cycles: the first of these that applies, in this order. All but the
-/// first are about what follows the label.
+/// first and the last are about what follows the label of a line of edges.
 #[derive(Clone, Copy, Debug, Error)]
 pub enum LineKind {
     /// It has more than `MAX_CYCLE_LINE` bytes.
@@ -22,6 +22,9 @@ pub enum LineKind {
     /// The edges don't compose to a cycle.
     #[error("the edges of the line compose to no cycle")]
     DoesNotCompose,
+    /// Its first word, which is to be a name, is that of no cycle of the architecture.
+    #[error("no cycle of the architecture has this name")]
+    UnknownName,
 }
 
 /// Why the lines of a source weren't read to its end.

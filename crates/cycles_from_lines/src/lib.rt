@@ -6,6 +6,7 @@ mod edges;
 mod errors;
 mod families;
 mod line;
+mod named;
 mod names;
 mod norm;
 mod reader;
@@ -15,6 +16,8 @@ pub use classify::classify_lines;
 pub use edges::{cycle_spelled, quoted_cycle};
 pub use errors::{ClassifyError, LineKind, LinesError, NormError};
 pub use families::Families;
+pub use line::LineForm;
+pub use named::{cycle_named, named_cycles_are_found};
 pub use norm::{norm_lines, send_name_line, write_name_line};
 
 /// The most bytes of a line, without its line feed and a carriage return right before that: 4,096.

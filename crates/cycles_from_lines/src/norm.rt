@@ -3,31 +3,31 @@ ghost use Rattle.diy_io.specs.{Page.{Sends}, Wrote.{Wrote}};
 ghost use Rattle.cycles_from_lines.specs.Normed.{name_line, Norms, WritesLast, last_lines};
 
 use crate::errors::{LinesError, NormError};
+use crate::line::LineForm;
 use crate::reader::{Line, LineReader};
 use arrayvec::ArrayString;
 use cycle_names::{MAX_CYCLE_NAME, MAX_NAME_LINE, name_and_words};
 use diy_io::{Failed, Page, Sink, Source};
 use edge_algebra::Cycle;
 use edges_from_text::EdgeList;
-use relax_edges::ArchName;
 
-/// Reads lines of cycles of an architecture, and writes for each cycle the line of its name and its
+/// Reads lines of cycles, and writes for each cycle the line of its name and its
 /// edges, in order. These lines are gathered on a page, and each is at the sink before more of the
 /// input is read. No memory is allocated.
 ///
 /// A line ends with a line feed, and a carriage return right before that is dropped; a last line
-/// without a line feed counts if it isn't empty. A line of only blanks (spaces and tabs) is skipped. In
-/// any other, all up to the first colon is dropped, and the rest is edges with blanks between them.
+/// without a line feed counts if it isn't empty. A line of only blanks (spaces and tabs) is skipped. `LineForm`
+/// says how the cycle of any other is given.
 ///
 /// If a line has an error, if there are more than `MAX_INPUT` bytes, or if the source fails, the lines
 /// of the cycles before that are written. If the sink fails, it has taken a prefix of the lines of the
 /// cycles before the first line with an error, or of all if no line has one.
 pub fn norm_lines<I: Source, O: Sink>(
-    arch: ArchName,
+    form: LineForm,
     input: &mut I,
     out: &mut O,
 ) -> Result<(), NormError>
-    ensures { Norms arch (I.seen input.old) (I.seen input.new) (O.seen out.old) (O.seen out.new) result }
+    ensures { Norms form (I.seen input.old) (I.seen input.new) (O.seen out.old) (O.seen out.new) result }
 {
     let mut reader = LineReader::new();
     let mut page = Page::new();
@@ -37,7 +37,7 @@ pub fn norm_lines<I: Source, O: Sink>(
     let mut cycle = None;
     loop {
         let number = reader.line();
-        match reader.next_line(arch, &mut edges, &mut cycle) {
+        match reader.next_line(form, &mut edges, &mut cycle) {
             Line::Read => match &cycle {
                 Some(cycle) => {
                     match send_name_line(cycle, &mut words, &mut line, &mut page, out) {
@@ -60,7 +60,7 @@ pub fn norm_lines<I: Source, O: Sink>(
                 }
                 match reader.read_more(&page, input) {
                     Ok(0) => {
-                        return match reader.last_line(arch, &mut edges, &mut cycle) {
+                        return match reader.last_line(form, &mut edges, &mut cycle) {
                             Ok(()) => write_last(&cycle, out),
                             Err(error) => Err(NormError::Lines(error)),
                         };

@@ -6,11 +6,10 @@ ghost use Rattle.text_parts.specs.Lines.{without_return};
 
 use crate::MAX_CYCLE_LINE;
 use crate::errors::{LineKind, LinesError};
-use crate::line::read_line;
+use crate::line::{LineForm, read_line};
 use diy_io::{Failed, MAX_INPUT, Page, Source};
 use edge_algebra::Cycle;
 use edges_from_text::EdgeList;
-use relax_edges::ArchName;
 use std::marker::Model;
 use text_parts::{cut, without_return};
 
@@ -87,21 +86,21 @@ impl LineReader {
     /// on. `edges` is space for the edges.
     pub(crate) fn next_found<I: Source>(
         &mut self,
-        arch: ArchName,
+        form: LineForm,
         input: &mut I,
         edges: &mut EdgeList,
         cycle: &mut Option<Cycle>,
     ) -> Result<Found, LinesError>
-        ensures reads { ReadsOn arch (I.seen input.old) (I.seen input.new) self.old self.new cycle.new result }
+        ensures reads { ReadsOn form (I.seen input.old) (I.seen input.new) self.old self.new cycle.new result }
         ensures less { LessToDo (work self.old) (work self.new) result }
     {
         loop {
             let line = self.line;
-            match self.next_line(arch, edges, cycle) {
+            match self.next_line(form, edges, cycle) {
                 Line::Read => return Ok(Found::Next),
                 Line::Wrong(kind) => return Err(LinesError::Wrong { line, kind }),
                 Line::Unended => match self.refill(input) {
-                    Ok(0) => return self.last_found(arch, edges, cycle),
+                    Ok(0) => return self.last_found(form, edges, cycle),
                     Ok(_) => {}
                     Err(error) => return Err(error),
                 },
@@ -128,17 +127,17 @@ impl LineReader {
     /// `edges` is space for the edges.
     pub(crate) fn next_line(
         &mut self,
-        arch: ArchName,
+        form: LineForm,
         edges: &mut EdgeList,
         cycle: &mut Option<Cycle>,
     ) -> Line
-        ensures { GivesNext arch self.old self.new cycle.new result }
+        ensures { GivesNext form self.old self.new cycle.new result }
     {
         let Some((bytes, _)) = cut(b'\n', self.pending_bytes()) else {
             return Line::Unended;
         };
         let length = bytes.len();
-        let line = line_of(read_line(arch, without_return(bytes), edges, cycle));
+        let line = line_of(read_line(form, without_return(bytes), edges, cycle));
         self.start += length + 1;
         self.line += 1;
         line
@@ -147,15 +146,15 @@ impl LineReader {
     /// Sets `cycle` to what the last line says, if there is one, and returns the end.
     fn last_found(
         &self,
-        arch: ArchName,
+        form: LineForm,
         edges: &mut EdgeList,
         cycle: &mut Option<Cycle>,
     ) -> Result<Found, LinesError>
         requires { Without 10 self.now.pending }
-        ensures reads { FindsLast arch self.now cycle.new result }
+        ensures reads { FindsLast form self.now cycle.new result }
         ensures ends { Ends result }
     {
-        match self.last_line(arch, edges, cycle) {
+        match self.last_line(form, edges, cycle) {
             Ok(()) => Ok(Found::Last),
             Err(error) => Err(error),
         }
@@ -165,18 +164,18 @@ impl LineReader {
     /// line. `edges` is space for the edges.
     pub(crate) fn last_line(
         &self,
-        arch: ArchName,
+        form: LineForm,
         edges: &mut EdgeList,
         cycle: &mut Option<Cycle>,
     ) -> Result<(), LinesError>
         requires { Without 10 self.now.pending }
-        ensures { ReadsLast arch self.now cycle.new result }
+        ensures { ReadsLast form self.now cycle.new result }
     {
         if self.pending_bytes().is_empty() {
             *cycle = None;
             return Ok(());
         }
-        match read_line(arch, self.pending_bytes(), edges, cycle) {
+        match read_line(form, self.pending_bytes(), edges, cycle) {
             Ok(()) => Ok(()),
             Err(kind) => Err(LinesError::Wrong {
                 line: self.line,

@@ -4,7 +4,8 @@ use Rattle.std.specs.Prelude.{Result, ◌⊎◌}
 use Rattle.relax_edges.specs.{declared.edge.Edge.Edge, declared.kinds.ArchName.ArchName}
 use Rattle.cycles_from_lines.specs.declared.errors.LinesError.TheVariants as lines
 use Rattle.cycles_from_lines.specs.{declared.errors.NormError.NormError, declared.errors.ClassifyError.ClassifyError, Classified.Classifies}
-use Rattle.cycles_from_lines.specs.Normed.{Norms, name_line}
+use Rattle.cycles_from_lines.specs.{declared.errors.LinesError.LinesError, Normed.{Norms, NormedAll, NormedPart, NormedUpTo, name_line}}
+use Rattle.cycles_from_lines.specs.declared.line.{LineForm.LineForm, LineForm.TheVariants.{Edges, Names}}
 use Rattle.cycles_from_lines.specs.declared.errors.NormError.TheVariants as norms
 use Rattle.cycles_from_lines.specs.declared.errors.ClassifyError.TheVariants as classifies
 use Rattle.tests_from_files.specs.declared.classified_errors.FilesEnd.{FilesEnd}
@@ -17,7 +18,7 @@ use Rattle.diy_io.specs.{Count.{Rose, count_of}, Shelf.ShelfSeen, Taken.SourceSe
 use Rattle.diy_words.specs.{declared.usage.Usage.Usage, declared.usage.UsageKind.TheVariants.UnknownName, declared.request.Demo.Demo}
 use Rattle.diy_words.specs.declared.request.Check.{Check}
 use Rattle.diy_words.specs.declared.request.ExecutionForm.{ExecutionForm}
-use Rattle.diy_words.specs.Requests.{Task, TestTask, WhyTask, ListTask, Sought, asked_of, AsksTest, AsksWhy, AsksCoherence, CoherenceTask, AsksName, AsksList, AsksFamilies, AsksSum, AsksCross, AsksDemo, AsksCheck, AsksExecution, AsksCoherenceExecution, AsksNeeds, AsksLines, OfEdges, OfName, OfLines, CrossTask}
+use Rattle.diy_words.specs.Requests.{Task, TestTask, WhyTask, ListTask, Sought, asked_of, AsksTest, AsksWhy, AsksCoherence, CoherenceTask, AsksName, AsksList, AsksFamilies, AsksSum, AsksCross, AsksDemo, AsksCheck, AsksExecution, AsksCoherenceExecution, AsksNeeds, AsksLines, OfEdges, OfName, OfLines, OfNames, CrossTask}
 use Rattle.tests_to_files.specs.{declared.ending.ListingEnd.ListingEnd, ListingEnds.{StopsAtTest, StopsAtAll}, Plans.{IsPlanned, planned_text}}
 use Rattle.tests_to_files.specs.declared.ending.ListingEnd.TheVariants as listings
 use Rattle.msum7_files.specs.declared.sum_end.SumEnd.{SumEnd}
@@ -25,7 +26,7 @@ use Rattle.msum7_files.specs.declared.sum_end.SumEnd.TheVariants as sums
 use Rattle.program_meaning.specs.Executions.{Execution}
 use Rattle.litmus_text.specs.TestReading.{TestRead}
 use Rattle.two_runs.specs.{IntendedRuns.intended_by, CoherenceRuns.incoherent_by}
-use Rattle.diy_tools.specs.{Devices.{OutAlone, Devices, DevicesSeen, devices}, ExecutionAnswers.{PrintsRun, AnswersRun}, NeedsAnswers.needs_asked}
+use Rattle.diy_tools.specs.{Devices.{OutAlone, InputAndOut, Devices, DevicesSeen, devices}, ExecutionAnswers.{PrintsRun, AnswersRun}, NeedsAnswers.needs_asked}
 use Rattle.diy_tools.specs.{ListAnswers.{AnswersListed, EndsAsked, plan_asked}, ArchMachines.{Machine, machine_of}, Memory.{MayWantMemory, NeverWantsMemory}}
 use Rattle.run_status.specs.{declared.status.Status.Status, declared.status.Device.TheVariants.{Input, Out, Shelf}}
 use Rattle.diy_tools.specs.{Refused.refused_list}
@@ -34,7 +35,7 @@ use Rattle.diy_tools.specs.{TestAnswers.{asked_text, test_name, test_refused}, W
 use Rattle.diy_tools.specs.{CoherenceAnswers.{coherence_refused, incoherent_text}, NameAnswers.{AnswersName, AnswersSought}}
 use Rattle.diy_tools.specs.{FamilyAnswers.{AnswersClassify, EndsFamilies, files_status}, CrossAnswers.{AnswersCross, EndsCrossed}, DemoAnswers.demo_asked}
 use Rattle.diy_tools.specs.{CheckAnswers.{EndsCheck, check_status}, SumAnswers.{EndsInput, EndsSum, sum_status}, Answers.{Answers, AnswersAsked}}
-use Rattle.diy_tools.specs.Causes.{Causes, CausesAsked, RoseFar}
+use Rattle.diy_tools.specs.Causes.{Causes, CausesAsked, Finishes, LinesStop, OutStops, RoseFar}
 use Rattle.test_maker.specs.declared.refusal.Refusal.{Refusal}
 use Rattle.run_status.specs.declared.status.Status.TheVariants as statuses
 use Rattle.run_status.specs.declared.status.TextKind.TheVariants as texts
@@ -188,24 +189,34 @@ module _ (old new : Devices) where
       (λ wrote. record { shelf = shelf; both = (input, record { cycle = found.cycle; named = found.named; prints = wrote }) })
       (λ wrote. (wrote.fault, record { shelf = shelf; both = (input, record { cycle = found.cycle; named = found.named; prints = wrote }) }))
 
-  lines_caused : (words : List (List ℕ)) (arch : ArchName) (result : Result (Unit {0}) NormError) (status : Status) → new.shelf ≡ old.shelf
-      → status ≡ norm_status result → Norms arch old.input new.input old.out new.out result → CausesAsked words (named arch OfLines) status old new
-  lines_caused words arch (Ok x) status shelf e h = of_status words (named arch OfLines) status statuses.Done e (record { shelf = shelf; both = h })
-  lines_caused words arch (Err norms.OutFault) status shelf e h =
-      of_status words (named arch OfLines) status (statuses.WriteFault Out) e (h.wrote.fault, record { shelf = shelf; both = h })
-  lines_caused words arch (Err (norms.Lines (lines.Wrong line kind))) status shelf e h =
-      of_status words (named arch OfLines) status (statuses.BadText None line (texts.Line kind)) e (refl, (refl, record { shelf = shelf; both = h }))
-  lines_caused words arch (Err (norms.Lines (lines.TooMuch line))) status shelf e h =
-      of_status words (named arch OfLines) status (statuses.BadText None line texts.TooMuch) e
-      (rose_far old.input.taken new.input.taken (length h.read.text) h.read.took.counted h.read.many, inl (refl, record { shelf = shelf; both = h }))
-  lines_caused words arch (Err (norms.Lines lines.InputFault)) status shelf e h =
-      of_status words (named arch OfLines) status (statuses.ReadFault Input) e (h.read.fault, inl (refl, record { shelf = shelf; both = h }))
+  -- the input's lines in some form are named
+  lines_caused : (words : List (List ℕ)) (asked : Result Task Usage) (form : LineForm) (result : Result (Unit {0}) NormError) (status : Status)
+      → (InputAndOut (NormedAll form) old new → Finishes words asked old new) → (InputAndOut (NormedPart form) old new → OutStops words asked old new)
+      → ((error : LinesError) → InputAndOut (λ input input' out out'. NormedUpTo form input input' out out' error) old new → LinesStop asked error old new)
+      → new.shelf ≡ old.shelf → status ≡ norm_status result → Norms form old.input new.input old.out new.out result → CausesAsked words asked status old new
+  lines_caused words asked form (Ok x) status all part stop shelf e h = of_status words asked status statuses.Done e (all (record { shelf = shelf; both = h }))
+  lines_caused words asked form (Err norms.OutFault) status all part stop shelf e h =
+      of_status words asked status (statuses.WriteFault Out) e (h.wrote.fault, part (record { shelf = shelf; both = h }))
+  lines_caused words asked form (Err (norms.Lines (lines.Wrong line kind))) status all part stop shelf e h =
+      of_status words asked status (statuses.BadText None line (texts.Line kind)) e (refl, stop (lines.Wrong line kind) (record { shelf = shelf; both = h }))
+  lines_caused words asked form (Err (norms.Lines (lines.TooMuch line))) status all part stop shelf e h =
+      of_status words asked status (statuses.BadText None line texts.TooMuch) e (
+        rose_far old.input.taken new.input.taken (length h.read.text) h.read.took.counted h.read.many,
+        inl (stop (lines.TooMuch line) (record { shelf = shelf; both = h })),
+      )
+  lines_caused words asked form (Err (norms.Lines lines.InputFault)) status all part stop shelf e h =
+      of_status words asked status (statuses.ReadFault Input) e (h.read.fault, inl (stop lines.InputFault (record { shelf = shelf; both = h })))
 
   sought_caused : (words : List (List ℕ)) (arch : ArchName) (cycle : Sought) (status : Status) → new.shelf ≡ old.shelf
       → AnswersSought arch cycle status old.input new.input old.out new.out → CausesAsked words (named arch cycle) status old new
   sought_caused words arch (OfEdges edges) status shelf h = edges_caused words arch edges (refused_list arch edges) status refl h.0 shelf h.1
   sought_caused words arch (OfName at name) status shelf h = name_caused words arch at name status h.0 shelf h.1
-  sought_caused words arch OfLines status shelf h = lines_caused words arch h.result status shelf h.status_is h.norms
+  sought_caused words arch OfLines status shelf h =
+      lines_caused words (named arch OfLines) (Edges arch) h.result status (λ n. record { shelf = n.shelf; both = n.both }) (λ n. record { shelf = n.shelf; both = n.both })
+      (λ error n. n) shelf h.status_is h.norms
+  sought_caused words arch OfNames status shelf h =
+      lines_caused words (named arch OfNames) (Names arch) h.result status (λ n. record { shelf = n.shelf; both = n.both }) (λ n. record { shelf = n.shelf; both = n.both })
+      (λ error n. n) shelf h.status_is h.norms
 
   list_caused : (words : List (List ℕ)) (asked : ListTask) (end : ListingEnd) (status : Status) → new.input ≡ old.input → status ≡ listing_status end
       → EndsAsked asked end old.shelf new.shelf old.out new.out → CausesAsked words (Ok (AsksList asked)) status old new

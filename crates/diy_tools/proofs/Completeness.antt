@@ -4,6 +4,7 @@ use Rattle.std.proofs.{lemmas.Bool.and_parts, lemmas.Option.{slice_get-get_or, s
 use Rattle.std.specs.{Prelude.{Result, ◌⊎◌, MatchOption, map, slice_get, slice_index_or, unwrap_or, is_ok}, List.list_all, Result.result_err}
 use Rattle.std.specs.Io.KnownBytes.{Consumes}
 use Rattle.relax_edges.specs.{declared.edge.Edge.Edge, declared.kinds.ArchName.ArchName}
+use Rattle.cycles_from_lines.specs.declared.line.{LineForm.LineForm, LineForm.TheVariants.{Edges, Names}}
 use Rattle.cycles_from_lines.specs.{declared.errors.LineKind.LineKind, declared.errors.LinesError.LinesError, declared.errors.NormError.NormError}
 use Rattle.cycles_from_lines.specs.{declared.errors.ClassifyError.ClassifyError, Classified.Classifies, Cycles.{is_sound, line_said}, Normed.{Norms, name_line}}
 use Rattle.cycles_from_lines.specs.LineReading.{ReadUpTo, ReadToFault, ReadToLimit, whole_of}
@@ -20,7 +21,7 @@ use Rattle.exec_check.specs.{declared.checked_errors.CheckEnd.CheckEnd, FilesChe
 use Rattle.exec_check.specs.declared.checked_errors.CheckEnd.TheVariants as checking
 use Rattle.diy_words.specs.{declared.usage.Usage.Usage, declared.request.Demo.Demo, declared.request.Check.Check}
 use Rattle.diy_words.specs.declared.request.ExecutionForm.{ExecutionForm}
-use Rattle.diy_words.specs.Requests.{Task, ListTask, Sought, asked_of, AsksTest, AsksWhy, AsksCoherence, WhyTask, AsksName, AsksList, AsksFamilies, AsksSum, AsksCross, AsksDemo, AsksCheck, AsksExecution, AsksCoherenceExecution, AsksNeeds, AsksLines, OfEdges, OfName, OfLines, CrossTask}
+use Rattle.diy_words.specs.Requests.{Task, ListTask, Sought, asked_of, AsksTest, AsksWhy, AsksCoherence, WhyTask, AsksName, AsksList, AsksFamilies, AsksSum, AsksCross, AsksDemo, AsksCheck, AsksExecution, AsksCoherenceExecution, AsksNeeds, AsksLines, OfEdges, OfName, OfLines, OfNames, CrossTask}
 use Rattle.tests_to_files.specs.declared.ending.ListingEnd.{ListingEnd}
 use Rattle.tests_to_files.specs.declared.ending.ListingEnd.TheVariants as listings
 use Rattle.log_sum.specs.{declared.errors.LogError.LogError, Representing.logs_text}
@@ -61,26 +62,26 @@ no_fault (Ok x) kind h e = cc e
 no_fault (Err error) kind h e = cc h
 
 -- a sound text is read to its end, where no error comes
-sound_fault : (arch : ArchName) (old new : SourceSeen) (cycles : List (List Edge)) (line : ℕ) (kind : LineKind)
-    → OfItsText old.left (IsSoundText arch) → ReadToFault arch old new cycles line kind → ⊥
-sound_fault arch old new cycles line kind sound h =
+sound_fault : (form : LineForm) (old new : SourceSeen) (cycles : List (List Edge)) (line : ℕ) (kind : LineKind)
+    → OfItsText old.left (IsSoundText form) → ReadToFault form old new cycles line kind → ⊥
+sound_fault form old new cycles line kind sound h =
     let whole = sound (whole_of h.text new) (whole_can old.left new.left h.text h.took.consumed) in
-    let all : list_all (is_sound arch) (h.before ++ h.first.line ∷ h.first.later) ≡ true =
-    subst (λ (ls : List (List ℕ)). list_all (is_sound arch) ls ≡ true) h.first.parts whole.sound in
-    no_fault (line_said arch h.first.line) kind (all_at (is_sound arch) h.before h.first.line h.first.later all) h.first.fault
+    let all : list_all (is_sound form) (h.before ++ h.first.line ∷ h.first.later) ≡ true =
+    subst (λ (ls : List (List ℕ)). list_all (is_sound form) ls ≡ true) h.first.parts whole.sound in
+    no_fault (line_said form h.first.line) kind (all_at (is_sound form) h.before h.first.line h.first.later all) h.first.fault
 
-sound_limit : (arch : ArchName) (old new : SourceSeen) (cycles : List (List Edge)) (line : ℕ)
-    → OfItsText old.left (IsSoundText arch) → ReadToLimit arch old new cycles line → ⊥
-sound_limit arch old new cycles line sound h =
+sound_limit : (form : LineForm) (old new : SourceSeen) (cycles : List (List Edge)) (line : ℕ)
+    → OfItsText old.left (IsSoundText form) → ReadToLimit form old new cycles line → ⊥
+sound_limit form old new cycles line sound h =
     let few : length (h.text ++ unwrap_or new.left []) ≤ MAX_INPUT = (sound (whole_of h.text new) (whole_can old.left new.left h.text h.took.consumed)).short in
     let many : MAX_INPUT < length h.text = h.many in
     omega (arith, length-append h.text (unwrap_or new.left []))
 
-sound_stop : (arch : ArchName) (old new : SourceSeen) (cycles : List (List Edge)) (error : LinesError)
-    → OfItsText old.left (IsSoundText arch) → (Rose old.faults new.faults → ⊥) → ReadUpTo arch old new cycles error → ⊥
-sound_stop arch old new cycles (lines.Wrong line kind) sound none h = sound_fault arch old new cycles line kind sound h
-sound_stop arch old new cycles (lines.TooMuch line) sound none h = sound_limit arch old new cycles line sound h
-sound_stop arch old new cycles lines.InputFault sound none h = none h.fault
+sound_stop : (form : LineForm) (old new : SourceSeen) (cycles : List (List Edge)) (error : LinesError)
+    → OfItsText old.left (IsSoundText form) → (Rose old.faults new.faults → ⊥) → ReadUpTo form old new cycles error → ⊥
+sound_stop form old new cycles (lines.Wrong line kind) sound none h = sound_fault form old new cycles line kind sound h
+sound_stop form old new cycles (lines.TooMuch line) sound none h = sound_limit form old new cycles line sound h
+sound_stop form old new cycles lines.InputFault sound none h = none h.fault
 
 -- a text is printed whole where standard output doesn't fail
 prints_done : (asked : Result Task Usage) (text : List ℕ) (status : Status) (before after : SinkSeen) → (Rose before.faults after.faults → ⊥)
@@ -93,12 +94,12 @@ edges_done : (asked : Result Task Usage) (refused : Option Refusal) (text : List
 edges_done asked None text status before after none e h = prints_done asked text status before after none h
 edges_done asked (Some refusal) text status before after none e h = cc e
 
-lines_done : (asked : Result Task Usage) (arch : ArchName) (status : Status) (old new : Devices) (result : Result (Unit {0}) NormError) → NoFaults old new
-    → OfItsText old.input.left (IsSoundText arch) → status ≡ norm_status result → Norms arch old.input new.input old.out new.out result → IsDone asked status
-lines_done asked arch status old new (Ok x) none sound e h = inl e
-lines_done asked arch status old new (Err norms.OutFault) none sound e h = absurd (none.out h.wrote.fault)
-lines_done asked arch status old new (Err (norms.Lines error)) none sound e h =
-    absurd (sound_stop arch old.input new.input h.cycles error sound none.input h.read)
+lines_done : (asked : Result Task Usage) (form : LineForm) (status : Status) (old new : Devices) (result : Result (Unit {0}) NormError) → NoFaults old new
+    → OfItsText old.input.left (IsSoundText form) → status ≡ norm_status result → Norms form old.input new.input old.out new.out result → IsDone asked status
+lines_done asked form status old new (Ok x) none sound e h = inl e
+lines_done asked form status old new (Err norms.OutFault) none sound e h = absurd (none.out h.wrote.fault)
+lines_done asked form status old new (Err (norms.Lines error)) none sound e h =
+    absurd (sound_stop form old.input new.input h.cycles error sound none.input h.read)
 
 sought_done : (asked : Result Task Usage) (arch : ArchName) (cycle : Sought) (status : Status) (old new : Devices) → NoFaults old new
     → CanName arch cycle old → AnswersSought arch cycle status old.input new.input old.out new.out → IsDone asked status
@@ -109,7 +110,8 @@ sought_done asked arch (OfName at name) status old new none can h = of_name h.1
     of_name : AnswersName arch at name status old.out new.out → IsDone asked status
     of_name (inl nobody) = absurd (can nobody.0)
     of_name (inr found) = prints_done asked (name_line found.cycle) status old.out new.out none.out found.prints
-sought_done asked arch OfLines status old new none can h = lines_done asked arch status old new h.result none can h.status_is h.norms
+sought_done asked arch OfLines status old new none can h = lines_done asked (Edges arch) status old new h.result none can h.status_is h.norms
+sought_done asked arch OfNames status old new none can h = lines_done asked (Names arch) status old new h.result none can h.status_is h.norms
 
 list_done : (asked : ListTask) (end : ListingEnd) (status : Status) (old new : Devices) → NoFaults old new → status ≡ listing_status end
     → EndsAsked asked end old.shelf new.shelf old.out new.out → IsDone (Ok (AsksList asked)) status
@@ -149,12 +151,12 @@ demo_done asked status before after none h =
     by_print (λ s. IsDone (Ok (AsksDemo asked)) s) (demo_asked asked) status before after h (λ wrote. inl refl) (λ wrote. absurd (none wrote.fault))
 
 families_done : (arch : ArchName) (result : Result (Unit {0}) ClassifyError) (status : Status) (old new : Devices) → NoFaults old new
-    → OfItsText old.input.left (IsSoundText arch) → status ≡ classify_status result
+    → OfItsText old.input.left (IsSoundText (Edges arch)) → status ≡ classify_status result
     → Classifies arch old.input new.input old.out new.out result → IsDone (of_files arch []) status
 families_done arch (Ok x) status old new none sound e h = inl e
 families_done arch (Err classifies.OutFault) status old new none sound e h = absurd (none.out h.wrote.fault)
 families_done arch (Err (classifies.Lines error)) status old new none sound e h =
-    absurd (sound_stop arch old.input new.input h.0.cycles error sound none.input h.0.read)
+    absurd (sound_stop (Edges arch) old.input new.input h.0.cycles error sound none.input h.0.read)
 families_done arch (Err classifies.NoMemory) status old new none sound e h = inr (e, tt)
 
 -- a text that a file has

@@ -5,7 +5,7 @@ use Rattle.diy_tools.proofs.{Causes.of_files, CountedLogs.{IsWithin, files_withi
 use Rattle.relax_edges.specs.{declared.edge.Edge.Edge, declared.kinds.ArchName.ArchName}
 use Rattle.cycles_from_lines.specs.declared.errors.LinesError.TheVariants as lines
 use Rattle.cycles_from_lines.specs.{declared.errors.NormError.NormError, declared.errors.ClassifyError.ClassifyError, Classified.Classifies, Normed.Norms}
-use Rattle.cycles_from_lines.specs.LineReading.{TookUpTo}
+use Rattle.cycles_from_lines.specs.{LineReading.TookUpTo, declared.line.LineForm.LineForm, declared.line.LineForm.TheVariants.{Edges, Names}}
 use Rattle.cycles_from_lines.specs.declared.errors.NormError.TheVariants as norms
 use Rattle.cycles_from_lines.specs.declared.errors.ClassifyError.TheVariants as classifies
 use Rattle.tests_from_files.specs.declared.classified_errors.FilesEnd.{FilesEnd}
@@ -15,7 +15,7 @@ use Rattle.exec_check.specs.{declared.checked_errors.CheckEnd.CheckEnd, CheckedL
 use Rattle.exec_check.specs.declared.checked_errors.CheckEnd.TheVariants as checking
 use Rattle.diy_io.specs.{declared.source.TheConstants.MAX_INPUT, Count.count_of, Shelf.ShelfSeen, Taken.SourceSeen, Wrote.SinkSeen}
 use Rattle.diy_words.specs.{declared.usage.Usage.Usage, declared.request.Check.Check}
-use Rattle.diy_words.specs.Requests.{Task, ListTask, Sought, asked_of, AsksTest, AsksWhy, AsksCoherence, AsksName, AsksList, AsksFamilies, AsksSum, AsksCross, AsksDemo, AsksCheck, AsksExecution, AsksCoherenceExecution, AsksNeeds, AsksLines, CrossTask, OfEdges, OfName, OfLines}
+use Rattle.diy_words.specs.Requests.{Task, ListTask, Sought, asked_of, AsksTest, AsksWhy, AsksCoherence, AsksName, AsksList, AsksFamilies, AsksSum, AsksCross, AsksDemo, AsksCheck, AsksExecution, AsksCoherenceExecution, AsksNeeds, AsksLines, CrossTask, OfEdges, OfName, OfLines, OfNames}
 use Rattle.tests_to_files.specs.{declared.ending.ListingEnd.ListingEnd, ListingEnds.{StopsAtTest, StopsAtAll}, Plans.{IsPlanned, planned_text}}
 use Rattle.tests_to_files.specs.declared.ending.ListingEnd.TheVariants as listings
 use Rattle.msum7_files.specs.{declared.sum_end.SumEnd.SumEnd, SumEnds.InputSummed}
@@ -101,19 +101,21 @@ module _ (old new : Devices) (much : TookTooMuch old new) where
       → status ≡ statuses.BadText file line kind → StopsReading asked status
   wrong asked status file line kind e = subst (λ (s : Status). StopsReading asked s) (sym e) tt
 
+  lines_limit : (asked : Result Task Usage) (form : LineForm) (status : Status) (result : Result (Unit {0}) NormError) → IsWithin old.shelf new.shelf
+      → status ≡ norm_status result → Norms form old.input new.input old.out new.out result → StopsReading asked status
+  lines_limit asked form status (Ok x) shelf e n = absurd (neither (upto_within old.input new.input n.read.text (inl n.read.took) n.read.few) shelf)
+  lines_limit asked form status (Err norms.OutFault) shelf e n = absurd (neither (upto_within old.input new.input n.text (inl n.read.took) n.read.few) shelf)
+  lines_limit asked form status (Err (norms.Lines (lines.Wrong line kind))) shelf e n = wrong asked status None line (texts.Line kind) e
+  lines_limit asked form status (Err (norms.Lines (lines.TooMuch line))) shelf e n = wrong asked status None line texts.TooMuch e
+  lines_limit asked form status (Err (norms.Lines lines.InputFault)) shelf e n =
+      absurd (neither (upto_within old.input new.input n.read.text n.read.took n.read.few) shelf)
+
   sought_limit : (asked : Result Task Usage) (arch : ArchName) (cycle : Sought) (status : Status) → IsWithin old.shelf new.shelf
       → AnswersSought arch cycle status old.input new.input old.out new.out → StopsReading asked status
   sought_limit asked arch (OfEdges edges) status shelf h = absurd (neither (same_input old.input new.input h.0) shelf)
   sought_limit asked arch (OfName at name) status shelf h = absurd (neither (same_input old.input new.input h.0) shelf)
-  sought_limit asked arch OfLines status shelf h = of_result h.result h.status_is h.norms
-    where
-      of_result : (result : Result (Unit {0}) NormError) → status ≡ norm_status result
-          → Norms arch old.input new.input old.out new.out result → StopsReading asked status
-      of_result (Ok x) e n = absurd (neither (upto_within old.input new.input n.read.text (inl n.read.took) n.read.few) shelf)
-      of_result (Err norms.OutFault) e n = absurd (neither (upto_within old.input new.input n.text (inl n.read.took) n.read.few) shelf)
-      of_result (Err (norms.Lines (lines.Wrong line kind))) e n = wrong asked status None line (texts.Line kind) e
-      of_result (Err (norms.Lines (lines.TooMuch line))) e n = wrong asked status None line texts.TooMuch e
-      of_result (Err (norms.Lines lines.InputFault)) e n = absurd (neither (upto_within old.input new.input n.read.text n.read.took n.read.few) shelf)
+  sought_limit asked arch OfLines status shelf h = lines_limit asked (Edges arch) status h.result shelf h.status_is h.norms
+  sought_limit asked arch OfNames status shelf h = lines_limit asked (Names arch) status h.result shelf h.status_is h.norms
 
   families_limit : (arch : ArchName) (result : Result (Unit {0}) ClassifyError) (status : Status)
       → IsWithin old.shelf new.shelf → status ≡ classify_status result

@@ -10,7 +10,7 @@ use Rattle.edges_from_text.specs.{declared.list.EdgeList.EdgeList, declared.list
 use Rattle.cycles_from_lines.specs.Normed.{name_line}
 use Rattle.diy_words.specs.{declared.request.Sought.Sought, declared.usage.Usage.Usage, declared.request.Check.Check}
 use Rattle.diy_words.specs.{declared.request.Norm.Norm, declared.request.Why.Why}
-use Rattle.diy_words.specs.Requests.{Task, AsksName, AsksCheck, OfEdges, OfName, OfLines, asked_of}
+use Rattle.diy_words.specs.Requests.{Task, AsksName, AsksCheck, OfEdges, OfName, OfLines, OfNames, asked_of}
 use Rattle.diy_words.specs.Given.{IsSought, GivesTask}
 use Rattle.diycross7_cycles.specs.ComposedLaws.{composed_same}
 use Rattle.diy_tools.specs.Devices.{devices}
@@ -78,6 +78,7 @@ sought_answered arch (sought.Edges list) (OfEdges es) status old new before afte
 sought_answered arch (sought.Named named) (OfName at name) status old new before after same h =
     (h.0, subst (λ n. AnswersName arch at n status before after) same.1 (subst (λ a. AnswersName arch a named.name.now status before after) same.0 h.1))
 sought_answered arch sought.Lines OfLines status old new before after same h = h
+sought_answered arch sought.Names OfNames status old new before after same h = h
 sought_answered arch cycle asked status old new before after same h = absurd same
 
 -- an architecture by its two names

@@ -6,6 +6,7 @@ use Rattle.cycle_names.specs.Laws.{NamesNone}
 use Rattle.cycles_from_lines.specs.{declared.errors.LinesError.LinesError, Classified.{ClassifiedAll, ClassifiedPart, ReadsUpTo}}
 use Rattle.cycles_from_lines.specs.Normed.{NormedAll, NormedPart, NormedUpTo, name_line}
 use Rattle.cycles_from_lines.specs.declared.errors.LinesError.TheVariants as lines
+use Rattle.cycles_from_lines.specs.declared.line.LineForm.TheVariants.{Edges, Names}
 use Rattle.tests_from_files.specs.{declared.classified_errors.FilesEnd.FilesEnd, declared.classified_errors.FileKind.FileKind}
 use Rattle.tests_from_files.specs.declared.classified_errors.FilesEnd.TheVariants as classing
 use Rattle.tests_from_files.specs.declared.classified_errors.FileKind.TheVariants as kinds
@@ -15,7 +16,7 @@ use Rattle.exec_check.specs.declared.checked_errors.CheckedKind.TheVariants as c
 use Rattle.diy_io.specs.{Count.{Rose, count_of}, Taken.SourceSeen, Wrote.{SinkSeen, WroteAll, WrotePart}}
 use Rattle.diy_words.specs.{declared.usage.Usage.Usage, declared.usage.UsageKind.UsageKind, declared.usage.UsageKind.TheVariants.UnknownName}
 use Rattle.diy_words.specs.declared.request.ExecutionForm.{ExecutionForm}
-use Rattle.diy_words.specs.Requests.{Task, TestTask, CoherenceTask, Sought, WhyTask, AsksTest, AsksWhy, AsksCoherence, AsksName, AsksList, AsksFamilies, AsksSum, AsksCross, AsksDemo, AsksCheck, AsksExecution, AsksCoherenceExecution, AsksNeeds, AsksLines, OfEdges, OfName, OfLines, asked_of}
+use Rattle.diy_words.specs.Requests.{Task, TestTask, CoherenceTask, Sought, WhyTask, AsksTest, AsksWhy, AsksCoherence, AsksName, AsksList, AsksFamilies, AsksSum, AsksCross, AsksDemo, AsksCheck, AsksExecution, AsksCoherenceExecution, AsksNeeds, AsksLines, OfEdges, OfName, OfLines, OfNames, asked_of}
 use Rattle.tests_to_files.specs.declared.ending.ListingEnd.TheVariants as listings
 use Rattle.msum7_files.specs.{declared.sum_end.SumEnd.SumEnd, SumEnds.LogFileMissing}
 use Rattle.msum7_files.specs.declared.sum_end.SumEnd.TheVariants as sums
@@ -66,10 +67,15 @@ asked_refused (Ok (AsksCoherenceExecution form asked)) = coherence_refused asked
 asked_refused (Ok (AsksNeeds asked)) = test_refused asked
 asked_refused _ = None
 
+-- norm7 reads lines of cycles up to this error, and has written the lines of the cycles before it
+abbrev pub NamesStop : ArchName → Sought → LinesError → Devices → Devices → Type 0
+NamesStop arch OfLines error old new = InputAndOut (λ input input' out out'. NormedUpTo (Edges arch) input input' out out' error) old new
+NamesStop arch OfNames error old new = InputAndOut (λ input input' out out'. NormedUpTo (Names arch) input input' out out' error) old new
+NamesStop arch _ error old new = ⊥
+
 -- norm7 or classify7 reads lines of cycles up to this error; norm7 has written the lines of the cycles before it, and classify7 nothing
 abbrev pub LinesStop : Result Task Usage → LinesError → Devices → Devices → Type 0
-LinesStop (Ok (AsksName asked)) error old new =
-    (asked.cycle ≡ OfLines) × InputAndOut (λ input input' out out'. NormedUpTo asked.arch input input' out out' error) old new
+LinesStop (Ok (AsksName asked)) error old new = NamesStop asked.arch asked.cycle error old new
 LinesStop (Ok (AsksFamilies asked)) error old new =
     (asked.files ≡ []) × InputAndOut (λ input input' out out'. ReadsUpTo asked.arch input input' error × (out' ≡ out)) old new
 LinesStop _ error old new = ⊥
@@ -140,7 +146,8 @@ abbrev pub NamesAllSought : ArchName → Sought → SourceSeen → SourceSeen �
 NamesAllSought arch (OfEdges edges) old new before after =
     (new ≡ old) × (refused_list arch edges ≡ None) × WroteAll before after (name_line edges)
 NamesAllSought arch (OfName at name) old new before after = (new ≡ old) × PrintsNamed arch name statuses.Done before after
-NamesAllSought arch OfLines old new before after = NormedAll arch old new before after
+NamesAllSought arch OfLines old new before after = NormedAll (Edges arch) old new before after
+NamesAllSought arch OfNames old new before after = NormedAll (Names arch) old new before after
 
 -- classify7 has written the lines of all families
 abbrev pub FamiliesAll : List (List ℕ) → ArchName → List ℕ → Devices → Devices → Type 0
@@ -178,7 +185,8 @@ abbrev pub NamesPart : ArchName → Sought → SourceSeen → SourceSeen → Sin
 NamesPart arch (OfEdges edges) old new before after =
     (new ≡ old) × (refused_list arch edges ≡ None) × WrotePart before after (name_line edges)
 NamesPart arch (OfName at name) old new before after = (new ≡ old) × PrintsNamed arch name (statuses.WriteFault Out) before after
-NamesPart arch OfLines old new before after = NormedPart arch old new before after
+NamesPart arch OfLines old new before after = NormedPart (Edges arch) old new before after
+NamesPart arch OfNames old new before after = NormedPart (Names arch) old new before after
 
 -- a prefix of what goes to standard output is written, and by diy7, diycross7 and diyone7 -why all files
 abbrev pub OutStops : List (List ℕ) → Result Task Usage → Devices → Devices → Type 0

@@ -5,11 +5,11 @@ use Rattle.relax_edges.specs.{declared.edge.Edge.Edge, declared.kinds.ArchName.A
 use Rattle.tests_from_files.specs.FilesEnds.{ReadFiles}
 use Rattle.exec_check.specs.FilesChecked.{AreTestAndExecution}
 use Rattle.cycle_names.specs.Laws.{NamesNone}
-use Rattle.cycles_from_lines.specs.Cycles.{are_sound}
+use Rattle.cycles_from_lines.specs.{Cycles.are_sound, declared.line.LineForm.LineForm, declared.line.LineForm.TheVariants.{Edges, Names}}
 use Rattle.text_parts.specs.Lines.{lines_of}
 use Rattle.diy_io.specs.{declared.source.TheConstants.MAX_INPUT, Count.Rose, Shelf.Files}
 use Rattle.diy_words.specs.{declared.usage.Usage.Usage, declared.request.Check.Check}
-use Rattle.diy_words.specs.Requests.{Task, Sought, AsksTest, AsksWhy, AsksCoherence, AsksName, AsksList, AsksFamilies, AsksSum, AsksCross, AsksDemo, AsksCheck, AsksExecution, AsksCoherenceExecution, AsksNeeds, AsksLines, OfEdges, OfName, OfLines, asked_of}
+use Rattle.diy_words.specs.Requests.{Task, Sought, AsksTest, AsksWhy, AsksCoherence, AsksName, AsksList, AsksFamilies, AsksSum, AsksCross, AsksDemo, AsksCheck, AsksExecution, AsksCoherenceExecution, AsksNeeds, AsksLines, OfEdges, OfName, OfLines, OfNames, asked_of}
 use Rattle.msum7_files.specs.{Logs.{IsText, IsShort, AreWholeLogs}, SumEnds.AreLogs}
 use Rattle.run_status.specs.{declared.status.Status.Status, declared.status.Status.TheVariants.{Done, NoMemory}}
 use Rattle.diy_tools.specs.{Devices.{Devices, DevicesSeen, devices}}
@@ -17,9 +17,9 @@ use Rattle.diy_tools.specs.{FamilyAnswers.read_on, ArchMachines.machine_of, Memo
 use Rattle.diy_tools.specs.{WhyAnswers.why_unshown, CoherenceAnswers.coherence_refused}
 
 -- a text has at most 2^40 bytes, and none of its lines of cycles has an error
-pub record IsSoundText (arch : ArchName) (text : List ℕ) : Type 0 where
+pub record IsSoundText (form : LineForm) (text : List ℕ) : Type 0 where
   pub short : length text ≤ MAX_INPUT
-  pub sound : are_sound arch (lines_of text) ≡ true
+  pub sound : are_sound form (lines_of text) ≡ true
 
 -- a log has at most 2^40 bytes and no error
 pub record IsRightLog (log : List ℕ) : Type 0 where
@@ -43,11 +43,12 @@ OfItsFiles None Holds = ⊥
 OfItsFiles (Some files) Holds = Holds files
 
 -- norm7 can do what it is asked for: the edges make a cycle of the architecture; or some cycle of the architecture has the name; or the
--- input has at most 2^40 bytes, and none of its lines has an error
+-- input has at most 2^40 bytes, and none of its lines, of edges or of names, has an error
 abbrev pub CanName : ArchName → Sought → Devices → Type 0
 CanName arch (OfEdges edges) old = refused_list arch edges ≡ None
 CanName arch (OfName at name) old = NamesNone name arch → ⊥
-CanName arch OfLines old = OfItsText old.input.left (IsSoundText arch)
+CanName arch OfLines old = OfItsText old.input.left (IsSoundText (Edges arch))
+CanName arch OfNames old = OfItsText old.input.left (IsSoundText (Names arch))
 
 -- msum7 can sum the logs that the arguments after the first name, or the input if there are none
 abbrev pub CanSum : List (List ℕ) → Devices → Type 0
@@ -62,7 +63,7 @@ pub record AreRightTests (files : Files) (words : List (List ℕ)) (arch : ArchN
 
 -- classify7 can read the files that the arguments at these indices name, or the input's lines if there are none
 abbrev pub CanClassify : List (List ℕ) → ArchName → List ℕ → Devices → Type 0
-CanClassify words arch [] old = OfItsText old.input.left (IsSoundText arch)
+CanClassify words arch [] old = OfItsText old.input.left (IsSoundText (Edges arch))
 CanClassify words arch (file ∷ rest) old = OfItsFiles old.shelf.files (λ files. AreRightTests files words arch (file ∷ rest))
 
 -- mcheck7 can do what it is asked for: its arguments name the files of a test of the architecture and of an execution of it

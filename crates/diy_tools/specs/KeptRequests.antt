@@ -3,7 +3,7 @@ use Rattle.std.specs.{Prelude.{ℕ, ◌≡◌, ◌⊎◌, List, [], Option, Some
 use Rattle.arrayvec.specs.ArrayString.{ArrayString}
 use Rattle.relax_edges.specs.{declared.edge.Edge.Edge, declared.kinds.ArchName.ArchName, declared.kinds.ObsMode.ObsMode}
 use Rattle.edges_from_text.specs.{declared.list.EdgeList.EdgeList, declared.list.EdgeList.TheVariants.{Whole, TooLong}}
-use Rattle.cycles_from_lines.specs.Normed.{name_line}
+use Rattle.cycles_from_lines.specs.{Normed.name_line, declared.line.LineForm.TheVariants.{Edges, Names}}
 use Rattle.diy_io.specs.{Shelf.ShelfSeen, Taken.SourceSeen, Wrote.SinkSeen, declared.errors.Failed.Failed}
 use Rattle.diy_words.specs.{declared.request.Sought.Sought, declared.usage.Usage.Usage, declared.request.Check.Check, declared.request.Cross.Cross}
 use Rattle.diy_words.specs.{declared.request.DiyOne.DiyOne, declared.request.Coherence.Coherence, declared.request.Why.Why}
@@ -154,7 +154,8 @@ AnswersKept arch (sought.Edges list) status old new before after =
     (new ≡ old) × AnswersEdges (refused_edges arch list) (name_line (edges_kept list)) status before after
 AnswersKept arch (sought.Named source) status old new before after =
     (new ≡ old) × AnswersName arch source.word source.name.now status before after
-AnswersKept arch sought.Lines status old new before after = AnswersLines arch status old new before after
+AnswersKept arch sought.Lines status old new before after = AnswersLines (Edges arch) status old new before after
+AnswersKept arch sought.Names status old new before after = AnswersLines (Names arch) status old new before after
 
 -- the first reason why kept edges have no coherence test on an architecture
 abbrev pub refused_incoherent : Machine → EdgeList → Option Refusal

@@ -6,7 +6,7 @@ ghost use Rattle.run_status.specs.{Report.{StatusNamesLocation}};
 
 use crate::edges::cycle_of_edges;
 use cycle_names::{NotAName, cycle_of};
-use cycles_from_lines::{LinesError, NormError, norm_lines, write_name_line};
+use cycles_from_lines::{LineForm, LinesError, NormError, norm_lines, write_name_line};
 use diy_io::{Failed, Sink, Source};
 use diy_words::{Norm, Sought, Source as Named, UsageKind};
 use edge_algebra::Cycle;
@@ -23,7 +23,8 @@ pub(crate) fn norm<I: Source, O: Sink>(request: &Norm, input: &mut I, out: &mut 
     match &request.cycle {
         Sought::Edges(list) => norm_edges(list, request.arch, out),
         Sought::Named(named) => norm_named(*named, request.arch, out),
-        Sought::Lines => norm_input(request.arch, input, out),
+        Sought::Lines => norm_input(LineForm::Edges(request.arch), input, out),
+        Sought::Names => norm_input(LineForm::Names(request.arch), input, out),
     }
 }
 
@@ -62,11 +63,11 @@ fn print_line<O: Sink>(cycle: &Cycle, out: &mut O) -> Status
 }
 
 /// Prints the names of the cycles of the input's lines, and their edges.
-fn norm_input<I: Source, O: Sink>(arch: ArchName, input: &mut I, out: &mut O) -> Status
-    ensures answers { AnswersLines arch result (I.seen input.old) (I.seen input.new) (O.seen out.old) (O.seen out.new) }
+fn norm_input<I: Source, O: Sink>(form: LineForm, input: &mut I, out: &mut O) -> Status
+    ensures answers { AnswersLines form result (I.seen input.old) (I.seen input.new) (O.seen out.old) (O.seen out.new) }
     ensures location { StatusNamesLocation result }
 {
-    norm_status(norm_lines(arch, input, out))
+    norm_status(norm_lines(form, input, out))
 }
 
 fn norm_status(end: Result<(), NormError>) -> Status

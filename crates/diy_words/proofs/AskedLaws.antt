@@ -1,9 +1,10 @@
 -- Words that ask for something of a tool: the first names it, none is faulty, and the others give what is asked for.
 use Rattle.std.proofs.Common.{◌≡◌, ℕ, Bool, true, false, List, [], ◌∷◌, length, Option, Some, None, Result, Ok, Err, refl, sym, ap, ◌∙◌, subst}
 use Rattle.std.specs.Prelude.{if◌then◌else◌}
+use Rattle.relax_edges.specs.declared.edge.Edge.{Edge}
 use Rattle.diy_words.specs.{declared.options.Tool.Tool, declared.usage.Usage.Usage, Parts.{parts_of, tool_named}, Sayings.Saying}
 use Rattle.diy_words.specs.{Gathered.{Gathered, gathered_of, all_given}, SaidInOrder.{sayings, said_all}, Notes.{no_notes, said_noted}}
-use Rattle.diy_words.specs.Requests.{Task, AsksTest, AsksWhy, AsksCoherence, AsksName, AsksList, AsksFamilies, AsksSum, AsksCross, AsksDemo, AsksCheck, AsksExecution, AsksCoherenceExecution, AsksNeeds, AsksLines, asks, families_with, demo_with, why_asked, coherence_asked, test_asked, test_or_execution, test_or_picture, test_or_needs, coherence_or_execution, coherence_or_picture, one_asked, diyone_asked, diy_asked, check_asked, norm_asked, cross_asked, tool_asked, said_asked, asked_for, asked_of}
+use Rattle.diy_words.specs.Requests.{Task, AsksTest, AsksWhy, AsksCoherence, AsksName, AsksList, AsksFamilies, AsksSum, AsksCross, AsksDemo, AsksCheck, AsksExecution, AsksCoherenceExecution, AsksNeeds, AsksLines, asks, families_with, demo_with, why_asked, coherence_asked, test_asked, test_or_execution, test_or_picture, test_or_needs, coherence_or_execution, coherence_or_picture, one_asked, diyone_with, edges_chosen, with_chosen, diyone_asked, diy_asked, check_asked, norm_asked, cross_asked, tool_asked, said_asked, asked_for, asked_of}
 use Rattle.diy_words.specs.declared.request.ExecutionForm.TheVariants.{Text, Drawn}
 use Rattle.diy_words.specs.declared.options.Tool.TheVariants as tools
 use Rattle.diy_words.proofs.{NotedLaws.said_so, OperandLaws.{AreFaultless, given_from, all_said}}
@@ -35,8 +36,8 @@ either_tool : {X : Type 0} (tool : Tool) (request other : X → Task) (asked : R
 either_tool tool request other asked task true p q e = asks_tool tool request asked task p e
 either_tool tool request other asked task false p q e = asks_tool tool other asked task q e
 
-diyone_tool : (count : ℕ) (given : Gathered) (task : Task) → diyone_asked count given ≡ Ok task → tool_of task ≡ tools.DiyOne
-diyone_tool count given task e = of_why given.why e
+chosen_tool : (count : ℕ) (given : Gathered) (task : Task) → diyone_with count given ≡ Ok task → tool_of task ≡ tools.DiyOne
+chosen_tool count given task e = of_why given.why e
   where
     of_co : (b : Bool) → (if b then coherence_or_execution count given else test_or_execution count given) ≡ Ok task → tool_of task ≡ tools.DiyOne
     of_co true e = of_text given.exec e
@@ -57,6 +58,13 @@ diyone_tool count given task e = of_why given.why e
     of_why : (b : Bool) → (if b then asks AsksWhy (why_asked count given) else one_asked count given) ≡ Ok task → tool_of task ≡ tools.DiyOne
     of_why true e = asks_tool tools.DiyOne AsksWhy (why_asked count given) task (λ x. refl) e
     of_why false e = of_co given.co e
+
+diyone_tool : (count : ℕ) (given : Gathered) (task : Task) → diyone_asked count given ≡ Ok task → tool_of task ≡ tools.DiyOne
+diyone_tool count given task e = of_chosen (edges_chosen given.arch given.from given.operand given.edges) e
+  where
+    of_chosen : (chosen : Result (List Edge) Usage) → with_chosen count given chosen ≡ Ok task → tool_of task ≡ tools.DiyOne
+    of_chosen (Ok edges) e = chosen_tool count (record given { edges = edges }) task e
+    of_chosen (Err usage) e = cc e
 
 -- a tool is asked only for something of its own
 asked_tool : (tool : Tool) (count : ℕ) (given : Gathered) (task : Task) → tool_asked tool count given ≡ Ok task → tool_of task ≡ tool

@@ -9,3 +9,4 @@ pub mod OperandLaws
 pub mod AskedLaws
 pub mod FileLaws
 pub mod PlaceLaws
+pub mod ChosenEdges

@@ -5,8 +5,8 @@ use Rattle.list_laws.proofs.Elements.{option_or-none}
 use Rattle.edges_from_text.specs.{KeptEdges.kept_edges, KeptEdges.edges_added, KeptLaws.added_more, KeptLaws.added_whole}
 use Rattle.diy_words.specs.declared.{options.Tool.Tool, request.TheConstants.MAX_CHOICES, usage.Usage.Usage}
 use Rattle.diy_words.specs.{Parts.Part, Requests.choice_count}
-use Rattle.diy_words.specs.Sayings.{Saying, SaysArch, SaysName, SaysMode, SaysFrom, SaysEdges, SaysRelaxes, SaysSize, SaysExact, SaysWhy, SaysCo, SaysExec, SaysNeeds, SaysLines, SaysGraph, SaysThreads, SaysAccesses, SaysAfter, SaysFolder, SaysTest, SaysExecution, SaysPlace, SaysCount, said_by}
-use Rattle.diy_words.specs.Gathered.{arch_of_saying, name_of_saying, mode_of_saying, from_of_saying, operand_of_saying, relaxes_of_saying, size_of_saying, is_exact, is_co, is_exec, is_needs, is_lines, is_graph, threads_of_saying, accesses_of_saying, after_of_saying, folder_of_saying, is_why, count_of_saying, test_of_saying, execution_of_saying, edges_of_saying, places_of_word, files_of_saying, last_given, first_given, all_given, gathered_of}
+use Rattle.diy_words.specs.Sayings.{Saying, SaysArch, SaysName, SaysMode, SaysFrom, SaysEdges, SaysRelaxes, SaysSize, SaysExact, SaysWhy, SaysCo, SaysExec, SaysNeeds, SaysLines, SaysGraph, SaysNames, SaysThreads, SaysAccesses, SaysAfter, SaysFolder, SaysTest, SaysExecution, SaysPlace, SaysCount, said_by}
+use Rattle.diy_words.specs.Gathered.{arch_of_saying, name_of_saying, mode_of_saying, from_of_saying, operand_of_saying, relaxes_of_saying, size_of_saying, is_exact, is_co, is_exec, is_needs, is_lines, is_graph, is_names, threads_of_saying, accesses_of_saying, after_of_saying, folder_of_saying, is_why, count_of_saying, test_of_saying, execution_of_saying, edges_of_saying, places_of_word, files_of_saying, last_given, first_given, all_given, gathered_of}
 use Rattle.diy_words.specs.SaidInOrder.{is_limited, before_of, said_in, sayings}
 use Rattle.diy_words.specs.Notes.{Notes, no_notes, with_saying, with_next, notes_with, notes_of, before_noted, said_noted, gathered_noted}
 use Rattle.diy_words.proofs.ChoiceLaws.{choices_after, choices_more, choices_said}
@@ -144,6 +144,10 @@ graph_step : (notes : Notes) (saying : Saying) → (with_saying notes saying).gi
 graph_step notes SaysGraph = refl
 graph_step notes saying = refl
 
+names_step : (notes : Notes) (saying : Saying) → (with_saying notes saying).given.names ≡ (is_names saying || notes.given.names)
+names_step notes SaysNames = refl
+names_step notes saying = refl
+
 mode_noted : (said : List Saying) → (notes_of said).given.mode ≡ last_given mode_of_saying said
 mode_noted said = last_noted (λ n. n.given.mode) mode_of_saying refl mode_step said
 
@@ -244,6 +248,7 @@ all_noted said =
       needs_noted said,
       lines_noted said,
       graph_noted said,
+      any_noted (λ n. n.given.names) is_names refl names_step said,
     ) refl
 
 -- and what bears on the error of the next word

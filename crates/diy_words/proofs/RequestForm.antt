@@ -15,10 +15,10 @@ use Rattle.diy_words.specs.{declared.request.Request.Request, declared.usage.Usa
 use Rattle.diy_words.specs.declared.usage.UsageKind.TheVariants.{UnknownOption, BadName, BadFolder, StrayWord, ExcludedOption, TooManyChoices}
 use Rattle.diy_words.specs.{TestNames.is_name, NumberWords.{is_number, number_to}}
 use Rattle.diy_words.specs.Parts.{Part, Alone, Valued, Unvalued, waiting_at, alone_before, parts_from, parts_of, option_named, tool_named, mode_named}
-use Rattle.diy_words.specs.Sayings.{Saying, SaysName, SaysRelaxes, SaysPlace, SaysSize, SaysExact, SaysWhy, SaysCo, SaysExec, SaysNeeds, SaysLines, SaysGraph, SaysThreads, SaysAccesses, SaysFolder, SaysCount, SaysTest, SaysExecution, Before, usage_fault, why_said, co_said, exec_said, dot_said, needs_said, lines_said, folder_said, dashed_said, operand_said, relaxes_said, number_said, after_said, cycle_word_said, said_by, arch_said, mode_said, edges_said, begins_option}
+use Rattle.diy_words.specs.Sayings.{Saying, SaysName, SaysRelaxes, SaysPlace, SaysSize, SaysExact, SaysWhy, SaysCo, SaysExec, SaysNeeds, SaysLines, SaysGraph, SaysNames, SaysThreads, SaysAccesses, SaysFolder, SaysCount, SaysTest, SaysExecution, Before, usage_fault, why_said, co_said, exec_said, dot_said, needs_said, lines_said, folder_said, dashed_said, operand_said, relaxes_said, number_said, after_said, cycle_word_said, said_by, arch_said, mode_said, edges_said, begins_option}
 use Rattle.diy_words.specs.Gathered.{Gathered, gathered_of, last_given, name_of_saying, size_of_saying, folder_of_saying, count_of_saying, test_of_saying, execution_of_saying}
 use Rattle.diy_words.specs.SaidInOrder.{before_of, said_in, sayings, said_first, said_all}
-use Rattle.diy_words.specs.Requests.{Task, AsksTest, AsksWhy, AsksCoherence, AsksName, AsksList, AsksFamilies, AsksCross, AsksDemo, AsksCheck, AsksExecution, AsksCoherenceExecution, AsksNeeds, AsksLines, NameTask, ListTask, FamiliesTask, list_with, families_with, cross_with, demo_with, check_with, choice_count, mode_or_accept, asks, test_with, why_with, coherence_with, why_asked, coherence_asked, test_asked, test_or_execution, test_or_picture, test_or_needs, coherence_or_execution, coherence_or_picture, one_asked, diyone_asked, diy_asked, asked_for, norm_asked, tool_asked, said_asked, asked_of}
+use Rattle.diy_words.specs.Requests.{Task, AsksTest, AsksWhy, AsksCoherence, AsksName, AsksList, AsksFamilies, AsksCross, AsksDemo, AsksCheck, AsksExecution, AsksCoherenceExecution, AsksNeeds, AsksLines, NameTask, ListTask, FamiliesTask, list_with, families_with, cross_with, demo_with, check_with, choice_count, mode_or_accept, asks, test_with, why_with, coherence_with, why_asked, coherence_asked, test_asked, test_or_execution, test_or_picture, test_or_needs, coherence_or_execution, coherence_or_picture, one_asked, diyone_with, edges_chosen, with_chosen, diyone_asked, diy_asked, asked_for, norm_asked, tool_asked, said_asked, asked_of}
 use Rattle.diy_words.specs.declared.request.ExecutionForm.TheVariants.{Text, Drawn}
 use Rattle.diy_words.specs.Given.{GivesTask, HasForm, WithinWords, list_kept}
 use Rattle.diy_io.specs.declared.shelf.TheConstants.{MAX_FOLDER}
@@ -58,6 +58,10 @@ dashed_form : (count at : ℕ) (b : Bool) → SaysForm count (if b then Ok SaysG
 dashed_form count at true = tt
 dashed_form count at false = tt
 
+names_form : (count at : ℕ) (b : Bool) → SaysForm count (if b then Ok SaysNames else usage_fault at UnknownOption)
+names_form count at true = tt
+names_form count at false = tt
+
 -- an option that takes no value, where it isn't excluded
 option_form : (count at : ℕ) (saying : Saying) (b : Bool) → IsFit count saying → SaysForm count (if b then usage_fault at ExcludedOption else Ok saying)
 option_form count at saying true h = tt
@@ -83,7 +87,7 @@ alone_dashed : (count : ℕ) (tool : Tool) (before : Before) (at : ℕ) (text : 
 alone_dashed count tools.DiyOne before at text = special_form count before at (bytes_eq text (codes "-why")) (bytes_eq text (codes "-co")) (bytes_eq text (codes "-exec"))
     (bytes_eq text (codes "-needs")) (bytes_eq text (codes "-dot"))
 alone_dashed count tools.Diy before at text = listing_form count before at (bytes_eq text (codes "-exact")) (bytes_eq text (codes "-list"))
-alone_dashed count tools.Norm before at text = tt
+alone_dashed count tools.Norm before at text = names_form count at (bytes_eq text (codes "-names"))
 alone_dashed count tools.Classify before at text = tt
 alone_dashed count tools.Msum before at text = tt
 alone_dashed count tools.Cross before at text = tt
@@ -348,8 +352,8 @@ check_form count (Some arch) (Some test) (Some execution) shown h k = (h, k)
 check_form count (Some arch) (Some test) None shown h k = tt
 check_form count (Some arch) None execution shown h k = tt
 
-diyone_form : (count : ℕ) (given : Gathered) → AreFit count given → IsTaskSo count (diyone_asked count given)
-diyone_form count given f = of_why given.why
+chosen_form : (count : ℕ) (given : Gathered) → AreFit count given → IsTaskSo count (diyone_with count given)
+chosen_form count given f = of_why given.why
   where
     of_co : (b : Bool) → IsTaskSo count (if b then coherence_or_execution count given else test_or_execution count given)
     of_co true = of_text given.exec
@@ -376,6 +380,13 @@ diyone_form count given f = of_why given.why
     of_why : (b : Bool) → IsTaskSo count (if b then asks AsksWhy (why_asked count given) else one_asked count given)
     of_why true = explained_form count given.arch given.name given.edges given.folder f.0 f.2
     of_why false = of_co given.co
+
+diyone_form : (count : ℕ) (given : Gathered) → AreFit count given → IsTaskSo count (diyone_asked count given)
+diyone_form count given f = of_chosen (edges_chosen given.arch given.from given.operand given.edges)
+  where
+    of_chosen : (chosen : Result (List Edge) Usage) → IsTaskSo count (with_chosen count given chosen)
+    of_chosen (Ok edges) = chosen_form count (record given { edges = edges }) f
+    of_chosen (Err usage) = tt
 
 tool_form : (tool : Tool) (count : ℕ) (given : Gathered) → AreFit count given
     → IsTaskSo count (tool_asked tool count given)

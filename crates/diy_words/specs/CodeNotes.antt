@@ -6,7 +6,7 @@ use Rattle.edge_algebra.specs.Compose.{composed}
 use Rattle.diy_words.specs.declared.notes.Notes as code
 use Rattle.diy_words.specs.{declared.options.OptionName.OptionName, declared.options.Tool.Tool, declared.request.Request.Request}
 use Rattle.diy_words.specs.{declared.request.TheConstants.MAX_CHOICES, declared.usage.Usage.Usage, Parts.{Alone, Valued, parts_of, option_named}}
-use Rattle.diy_words.specs.{Sayings.{Saying, dashed_said, said_by}, Gathered.Gathered, Requests.{Task, choice_count, tool_asked}, Given.GivesTask}
+use Rattle.diy_words.specs.{Sayings.{Saying, dashed_said, said_by}, Gathered.Gathered, Requests.{Task, choice_count, edges_chosen, tool_asked}, Given.GivesTask}
 use Rattle.diy_words.specs.Notes.{Notes, with_saying, before_noted, gathered_noted, said_noted}
 
 -- the code's notes as a value of `Notes`
@@ -37,6 +37,7 @@ code_notes notes = record {
     needs = notes.needs;
     lines = notes.lines;
     graph = notes.graph;
+    names = notes.names;
   };
   edges = notes.edges;
   choices = notes.choices;
@@ -91,6 +92,17 @@ abbrev pub GivesFrom : (Gathered → Result Task Usage) → Notes → Result Req
 GivesFrom asked notes result =
     (edges : List Edge) (places : List (List (List Edge))) (files : List ℕ) → notes.edges ≡ kept_edges edges
     → nat_lt MAX_CHOICES notes.choices ≡ nat_lt MAX_CHOICES (choice_count places) → GivesTask result (asked (gathered_noted notes edges places files))
+
+-- the edges that diyone7 is given are noted instead of its operands, and nothing else changes; or the error of their choice is returned
+abbrev pub EdgesChosen : Notes → Notes → Result (Unit {0}) Usage → Result (List Edge) Usage → Type 0
+EdgesChosen old new (Ok _) (Ok edges) = new ≡ record old { edges = kept_edges edges }
+EdgesChosen old new (Err usage) (Err fault) = usage ≡ fault
+EdgesChosen old new _ _ = ⊥
+
+-- the same for whichever edges of operands agree with the notes
+abbrev pub ChoosesEdges : Notes → Notes → Result (Unit {0}) Usage → Type 0
+ChoosesEdges old new result =
+    (edges : List Edge) → old.edges ≡ kept_edges edges → EdgesChosen old new result (edges_chosen old.given.arch old.given.from old.given.operand edges)
 
 -- a call gives the request of a tool from these notes; `count` is the number of arguments
 abbrev pub GivesAtEnd : Tool → ℕ → Notes → Result Request Usage → Type 0

@@ -2,7 +2,7 @@
 -- positions or files.
 use Rattle.std.specs.{Prelude.{ℕ, Bool, true, false, List, [], ◌∷◌, ◌++◌, Option, Some, None}, List.list_any, Option.{option_or, unwrap_or}}
 use Rattle.relax_edges.specs.{declared.kinds.ArchName.ArchName, declared.kinds.ObsMode.ObsMode, declared.edge.Edge.Edge}
-use Rattle.diy_words.specs.Sayings.{Saying, SaysArch, SaysName, SaysMode, SaysFrom, SaysEdges, SaysRelaxes, SaysSize, SaysExact, SaysWhy, SaysCo, SaysExec, SaysNeeds, SaysLines, SaysGraph, SaysThreads, SaysAccesses, SaysAfter, SaysFolder, SaysFile, SaysTest, SaysExecution, SaysPlace, SaysCount}
+use Rattle.diy_words.specs.Sayings.{Saying, SaysArch, SaysName, SaysMode, SaysFrom, SaysEdges, SaysRelaxes, SaysSize, SaysExact, SaysWhy, SaysCo, SaysExec, SaysNeeds, SaysLines, SaysGraph, SaysNames, SaysThreads, SaysAccesses, SaysAfter, SaysFolder, SaysFile, SaysTest, SaysExecution, SaysPlace, SaysCount}
 
 -- the value of `-arch`
 abbrev pub arch_of_saying : Saying → Option ArchName
@@ -94,6 +94,11 @@ abbrev pub is_graph : Saying → Bool
 is_graph SaysGraph = true
 is_graph _ = false
 
+-- that `-names` is given
+abbrev pub is_names : Saying → Bool
+is_names SaysNames = true
+is_names _ = false
+
 -- how many tests demo makes
 abbrev pub count_of_saying : Saying → Option ℕ
 count_of_saying (SaysCount count) = Some count
@@ -165,6 +170,7 @@ pub record Gathered : Type 0 where
   pub needs : Bool
   pub lines : Bool
   pub graph : Bool
+  pub names : Bool
 
 -- what is gathered from all that the arguments say: the last of each thing, but for `operand` the index of the first operand of edges, and
 -- all edges, positions and files; by default the size of a listing is 6, and its cycles have at most 4 threads
@@ -194,4 +200,5 @@ gathered_of said = record {
   needs = list_any is_needs said;
   lines = list_any is_lines said;
   graph = list_any is_graph said;
+  names = list_any is_names said;
 }

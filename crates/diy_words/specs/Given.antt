@@ -4,7 +4,7 @@ use Rattle.relax_edges.specs.declared.TheConstants.{MAX_EDGES}
 use Rattle.edges_from_text.specs.KeptEdges.{kept_edges}
 use Rattle.diy_words.specs.{declared.request.Diy.Diy, declared.request.TheConstants.MAX_TESTS, declared.request.Request.Request, declared.request.Sought.Sought}
 use Rattle.diy_words.specs.{declared.usage.Usage.Usage, declared.request.DiyOne.DiyOne, declared.request.Coherence.Coherence, TestNames.is_name}
-use Rattle.diy_words.specs.Requests.{Task, AsksTest, AsksWhy, AsksCoherence, AsksName, AsksList, AsksFamilies, AsksSum, AsksCross, AsksDemo, AsksCheck, AsksExecution, AsksCoherenceExecution, AsksNeeds, AsksLines, TestTask, CoherenceTask, ListTask, OfEdges, OfName, OfLines}
+use Rattle.diy_words.specs.Requests.{Task, AsksTest, AsksWhy, AsksCoherence, AsksName, AsksList, AsksFamilies, AsksSum, AsksCross, AsksDemo, AsksCheck, AsksExecution, AsksCoherenceExecution, AsksNeeds, AsksLines, TestTask, CoherenceTask, ListTask, OfEdges, OfName, OfLines, OfNames}
 use Rattle.diy_io.specs.declared.shelf.TheConstants.{MAX_FOLDER}
 use Rattle.diy_words.specs.declared.request.Request.TheVariants as requests
 use Rattle.diy_words.specs.declared.request.Sought.TheVariants as sought
@@ -15,6 +15,7 @@ abbrev pub IsSought : Sought → req.Sought → Type 0
 IsSought (sought.Edges list) (OfEdges es) = list ≡ kept_edges es
 IsSought (sought.Named from) (OfName at name) = (from.word ≡ at) × (from.name.now ≡ name)
 IsSought sought.Lines OfLines = Unit {0}
+IsSought sought.Names OfNames = Unit {0}
 IsSought _ _ = ⊥
 
 -- what diy7 is asked for, as the request holds it

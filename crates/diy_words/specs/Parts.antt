@@ -19,7 +19,8 @@ tool_named = of_name ((codes "diyone7", tools.DiyOne) ∷ (codes "diy7", tools.D
 
 -- the options of a tool that take a value, by their names
 abbrev pub options_of : Tool → List (List ℕ × OptionName)
-options_of tools.DiyOne = (codes "-arch", opts.Arch) ∷ (codes "-name", opts.Name) ∷ (codes "-obs", opts.Obs) ∷ (codes "-o", opts.Folder) ∷ []
+options_of tools.DiyOne =
+    (codes "-arch", opts.Arch) ∷ (codes "-from", opts.From) ∷ (codes "-name", opts.Name) ∷ (codes "-obs", opts.Obs) ∷ (codes "-o", opts.Folder) ∷ []
 options_of tools.Diy =
     (codes "-arch", opts.Arch) ∷ (codes "-edges", opts.Edges) ∷ (codes "-size", opts.Size) ∷ (codes "-nprocs", opts.Nprocs)
     ∷ (codes "-accesses", opts.Accesses) ∷ (codes "-obs", opts.Obs) ∷ (codes "-after", opts.After) ∷ (codes "-o", opts.Folder) ∷ []

@@ -3,15 +3,16 @@
 use Rattle.std.specs.{Prelude.{ℕ, ◌*◌, Bool, nat_lt, if◌then◌else◌, List, [], ◌∷◌, length, Option, Some, None, Result, Ok, Err}, Option.unwrap_or}
 use Rattle.relax_edges.specs.{declared.kinds.ArchName.ArchName, declared.kinds.ObsMode.ObsMode, declared.kinds.ObsMode.TheVariants.Accept}
 use Rattle.relax_edges.specs.declared.edge.Edge.{Edge}
+use Rattle.cycles_from_lines.specs.NamedCycles.{cycle_named}
 use Rattle.diy_words.specs.{declared.request.CheckForm.CheckForm, declared.request.CheckForm.TheVariants.{Verdict, Graph}, declared.usage.Usage.Usage}
 use Rattle.diy_words.specs.{declared.request.ExecutionForm.ExecutionForm, declared.request.ExecutionForm.TheVariants.{Text, Drawn}}
 use Rattle.diy_words.specs.{declared.request.Check.Check, declared.request.Demo.Demo, declared.request.TheConstants.MAX_CHOICES, declared.options.Tool.Tool}
-use Rattle.diy_words.specs.declared.usage.UsageKind.TheVariants.{UnknownTool, StrayWord, MissingArch, MissingEdges, MissingNumber, MissingFile, MissingWhy, TooManyChoices}
+use Rattle.diy_words.specs.declared.usage.UsageKind.TheVariants.{UnknownTool, UnknownName, StrayWord, MissingArch, MissingEdges, MissingNumber, MissingFile, MissingWhy, TooManyChoices}
 use Rattle.diy_words.specs.{Parts.{parts_of, tool_named}, Sayings.Saying, Gathered.{Gathered, gathered_of}, SaidInOrder.{sayings, said_all}}
 use Rattle.diy_words.specs.declared.options.Tool.TheVariants as tools
 
 -- what diyone7 is asked for without `-why` and `-co`: a test, the execution that it asks for, or what suffices against its outcome, under
--- the given name or that of its cycle
+-- the given name or that of its cycle; with `-from` the edges are the cycle that has the name
 pub record TestTask : Type 0 where
   pub arch : ArchName
   pub name : Option (List ℕ)
@@ -33,12 +34,13 @@ pub record CoherenceTask : Type 0 where
   pub name : Option (List ℕ)
   pub edges : List Edge
 
--- the cycles whose names norm7 is asked for: the one that edges make; the one that has a name, which is the argument at an index; or those
--- of the lines of the input
+-- the cycles whose names norm7 is asked for: the one that edges make; the one that has a name, which is the argument at an index; those
+-- of the lines of the input; or those that the lines of the input name
 pub data Sought : Type 0 where
   OfEdges : List Edge → Sought
   OfName : ℕ → List ℕ → Sought
   OfLines : Sought
+  OfNames : Sought
 
 -- what norm7 is asked for: the names and the edges of cycles
 pub record NameTask : Type 0 where
@@ -128,6 +130,13 @@ named_with count (Some arch) (Some from) None edges = Ok (record { arch = arch; 
 named_with count (Some arch) None (Some operand) edges = Ok (record { arch = arch; cycle = OfEdges edges })
 named_with count (Some arch) (Some from) (Some operand) edges = Err (record { word = operand; kind = StrayWord })
 
+-- the request of norm7 with `-names` from what was given: the first operand is stray, and so is the name of `-from`
+abbrev pub names_with : ℕ → Option ArchName → Option (ℕ × List ℕ) → Option ℕ → Result NameTask Usage
+names_with count None _ _ = Err (record { word = count; kind = MissingArch })
+names_with count (Some arch) None None = Ok (record { arch = arch; cycle = OfNames })
+names_with count (Some arch) (Some from) None = Err (record { word = from.0; kind = StrayWord })
+names_with count (Some arch) _ (Some operand) = Err (record { word = operand; kind = StrayWord })
+
 -- the request of diy7 from what was given
 abbrev pub list_with : ℕ → Option ArchName → Option (List (List Edge)) → ℕ → Bool → ℕ → Option ℕ → ObsMode → Option (List Edge) → Option (List ℕ) → Result ListTask Usage
 list_with count None relaxes size exact threads accesses mode after folder = Err (record { word = count; kind = MissingArch })
@@ -204,13 +213,43 @@ coherence_or_execution count given =
 abbrev pub one_asked : ℕ → Gathered → Result Task Usage
 one_asked count given = if given.co then coherence_or_execution count given else test_or_execution count given
 
+-- the request of diyone7, once its edges are chosen
+abbrev pub diyone_with : ℕ → Gathered → Result Task Usage
+diyone_with count given = if given.why then asks AsksWhy (why_asked count given) else one_asked count given
+
+-- the cycle that has the name at an index, as edges; no such cycle is an error
+abbrev pub named_edges : ℕ → Option (List Edge) → Result (List Edge) Usage
+named_edges at (Some cycle) = Ok cycle
+named_edges at None = Err (record { word = at; kind = UnknownName })
+
+-- the edges that diyone7 is given: those of the operands, or with `-from` those of the cycle of the architecture that has the name;
+-- together with `-from`, the first operand is stray
+abbrev pub edges_chosen : Option ArchName → Option (ℕ × List ℕ) → Option ℕ → List Edge → Result (List Edge) Usage
+edges_chosen None from operand edges = Ok edges
+edges_chosen (Some arch) None operand edges = Ok edges
+edges_chosen (Some arch) (Some from) None edges = named_edges from.0 (cycle_named arch from.1)
+edges_chosen (Some arch) (Some from) (Some operand) edges = Err (record { word = operand; kind = StrayWord })
+
+-- the request of diyone7 with these edges, or the error of their choice
+abbrev pub with_chosen : ℕ → Gathered → Result (List Edge) Usage → Result Task Usage
+with_chosen count given (Ok edges) = diyone_with count (record given { edges = edges })
+with_chosen count given (Err usage) = Err usage
+
 -- the request of diyone7
 abbrev pub diyone_asked : ℕ → Gathered → Result Task Usage
-diyone_asked count given = if given.why then asks AsksWhy (why_asked count given) else one_asked count given
+diyone_asked count given = with_chosen count given (edges_chosen given.arch given.from given.operand given.edges)
+
+-- the request of norm7 without `-names`, from all that is gathered
+abbrev pub name_asked : ℕ → Gathered → Result NameTask Usage
+name_asked count given = named_with count given.arch given.from given.operand given.edges
+
+-- the request of norm7 with `-names`
+abbrev pub names_asked : ℕ → Gathered → Result NameTask Usage
+names_asked count given = names_with count given.arch given.from given.operand
 
 -- the request of norm7
 abbrev pub norm_asked : ℕ → Gathered → Result NameTask Usage
-norm_asked count given = named_with count given.arch given.from given.operand given.edges
+norm_asked count given = if given.names then names_asked count given else name_asked count given
 
 -- the request of diy7
 abbrev pub diy_asked : ℕ → Gathered → Result ListTask Usage

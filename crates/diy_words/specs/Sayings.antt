@@ -35,6 +35,7 @@ pub data Saying : Type 0 where
   SaysNeeds : Saying
   SaysLines : Saying
   SaysGraph : Saying
+  SaysNames : Saying
   SaysThreads : ℕ → Saying
   SaysAccesses : ℕ → Saying
   SaysAfter : List Edge → Saying
@@ -165,6 +166,7 @@ dashed_said tools.Diy before at text =
     if bytes_eq text (codes "-exact") then Ok SaysExact
     else if bytes_eq text (codes "-list") then lines_said before at
     else usage_fault at UnknownOption
+dashed_said tools.Norm before at text = if bytes_eq text (codes "-names") then Ok SaysNames else usage_fault at UnknownOption
 dashed_said tools.Check before at text = if bytes_eq text (codes "-dot") then Ok SaysGraph else usage_fault at UnknownOption
 dashed_said _ before at text = usage_fault at UnknownOption
 

@@ -1,6 +1,6 @@
-ghost use Rattle.std.specs.Prelude.{◌≡◌, ◌<◌, ◌≤◌, ◌+◌, ◌^◌, Err};
+ghost use Rattle.std.specs.Prelude.{◌≡◌, ◌<◌, ◌≤◌, ◌+◌, ◌^◌, Some, Err};
 ghost use Rattle.relax_edges.specs.{Architectures.arch_of, declared.TheConstants.MAX_EDGES};
-ghost use Rattle.edges_from_text.specs.Relaxations.{relaxes_of};
+ghost use Rattle.edges_from_text.specs.{Relaxations.{relaxes_of}, KeptEdges.{kept_edges}};
 ghost use Rattle.edges_from_text.specs.{declared.read.Separators.TheVariants.{BlanksAndCommas}, Spelled.{edges_of, text_edges}};
 ghost use Rattle.edge_algebra.specs.Compose.{composed};
 ghost use Rattle.diy_words.specs.{CodeNotes.{cycle_kept}, NumberWords.{number_to}, declared.usage.UsageKind.TheVariants.{ExcludedOption}};
@@ -13,7 +13,9 @@ use crate::number::number_to;
 use crate::options::{OptionName, Tool, mode_named};
 use crate::request::{MAX_CHOICES, MAX_TESTS, Source, TestName};
 use crate::usage::{Usage, UsageKind, usage_at};
+use arrayvec::ArrayVec;
 use cycle_enum::Limits;
+use cycles_from_lines::cycle_named;
 use diy_io::MAX_FOLDER;
 use edge_algebra::{Cycle, cycle};
 use edges_from_text::{EdgeList, RelaxKind, Relaxes, Separators, read_edges, read_relaxes};
@@ -60,10 +62,12 @@ pub struct Notes<'a> {
     pub lines: bool,
     /// Whether `-dot` was given.
     pub graph: bool,
+    /// Whether `-names` was given.
+    pub names: bool,
 }
 
 impl<'a> Notes<'a> {
-    ghost use Rattle.diy_words.specs.{CodeNotes.{code_notes, notes_after, notes_alone, notes_dashed, notes_left, notes_valued}, Notes.{no_notes}};
+    ghost use Rattle.diy_words.specs.{CodeNotes.{ChoosesEdges, code_notes, notes_after, notes_alone, notes_dashed, notes_left, notes_valued}, Notes.{no_notes}};
 
     pub fn new() -> Notes<'a>
         ensures { code_notes result ≡ no_notes }
@@ -95,6 +99,7 @@ impl<'a> Notes<'a> {
             needs: false,
             lines: false,
             graph: false,
+            names: false,
         }
     }
 
@@ -272,6 +277,10 @@ impl<'a> Notes<'a> {
                 Ok(())
             }
             Tool::Diy if text == "-list" => self.take_lines(at),
+            Tool::Norm if text == "-names" => {
+                self.names = true;
+                Ok(())
+            }
             Tool::Check if text == "-dot" => {
                 self.graph = true;
                 Ok(())
@@ -415,6 +424,49 @@ impl<'a> Notes<'a> {
             }
             None => Err(usage_at(at, UsageKind::BadNumber)),
         }
+    }
+
+    /// After all arguments of diyone7, sets the edges to those of the cycle that `-from` names, if it was given, unless an
+    /// operand was given too.
+    pub fn choose_edges(&mut self) -> Result<(), Usage>
+        ensures { ChoosesEdges (code_notes self.old) (code_notes self.new) result }
+    {
+        match self.arch {
+            Some(arch) => match self.from {
+                Some(source) => self.choose_named(arch, source),
+                None => Ok(()),
+            },
+            None => Ok(()),
+        }
+    }
+
+    /// Sets the edges to those of the cycle of an architecture that is named, unless an operand was given.
+    fn choose_named(&mut self, arch: ArchName, source: Source<'_>) -> Result<(), Usage>
+        requires arch { self.old.arch ≡ Some arch }
+        requires from { self.old.from ≡ Some source }
+        ensures { ChoosesEdges (code_notes self.old) (code_notes self.new) result }
+    {
+        if let Some(word) = self.operand {
+            return Err(usage_at(word, UsageKind::StrayWord));
+        }
+        match cycle_named(arch, source.name.as_bytes()) {
+            Some(cycle) => {
+                self.edges = kept_edges(&cycle);
+                Ok(())
+            }
+            None => Err(usage_at(source.word, UsageKind::UnknownName)),
+        }
+    }
+}
+
+/// The edges of a cycle, as they are kept.
+fn kept_edges(cycle: &Cycle) -> EdgeList
+    ensures { result ≡ kept_edges cycle.now }
+{
+    let mut list = ArrayVec::new();
+    match list.try_extend_from_slice(cycle.edges()) {
+        Ok(()) => EdgeList::Whole(list),
+        Err(_) => unreachable!(),
     }
 }
 

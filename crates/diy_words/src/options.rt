@@ -68,6 +68,7 @@ fn diyone_option(text: &str) -> Option<OptionName>
 {
     match text {
         "-arch" => Some(OptionName::Arch),
+        "-from" => Some(OptionName::From),
         "-name" => Some(OptionName::Name),
         "-obs" => Some(OptionName::Obs),
         "-o" => Some(OptionName::Folder),

@@ -1,6 +1,6 @@
 ghost use Rattle.std.specs.Prelude.{◌≡◌, ◌<◌, ◌+◌, ◌^◌, ℕ, List, Some, length, drop, IfOk};
 ghost use Rattle.diy_words.specs.declared.usage.UsageKind.TheVariants.{MissingArch, MissingWhy};
-ghost use Rattle.diy_words.specs.Requests.{asked_of, asked_for, asks, AsksWhy, AsksName, AsksFamilies, AsksCross, AsksDemo, AsksCheck, why_asked, test_or_execution, coherence_or_execution, list_or_lines, check_asked, one_asked, diyone_asked, norm_asked, cross_asked, families_with, demo_with};
+ghost use Rattle.diy_words.specs.Requests.{asked_of, asked_for, asks, AsksWhy, AsksName, AsksFamilies, AsksCross, AsksDemo, AsksCheck, why_asked, test_or_execution, coherence_or_execution, list_or_lines, check_asked, one_asked, diyone_asked, diyone_with, norm_asked, name_asked, names_asked, cross_asked, families_with, demo_with};
 ghost use Rattle.diy_words.specs.{Given.{GivesTask, HasForm, WithinWords}, CodeNotes.{Steps, GivesAtEnd, GivesFrom, IsPlain, IsOption, code_notes}};
 
 use crate::notes::{Notes, missing_value};
@@ -103,7 +103,7 @@ fn finish(tool: Tool, count: usize, notes: Notes<'_>) -> Result<Request<'_>, Usa
     match tool {
         Tool::DiyOne => finish_diyone(count, notes),
         Tool::Diy => finish_list(count, notes),
-        Tool::Norm => finish_name(count, notes),
+        Tool::Norm => finish_norm(count, notes),
         Tool::Classify => finish_families(count, notes),
         Tool::Msum => Ok(Request::Sum),
         Tool::Cross => finish_cross(count, notes),
@@ -112,8 +112,18 @@ fn finish(tool: Tool, count: usize, notes: Notes<'_>) -> Result<Request<'_>, Usa
     }
 }
 
-fn finish_diyone(count: usize, notes: Notes<'_>) -> Result<Request<'_>, Usage>
+fn finish_diyone(count: usize, mut notes: Notes<'_>) -> Result<Request<'_>, Usage>
     ensures { GivesFrom (λ given. diyone_asked count given) (code_notes notes.entry) result }
+{
+    match notes.choose_edges() {
+        Ok(()) => finish_chosen(count, notes),
+        Err(usage) => Err(usage),
+    }
+}
+
+/// The request of diyone7 from notes whose edges are chosen.
+fn finish_chosen(count: usize, notes: Notes<'_>) -> Result<Request<'_>, Usage>
+    ensures { GivesFrom (λ given. diyone_with count given) (code_notes notes.entry) result }
 {
     if notes.why {
         finish_why(count, notes)
@@ -222,6 +232,7 @@ fn finish_list(count: usize, notes: Notes<'_>) -> Result<Request<'_>, Usage>
         needs: _,
         lines,
         graph: _,
+        names: _,
     } = notes;
     let Some(arch) = arch else {
         return Err(missing_arch(count));
@@ -305,8 +316,37 @@ fn finish_check(count: usize, notes: Notes<'_>) -> Result<Request<'_>, Usage>
     }))
 }
 
-fn finish_name(count: usize, notes: Notes<'_>) -> Result<Request<'_>, Usage>
+fn finish_norm(count: usize, notes: Notes<'_>) -> Result<Request<'_>, Usage>
     ensures { GivesFrom (λ given. asks AsksName (norm_asked count given)) (code_notes notes.entry) result }
+{
+    if notes.names {
+        finish_names(count, notes)
+    } else {
+        finish_name(count, notes)
+    }
+}
+
+/// The request of norm7 with `-names`.
+fn finish_names(count: usize, notes: Notes<'_>) -> Result<Request<'_>, Usage>
+    ensures { GivesFrom (λ given. asks AsksName (names_asked count given)) (code_notes notes.entry) result }
+{
+    let Some(arch) = notes.arch else {
+        return Err(missing_arch(count));
+    };
+    match (notes.from, notes.operand) {
+        (None, None) => Ok(Request::Name(Norm {
+            arch,
+            cycle: Sought::Names,
+        })),
+        (Some(source), None) => Err(usage_at(source.word, UsageKind::StrayWord)),
+        (None, Some(word)) => Err(usage_at(word, UsageKind::StrayWord)),
+        (Some(_), Some(word)) => Err(usage_at(word, UsageKind::StrayWord)),
+    }
+}
+
+/// The request of norm7 without `-names`.
+fn finish_name(count: usize, notes: Notes<'_>) -> Result<Request<'_>, Usage>
+    ensures { GivesFrom (λ given. asks AsksName (name_asked count given)) (code_notes notes.entry) result }
 {
     let Some(arch) = notes.arch else {
         return Err(missing_arch(count));

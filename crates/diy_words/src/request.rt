@@ -67,8 +67,10 @@ pub enum Sought<'a> {
     Edges(EdgeList),
     /// The one that has this name, if there is one.
     Named(Source<'a>),
-    /// Those of the input's lines.
+    /// Those whose edges the input's lines have.
     Lines,
+    /// Those whose names the input's lines have, with `-names`.
+    Names,
 }
 
 /// The value of `-from`.

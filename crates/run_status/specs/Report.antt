@@ -80,6 +80,7 @@ line_text lines.Empty = codes "Empty"
 line_text lines.TooLong = codes "TooLong"
 line_text lines.NotOfArch = codes "NotOfArch"
 line_text lines.DoesNotCompose = codes "DoesNotCompose"
+line_text lines.UnknownName = codes "UnknownName"
 
 -- the name of what is wrong with a line of a log
 abbrev pub log_text : LogKind → List ℕ

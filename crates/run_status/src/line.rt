@@ -135,6 +135,7 @@ fn line_name(kind: LineKind) -> &'static [u8]
         LineKind::TooLong => b"TooLong",
         LineKind::NotOfArch => b"NotOfArch",
         LineKind::DoesNotCompose => b"DoesNotCompose",
+        LineKind::UnknownName => b"UnknownName",
     }
 }
 

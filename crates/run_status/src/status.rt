@@ -27,7 +27,7 @@ pub enum Status {
     NoFile {
         word: usize,
     },
-    /// The arguments make no request, or no cycle has the name that norm7 is given. `word` is the index of
+    /// The arguments make no request, or no cycle has the name that norm7 is given with `-from`. `word` is the index of
     /// the argument at fault, or the number of arguments if no single one is.
     Usage {
         word: usize,

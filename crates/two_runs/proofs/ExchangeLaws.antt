@@ -7,7 +7,7 @@ use Rattle.arch_trait.specs.{Laws.IsArch, Threads.Puts}
 use Rattle.program_meaning.specs.{Accesses.Access, Executions.Execution, Coherence.final_value, Programs.Program}
 use Rattle.program_meaning.specs.Intended.{IsNumbering, cycle_accesses, intended}
 use Rattle.accesses_force_cycles.specs.{Exchange.exchanged, Laws.IsUndecided}
-use Rattle.accesses_force_cycles.proofs.{AllStand.joined_stand, ResolvedFacts.resolves, Laws.no_condition_serves_law, Needs.refused_entry, Resolves.Resolves}
+use Rattle.accesses_force_cycles.proofs.{AllStand.{joined_edge, joined_stand}, ResolvedFacts.resolves, Laws.no_condition_serves_law, Needs.refused_entry, Resolves.Resolves}
 use Rattle.tests_force_cycles.specs.{FinalStates.final_state, TestHeadline.HasCode}
 use Rattle.tests_force_cycles.proofs.{Headline.{renumbered_numbers, renumbered_program}, TestCodes.{cycle_codes, cycle_program, are_codes}, MarksAndLinks.tied_up}
 use Rattle.two_runs.specs.Undecided.{NoneTells, Undecided, TestsUndecided}
@@ -29,6 +29,9 @@ cycle_undecided a es need number names register_number laws t o n = record {
   stand = joined_stand es Avoid number (cycle_program a es Avoid number) (intended es Avoid number) r x.made u.joins
       (tied_up a.name (cycle_codes a es Avoid number) es Avoid number (intended es Avoid number) t.resolved t.of_arch (are_codes a es Avoid number laws t.resolved t.of_arch) x.candidate);
   breaks = edge_breaks es Avoid number (cycle_program a es Avoid number) (exchanged es number need.event) need.event r y.made (refused_entry es need r o).below u.breaks;
+  others = λ i h d. joined_edge es Avoid number (cycle_program a es Avoid number) (exchanged es number need.event) i r y.made
+      (tied_up a.name (cycle_codes a es Avoid number) es Avoid number (exchanged es number need.event) t.resolved t.of_arch (are_codes a es Avoid number laws t.resolved t.of_arch) y.candidate)
+      h (u.others i h d);
 }
   where
     r : Resolves es

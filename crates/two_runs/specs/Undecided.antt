@@ -1,7 +1,7 @@
 -- If the mode avoid refuses a cycle because a write needs an observer, no condition on the final state would have sufficed.
 -- The test without observers is the one of that mode, although the mode refuses the cycle.
 -- Source: own.
-use Rattle.std.specs.Prelude.{◌≡◌, ℕ, Bool, true, List, Option, Some, Ok}
+use Rattle.std.specs.Prelude.{◌≡◌, ◌<◌, ℕ, Bool, true, List, length, Option, Some, Ok}
 use Rattle.relax_edges.specs.{declared.kinds.ArchName.ArchName, declared.kinds.ObsMode.TheVariants.Avoid, declared.kinds.Value.Value, declared.edge.Edge.Edge}
 use Rattle.cycle_events.specs.{Resolution.event_before, Values.observer_need, declared.needs.NeedsObserver.NeedsObserver}
 use Rattle.final_cond.specs.Conditions.{LeftSeen}
@@ -15,7 +15,7 @@ use Rattle.bytes_force_cycles.specs.Readings.{program_read, place_in_test}
 -- No condition on the final state tells two executions of a program apart, and an edge of a cycle stands only in the first:
 -- both are candidate executions that are coherent per location; each register of each thread and each location has the same
 -- value at the end of both, so that each condition, of whatever form, that is met by the first is met by the second; all
--- edges of the cycle stand in the first, and edge number `edge` doesn't in the second.
+-- edges of the cycle stand in the first, and in the second all but edge number `edge`.
 pub record NoneTells (p : Program) (names : List (List ℕ)) (register_number : List ℕ → Option ℕ) (es : List Edge) (edge : ℕ) (one two : Execution) : Type 0 where
   pub first : IsCandidate p one
   pub first_coherent : IsCoherentIn p one
@@ -25,9 +25,10 @@ pub record NoneTells (p : Program) (names : List (List ℕ)) (register_number : 
   pub no_condition : (condition : (LeftSeen → Option Value) → Bool) → condition (final_state p names register_number one) ≡ true → condition (final_state p names register_number two) ≡ true
   pub stand : AllStand es p one
   pub breaks : EdgeStands es p two edge → ⊥
+  pub others : (i : ℕ) → i < length es → (i ≡ edge → ⊥) → EdgeStands es p two i
 
 -- no condition tells the intended execution apart from the one in which a write, event number `event`, and the write before it
--- are exchanged, though the edge into the write doesn't stand in the second
+-- are exchanged, though the edge into the write, and no other, doesn't stand in the second
 abbrev pub Undecided : Program → List (List ℕ) → (List ℕ → Option ℕ) → List Edge → (ℕ → ℕ) → ℕ → Type 0
 Undecided p names register_number es number event =
     NoneTells p names register_number es (event_before es event) (intended es Avoid number) (exchanged es number event)

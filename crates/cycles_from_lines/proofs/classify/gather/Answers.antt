@@ -1,5 +1,6 @@
 -- That `gather` keeps the names of the cycles of a source, line by line.
 use Rattle.std.proofs.Common.{◌++◌}
+use Rattle.cycles_from_lines.specs.declared.line.LineForm.TheVariants.{Edges}
 use Rattle.cycles_from_lines.specs.LineSteps.{last_cycle}
 use Rattle.cycles_from_lines.proofs.{ReadLaws.{found_next, found_last}, TableLaws.{nothing_gathered, part_read, whole_read, gathered_last}}
 use Rattle.cycles_from_lines.proofs.classify.gather.Goals as goal
@@ -12,7 +13,7 @@ loop-families-preserved g c =
     let given = c.loop-families.invariant in
     record {
       cycles = given.cycles ++ last_cycle c.next_found.new.cycle;
-      read = found_next c.args.arch _ _ _ given.cycles c.next_found.new.cycle c.in-Ok-Next.field-0 c.in-Ok-Next.field-0-is (c.in-Ok-Next.ensures.reads _ given.cycles given.read);
+      read = found_next (Edges c.args.arch) _ _ _ given.cycles c.next_found.new.cycle c.in-Ok-Next.field-0 c.in-Ok-Next.field-0-is (c.in-Ok-Next.ensures.reads _ given.cycles given.read);
       holds = c.in-Ok-put_said.ensures given.cycles given.holds;
     }
 
@@ -20,17 +21,17 @@ pub returns-in-Err-put_said : goal.returns-in-Err-put_said
 returns-in-Err-put_said g c =
     let given = c.loop-families.invariant in
     part_read c.args.arch _ _ _ (given.cycles ++ last_cycle c.next_found.new.cycle)
-    (found_next c.args.arch _ _ _ given.cycles c.next_found.new.cycle c.in-Ok-Next.field-0 c.in-Ok-Next.field-0-is (c.in-Ok-Next.ensures.reads _ given.cycles given.read))
+    (found_next (Edges c.args.arch) _ _ _ given.cycles c.next_found.new.cycle c.in-Ok-Next.field-0 c.in-Ok-Next.field-0-is (c.in-Ok-Next.ensures.reads _ given.cycles given.read))
 
 pub returns-in-Ok-put_said-2 : goal.returns-in-Ok-put_said-2
 returns-in-Ok-put_said-2 g c =
     let given = c.loop-families.invariant in
     gathered_last c.args.arch _ _ given.cycles c.next_found.new.cycle _ _
-    (found_last c.args.arch _ _ _ given.cycles c.next_found.new.cycle c.in-Ok-Last.field-0 c.in-Ok-Last.field-0-is (c.in-Ok-Last.ensures.reads _ given.cycles given.read))
+    (found_last (Edges c.args.arch) _ _ _ given.cycles c.next_found.new.cycle c.in-Ok-Last.field-0 c.in-Ok-Last.field-0-is (c.in-Ok-Last.ensures.reads _ given.cycles given.read))
     given.holds c.in-Ok-put_said-2.ensures
 
 pub returns-in-Err-put_said-2 : goal.returns-in-Err-put_said-2
 returns-in-Err-put_said-2 g c =
     let given = c.loop-families.invariant in
     whole_read c.args.arch _ _ (given.cycles ++ last_cycle c.next_found.new.cycle)
-    (found_last c.args.arch _ _ _ given.cycles c.next_found.new.cycle c.in-Ok-Last.field-0 c.in-Ok-Last.field-0-is (c.in-Ok-Last.ensures.reads _ given.cycles given.read))
+    (found_last (Edges c.args.arch) _ _ _ given.cycles c.next_found.new.cycle c.in-Ok-Last.field-0 c.in-Ok-Last.field-0-is (c.in-Ok-Last.ensures.reads _ given.cycles given.read))

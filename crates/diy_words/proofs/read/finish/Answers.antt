@@ -8,7 +8,7 @@ pub returns-in-Diy : goal.returns-in-Diy
 returns-in-Diy c = λ edges places files e f. rw (c.in-Diy.is) (c.finish_list.ensures edges places files e f)
 
 pub returns-in-Norm : goal.returns-in-Norm
-returns-in-Norm c = λ edges places files e f. rw (c.in-Norm.is) (c.finish_name.ensures edges places files e f)
+returns-in-Norm c = λ edges places files e f. rw (c.in-Norm.is) (c.finish_norm.ensures edges places files e f)
 
 pub returns-in-Cross : goal.returns-in-Cross
 returns-in-Cross c = λ edges places files e f. rw (c.in-Cross.is) (c.finish_cross.ensures edges places files e f)

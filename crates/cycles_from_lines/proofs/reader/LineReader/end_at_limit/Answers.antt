@@ -5,9 +5,9 @@ use Rattle.cycles_from_lines.proofs.ReadLaws.{past_limit, some_read, stopped_the
 use Rattle.cycles_from_lines.proofs.reader.LineReader.end_at_limit.Goals as goal
 
 pub returns-in-Ok-clause-refills : goal.returns-in-Ok-clause-refills
-returns-in-Ok-clause-refills g c = λ arch first cycles h.
-    subst (λ n. ReadToLimit arch first (g.I.Source.seen c.read_part.new.input) cycles n) (ap (λ r. r.line) (sym c.self.view_is))
-    (past_limit arch first _ _ c.args.self.now cycles _ h c.requires.one_line c.requires.short c.requires.full c.in-Ok.ensures.filled.took (some_read c.read_part.new.buffer c.in-Ok.field-0 c.in-Ok.field-0-test.1 c.read_part.auto.buffer) c.in-Ok.ensures.filled.no_fault)
+returns-in-Ok-clause-refills g c = λ form first cycles h.
+    subst (λ n. ReadToLimit form first (g.I.Source.seen c.read_part.new.input) cycles n) (ap (λ r. r.line) (sym c.self.view_is))
+    (past_limit form first _ _ c.args.self.now cycles _ h c.requires.one_line c.requires.short c.requires.full c.in-Ok.ensures.filled.took (some_read c.read_part.new.buffer c.in-Ok.field-0 c.in-Ok.field-0-test.1 c.read_part.auto.buffer) c.in-Ok.ensures.filled.no_fault)
 
 pub returns-in-Err-clause-refills : goal.returns-in-Err-clause-refills
-returns-in-Err-clause-refills g c = λ arch first cycles h. stopped_there arch first _ _ c.args.self.now cycles h c.requires.one_line c.requires.short c.in-Err.ensures.stopped
+returns-in-Err-clause-refills g c = λ form first cycles h. stopped_there form first _ _ c.args.self.now cycles h c.requires.one_line c.requires.short c.in-Err.ensures.stopped

@@ -8,8 +8,8 @@ use Rattle.cycles_from_lines.proofs.reader.LineReader.next_found.Given as goal
 abbrev pub invariant-loop-kind : goal.invariant-loop-kind
 invariant-loop-kind g l = record {
   reads : (first : SourceSeen) (cycles : List (List Edge)) →
-      HasRead l.arch first (g.I.Source.seen l.fn.input) l.fn.self cycles →
-      HasRead l.arch first (g.I.Source.seen l.input) l.self cycles;
+      HasRead l.form first (g.I.Source.seen l.fn.input) l.fn.self cycles →
+      HasRead l.form first (g.I.Source.seen l.input) l.self cycles;
   less : work l.self ≤ work l.fn.self;
 }
 

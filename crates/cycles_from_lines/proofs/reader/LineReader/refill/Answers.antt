@@ -6,9 +6,9 @@ use Rattle.cycles_from_lines.proofs.{LineLaws.{is_long, is_short}, ReadLaws.{lon
 use Rattle.cycles_from_lines.proofs.reader.LineReader.refill.Goals as goal
 
 pub returns-then-without_return-gt-MAX_CYCLE_LINE-clause-refills : goal.returns-then-without_return-gt-MAX_CYCLE_LINE-clause-refills
-returns-then-without_return-gt-MAX_CYCLE_LINE-clause-refills g c = λ arch first cycles h.
-    subst (λ n. ReadToFault arch first (g.I.Source.seen c.args.input.now) cycles n LineTooLong) (ap (λ r. r.line) (sym c.self.view_is))
-    (long_given arch first _ c.args.self.now cycles h c.requires
+returns-then-without_return-gt-MAX_CYCLE_LINE-clause-refills g c = λ form first cycles h.
+    subst (λ n. ReadToFault form first (g.I.Source.seen c.args.input.now) cycles n LineTooLong) (ap (λ r. r.line) (sym c.self.view_is))
+    (long_given form first _ c.args.self.now cycles h c.requires
     (is_long (without_return c.args.self.now.pending) c.without_return.result.now (c.without_return.ensures ∙ ap without_return c.pending_bytes.ensures.pending) c.if-without_return-gt-MAX_CYCLE_LINE.true))
 
 pub fill-requires-clause-short : goal.fill-requires-clause-short
@@ -16,7 +16,7 @@ fill-requires-clause-short g c =
     is_short (without_return c.args.self.now.pending) c.without_return.result.now (c.without_return.ensures ∙ ap without_return c.pending_bytes.ensures.pending) c.if-without_return-gt-MAX_CYCLE_LINE.false
 
 pub returns-in-Err-clause-refills : goal.returns-in-Err-clause-refills
-returns-in-Err-clause-refills g c = λ arch first cycles h.
-    stopped_there arch first _ _ c.args.self.now cycles h c.requires
+returns-in-Err-clause-refills g c = λ form first cycles h.
+    stopped_there form first _ _ c.args.self.now cycles h c.requires
     (is_short (without_return c.args.self.now.pending) c.without_return.result.now (c.without_return.ensures ∙ ap without_return c.pending_bytes.ensures.pending) c.if-without_return-gt-MAX_CYCLE_LINE.false)
     c.in-Err.ensures.stopped.0

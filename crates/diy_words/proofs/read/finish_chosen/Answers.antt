@@ -1,0 +1,8 @@
+-- That `finish_chosen` gives what is asked for with `-why`, or without it.
+use Rattle.diy_words.proofs.read.finish_chosen.Goals as goal
+
+pub returns-then-notes : goal.returns-then-notes
+returns-then-notes c = λ edges places files e f. rw c.if-notes.true (c.finish_why.ensures edges places files e f)
+
+pub returns-else-notes : goal.returns-else-notes
+returns-else-notes c = λ edges places files e f. rw c.if-notes.false (c.finish_one.ensures edges places files e f)

@@ -1,0 +1,6 @@
+pub mod NumberedFiles
+pub mod TestParts
+pub mod CutTexts
+pub mod NormalForms
+pub mod PrintedLines
+pub mod ListedLines
