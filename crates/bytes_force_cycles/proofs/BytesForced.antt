@@ -5,20 +5,25 @@ use Rattle.final_cond.specs.States.{Meets}
 use Rattle.cycle_events.specs.Resolution.{move_count}
 use Rattle.arch_trait.specs.{Laws.IsArch, PlaceNames.{letters, number_in}, Threads.Puts, Writing.{Writing, WritesBack, name_in}}
 use Rattle.litmus_text.specs.{TestReadsBack.TestReadsBack, Reread.reread, TestReading.TestRead, TestText.test_text}
-use Rattle.program_meaning.specs.{Executions.Execution, Intended.intended, Programs.{Program, IsCandidate, IsCoherentIn}, Standing.AllStand}
+use Rattle.program_meaning.specs.{Executions.Execution, Intended.{IsNumbering, intended}, Programs.{Program, IsCandidate, IsCoherentIn}, Standing.AllStand}
 use Rattle.tests_force_cycles.specs.{FinalStates.{final_state, IsAskedFor}, TestHeadline.{HasTest, IsRenumbered, Forces}, TestPrograms.test_program}
-use Rattle.tests_force_cycles.specs.TestOf.{test_of}
-use Rattle.tests_force_cycles.proofs.{Headline.renumbered_force_law, RegisterNames.registers_found}
-use Rattle.bytes_force_cycles.specs.{PrintedHeadline.BytesForce, Readings.{program_read, place_in_test, ReadingAsks}}
+use Rattle.tests_force_cycles.specs.{CycleSteps.cycle_steps, TestOf.test_of}
+use Rattle.tests_force_cycles.proofs.{Headline.{renumbered_force_law, renumbered_numbers, renumbered_program}, RegisterNames.registers_found}
+use Rattle.tests_force_cycles.proofs.{TestCodes.{are_codes, cycle_codes}, ThreadRuns.AreCodesOf}
+use Rattle.bytes_force_cycles.proofs.SomeInterleaving.{runs_through}
+use Rattle.bytes_force_cycles.specs.{AnyValues.RunsThrough, PrintedHeadline.BytesForce, Readings.{program_read, place_in_test, ReadingAsks}}
 use Rattle.bytes_force_cycles.proofs.NoInterleaving.{WritesInside, NotInOrder, test_writes_within, not_in_order, interleaving_ends}
 use Rattle.bytes_force_cycles.proofs.RereadTests.{by_table, reread_test, reread_renumbered, threads_numbered, number_of_location, intended_same}
 
 -- the bytes of a test that reads back force the cycle
 pub bytes_force : (a : Puts) (arch : ArchName) (w : Writing) (name : List ℕ) (es : List Edge) (mode : ObsMode) → IsArch a → WritesBack a w → HasTest a es mode
-    → TestReadsBack arch w name (test_of a (name_in w.registers) es mode) → BytesForce arch w (test_text arch w name (test_of a (name_in w.registers) es mode)) es mode
+    → TestReadsBack arch w name (test_of a (name_in w.registers) es mode) → BytesForce arch w name (test_text arch w name (test_of a (name_in w.registers) es mode)) es mode
 bytes_force a arch w name es mode laws back t r = record {
   test = test;
   reads = r.read;
+  named = refl;
+  quotes = refl;
+  runs = subst (RunsThrough (program_read test)) same (subst (λ (p : Program). RunsThrough p (intended es mode number)) program_is runs);
   asks = refl;
   no_interleaving = λ values line h. interleaving_ends w test values line h refl none;
   not_sequential = none;
@@ -61,6 +66,17 @@ bytes_force a arch w name es mode laws back t r = record {
 
     stands : (x : Execution) → ReadingAsks w test x → AllStand es (program_read test) x
     stands x asked = subst (λ (p : Program). AllStand es p x) program_is (forced.stand x (asked_for x asked))
+
+    codes : AreCodesOf (cycle_codes a es mode number) (cycle_steps es mode number)
+    codes = are_codes a es mode number laws t.code.resolved t.code.of_arch
+
+    numbering : IsNumbering es number
+    numbering = renumbered_numbers a (name_in w.registers) es mode (reread_test r.table (test_of a (name_in w.registers) es mode)) number t.code renumbered
+
+    runs : RunsThrough (test_program (reread_test r.table (test_of a (name_in w.registers) es mode))) (intended es mode number)
+    runs = subst (λ (p : Program). RunsThrough p (intended es mode number))
+        (renumbered_program a (name_in w.registers) es mode (reread_test r.table (test_of a (name_in w.registers) es mode)) number renumbered)
+        (runs_through (cycle_codes a es mode number) es mode number codes t.code.resolved numbering)
 
     none : NotInOrder w test
     none = not_in_order w test es t.code.resolved (λ x. subst (WritesInside x) program_is (test_writes_within a (name_in w.registers) es mode (reread_test r.table (test_of a (name_in w.registers) es mode)) number laws t renumbered x)) stands

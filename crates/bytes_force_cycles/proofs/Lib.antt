@@ -1,6 +1,8 @@
 pub mod MentionedLocations
 pub mod RereadTests
 pub mod NoInterleaving
+pub mod AnyValues
+pub mod SomeInterleaving
 pub mod BytesForced
 pub mod Fits
 pub mod Lengths

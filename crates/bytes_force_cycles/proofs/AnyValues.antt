@@ -1,0 +1,101 @@
+-- Whatever its loads read, the code of a cycle's test runs through, and makes the same accesses but for the values that are read.
+use Rattle.std.proofs.{Common.{◌≡◌, ℕ, ◌-◌, ◌<◌, List, [], ◌∷◌, length, map, Some, slice_get, refl, sym, ◌∙◌, ap, arith}, lemmas.List.length-map}
+use Rattle.relax_edges.specs.declared.{kinds.Dir.Dir, kinds.ObsMode.ObsMode, edge.Edge.Edge}
+use Rattle.relax_edges.specs.declared.kinds.Dir.TheVariants as dirs
+use Rattle.cycle_events.specs.Resolution.{IsResolved, move_count}
+use Rattle.arch_trait.specs.{declared.step.Step.Step, Links.link_control, Threads.{ThreadCode, first_number, left_after, loads_after}}
+use Rattle.program_meaning.specs.{Accesses.Visit, Executions.Execution, Intended.{IsNumbering, intended}, Programs.{IsCandidate, visits_in}}
+use Rattle.program_meaning.proofs.Runs.{accesses-count}
+use Rattle.program_meaning.specs.Accesses.{accesses_of}
+use Rattle.accesses_force_cycles.proofs.{Lists.{got_below, got_map, image_of, same_below}, IntendedReads.reads-count}
+use Rattle.tests_force_cycles.specs.{CycleSteps.cycle_steps, TestPrograms.{program_of, thread_from}}
+use Rattle.tests_force_cycles.proofs.{ThreadRuns.{AreCodesOf, AreEnough, did_thread, thread_of}, Visits.{step_visit, thread_visits}}
+use Rattle.tests_force_cycles.proofs.AccessesMade.{candidate_enough, candidate_lists, intended_enough, planned-count}
+use Rattle.bytes_force_cycles.specs.AnyValues.{AsManyReads, without_value}
+
+-- with as many reads as the intended execution, an execution has a number for each load
+pub many_enough : (es : List Edge) (mode : ObsMode) (number : ℕ → ℕ) (x : Execution) → IsResolved es → IsNumbering es number
+    → AsManyReads x (intended es mode number) → AreEnough (cycle_steps es mode number) x
+many_enough es mode number x r n h k steps reads g q =
+    let i = image_of length (intended es mode number).reads k (length reads) (ap (λ l. slice_get l k) (sym h) ∙ got_map length x.reads k reads q) in
+    length-map reads (λ r. r.0) ∙ sym i.image ∙ sym (length-map i.element (λ r. r.0)) ∙ intended_enough es mode number r n k steps i.element g i.got
+
+-- the intended execution has reads for each thread
+pub intended_lists : (es : List Edge) (mode : ObsMode) (number : ℕ → ℕ) → length (intended es mode number).reads ≡ length (cycle_steps es mode number)
+intended_lists es mode number = reads-count es mode number ∙ planned-count es mode number
+
+-- and so has one with as many reads
+pub many_lists : (es : List Edge) (mode : ObsMode) (number : ℕ → ℕ) (x : Execution) → AsManyReads x (intended es mode number)
+    → length x.reads ≡ length (cycle_steps es mode number)
+many_lists es mode number x h =
+    sym (length-map x.reads length) ∙ ap length h ∙ length-map (intended es mode number).reads length ∙ intended_lists es mode number
+
+-- a candidate execution has as many reads as the intended one
+pub candidate_many : (codes : List ThreadCode) (es : List Edge) (mode : ObsMode) (number : ℕ → ℕ) (x : Execution) → AreCodesOf codes (cycle_steps es mode number)
+    → IsResolved es → IsNumbering es number → IsCandidate (program_of codes (move_count es)) x → AsManyReads x (intended es mode number)
+candidate_many codes es mode number x m r n c =
+    same_below (map length x.reads) (map length y.reads) (length (cycle_steps es mode number))
+    (length-map x.reads length ∙ lists)
+    (length-map y.reads length ∙ intended_lists es mode number) here
+  where
+    y : Execution
+    y = intended es mode number
+
+    lists : length x.reads ≡ length (cycle_steps es mode number)
+    lists = candidate_lists codes es mode number x m c
+
+    here : (k : ℕ) → k < length (cycle_steps es mode number) → slice_get (map length x.reads) k ≡ slice_get (map length y.reads) k
+    here k l =
+        let s = got_below (cycle_steps es mode number) k l in
+        let a = got_below x.reads k (omega (arith, lists, l)) in
+        let b = got_below y.reads k (omega (arith, intended_lists es mode number, l)) in
+        got_map length x.reads k a.element a.got
+        ∙ ap Some
+        (sym (length-map a.element (λ r. r.0))
+        ∙ candidate_enough codes es mode number x m c k s.element a.element s.got a.got
+        ∙ sym (intended_enough es mode number r n k s.element b.element s.got b.got)
+        ∙ length-map b.element (λ r. r.0))
+        ∙ sym (got_map length y.reads k b.element b.got)
+
+-- without the value that is read, an access is the same
+value_apart : (s : Step) (d : Dir) (v w k c : ℕ) → without_value (step_visit s d v k c) ≡ without_value (step_visit s d w k c)
+value_apart s dirs.R v w k c = refl
+value_apart s dirs.W v w k c = refl
+
+visits_alike : (ss : List Step) (n c : ℕ) (vs ws : List ℕ) → map without_value (thread_visits ss n c vs) ≡ map without_value (thread_visits ss n c ws)
+visits_alike [] n c vs ws = refl
+visits_alike (s ∷ ss) n c vs ws =
+    λ i. value_apart s s.dir (first_number vs) (first_number ws) (n - 1) c i
+    ∷ visits_alike ss (loads_after s.dir n) (link_control s.link (n - 1) c) (left_after s.dir vs) (left_after s.dir ws) i
+
+-- with a number for each load, the threads make the same accesses in two executions
+pub threads_alike : (codes : List ThreadCode) (threads : List (List Step)) (places : ℕ) (x y : Execution) → AreCodesOf codes threads
+    → length x.reads ≡ length threads → length y.reads ≡ length threads → AreEnough threads x → AreEnough threads y
+    → map (map without_value) (visits_in (program_of codes places) x) ≡ map (map without_value) (visits_in (program_of codes places) y)
+threads_alike codes threads places x y m p q a b =
+    same_below (map (map without_value) (visits_in (program_of codes places) x)) (map (map without_value) (visits_in (program_of codes places) y)) (length codes)
+    (counted x) (counted y) here
+  where
+    counted : (z : Execution) → length (map (map without_value) (visits_in (program_of codes places) z)) ≡ length codes
+    counted z =
+        length-map (visits_in (program_of codes places) z) (map without_value)
+        ∙ sym (length-map (visits_in (program_of codes places) z) accesses_of)
+        ∙ accesses-count (program_of codes places) z
+        ∙ length-map codes thread_from
+
+    visits_at : (z : Execution) (k : ℕ) (steps : List Step) → length z.reads ≡ length threads → AreEnough threads z → slice_get threads k ≡ Some steps → k < length threads
+        → (vs : List ℕ) × (slice_get (visits_in (program_of codes places) z) k ≡ Some (thread_visits steps 0 0 vs))
+    visits_at z k steps c e g l =
+        let r = got_below z.reads k (omega (arith, c, l)) in
+        (_, (did_thread codes threads places z k steps r.element m g r.got (e k steps r.element g r.got)).visits_are)
+
+    here : (k : ℕ) → k < length codes
+        → slice_get (map (map without_value) (visits_in (program_of codes places) x)) k ≡ slice_get (map (map without_value) (visits_in (program_of codes places) y)) k
+    here k l =
+        let inside : k < length threads = omega (arith, m.count, l) in
+        let s = got_below threads k inside in
+        let u = visits_at x k s.element p a s.got inside in
+        let v = visits_at y k s.element q b s.got inside in
+        got_map (map without_value) (visits_in (program_of codes places) x) k (thread_visits s.element 0 0 u.0) u.1
+        ∙ ap Some (visits_alike s.element 0 0 u.0 v.0)
+        ∙ sym (got_map (map without_value) (visits_in (program_of codes places) y) k (thread_visits s.element 0 0 v.0) v.1)
