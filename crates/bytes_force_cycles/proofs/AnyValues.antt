@@ -2,58 +2,57 @@
 use Rattle.std.proofs.{Common.{◌≡◌, ℕ, ◌-◌, ◌<◌, List, [], ◌∷◌, length, map, Some, slice_get, refl, sym, ◌∙◌, ap, arith}, lemmas.List.length-map}
 use Rattle.relax_edges.specs.declared.{kinds.Dir.Dir, kinds.ObsMode.ObsMode, edge.Edge.Edge}
 use Rattle.relax_edges.specs.declared.kinds.Dir.TheVariants as dirs
-use Rattle.cycle_events.specs.Resolution.{IsResolved, move_count}
+use Rattle.cycle_events.specs.Resolution.{move_count}
 use Rattle.arch_trait.specs.{declared.step.Step.Step, Links.link_control, Threads.{ThreadCode, first_number, left_after, loads_after}}
-use Rattle.program_meaning.specs.{Accesses.Visit, Executions.Execution, Intended.{IsNumbering, intended}, Programs.{IsCandidate, visits_in}}
+use Rattle.program_meaning.specs.{Accesses.Visit, Executions.Execution, Programs.{IsCandidate, visits_in}}
 use Rattle.program_meaning.proofs.Runs.{accesses-count}
 use Rattle.program_meaning.specs.Accesses.{accesses_of}
-use Rattle.accesses_force_cycles.proofs.{Lists.{got_below, got_map, image_of, same_below}, IntendedReads.reads-count}
+use Rattle.accesses_force_cycles.proofs.Lists.{got_below, got_map, image_of, same_below}
 use Rattle.tests_force_cycles.specs.{CycleSteps.cycle_steps, TestPrograms.{program_of, thread_from}}
 use Rattle.tests_force_cycles.proofs.{ThreadRuns.{AreCodesOf, AreEnough, did_thread, thread_of}, Visits.{step_visit, thread_visits}}
-use Rattle.tests_force_cycles.proofs.AccessesMade.{candidate_enough, candidate_lists, intended_enough, planned-count}
+use Rattle.tests_force_cycles.proofs.AccessesMade.{candidate_enough, candidate_lists}
 use Rattle.bytes_force_cycles.specs.AnyValues.{AsManyReads, without_value}
 
--- with as many reads as the intended execution, an execution has a number for each load
-pub many_enough : (es : List Edge) (mode : ObsMode) (number : ℕ → ℕ) (x : Execution) → IsResolved es → IsNumbering es number
-    → AsManyReads x (intended es mode number) → AreEnough (cycle_steps es mode number) x
-many_enough es mode number x r n h k steps reads g q =
-    let i = image_of length (intended es mode number).reads k (length reads) (ap (λ l. slice_get l k) (sym h) ∙ got_map length x.reads k reads q) in
-    length-map reads (λ r. r.0) ∙ sym i.image ∙ sym (length-map i.element (λ r. r.0)) ∙ intended_enough es mode number r n k steps i.element g i.got
+-- with as many reads as a candidate, an execution has a number for each load
+pub many_enough : (codes : List ThreadCode) (es : List Edge) (mode : ObsMode) (number : ℕ → ℕ) (x y : Execution) → AreCodesOf codes (cycle_steps es mode number)
+    → IsCandidate (program_of codes (move_count es)) y → AsManyReads x y → AreEnough (cycle_steps es mode number) x
+many_enough codes es mode number x y m c h k steps reads g q =
+    let i = image_of length y.reads k (length reads) (ap (λ l. slice_get l k) (sym h) ∙ got_map length x.reads k reads q) in
+    length-map reads (λ r. r.0)
+    ∙ sym i.image
+    ∙ sym (length-map i.element (λ r. r.0))
+    ∙ candidate_enough codes es mode number y m c k steps i.element g i.got
 
--- the intended execution has reads for each thread
-pub intended_lists : (es : List Edge) (mode : ObsMode) (number : ℕ → ℕ) → length (intended es mode number).reads ≡ length (cycle_steps es mode number)
-intended_lists es mode number = reads-count es mode number ∙ planned-count es mode number
+-- and reads for each thread
+pub many_lists : (codes : List ThreadCode) (es : List Edge) (mode : ObsMode) (number : ℕ → ℕ) (x y : Execution) → AreCodesOf codes (cycle_steps es mode number)
+    → IsCandidate (program_of codes (move_count es)) y → AsManyReads x y → length x.reads ≡ length (cycle_steps es mode number)
+many_lists codes es mode number x y m c h =
+    sym (length-map x.reads length) ∙ ap length h ∙ length-map y.reads length ∙ candidate_lists codes es mode number y m c
 
--- and so has one with as many reads
-pub many_lists : (es : List Edge) (mode : ObsMode) (number : ℕ → ℕ) (x : Execution) → AsManyReads x (intended es mode number)
-    → length x.reads ≡ length (cycle_steps es mode number)
-many_lists es mode number x h =
-    sym (length-map x.reads length) ∙ ap length h ∙ length-map (intended es mode number).reads length ∙ intended_lists es mode number
-
--- a candidate execution has as many reads as the intended one
-pub candidate_many : (codes : List ThreadCode) (es : List Edge) (mode : ObsMode) (number : ℕ → ℕ) (x : Execution) → AreCodesOf codes (cycle_steps es mode number)
-    → IsResolved es → IsNumbering es number → IsCandidate (program_of codes (move_count es)) x → AsManyReads x (intended es mode number)
-candidate_many codes es mode number x m r n c =
+-- candidate executions have as many reads
+pub candidates_many : (codes : List ThreadCode) (es : List Edge) (mode : ObsMode) (number : ℕ → ℕ) (x y : Execution) → AreCodesOf codes (cycle_steps es mode number)
+    → IsCandidate (program_of codes (move_count es)) x → IsCandidate (program_of codes (move_count es)) y → AsManyReads x y
+candidates_many codes es mode number x y m c d =
     same_below (map length x.reads) (map length y.reads) (length (cycle_steps es mode number))
     (length-map x.reads length ∙ lists)
-    (length-map y.reads length ∙ intended_lists es mode number) here
+    (length-map y.reads length ∙ others) here
   where
-    y : Execution
-    y = intended es mode number
-
     lists : length x.reads ≡ length (cycle_steps es mode number)
     lists = candidate_lists codes es mode number x m c
+
+    others : length y.reads ≡ length (cycle_steps es mode number)
+    others = candidate_lists codes es mode number y m d
 
     here : (k : ℕ) → k < length (cycle_steps es mode number) → slice_get (map length x.reads) k ≡ slice_get (map length y.reads) k
     here k l =
         let s = got_below (cycle_steps es mode number) k l in
         let a = got_below x.reads k (omega (arith, lists, l)) in
-        let b = got_below y.reads k (omega (arith, intended_lists es mode number, l)) in
+        let b = got_below y.reads k (omega (arith, others, l)) in
         got_map length x.reads k a.element a.got
         ∙ ap Some
         (sym (length-map a.element (λ r. r.0))
         ∙ candidate_enough codes es mode number x m c k s.element a.element s.got a.got
-        ∙ sym (intended_enough es mode number r n k s.element b.element s.got b.got)
+        ∙ sym (candidate_enough codes es mode number y m d k s.element b.element s.got b.got)
         ∙ length-map b.element (λ r. r.0))
         ∙ sym (got_map length y.reads k b.element b.got)
 

@@ -5,11 +5,11 @@ use Rattle.final_cond.specs.States.{Meets}
 use Rattle.cycle_events.specs.Resolution.{move_count}
 use Rattle.arch_trait.specs.{Laws.IsArch, PlaceNames.{letters, number_in}, Threads.Puts, Writing.{Writing, WritesBack, name_in}}
 use Rattle.litmus_text.specs.{TestReadsBack.TestReadsBack, Reread.reread, TestReading.TestRead, TestText.test_text}
-use Rattle.program_meaning.specs.{Executions.Execution, Intended.{IsNumbering, intended}, Programs.{Program, IsCandidate, IsCoherentIn}, Standing.AllStand}
+use Rattle.program_meaning.specs.{Executions.Execution, Intended.intended, Programs.{Program, IsCandidate, IsCoherentIn}, Standing.AllStand}
 use Rattle.tests_force_cycles.specs.{FinalStates.{final_state, IsAskedFor}, TestHeadline.{HasTest, IsRenumbered, Forces}, TestPrograms.test_program}
 use Rattle.tests_force_cycles.specs.{CycleSteps.cycle_steps, TestOf.test_of}
-use Rattle.tests_force_cycles.proofs.{Headline.{renumbered_force_law, renumbered_numbers, renumbered_program}, RegisterNames.registers_found}
-use Rattle.tests_force_cycles.proofs.{TestCodes.{are_codes, cycle_codes}, ThreadRuns.AreCodesOf}
+use Rattle.tests_force_cycles.proofs.{Headline.{renumbered_force_law, renumbered_program}, RegisterNames.registers_found}
+use Rattle.tests_force_cycles.proofs.{TestCodes.{are_codes, cycle_codes, cycle_program}, ThreadRuns.AreCodesOf}
 use Rattle.bytes_force_cycles.proofs.SomeInterleaving.{runs_through}
 use Rattle.bytes_force_cycles.specs.{AnyValues.RunsThrough, PrintedHeadline.BytesForce, Readings.{program_read, place_in_test, ReadingAsks}}
 use Rattle.bytes_force_cycles.proofs.NoInterleaving.{WritesInside, NotInOrder, test_writes_within, not_in_order, interleaving_ends}
@@ -23,7 +23,7 @@ bytes_force a arch w name es mode laws back t r = record {
   reads = r.read;
   named = refl;
   quotes = refl;
-  runs = subst (RunsThrough (program_read test)) same (subst (λ (p : Program). RunsThrough p (intended es mode number)) program_is runs);
+  runs = subst (RunsThrough (program_read test)) same (subst (λ (p : Program). RunsThrough p (intended es mode number)) (made_program ∙ program_is) runs);
   asks = refl;
   no_interleaving = λ values line h. interleaving_ends w test values line h refl none;
   not_sequential = none;
@@ -70,13 +70,14 @@ bytes_force a arch w name es mode laws back t r = record {
     codes : AreCodesOf (cycle_codes a es mode number) (cycle_steps es mode number)
     codes = are_codes a es mode number laws t.code.resolved t.code.of_arch
 
-    numbering : IsNumbering es number
-    numbering = renumbered_numbers a (name_in w.registers) es mode (reread_test r.table (test_of a (name_in w.registers) es mode)) number t.code renumbered
+    made_program : cycle_program a es mode number ≡ test_program (reread_test r.table (test_of a (name_in w.registers) es mode))
+    made_program =
+        renumbered_program a (name_in w.registers) es mode (reread_test r.table (test_of a (name_in w.registers) es mode)) number renumbered
 
-    runs : RunsThrough (test_program (reread_test r.table (test_of a (name_in w.registers) es mode))) (intended es mode number)
-    runs = subst (λ (p : Program). RunsThrough p (intended es mode number))
-        (renumbered_program a (name_in w.registers) es mode (reread_test r.table (test_of a (name_in w.registers) es mode)) number renumbered)
-        (runs_through (cycle_codes a es mode number) es mode number codes t.code.resolved numbering)
+    runs : RunsThrough (cycle_program a es mode number) (intended es mode number)
+    runs =
+        runs_through (cycle_codes a es mode number) es mode number (intended es mode number) codes
+        (subst (λ (p : Program). IsCandidate p (intended es mode number)) (sym made_program) forced.exists.candidate)
 
     none : NotInOrder w test
     none = not_in_order w test es t.code.resolved (λ x. subst (WritesInside x) program_is (test_writes_within a (name_in w.registers) es mode (reread_test r.table (test_of a (name_in w.registers) es mode)) number laws t renumbered x)) stands

@@ -6,13 +6,13 @@ use Rattle.std.specs.{List.filter, Option.{option_and_then, option_map}}
 use Rattle.list_laws.proofs.Cases.{by_less, by_option}
 use Rattle.relax_edges.specs.declared.{kinds.Dir.Dir, kinds.ObsMode.ObsMode, edge.Edge.Edge}
 use Rattle.relax_edges.specs.declared.kinds.Dir.TheVariants as dirs
-use Rattle.cycle_events.specs.Resolution.{IsResolved, move_count}
+use Rattle.cycle_events.specs.Resolution.{move_count}
 use Rattle.micro_ops.specs.Running.{Outcome}
 use Rattle.arch_trait.specs.{declared.step.Step.Step, Threads.ThreadCode}
 use Rattle.program_meaning.specs.{declared.WriteAt.WriteAt, Accesses.{Access, read, write, is_read, at_name, got_from, accesses_of, visits_of}, Deciding.name}
-use Rattle.program_meaning.specs.{Coherence.{value_of_access, source_at}, Executions.{Execution, CanRead}, Intended.{IsNumbering, cycle_accesses, intended}}
+use Rattle.program_meaning.specs.{Coherence.{value_of_access, source_at}, Executions.{Execution, CanRead}, Intended.cycle_accesses}
 use Rattle.program_meaning.specs.Interleavings.{IsInterleaving, IsInterleavingOf, GivesValues, accesses_on, latest, runs_on, value_after, writes_in, writes_there}
-use Rattle.program_meaning.specs.Programs.{Program, Thread, HasEnded, accesses_in, made_in, run_of, runs_of}
+use Rattle.program_meaning.specs.Programs.{Program, Thread, HasEnded, IsCandidate, accesses_in, made_in, run_of, runs_of}
 use Rattle.program_meaning.proofs.Runs.{accesses-count}
 use Rattle.accesses_force_cycles.specs.Joining.{MakesAccesses, accesses_filled, value_taken, values_left, values_read}
 use Rattle.accesses_force_cycles.proofs.Lists.{got_below, got_map}
@@ -21,9 +21,9 @@ use Rattle.sc_and_interleavings.specs.Sequential.{ByCo, ByFr, ByPo, ByRf, IsPath
 use Rattle.sc_and_interleavings.proofs.{Places.Held, Line.{line_of, line_interleaves}, Lines.{before_is, latest_at, passed, to_place}, MadeReads.{reads_counted, reads_values, thread_reads}}
 use Rattle.tests_force_cycles.specs.{CycleSteps.{cycle_steps, numbers_read}, TestPrograms.program_of}
 use Rattle.tests_force_cycles.proofs.{ThreadRuns.{AreCodesOf, AreEnough, all_end}, Terms.reads-count as numbers-count, Visits.step_access}
-use Rattle.tests_force_cycles.proofs.AccessesMade.{intended_enough, makes_enough, planned_at, planned_reads, planned-count}
+use Rattle.tests_force_cycles.proofs.AccessesMade.{candidate_enough, candidate_lists, makes_enough, planned_at, planned_reads, planned-count}
 use Rattle.bytes_force_cycles.specs.AnyValues.{RunsThrough}
-use Rattle.bytes_force_cycles.proofs.AnyValues.{candidate_many, intended_lists, many_enough, many_lists, threads_alike}
+use Rattle.bytes_force_cycles.proofs.AnyValues.{candidates_many, many_enough, many_lists, threads_alike}
 
 -- Accesses without writes: program order alone lets them be made in a line.
 
@@ -322,17 +322,17 @@ some_interleaving codes es mode number m = record {
         past : slice_get planned e.thread ≡ None → length (accesses_in p x) ≤ e.thread
         past n = not_within (length planned) e.thread counted (λ l. let g = got_below planned e.thread l in let s : None ≡ Some g.element = sym n ∙ g.got in cc s)
 
--- the threads of such a program run through
-pub runs_through : (codes : List ThreadCode) (es : List Edge) (mode : ObsMode) (number : ℕ → ℕ) → AreCodesOf codes (cycle_steps es mode number) → IsResolved es
-    → IsNumbering es number → RunsThrough (program_of codes (move_count es)) (intended es mode number)
-runs_through codes es mode number m r n =
+-- the threads of such a program run through, as in a candidate execution
+pub runs_through : (codes : List ThreadCode) (es : List Edge) (mode : ObsMode) (number : ℕ → ℕ) (y : Execution) → AreCodesOf codes (cycle_steps es mode number)
+    → IsCandidate (program_of codes (move_count es)) y → RunsThrough (program_of codes (move_count es)) y
+runs_through codes es mode number y m c =
     let some = some_interleaving codes es mode number m in
     record {
-      ends = λ x h. all_end codes (cycle_steps es mode number) (move_count es) x m (many_lists es mode number x h) (many_enough es mode number x r n h);
+      ends = λ x h. all_end codes (cycle_steps es mode number) (move_count es) x m (many_lists codes es mode number x y m c h) (many_enough codes es mode number x y m c h);
       alike = λ x h.
-          threads_alike codes (cycle_steps es mode number) (move_count es) x (intended es mode number) m (many_lists es mode number x h)
-          (intended_lists es mode number) (many_enough es mode number x r n h) (intended_enough es mode number r n);
-      as_many = λ x c. candidate_many codes es mode number x m r n c;
+          threads_alike codes (cycle_steps es mode number) (move_count es) x y m (many_lists codes es mode number x y m c h)
+          (candidate_lists codes es mode number y m c) (many_enough codes es mode number x y m c h) (candidate_enough codes es mode number y m c);
+      as_many = λ x d. candidates_many codes es mode number x y m d c;
       values = some.values;
       line = some.line;
       interleaves = some.interleaves;

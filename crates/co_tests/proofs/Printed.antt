@@ -1,7 +1,9 @@
 -- The printed text of a coherence test is read as a test that shows incoherence.
 use Rattle.co_tests.proofs.Vocabulary.{◌≡◌, ℕ, ◌+◌, ◌<◌, true, List, [], ◌∷◌, length, get_or, map, Some, slice_get, refl, sym, ◌∙◌, ap, subst, arith, AllByRecursion, slice_get_within, slice_get-get_or, ArchName, Avoid, Edge, kind_of, Meets, edge_at, ends_outside, move_count, thread_of, slot_of, ends_with, WritesCells, MakesOneAccess, IsArch, location_name, number_in, Puts, ThreadCode, compiled, Writing, WritesBack, name_in, makes_steps, length-letters, links_of, TestReadsBack, is_in, op_is_in, place_in, or_zero, reread, TestRead, test_text, IsAmong, none_among, push_among, few_names, Execution, IsNumbering, AllStand, Program, IsCandidate, IsCoherentIn, accesses_in, got_map, event_step, thread_steps, final_state, IsRenumbered, plain, test_of, all_gets, renumbered_program, registers_found, program_read, reads_back, numbered_in, place_is_in, by_table, got_is, reread_test, threads_numbered, intended_same, links_apart, cut_open, HasCoherenceTest, coherence_steps, coherence_test_of, incoherent_execution, MeetsReading, HasCycle, BytesShowIncoherence, PrintedShowIncoherence}
 use Rattle.co_tests.proofs.Values.{Cut, IsCut, cut_there, none_diff, one_move, one_location}
-use Rattle.co_tests.proofs.{Events.loop_execution, Events.stated_is, Events.ordering_inside, Fits.loop_thread, ConditionMet.HasLoopCode}
+use Rattle.co_tests.proofs.{Events.loop_execution, Events.stated_is, Events.ordering_inside, Fits.loop_thread, ConditionMet.{HasLoopCode, are_codes, loop_codes}}
+use Rattle.bytes_force_cycles.specs.AnyValues.{RunsThrough}
+use Rattle.bytes_force_cycles.proofs.SomeInterleaving.{runs_through}
 use Rattle.co_tests.proofs.ForcedIncoherence.{IsSetUp, IsMetBy, loop_program, stated_meets, only_stated, met_stand, met_cyclic, met_incoherent}
 use Rattle.co_tests.proofs.Readable.{place_names, place_name, first_found, is_step, readable}
 
@@ -68,10 +70,15 @@ read_renumbered a register_name es table c t = record {
 -- the bytes of a coherence test that reads back show incoherence
 pub bytes_show : (a : Puts) (arch : ArchName) (w : Writing) (name : List ℕ) (es : List Edge) → IsArch a → WritesBack a w → HasLoopCode a es
     → TestReadsBack arch w name (coherence_test_of a (name_in w.registers) es)
-    → BytesShowIncoherence arch w (test_text arch w name (coherence_test_of a (name_in w.registers) es)) es
+    → BytesShowIncoherence arch w name (test_text arch w name (coherence_test_of a (name_in w.registers) es)) es
 bytes_show a arch w name es laws back t r = record {
   test = test;
   reads = r.read;
+  named = refl;
+  quotes = refl;
+  runs = subst (RunsThrough (program_read test)) stated (subst (λ (p : Program). RunsThrough p (loop_execution es number)) program_is
+      (runs_through (loop_codes a es number) (cut_open es) Avoid number (loop_execution es number) (are_codes a es number laws t.loop_of)
+      (stated_meets a (name_in w.registers) (number_in w.registers) es number r.table set_up).candidate));
   asks = refl;
   exists = subst (MeetsReading w test) stated (meets (loop_execution es number) (stated_meets a (name_in w.registers)
       (number_in w.registers) es number r.table set_up));

@@ -128,7 +128,7 @@ test_named_so None es whole h = cycle_named es whole
 
 -- the text of the test of a cycle that has one, under a name of its form, forces the cycle
 text_forces : (arch : ArchName) (mode : ObsMode) (name : List ℕ) (es : List Edge) → IsTestName name → IsCycle es → refusal_of (machine_of arch).puts es mode ≡ None
-    → BytesForce (machine_of arch).puts.name (machine_of arch).writing (cycle_text (machine_of arch).puts (machine_of arch).writing mode name es) (turned es) mode
+    → BytesForce (machine_of arch).puts.name (machine_of arch).writing name (cycle_text (machine_of arch).puts (machine_of arch).writing mode name es) (turned es) mode
 unfolding cycle_text
 text_forces arch mode name es named whole unrefused =
     let m = machine_of arch in
@@ -160,7 +160,7 @@ is_loop a es h =
 
 -- the text of the coherence test of edges that aren't refused, under a name of its form, shows incoherence
 text_shows : (arch : ArchName) (name : List ℕ) (es : List Edge) → IsTestName name → IsCycle es → coherence_refusal_of (machine_of arch).puts es ≡ None
-    → BytesShowIncoherence (machine_of arch).puts.name (machine_of arch).writing (coherence_text (machine_of arch).puts (machine_of arch).writing name es) (turned es)
+    → BytesShowIncoherence (machine_of arch).puts.name (machine_of arch).writing name (coherence_text (machine_of arch).puts (machine_of arch).writing name es) (turned es)
 unfolding coherence_text
 text_shows arch name es named whole unrefused =
     let m = machine_of arch in
@@ -203,7 +203,7 @@ asked_force words status old new h = of_asked (asked_of words) refl h
         m = machine_of asked.arch
 
         printed : AnswersRun form m None (asked_text asked) (intended_by asked.edges asked.mode) status old.out new.out
-            → (status ≡ NoMemory) ⊎ PrintsIntended form m (asked_text asked) asked.edges asked.mode status old.out new.out
+            → (status ≡ NoMemory) ⊎ PrintsIntended form m (test_name asked.name asked.edges) (asked_text asked) asked.edges asked.mode status old.out new.out
         printed (inl wants) = inl wants.0
         printed (inr run) =
             let whole = accepted m.puts asked.mode asked.edges none in
@@ -223,7 +223,7 @@ asked_force words status old new h = of_asked (asked_of words) refl h
         m = machine_of asked.arch
 
         printed : AnswersRun form m None (incoherent_text asked) (incoherent_by asked.edges) status old.out new.out
-            → (status ≡ NoMemory) ⊎ PrintsIncoherent form m (incoherent_text asked) asked.edges status old.out new.out
+            → (status ≡ NoMemory) ⊎ PrintsIncoherent form m (test_name asked.name asked.edges) (incoherent_text asked) asked.edges status old.out new.out
         printed (inl wants) = inl wants.0
         printed (inr run) =
             let whole = is_loop m.puts asked.edges none in
@@ -248,7 +248,7 @@ asked_force words status old new h = of_asked (asked_of words) refl h
 
     -- the test of each cycle of a listing forces it
     each_forces : (asked : ListTask) (cycle : List Edge) → IsPlanned (plan_asked asked) cycle
-        → BytesForce (machine_of asked.arch).puts.name (machine_of asked.arch).writing (planned_text (plan_asked asked) cycle) (turned cycle) asked.mode
+        → BytesForce (machine_of asked.arch).puts.name (machine_of asked.arch).writing (name_of cycle) (planned_text (plan_asked asked) cycle) (turned cycle) asked.mode
     each_forces asked cycle planned =
         text_forces asked.arch asked.mode (name_of cycle) cycle (cycle_named cycle planned.cycle) planned.cycle
         (wanted_has_test (machine_of asked.arch).puts asked.mode asked.threads asked.accesses cycle planned.taken)

@@ -6,6 +6,7 @@
 use Rattle.std.specs.{Prelude.{◌≡◌, ◌≤◌, ◌⊎◌, ◌↔◌, ℕ, List, length, Result, Ok, Option, None}, List.Contains}
 use Rattle.relax_edges.specs.declared.{edge.Edge.Edge, kinds.ObsMode.ObsMode}
 use Rattle.cycle_events.specs.Resolution.{turned}
+use Rattle.cycle_names.specs.CycleNames.{name_of}
 use Rattle.diy_io.specs.{Shelf.ShelfSeen, Wrote.SinkSeen}
 use Rattle.diy_words.specs.declared.usage.Usage.{Usage}
 use Rattle.diy_words.specs.declared.request.ExecutionForm.{ExecutionForm}
@@ -26,26 +27,26 @@ use Rattle.diy_tools.specs.{CrossAnswers.cycles_asked, CrossAnswers.crossed_text
 use Rattle.cycle_enum_laws.specs.Listing.{IsOneOf, AreAllListed}
 
 -- a text is printed, or a prefix of it if standard output fails, and the bytes of the text force a cycle
-pub record PrintsForcing (m : Machine) (text : List ℕ) (cycle : List Edge) (mode : ObsMode) (status : Status) (old new : SinkSeen) : Type 0 where
+pub record PrintsForcing (m : Machine) (name text : List ℕ) (cycle : List Edge) (mode : ObsMode) (status : Status) (old new : SinkSeen) : Type 0 where
   pub prints : Prints text status old new
-  pub forces : BytesForce m.puts.name m.writing text (turned cycle) mode
+  pub forces : BytesForce m.puts.name m.writing name text (turned cycle) mode
 
 -- a text is printed, or a prefix of it if standard output fails, and the bytes of the text show incoherence: exactly one candidate
 -- execution meets their condition, all edges of the cycle stand in it, and it isn't coherent per location
-pub record PrintsIncoherence (m : Machine) (text : List ℕ) (cycle : List Edge) (status : Status) (old new : SinkSeen) : Type 0 where
+pub record PrintsIncoherence (m : Machine) (name text : List ℕ) (cycle : List Edge) (status : Status) (old new : SinkSeen) : Type 0 where
   pub prints : Prints text status old new
-  pub shows : BytesShowIncoherence m.puts.name m.writing text (turned cycle)
+  pub shows : BytesShowIncoherence m.puts.name m.writing name text (turned cycle)
 
 -- the execution that a test asks for is printed, as a text or drawn, and the bytes of the test force its cycle: that execution is coherent per location and
 -- meets the condition, no other candidate execution does both, and all edges of the cycle stand in it
-pub record PrintsIntended (form : ExecutionForm) (m : Machine) (text : List ℕ) (cycle : List Edge) (mode : ObsMode) (status : Status) (old new : SinkSeen) : Type 0 where
+pub record PrintsIntended (form : ExecutionForm) (m : Machine) (name text : List ℕ) (cycle : List Edge) (mode : ObsMode) (status : Status) (old new : SinkSeen) : Type 0 where
   pub prints : PrintsRun form m text (intended_by cycle mode) status old new
-  pub forces : BytesForce m.puts.name m.writing text (turned cycle) mode
+  pub forces : BytesForce m.puts.name m.writing name text (turned cycle) mode
 
 -- the execution that a coherence test asks for is printed, and the bytes of the test show incoherence
-pub record PrintsIncoherent (form : ExecutionForm) (m : Machine) (text : List ℕ) (cycle : List Edge) (status : Status) (old new : SinkSeen) : Type 0 where
+pub record PrintsIncoherent (form : ExecutionForm) (m : Machine) (name text : List ℕ) (cycle : List Edge) (status : Status) (old new : SinkSeen) : Type 0 where
   pub prints : PrintsRun form m text (incoherent_by cycle) status old new
-  pub shows : BytesShowIncoherence m.puts.name m.writing text (turned cycle)
+  pub shows : BytesShowIncoherence m.puts.name m.writing name text (turned cycle)
 
 -- what suffices against the outcome of a test is printed. Its lines are those of exactly the edges that order, of which the links of the
 -- test's text, as it is read, say that they suffice and which of them are needed
@@ -58,14 +59,14 @@ pub record PrintsNeeds (m : Machine) (text name : List ℕ) (cycle : List Edge) 
 pub record ListsLines (asked : ListTask) (status : Status) (old new : SinkSeen) : Type 0 where
   pub lists : AnswersListed asked status old new
   pub forces : (cycle : List Edge) → IsPlanned (plan_asked asked) cycle →
-      BytesForce (machine_of asked.arch).puts.name (machine_of asked.arch).writing (planned_text (plan_asked asked) cycle) (turned cycle) asked.mode
+      BytesForce (machine_of asked.arch).puts.name (machine_of asked.arch).writing (name_of cycle) (planned_text (plan_asked asked) cycle) (turned cycle) asked.mode
 
 -- the tests of a listing are written as asked for, and the bytes of the text of each listed cycle force that cycle; and the listed cycles, as
 -- many as can be counted, have files of their own: no two tests have one file, so each file holds the text of its own test
 pub record ListsForcing (asked : ListTask) (status : Status) (old new : ShelfSeen) (before after : SinkSeen) : Type 0 where
   pub lists : AnswersList asked status old new before after
   pub forces : (cycle : List Edge) → IsPlanned (plan_asked asked) cycle →
-      BytesForce (machine_of asked.arch).puts.name (machine_of asked.arch).writing (planned_text (plan_asked asked) cycle) (turned cycle) asked.mode
+      BytesForce (machine_of asked.arch).puts.name (machine_of asked.arch).writing (name_of cycle) (planned_text (plan_asked asked) cycle) (turned cycle) asked.mode
   pub own_files : (given : Option (List Edge)) (cycles : List (List Edge)) → AreAllListed (IsPlanned (plan_asked asked)) given cycles → length cycles ≤ last_number →
       HaveOwnFiles asked.folder (planned_text (plan_asked asked)) cycles
 
@@ -74,7 +75,7 @@ pub record ListsForcing (asked : ListTask) (status : Status) (old new : ShelfSee
 pub record CrossesForcing (asked : CrossTask) (status : Status) (old new : ShelfSeen) (before after : SinkSeen) : Type 0 where
   pub crosses : AnswersCross asked status old new before after
   pub forces : (cycle : List Edge) → IsOneOf (cycles_asked asked) cycle →
-      BytesForce (machine_of asked.arch).puts.name (machine_of asked.arch).writing (crossed_text asked cycle) (turned cycle) asked.mode
+      BytesForce (machine_of asked.arch).puts.name (machine_of asked.arch).writing (name_of cycle) (crossed_text asked cycle) (turned cycle) asked.mode
   pub own_files : length (cycles_asked asked) ≤ last_number → HaveOwnFiles asked.folder (crossed_text asked) (cycles_asked asked)
 
 -- If the arguments ask for the test of edges that nothing refuses, it is printed, and forces the cycle that they make. If they ask why the
@@ -88,20 +89,20 @@ pub record CrossesForcing (asked : CrossTask) (status : Status) (old new : Shelf
 abbrev pub HeadlineAsked : Result Task Usage → Status → Devices → Devices → Type 0
 HeadlineAsked (Ok (AsksTest asked)) status old new =
     refused_of (machine_of asked.arch).puts asked.mode asked.edges ≡ None →
-    PrintsForcing (machine_of asked.arch) (asked_text asked) asked.edges asked.mode status old.out new.out
+    PrintsForcing (machine_of asked.arch) (test_name asked.name asked.edges) (asked_text asked) asked.edges asked.mode status old.out new.out
 HeadlineAsked (Ok (AsksWhy asked)) status old new =
     why_unshown asked ≡ None →
     (status ≡ NoMemory)
     ⊎ WritesRuns (machine_of asked.arch) asked.folder (test_name asked.name asked.edges) asked.edges status old.shelf new.shelf old.out new.out
 HeadlineAsked (Ok (AsksCoherence asked)) status old new =
     coherence_refused asked ≡ None →
-    PrintsIncoherence (machine_of asked.arch) (incoherent_text asked) asked.edges status old.out new.out
+    PrintsIncoherence (machine_of asked.arch) (test_name asked.name asked.edges) (incoherent_text asked) asked.edges status old.out new.out
 HeadlineAsked (Ok (AsksExecution form asked)) status old new =
     refused_of (machine_of asked.arch).puts asked.mode asked.edges ≡ None →
-    (status ≡ NoMemory) ⊎ PrintsIntended form (machine_of asked.arch) (asked_text asked) asked.edges asked.mode status old.out new.out
+    (status ≡ NoMemory) ⊎ PrintsIntended form (machine_of asked.arch) (test_name asked.name asked.edges) (asked_text asked) asked.edges asked.mode status old.out new.out
 HeadlineAsked (Ok (AsksCoherenceExecution form asked)) status old new =
     coherence_refused asked ≡ None →
-    (status ≡ NoMemory) ⊎ PrintsIncoherent form (machine_of asked.arch) (incoherent_text asked) asked.edges status old.out new.out
+    (status ≡ NoMemory) ⊎ PrintsIncoherent form (machine_of asked.arch) (test_name asked.name asked.edges) (incoherent_text asked) asked.edges status old.out new.out
 HeadlineAsked (Ok (AsksNeeds asked)) status old new =
     refused_of (machine_of asked.arch).puts asked.mode asked.edges ≡ None →
     PrintsNeeds (machine_of asked.arch) (asked_text asked) (test_name asked.name asked.edges) asked.edges asked.mode status old.out new.out

@@ -30,7 +30,7 @@ has_shape a es t = record {
 -- what is made of a cycle over one location is the execution that its coherence test asks for
 pub is_coherence_run : (a : Puts) (arch : ArchName) (w : Writing) (name : List ℕ) (es : List Edge) (test : TestRead) (run : Execution)
     → IsArch a → WritesBack a w → WritesCells a w → MakesOneAccess a → IsTestName name → HasCoherenceTest a es
-    → BytesShowIncoherence arch w (test_text arch w name (coherence_test_of a (name_in w.registers) es)) es
+    → BytesShowIncoherence arch w name (test_text arch w name (coherence_test_of a (name_in w.registers) es)) es
     → test_read arch w (test_text arch w name (coherence_test_of a (name_in w.registers) es)) ≡ Ok test
     → run ≡ incoherent_execution es
     → IsRunOf arch w (test_text arch w name (coherence_test_of a (name_in w.registers) es)) (λ _. incoherent_execution es) test run

@@ -25,21 +25,21 @@ accepted_resolves a cycle mode h =
 
 -- the law of printed tests, under the architecture's own name
 pub forced : (a : Puts) (arch : ArchName) (w : Writing) (name : List ℕ) (es : List Edge) (mode : ObsMode) → a.name ≡ arch → PrintedForce a arch w
-    → IsTestName name → HasTest a es mode → BytesForce a.name w (test_text a.name w name (test_of a (name_in w.registers) es mode)) es mode
+    → IsTestName name → HasTest a es mode → BytesForce a.name w name (test_text a.name w name (test_of a (name_in w.registers) es mode)) es mode
 forced a arch w name es mode same law named has =
-    subst (λ (n : ArchName). BytesForce n w (test_text n w name (test_of a (name_in w.registers) es mode)) es mode) (sym same) (law name es mode named has)
+    subst (λ (n : ArchName). BytesForce n w name (test_text n w name (test_of a (name_in w.registers) es mode)) es mode) (sym same) (law name es mode named has)
 
 -- the text of a test that is made is read
 pub made_is_read : (a : Puts) (arch : ArchName) (w : Writing) (name : List ℕ) (es : List Edge) (mode : ObsMode) → PrintedForce a arch w
     → IsTestName name → HasTest a es mode → IsRead arch w (test_text arch w name (test_of a (name_in w.registers) es mode))
 made_is_read a arch w name es mode law named has =
-    let forces : BytesForce arch w (test_text arch w name (test_of a (name_in w.registers) es mode)) es mode = law name es mode named has in
+    let forces : BytesForce arch w name (test_text arch w name (test_of a (name_in w.registers) es mode)) es mode = law name es mode named has in
     (forces.test, forces.reads)
 
 -- what is made of a cycle's test is the execution that it asks for
 pub is_run : (a : Puts) (w : Writing) (name : List ℕ) (cycle : List Edge) (mode : ObsMode) (test : TestRead) (run : Execution)
     → IsArch a → WritesBack a w → WritesCells a w → MakesOneAccess a → IsTestName name → HasTest a (turned cycle) mode
-    → BytesForce a.name w (test_text a.name w name (test_of a (name_in w.registers) (turned cycle) mode)) (turned cycle) mode
+    → BytesForce a.name w name (test_text a.name w name (test_of a (name_in w.registers) (turned cycle) mode)) (turned cycle) mode
     → test_read a.name w (test_text a.name w name (test_of a (name_in w.registers) (turned cycle) mode)) ≡ Ok test
     → run ≡ run_by (turned cycle) mode None (numbers_by test.places)
     → IsRunOf a.name w (cycle_text a w mode name cycle) (intended_by cycle mode) test run
