@@ -1,0 +1,2 @@
+pub mod Starred
+pub mod Interleaved

@@ -1,0 +1,26 @@
+ghost use Rattle.printed_states.specs.PrintedStates.{InterleavedIsSequential, InterleavedStaysSequential, StarredIsIncoherent, StarredIsRelaxed};
+
+use arch_trait::Arch;
+
+/// On every architecture, the state with the star in the printed text of the test of each cycle that has
+/// one, under a name of its form, is relaxed: no verdict but this one holds of it, unless nothing is
+/// said.
+pub fn starred_is_relaxed<A: Arch>()
+    ensures { StarredIsRelaxed A.puts A.NAME A.writing }
+{}
+
+/// In the printed text of each coherence test it is incoherent.
+pub fn starred_is_incoherent<A: Arch>()
+    ensures { StarredIsIncoherent A.puts A.NAME A.writing }
+{}
+
+/// A state in which an interleaving of a test's threads ends is sequential.
+pub fn interleaved_is_sequential()
+    ensures { InterleavedIsSequential }
+{}
+
+/// On every architecture, no other verdict holds of such a state of the printed text of a cycle's test, unless
+/// nothing is said.
+pub fn interleaved_stays_sequential<A: Arch>()
+    ensures { InterleavedStaysSequential A.puts A.NAME A.writing }
+{}

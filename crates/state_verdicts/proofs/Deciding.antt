@@ -1,0 +1,54 @@
+-- What is rebuilt from a state, and when nothing is.
+use Rattle.std.proofs.Common.{◌≡◌, ℕ, List, Option, Some, None, length, map, sym, ap, subst, ◌∙◌}
+use Rattle.std.proofs.lemmas.{List.length-map, Option.same_Some}
+use Rattle.list_laws.specs.Numbers.{upto}
+use Rattle.list_laws.proofs.Numbers.{length-map-upto}
+use Rattle.final_cond.specs.Conditions.{CondSeen}
+use Rattle.program_meaning.specs.{Accesses.{Access, is_read}, Executions.Execution, Interleavings.accesses_on}
+use Rattle.litmus_text.specs.{ReadPrograms.program_read, TestReading.TestRead}
+use Rattle.std.specs.List.{filter}
+use Rattle.states_fix_executions.specs.Rebuilt.{order_by_end, source_by_value}
+use Rattle.rebuilt_executions.specs.Settled.{AreSettled, end_at, rebuilt_from}
+use Rattle.state_verdicts.proofs.{LoadLists.accesses_count, StateLaws.only_ending}
+use Rattle.state_verdicts.specs.{OnlyOne.IsOnlyEnding, StateParts.{FixesExecution, end_given, ends_given, loads_from}}
+
+-- where not all loads are known, the state fixes nothing
+pub none_given : (register_number : List ℕ → Option ℕ) (test : TestRead) (state : CondSeen) → None ≡ loads_from register_number state.terms 0 test.threads
+    → FixesExecution register_number test state → ⊥
+none_given register_number test state e h = let q : None ≡ Some h.loads = e ∙ h.given in cc q
+
+-- what is known of the accesses and final values of a state
+pub record AreOfState (register_number : List ℕ → Option ℕ) (test : TestRead) (state : CondSeen) (all : List (List Access)) (ends : List (Option ℕ)) : Type 0 where
+  pub loads : List (List ℕ)
+  pub given : Some loads ≡ loads_from register_number state.terms 0 test.threads
+  pub all_is : all ≡ accesses_on (program_read test) loads
+  pub ends_is : ends ≡ ends_given test.places state.terms
+
+-- where they settle no execution, the state fixes none
+pub not_fixed : (register_number : List ℕ → Option ℕ) (test : TestRead) (state : CondSeen) (all : List (List Access)) (ends : List (Option ℕ))
+    → AreOfState register_number test state all ends → (AreSettled all ends → ⊥) → FixesExecution register_number test state → ⊥
+not_fixed register_number test state all ends k unsettled h =
+    let same : h.loads ≡ k.loads = same_Some h.loads k.loads (sym h.given ∙ sym k.given) in
+    let a : accesses_on (program_read test) h.loads ≡ all = ap (accesses_on (program_read test)) same ∙ sym k.all_is in
+    unsettled (subst (λ (z : List (List Access) × List (Option ℕ)). AreSettled z.0 z.1) (λ i. (a i, sym k.ends_is i)) h.settled)
+
+-- where they do, no other candidate ends in the state than what is rebuilt
+pub only_rebuilt : (register_number : List ℕ → Option ℕ) (test : TestRead) (state : CondSeen) (all : List (List Access)) (ends : List (Option ℕ)) (x : Execution)
+    → AreOfState register_number test state all ends → AreSettled all ends → x ≡ rebuilt_from all ends → IsOnlyEnding register_number test state x
+only_rebuilt register_number test state all ends x k settled is =
+    only_ending register_number test state k.loads x (sym k.given)
+    (subst (λ (z : List (List Access) × List (Option ℕ)). AreSettled z.0 z.1) (λ i. (k.all_is i, k.ends_is i)) settled)
+    (is ∙ (λ i. rebuilt_from (k.all_is i) (k.ends_is i)))
+
+-- it has the threads and locations of the test
+pub thread_count : (register_number : List ℕ → Option ℕ) (test : TestRead) (state : CondSeen) (all : List (List Access)) (ends : List (Option ℕ)) (x : Execution)
+    → AreOfState register_number test state all ends → x ≡ rebuilt_from all ends → length x.reads ≡ length test.threads
+thread_count register_number test state all ends x k is =
+    ap (λ (y : Execution). length y.reads) is ∙ length-map all (λ accesses. map (source_by_value all) (filter is_read accesses))
+    ∙ ap length k.all_is ∙ accesses_count test k.loads
+
+pub place_count : (register_number : List ℕ → Option ℕ) (test : TestRead) (state : CondSeen) (all : List (List Access)) (ends : List (Option ℕ)) (x : Execution)
+    → AreOfState register_number test state all ends → x ≡ rebuilt_from all ends → length x.orders ≡ length test.places
+place_count register_number test state all ends x k is =
+    ap (λ (y : Execution). length y.orders) is ∙ length-map-upto (λ place. order_by_end all place (end_at ends place)) (length ends)
+    ∙ ap length k.ends_is ∙ length-map-upto (end_given test.places state.terms) (length test.places)

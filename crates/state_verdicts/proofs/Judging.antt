@@ -1,0 +1,59 @@
+-- The verdict by the one execution that can end in a state.
+use Rattle.std.proofs.Common.{◌≡◌, ℕ, Bool, true, false, List, Option, length, sym, ap, subst, ◌∙◌}
+use Rattle.std.specs.Prelude.{◌↔◌, IsTrue}
+use Rattle.relax_edges.specs.declared.kinds.Value.{Value}
+use Rattle.final_cond.specs.{Conditions.{LeftSeen, CondSeen}, States.Meets}
+use Rattle.program_meaning.specs.{Executions.Execution, Programs.{IsCandidate, IsCoherentIn, accesses_in}, declared.seen.SeenAccess.SeenAccess, SeenAccesses.seen_in}
+use Rattle.litmus_text.specs.{ReadPrograms.program_read, TestReading.TestRead}
+use Rattle.sc_and_interleavings.specs.{CoherenceLaws.WritesWithin, Sequential.IsSequential}
+use Rattle.states_fix_executions.specs.{Ordered.can_be_ordered, States.{Any, SomeCoherent, SomeEnding, SomeSequential}}
+use Rattle.states_fix_executions.proofs.Ordering.{sequential_is_decided}
+use Rattle.state_verdicts.specs.{OnlyOne.IsOnlyEnding, Verdicts.{EndsInState, IsVerdictOf}}
+use Rattle.state_verdicts.specs.declared.verdict.Verdict.TheVariants as verdicts
+
+-- a state that is judged in an equal final state has the same answer
+pub state_holds : (shown final : LeftSeen → Option Value) (state : CondSeen) (answer : Bool) → ((left : LeftSeen) → shown left ≡ final left)
+    → (IsTrue answer ↔ Meets shown state) → (IsTrue answer ↔ Meets final state)
+state_holds shown final state answer same h = subst (λ s. IsTrue answer ↔ Meets s state) (λ i left. same left i) h
+
+-- the order of what is seen decides
+pub order_decides : (test : TestRead) (x : Execution) (seen looked : List SeenAccess) (answer : Bool) → IsCandidate (program_read test) x
+    → WritesWithin (accesses_in (program_read test) x) (length test.places) → seen ≡ seen_in (program_read test) x → looked ≡ seen → answer ≡ can_be_ordered looked
+    → IsTrue answer ↔ IsSequential (accesses_in (program_read test) x) x
+order_decides test x seen looked answer candidate within e f a =
+    let d = sequential_is_decided (program_read test) x candidate within in
+    let s : can_be_ordered looked ≡ can_be_ordered (seen_in (program_read test) x) = ap can_be_ordered (f ∙ e) in
+    ((λ t. d.0 (sym s ∙ sym a ∙ t)), (λ h. a ∙ s ∙ d.1 h))
+
+-- no candidate ends so where the one that could isn't one
+pub no_candidate : (register_number : List ℕ → Option ℕ) (test : TestRead) (state : CondSeen) (x : Execution) → IsOnlyEnding register_number test state x
+    → (IsCandidate (program_read test) x → ⊥) → IsVerdictOf register_number test state verdicts.Impossible
+no_candidate register_number test state x o h s =
+    h (subst (IsCandidate (program_read test)) (o.only s.execution s.candidate s.ends) s.candidate)
+
+-- or where it ends otherwise
+pub ends_otherwise : (register_number : List ℕ → Option ℕ) (test : TestRead) (state : CondSeen) (x : Execution) → IsOnlyEnding register_number test state x
+    → (EndsInState register_number test state x → ⊥) → IsVerdictOf register_number test state verdicts.Impossible
+ends_otherwise register_number test state x o h s =
+    h (subst (EndsInState register_number test state) (o.only s.execution s.candidate s.ends) s.ends)
+
+-- what holds of the only candidate that ends so
+pub sequential_here : (register_number : List ℕ → Option ℕ) (test : TestRead) (state : CondSeen) (x : Execution) → IsCandidate (program_read test) x
+    → EndsInState register_number test state x → IsSequential (accesses_in (program_read test) x) x → IsVerdictOf register_number test state verdicts.Sequential
+sequential_here register_number test state x candidate ends holds = record { execution = x; candidate = candidate; ends = ends; holds = holds }
+
+pub relaxed_here : (register_number : List ℕ → Option ℕ) (test : TestRead) (state : CondSeen) (x : Execution) → IsOnlyEnding register_number test state x
+    → IsCandidate (program_read test) x → EndsInState register_number test state x → (IsSequential (accesses_in (program_read test) x) x → ⊥) → IsCoherentIn (program_read test) x
+    → IsVerdictOf register_number test state verdicts.Relaxed
+relaxed_here register_number test state x o candidate ends h coherent = (
+  (λ s. h (subst (λ y. IsSequential (accesses_in (program_read test) y) y) (o.only s.execution s.candidate s.ends) s.holds)),
+  record { execution = x; candidate = candidate; ends = ends; holds = coherent },
+)
+
+pub incoherent_here : (register_number : List ℕ → Option ℕ) (test : TestRead) (state : CondSeen) (x : Execution) → IsOnlyEnding register_number test state x
+    → IsCandidate (program_read test) x → EndsInState register_number test state x → (IsCoherentIn (program_read test) x → ⊥)
+    → IsVerdictOf register_number test state verdicts.Incoherent
+incoherent_here register_number test state x o candidate ends h = (
+  (λ s. h (subst (IsCoherentIn (program_read test)) (o.only s.execution s.candidate s.ends) s.holds)),
+  record { execution = x; candidate = candidate; ends = ends; holds = tt },
+)

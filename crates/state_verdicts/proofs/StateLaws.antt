@@ -1,0 +1,197 @@
+-- A candidate that ends in a state reads what the state says, and is the execution that the state fixes.
+use Rattle.std.proofs.Common.{◌≡◌, ℕ, zero, suc, ◌+◌, ◌<◌, ◌==◌, Bool, true, false, cond, List, [], ◌∷◌, length, map, Option, Some, None, slice_get, ◌∙◌, refl, sym, ap, subst, arith}
+use Rattle.std.specs.{Prelude.option_map, Option.option_and_then, List.AllByRecursion}
+use Rattle.std.proofs.lemmas.{Bool.eqb-true, Option.same_Some, List.length-map}
+use Rattle.list_laws.specs.Numbers.{upto}
+use Rattle.list_laws.proofs.{Cases.by_test, Cases.by_option, Numbers.length-map-upto, Numbers.slice_get-map-upto}
+use Rattle.relax_edges.specs.{declared.kinds.Value.Value, declared.kinds.Value.TheVariants.Num}
+use Rattle.micro_ops.specs.{declared.operation.Item.Item, Running.{Outcome, Ended, ReadsLeft, ReadsShort, NoRule, runs}}
+use Rattle.final_cond.specs.Conditions.{AtPlace, CondSeen, InRegister, LeftSeen, TermSeen}
+use Rattle.arch_trait.specs.PlaceNames.{number_in}
+use Rattle.program_meaning.specs.{declared.WriteAt.WriteAt, Accesses.Access, Executions.Execution, Coherence.final_value, Interleavings.accesses_on}
+use Rattle.program_meaning.specs.Programs.{Program, HasEnded, IsCandidate, accesses_in, held_at_end, held_at_last, register_in, run_of, runs_of}
+use Rattle.program_meaning.proofs.Runs.{accesses-count}
+use Rattle.litmus_text.specs.{ReadPrograms.{program_read, thread_read}, TestReading.{TestRead, ThreadRead}}
+use Rattle.sc_and_interleavings.specs.{Along.values_in, CoherenceLaws.WritesWithin}
+use Rattle.tests_force_cycles.specs.FinalStates.{final_state}
+use Rattle.states_fix_executions.specs.{States.{EndsIn, EndsWith, FinalState}, Rebuilt.{Fixes, order_by_end, rebuilt}}
+use Rattle.states_fix_executions.proofs.{Endings.accesses_same, Rebuilding.only_the_rebuilt}
+use Rattle.rebuilt_executions.specs.{LoadValues.{known_value, values_of_loads}, Settled.{AreSettled, end_at, rebuilt_from}}
+use Rattle.rebuilt_executions.proofs.LoadsRead.{loads_read}
+use Rattle.state_verdicts.specs.{OnlyOne.IsOnlyEnding, Verdicts.EndsInState}
+use Rattle.state_verdicts.specs.StateParts.{register_named, with_register, known_registers, thread_loads, with_loads, loads_from, is_number, place_named, end_given, ends_given}
+
+-- each equality holds at the end of an execution
+abbrev AllHold : Program → List (List ℕ) → (List ℕ → Option ℕ) → Execution → List TermSeen → Type 0
+AllHold p names register_number x terms = AllByRecursion (λ term. final_state p names register_number x term.left ≡ Some (Num term.value)) terms
+
+-- what a left side that names a register of a thread says of it
+register_means : (p : Program) (names : List (List ℕ)) (register_number : List ℕ → Option ℕ) (x : Execution) (thread register value : ℕ) (left : LeftSeen)
+    → register_named register_number thread left ≡ Some register → final_state p names register_number x left ≡ Some (Num value)
+    → register_in p x thread register ≡ Some (Num value)
+register_means p names register_number x thread register value (InRegister other name) n h =
+    by_test (other == thread)
+    (λ t. let number : register_number name ≡ Some register = sym (ap (λ b. cond b (register_number name) None) t) ∙ n in
+    ap (λ k. register_in p x k register) (sym (eqb-true other thread t)) ∙ sym (ap (option_and_then (register_in p x other)) number) ∙ h)
+    (λ f. let e : None ≡ Some register = sym (ap (λ b. cond b (register_number name) None) f) ∙ n in cc e)
+register_means p names register_number x thread register value (AtPlace name) n h = cc n
+
+-- a register whose value is known holds it at the end
+known_holds : (p : Program) (names : List (List ℕ)) (register_number : List ℕ → Option ℕ) (x : Execution) (thread : ℕ) (terms : List TermSeen) → AllHold p names register_number x terms
+    → (register value : ℕ) → known_value (known_registers register_number thread terms) register ≡ Some value → register_in p x thread register ≡ Some (Num value)
+known_holds p names register_number x thread [] h register value e = cc e
+known_holds p names register_number x thread (term ∷ terms) h register value e =
+    by_option (register_named register_number thread term.left)
+    (λ n. known_holds p names register_number x thread terms h.1 register value
+    (sym (ap (λ o. known_value (with_register o term.value (known_registers register_number thread terms)) register) n) ∙ e))
+    (λ q n. let f : cond (q == register) (Some term.value) (known_value (known_registers register_number thread terms) register) ≡ Some value =
+    sym (ap (λ o. known_value (with_register o term.value (known_registers register_number thread terms)) register) n) ∙ e in
+    by_test (q == register)
+    (λ t. let same : term.value ≡ value = same_Some term.value value (sym (ap (λ b. cond b (Some term.value) (known_value (known_registers register_number thread terms) register)) t) ∙ f) in
+    ap (register_in p x thread) (sym (eqb-true q register t)) ∙ register_means p names register_number x thread q term.value term.left n h.0 ∙ ap (λ v. Some (Num v)) same)
+    (λ g. known_holds p names register_number x thread terms h.1 register value
+    (sym (ap (λ b. cond b (Some term.value) (known_value (known_registers register_number thread terms) register)) g) ∙ f)))
+
+-- what a left side that names a location says of it
+place_means : (p : Program) (names : List (List ℕ)) (register_number : List ℕ → Option ℕ) (x : Execution) (place value : ℕ) (left : LeftSeen)
+    → is_number place (place_named names left) ≡ true → final_state p names register_number x left ≡ Some (Num value)
+    → final_value (accesses_in p x) x place ≡ value
+place_means p names register_number x place value (InRegister thread name) t h = cc t
+place_means p names register_number x place value (AtPlace name) t h =
+    by_option (number_in names name)
+    (λ n. let e : false ≡ true = sym (ap (is_number place) n) ∙ t in cc e)
+    (λ k n. let same : k ≡ place = eqb-true k place (sym (ap (is_number place) n) ∙ t) in
+    let e : Some (Num (final_value (accesses_in p x) x k)) ≡ Some (Num value) =
+    sym (ap (option_map (λ place. Num (final_value (accesses_in p x) x place))) n) ∙ h in
+    ap (final_value (accesses_in p x) x) (sym same) ∙ same_value e)
+  where
+    same_value : {m n : ℕ} → Some (Num m) ≡ Some (Num n) → m ≡ n
+    same_value e = cc e
+
+-- a location whose final value is given ends with it
+end_holds : (p : Program) (names : List (List ℕ)) (register_number : List ℕ → Option ℕ) (x : Execution) (place : ℕ) (terms : List TermSeen) → AllHold p names register_number x terms
+    → EndsWith (end_given names terms place) (final_value (accesses_in p x) x place)
+end_holds p names register_number x place [] h = tt
+end_holds p names register_number x place (term ∷ terms) h =
+    by_test (is_number place (place_named names term.left))
+    (λ t. subst (λ o. EndsWith o (final_value (accesses_in p x) x place)) (sym (ap (λ b. cond b (Some term.value) (end_given names terms place)) t))
+    (place_means p names register_number x place term.value term.left t h.0))
+    (λ f. subst (λ o. EndsWith o (final_value (accesses_in p x) x place)) (sym (ap (λ b. cond b (Some term.value) (end_given names terms place)) f))
+    (end_holds p names register_number x place terms h.1))
+
+-- values of loads that are known have a first list and others
+record KnownLoads (register_number : List ℕ → Option ℕ) (terms : List TermSeen) (n : ℕ) (t : ThreadRead) (threads : List ThreadRead) (loads : List (List ℕ)) : Type 0 where
+  pub first : List ℕ
+  pub more : List (List ℕ)
+  pub here : thread_loads register_number terms n t ≡ Some first
+  pub others : loads_from register_number terms (suc n) threads ≡ Some more
+  pub all : first ∷ more ≡ loads
+
+known_loads : (register_number : List ℕ → Option ℕ) (terms : List TermSeen) (n : ℕ) (t : ThreadRead) (threads : List ThreadRead) (loads : List (List ℕ))
+    → with_loads (thread_loads register_number terms n t) (loads_from register_number terms (suc n) threads) ≡ Some loads
+    → KnownLoads register_number terms n t threads loads
+known_loads register_number terms n t threads loads h =
+    by_option (thread_loads register_number terms n t)
+    (λ e. let f : None ≡ Some loads = sym (ap (λ o. with_loads o rest) e) ∙ h in cc f)
+    (λ first e. by_option rest
+    (λ g. let f : None ≡ Some loads = sym (ap (with_loads (Some first)) g) ∙ sym (ap (λ o. with_loads o rest) e) ∙ h in cc f)
+    (λ more g. let f : Some (first ∷ more) ≡ Some loads = sym (ap (with_loads (Some first)) g) ∙ sym (ap (λ o. with_loads o rest) e) ∙ h in
+    record { first = first; more = more; here = e; others = g; all = same_Some (first ∷ more) loads f }))
+  where
+    rest : Option (List (List ℕ))
+    rest = loads_from register_number terms (suc n) threads
+
+-- the reads of a run that ended take the values that are known
+run_reads : (known : List (ℕ × ℕ)) (t : ThreadRead) (reads : List (ℕ × Option WriteAt)) (values : List ℕ) → values_of_loads known t.code ≡ Some values
+    → HasEnded (run_of (thread_read t) reads)
+    → ((register value : ℕ) → known_value known register ≡ Some value → held_at_end (run_of (thread_read t) reads) register ≡ Some (Num value))
+    → map (λ r. r.0) reads ≡ values
+run_reads known t reads values h ended holds = by_run (run_of (thread_read t) reads) refl ended
+  where
+    by_run : (run : Outcome) → run_of (thread_read t) reads ≡ run → HasEnded run → map (λ r. r.0) reads ≡ values
+    by_run (Ended made held) e d =
+        loads_read known t.code t.init (map (λ r. r.0) reads) values made held h e
+        (λ register value k. same_Some (held register) (Num value) (sym (ap (λ o. held_at_end o register) e) ∙ holds register value k))
+    by_run ReadsLeft e d = absurd d
+    by_run ReadsShort e d = absurd d
+    by_run NoRule e d = absurd d
+
+-- so the reads of all threads take the values of the state
+loads_are : (register_number : List ℕ → Option ℕ) (terms : List TermSeen) (n : ℕ) (threads : List ThreadRead) (reads : List (List (ℕ × Option WriteAt))) (loads : List (List ℕ))
+    → loads_from register_number terms n threads ≡ Some loads → length reads ≡ length threads
+    → ((k : ℕ) (run : Outcome) → slice_get (runs_of (map thread_read threads) reads) k ≡ Some run → HasEnded run)
+    → ((k register value : ℕ) → known_value (known_registers register_number (n + k) terms) register ≡ Some value
+    → held_at_last (slice_get (runs_of (map thread_read threads) reads) k) register ≡ Some (Num value))
+    → map (λ reads. map (λ r. r.0) reads) reads ≡ loads
+loads_are register_number terms n [] [] loads h l ended holds = same_Some [] loads h
+loads_are register_number terms n [] (first ∷ reads) loads h l ended holds = absurd (omega (arith, l))
+loads_are register_number terms n (t ∷ threads) [] loads h l ended holds = absurd (omega (arith, l))
+loads_are register_number terms n (t ∷ threads) (first ∷ reads) loads h l ended holds =
+    let k = known_loads register_number terms n t threads loads h in
+    let z : n + 0 ≡ n = omega arith in
+    let a : map (λ r. r.0) first ≡ k.first = run_reads (known_registers register_number n terms) t first k.first k.here (ended 0 (run_of (thread_read t) first) refl)
+    (λ register value e. holds 0 register value (ap (λ m. known_value (known_registers register_number m terms) register) z ∙ e)) in
+    let b : map (λ reads. map (λ r. r.0) reads) reads ≡ k.more = loads_are register_number terms (suc n) threads reads k.more k.others (omega (arith, l))
+    (λ i run e. ended (suc i) run e)
+    (λ i register value e. let s : n + suc i ≡ suc n + i = omega arith in
+    holds (suc i) register value (ap (λ m. known_value (known_registers register_number m terms) register) s ∙ e)) in
+    (λ i. a i ∷ b i) ∙ k.all
+
+-- the final value of a location in the list
+end_is : (names : List (List ℕ)) (terms : List TermSeen) (place : ℕ) → place < length names → end_at (ends_given names terms) place ≡ end_given names terms place
+end_is names terms place l = ap (λ o. given o) (slice_get-map-upto (end_given names terms) (length names) place l)
+  where
+    given : Option (Option ℕ) → Option ℕ
+    given None = None
+    given (Some end) = end
+
+-- the state as the law has it
+abbrev pub state_of : TestRead → CondSeen → List (List ℕ) → FinalState
+state_of test state loads = record { loads = loads; ends = end_at (ends_given test.places state.terms) }
+
+-- a candidate that ends in the state reads its loads and has its final values
+ends_in : (register_number : List ℕ → Option ℕ) (test : TestRead) (state : CondSeen) (loads : List (List ℕ)) (x : Execution)
+    → loads_from register_number state.terms 0 test.threads ≡ Some loads → IsCandidate (program_read test) x → EndsInState register_number test state x
+    → EndsIn (program_read test) (state_of test state loads) x
+ends_in register_number test state loads x h candidate ends = record {
+  reads = loads_are register_number state.terms 0 test.threads x.reads loads h
+      (candidate.execution.read_lists ∙ accesses-count (program_read test) x ∙ length-map test.threads thread_read) candidate.ended
+      (λ k register value e. let z : 0 + k ≡ k = omega arith in
+      known_holds (program_read test) test.places register_number x k state.terms ends register value
+      (ap (λ m. known_value (known_registers register_number m state.terms) register) (sym z) ∙ e));
+  ends = λ place l. subst (λ o. EndsWith o (final_value (accesses_in (program_read test) x) x place)) (sym (end_is test.places state.terms place l))
+      (end_holds (program_read test) test.places register_number x place state.terms ends);
+}
+
+ends_count : (names : List (List ℕ)) (terms : List TermSeen) → length (ends_given names terms) ≡ length names
+ends_count names terms = length-map-upto (end_given names terms) (length names)
+
+-- so it is the execution that is rebuilt
+pub only_ending : (register_number : List ℕ → Option ℕ) (test : TestRead) (state : CondSeen) (loads : List (List ℕ)) (x : Execution)
+    → loads_from register_number state.terms 0 test.threads ≡ Some loads
+    → AreSettled (accesses_on (program_read test) loads) (ends_given test.places state.terms)
+    → x ≡ rebuilt_from (accesses_on (program_read test) loads) (ends_given test.places state.terms)
+    → IsOnlyEnding register_number test state x
+only_ending register_number test state loads x h settled is = record {
+  only = λ y candidate ends.
+      only_the_rebuilt (program_read test) (state_of test state loads) y fixes candidate (ends_in register_number test state loads y h candidate ends)
+      ∙ sym same ∙ sym is;
+  within = λ candidate ends.
+      subst (λ t. WritesWithin t (length test.places)) (sym (accesses_same (program_read test) (state_of test state loads) x (ends_in register_number test state loads x h candidate ends)))
+      (subst (WritesWithin (accesses_on (program_read test) loads)) (ends_count test.places state.terms) settled.within);
+}
+  where
+    fixes : Fixes (program_read test) (state_of test state loads)
+    fixes = record {
+      values = settled.values;
+      settled = λ place l. settled.settled place (subst (λ n. place < n) (sym (ends_count test.places state.terms)) l);
+    }
+
+    same : rebuilt_from (accesses_on (program_read test) loads) (ends_given test.places state.terms) ≡ rebuilt (program_read test) (state_of test state loads)
+    same = ap (λ n. record {
+      reads = (rebuilt (program_read test) (state_of test state loads)).reads;
+      orders = map (λ place. order_of place) (upto n);
+    }) (ends_count test.places state.terms)
+      where
+        order_of : ℕ → List WriteAt
+        order_of place = order_by_end (accesses_on (program_read test) loads) place (end_at (ends_given test.places state.terms) place)

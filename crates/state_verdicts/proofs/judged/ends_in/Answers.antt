@@ -1,0 +1,13 @@
+-- The state holds of what is held at the end exactly if it holds of the final state.
+use Rattle.arch_trait.specs.PlaceNames.{number_in}
+use Rattle.final_cond.specs.{Conditions.cond_view, States.value_in_state}
+use Rattle.litmus_text.specs.ReadPrograms.{program_read}
+use Rattle.tests_force_cycles.specs.FinalStates.{final_state}
+use Rattle.state_verdicts.proofs.Judging.{state_holds}
+use Rattle.state_verdicts.proofs.judged.ends_in.Goals as goal
+
+pub returns : goal.returns
+returns g c =
+    state_holds (value_in_state c.in_ok-end.end)
+    (final_state (program_read c.args.test.now) c.args.test.now.places (number_in g.A.Arch.writing.registers) c.args.exec.now) (cond_view c.args.state.now)
+    c.holds.result c.in_ok-end.ensures c.holds.ensures

@@ -1,0 +1,8 @@
+-- In the loop over the names: the number is that among the names that are left.
+use Rattle.std.proofs.Common.{◌≡◌, drop}
+use Rattle.std.specs.{List.position_from, Str.bytes_eq}
+use Rattle.arch_trait.specs.PlaceNames.{number_in}
+use Rattle.state_verdicts.proofs.places.number_of.Given as goal
+
+abbrev pub invariant-loop-place : goal.invariant-loop-place
+invariant-loop-place l = number_in l.places l.name ≡ position_from (λ x. bytes_eq x l.name) l.place (drop l.place l.places)
