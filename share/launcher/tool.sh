@@ -77,6 +77,14 @@ write_hint() {
             set -- ${line#refused }
             kind="refused $1" first=${2-}
             ;;
+        diyone7:1:-:*)
+            set -f
+            # shellcheck disable=SC2086
+            set -- ${line##*: }
+            kind="text $1" first=${2-}
+            # the cycle of a line of -lines has no test
+            case $1 in TooFewThreads | CoherenceOnly | NeedsObserver | NotCoherence | ManyWrites | TooManyRegisters) kind="refused $1" ;; esac
+            ;;
         *:1:'no file: '*) kind='no file' ;;
         *:1:*) kind="text ${line##*: }" ;;
         *:2:*) kind=${line%%:*} ;;
@@ -137,6 +145,7 @@ edges_among() {
 
 # Says which of the logs that msum7 has read have no test: no line that begins one (docs/LOGS.md). What is no file can't be read again.
 note_logs() {
+    [ "${1-}" != -table ] || shift
     [ $# -gt 0 ] || set -- /dev/stdin
     count=$#
     for log in "$@"; do

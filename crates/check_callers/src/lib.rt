@@ -9,6 +9,7 @@ mod logs;
 mod names;
 mod tests;
 mod texts;
+mod walks;
 
 pub use conditions::meets;
 pub use cycles::are_alike;
@@ -18,3 +19,4 @@ pub use logs::sum_of_two;
 pub use names::name_in_text;
 pub use tests::{print_cycle, print_for_x86};
 pub use texts::thread_count;
+pub use walks::first_cycle;

@@ -1,16 +1,15 @@
 -- That rows of bounds are ones for all edges that end a cycle, and that a list that none end leads to no listed cycle.
-use Rattle.std.proofs.Common.{◌≡◌, ◌<◌, ◌≤◌, ◌+◌, ◌-◌, ℕ, zero, suc, Bool, true, false, cond, ◌&&◌, Option, Some, None, List, [], ◌∷◌, ◌++◌, length, take, drop, get_or, inl, inr, refl, sym, ◌∙◌, ap, arith, subst, append_assoc, length-append}
+use Rattle.std.proofs.Common.{◌≡◌, ◌<◌, ◌≤◌, ◌+◌, ◌-◌, ℕ, suc, true, cond, Some, None, List, [], ◌∷◌, ◌++◌, length, take, drop, get_or, inl, inr, refl, sym, ◌∙◌, ap, arith, subst, length-append}
 use Rattle.std.proofs.{lemmas.Bool.{and_parts, cases_lt}, lemmas.List.{get_or_append_left, get_or_push, take_all}, lemmas.List.Sums.{sum_by-append, sum_by-cons}}
 use Rattle.std.specs.List.{AllByRecursion}
 use Rattle.relax_edges.specs.{declared.kinds.Dir.Dir, declared.kinds.Mark.Mark, declared.edge.Edge.Edge, EdgeTable.{is_external, same_dir, same_mark, joins_to, source_of, source_mark, target_of, target_mark}, JoinedEdges.{is_joined, joins_first}}
 use Rattle.relax_edges.specs.declared.kinds.Dir.TheVariants as dirs
 use Rattle.relax_edges.specs.declared.kinds.Mark.TheVariants as marks
-use Rattle.edge_algebra_laws.specs.Composable.{IsCycle}
 use Rattle.cycle_enum_laws.specs.Search.{IsIn, LeadsNowhere, OccursIn}
-use Rattle.cycle_enum.specs.{declared.spread.Spread.Spread, declared.endings.{Access.Access, Endings.Endings, Row.Row}, Spreads.{is_spread, is_two, outside_count, spread_after, spread_next}}
+use Rattle.cycle_enum.specs.{declared.spread.Spread.Spread, declared.endings.{Access.Access, Bounds.Bounds, Endings.Endings, Row.Row}, Spreads.{is_two, outside_count, spread_after, spread_next}}
 use Rattle.cycle_enum.specs.declared.spread.Spread.TheVariants.{Bare, Moved, Neither, Running, First, Ends, Between, Two}
 use Rattle.cycle_enum.proofs.SpreadLaws.{spread_both}
-use Rattle.cycle_enum.specs.Endings.{access_of, access_begun, access_entered, access_left, row_bound, rows_to, AreRows, BoundsBefore, BoundsWithEdge, Completes, EndsWithin, HasRows, IsBelow, IsRow, IsWithin, RowsBelow}
+use Rattle.cycle_enum.specs.Endings.{access_of, access_begun, access_entered, access_left, bounds_at, row_bound, rows_to, AreBefore, AreBelow, AreRows, BoundsWith, Completes, EndsWithin, HasRows, IsRow, IsRowBelow, IsWithin, RowsBelow}
 
 -- what an edge joins leaves the access that it enters
 dirs_same : (a b : Dir) → same_dir a b ≡ true → a ≡ b
@@ -74,7 +73,7 @@ completes : (relaxes : List (List Edge)) (threads n : ℕ) (u r : List Edge) (d 
     → Completes relaxes (access_begun u) (access_entered (get_or u (length u - 1) d)) (spread_after Bare u) r
 completes relaxes threads n [] r d some c = absurd (omega arith)
 completes relaxes threads n (x ∷ u) r d some c =
-    completes_from relaxes x (spread_after Bare (x ∷ u)) (x ∷ u) r d some c.cycle.closed c.occurs (rw (spread_both Bare (x ∷ u) r) at c.spread)
+    completes_from relaxes x (spread_after Bare (x ∷ u)) (x ∷ u) r d some c.cycle.closed c.occurs (rw (spread_both Bare (x ∷ u) r) at c.over.spread)
 
 outside_both : (u r : List Edge) → outside_count (u ++ r) ≡ outside_count u + outside_count r
 outside_both u r = sum_by-append (λ e. cond (is_external e) 1 0) u r
@@ -96,14 +95,16 @@ pub crowded_nowhere : (relaxes : List (List Edge)) (threads left least : ℕ) (r
 crowded_nowhere relaxes threads left least row u d some is found more r c =
     let bound : least ≤ outside_count r = rw found at
     (is (access_entered (get_or u (length u - 1) d)) (spread_after Bare u) r (rest_long u r left c.long) (completes relaxes threads (length u + left) u r d some c)) in
-    absurd (omega (arith, bound, more, c.few, outside_both u r))
+    absurd (omega (arith, bound, more, c.over.few, outside_both u r))
 
 -- a row with bounds for one more edge
-row_more : (relaxes : List (List Edge)) (end : Access) (left : ℕ) (row more : Row) → IsRow relaxes end left row → BoundsBefore relaxes row more → IsRow relaxes end (left + 1) more
+row_more : (relaxes : List (List Edge)) (end : Access) (left : ℕ) (row more : Row) → IsRow relaxes end left row → BoundsWith (OccursIn relaxes) row more
+    → IsRow relaxes end (left + 1) more
 row_more relaxes end left row more is step access spread [] long c = absurd (omega (arith, long))
 row_more relaxes end left row more is step access spread (e ∷ r) long c =
     rw (sum_by-cons (λ e. cond (is_external e) 1 0) e r)
-    (step access spread e c.1.0 c.0 (outside_count r) (is (access_entered e) (spread_next spread e) r (omega (arith, long)) c.1.1))
+    (subst (λ a. IsWithin (row_bound more a spread) (cond (is_external e) 1 0 + outside_count r)) c.0
+    (step e c.1.0 spread (outside_count r) (is (access_entered e) (spread_next spread e) r (omega (arith, long)) c.1.1)))
 
 -- the first row
 pub rows_first : (relaxes : List (List Edge)) (end : Access) (rows : List Row) (row : Row) → rows ≡ [] → IsRow relaxes end 0 row → RowsBelow relaxes end rows 0 row
@@ -121,7 +122,7 @@ rows_all relaxes end rows new left row b is k other less =
 
 -- and there is a next one
 pub rows_next : (relaxes : List (List Edge)) (end : Access) (rows new : List Row) (left : ℕ) (row more : Row) → RowsBelow relaxes end rows left row → new ≡ rows ++ row ∷ []
-    → BoundsBefore relaxes row more → RowsBelow relaxes end new (left + 1) more
+    → BoundsWith (OccursIn relaxes) row more → RowsBelow relaxes end new (left + 1) more
 rows_next relaxes end rows new left row more b is step = record {
   long = omega (arith, ap length is, length-append rows (row ∷ []), b.long);
   rows_are = rows_all relaxes end rows new left row b is;
@@ -136,17 +137,18 @@ row_begun relaxes endings (x ∷ u) end d rows left other some is are has less =
     let rows_are : rows ≡ rows_to endings (access_left x) = rw is at are in
     rw rows_are (has (access_left x) left other (rw rows_are at less))
 
--- a bound that is at most that for an edge is one for it
-below_too : (row : Row) (access : Access) (spread : Spread) (bound smaller : Option ℕ) (e : Edge) → IsBelow smaller bound → BoundsWithEdge row access spread bound e → BoundsWithEdge row access spread smaller e
-below_too row access spread bound smaller e below with_edge leaves n within = below (cond (is_external e) 1 0 + n) (with_edge leaves n within)
+-- bounds below others are ones before an edge too
+pub before_too : (e : Edge) (after before new : Bounds) → AreBefore e after before → AreBelow new before → AreBefore e after new
+before_too e after before new is below spread n within = below spread (cond (is_external e) 1 0 + n) (is spread n within)
 
--- a bound for the first edge of a list and one for the others is one for each
-pub bounds_each : (row : Row) (access : Access) (spread : Spread) (one other both : Option ℕ) (u : List Edge) (d : Edge) → 0 < length u → IsBelow both one → IsBelow both other
-    → BoundsWithEdge row access spread one (get_or u 0 d) → ((e : Edge) → IsIn (take (length u - 1) (drop 1 u)) e → BoundsWithEdge row access spread other e)
-    → (e : Edge) → IsIn u e → BoundsWithEdge row access spread both e
-bounds_each row access spread one other both [] d some first rest here later e is = absurd (omega arith)
-bounds_each row access spread one other both (x ∷ u) d some first rest here later e (inl is) =
-    subst (λ y. BoundsWithEdge row access spread both y) is (below_too row access spread one both x first here)
-bounds_each row access spread one other both (x ∷ u) d some first rest here later e (inr is) =
+-- bounds with the first of some edges and bounds with the others are bounds with each
+pub with_edges : (after before new : Row) (u : List Edge) (d : Edge) → 0 < length u
+    → AreBefore (get_or u 0 d) (bounds_at after (access_entered (get_or u 0 d))) (bounds_at before (access_left (get_or u 0 d))) → IsRowBelow new before
+    → BoundsWith (IsIn (take (length u - 1) (drop 1 u))) after new → BoundsWith (IsIn u) after new
+with_edges after before new [] d some here below rest e is = absurd (omega arith)
+with_edges after before new (x ∷ u) d some here below rest e (inl is) =
+    subst (λ y. AreBefore y (bounds_at after (access_entered y)) (bounds_at new (access_left y))) is
+    (before_too x (bounds_at after (access_entered x)) (bounds_at before (access_left x)) (bounds_at new (access_left x)) here (below (access_left x)))
+with_edges after before new (x ∷ u) d some here below rest e (inr is) =
     let all : take (length (x ∷ u) - 1) u ≡ u = take_all (length (x ∷ u) - 1) u (omega arith) in
-    below_too row access spread other both e rest (later e (rw all is))
+    rest e (rw all is)

@@ -1,5 +1,5 @@
 -- How the spreads of two lists join, and that a cycle is as spread as each of its rotations.
-use Rattle.std.proofs.Common.{◌≡◌, inl, inr, Bool, true, false, List, [], ◌∷◌, ◌++◌, refl, sym, ◌∙◌, ap}
+use Rattle.std.proofs.Common.{◌≡◌, inl, inr, List, [], ◌∷◌, ◌++◌, refl, sym, ◌∙◌, ap}
 use Rattle.std.proofs.lemmas.Bool.{cases_Bool}
 use Rattle.relax_edges.specs.{declared.edge.Edge.Edge, EdgeTable.{is_diff, is_external}}
 use Rattle.cycle_enum.specs.{declared.spread.Spread.Spread, Spreads.{is_spread, is_two, spread_after, spread_kept, spread_left, spread_moved, spread_next}}

@@ -1,12 +1,14 @@
 -- How few edges to another thread the edges have that end a cycle in which two threads have edges to another location.
 -- Source: own.
-use Rattle.std.specs.{Prelude.{◌≡◌, ◌≤◌, ◌<◌, ◌+◌, ℕ, Bool, true, cond, Option, Some, None, List, [], ◌∷◌, length, get_or}, List.AllByRecursion}
-use Rattle.relax_edges.specs.{declared.kinds.Dir.Dir, declared.kinds.Mark.Mark, declared.edge.Edge.Edge, EdgeTable.{is_external, source_of, source_mark, target_of, target_mark}}
+use Rattle.std.specs.{Prelude.{◌≡◌, ◌≤◌, ◌<◌, ◌+◌, ℕ, cond, Option, Some, None, List, [], ◌∷◌, length, get_or}, List.AllByRecursion}
+use Rattle.relax_edges.specs.{declared.kinds.Dir.Dir, declared.kinds.Mark.Mark, declared.edge.Edge.Edge}
+use Rattle.relax_edges.specs.EdgeTable.{is_external, source_of, source_mark, target_of, target_mark}
 use Rattle.relax_edges.specs.declared.kinds.Dir.TheVariants as dirs
 use Rattle.relax_edges.specs.declared.kinds.Mark.TheVariants as marks
 use Rattle.edge_algebra_laws.specs.Composable.{IsCycle}
-use Rattle.cycle_enum_laws.specs.Search.{OccursIn}
-use Rattle.cycle_enum.specs.{declared.spread.Spread.Spread, declared.endings.{Access.Access, Bounds.Bounds, Row.Row, Endings.Endings}, Spreads.{is_spread, is_two, outside_count, spread_next}}
+use Rattle.cycle_enum_laws.specs.Search.{LeadsNowhere, OccursIn}
+use Rattle.cycle_enum.specs.{declared.spread.Spread.Spread, declared.endings.{Access.Access, Bounds.Bounds, Row.Row, Endings.Endings}}
+use Rattle.cycle_enum.specs.Spreads.{IsSpreadOver, outside_count, spread_left, spread_next}
 use Rattle.cycle_enum.specs.declared.endings.Access.TheVariants.{Read, Write, Acquire, Release}
 use Rattle.cycle_enum.specs.declared.spread.Spread.TheVariants.{Bare, Moved, Neither, Running, First, Ends, Between, Two}
 
@@ -74,16 +76,30 @@ IsRow relaxes end left row =
     (access : Access) (spread : Spread) (edges : List Edge) → length edges ≡ left → Completes relaxes end access spread edges
     → IsWithin (row_bound row access spread) (outside_count edges)
 
--- a bound is one for an edge that leaves an access and those after it, if the row has bounds for those
-abbrev pub BoundsWithEdge : Row → Access → Spread → Option ℕ → Edge → Type 0
-BoundsWithEdge row access spread bound edge =
-    access_left edge ≡ access
-    → (n : ℕ) → IsWithin (row_bound row (access_entered edge) (spread_next spread edge)) n → IsWithin bound (cond (is_external edge) 1 0 + n)
+-- a bound is at most one more than each number that the other is at most
+abbrev pub IsOneMore : Option ℕ → Option ℕ → Type 0
+IsOneMore bound more = (n : ℕ) → IsWithin bound n → IsWithin more (1 + n)
 
--- the bounds of a row are ones for an edge of the relaxations and those after it, if the other row has bounds for those
-abbrev pub BoundsBefore : List (List Edge) → Row → Row → Type 0
-BoundsBefore relaxes row more =
-    (access : Access) (spread : Spread) (edge : Edge) → OccursIn relaxes edge → BoundsWithEdge row access spread (row_bound more access spread) edge
+-- each bound is at most each number that the other for the same spread is at most
+abbrev pub AreBelow : Bounds → Bounds → Type 0
+AreBelow bounds others = (spread : Spread) → IsBelow (bound_in bounds spread) (bound_in others spread)
+
+-- the same for each access
+abbrev pub IsRowBelow : Row → Row → Type 0
+IsRowBelow row other = (access : Access) → AreBelow (bounds_at row access) (bounds_at other access)
+
+-- the second bounds are ones before an edge to another thread, if the first are ones after it
+abbrev pub AreBeforeLeaving : Bounds → Bounds → Type 0
+AreBeforeLeaving after before = (spread : Spread) → IsOneMore (bound_in after (spread_left spread)) (bound_in before spread)
+
+-- the second bounds are ones before an edge, if the first are ones after it
+abbrev pub AreBefore : Edge → Bounds → Bounds → Type 0
+AreBefore edge after before =
+    (spread : Spread) (n : ℕ) → IsWithin (bound_in after (spread_next spread edge)) n → IsWithin (bound_in before spread) (cond (is_external edge) 1 0 + n)
+
+-- the second row has bounds with one of these edges first, if the first has bounds for what comes after it
+abbrev pub BoundsWith : (Edge → Type 0) → Row → Row → Type 0
+BoundsWith is_first after before = (edge : Edge) → is_first edge → AreBefore edge (bounds_at after (access_entered edge)) (bounds_at before (access_left edge))
 
 -- these are rows for 0 edges left, 1, 2 and so on
 abbrev pub AreRows : List (List Edge) → Access → List Row → Type 0
@@ -111,6 +127,13 @@ HasRows relaxes endings = (end : Access) → AreRows relaxes end (rows_to ending
 pub record EndsWithin (relaxes : List (List Edge)) (threads n : ℕ) (u : List Edge) : Type 0 where
   pub cycle : IsCycle u
   pub occurs : AllByRecursion (OccursIn relaxes) u
-  pub spread : is_spread u ≡ true
-  pub few : outside_count u ≤ threads
+  pub over : IsSpreadOver threads u
   pub long : length u ≡ n
+
+-- no such cycle begins with a list and has `left` edges more
+abbrev pub EndsNowhere : List (List Edge) → ℕ → ℕ → List Edge → Type 0
+EndsNowhere relaxes threads left u = LeadsNowhere (EndsWithin relaxes threads (length u + left)) u
+
+-- no cycle of the kind that a row is for begins with a list
+abbrev pub NoneEnds : ℕ → List Edge → Row → Type 0
+NoneEnds threads u row = (relaxes : List (List Edge)) (left : ℕ) → IsRow relaxes (access_begun u) left row → EndsNowhere relaxes threads left u

@@ -1,6 +1,6 @@
 -- In which threads a list of edges leads to other locations, as it is read from its first edge to its last.
 -- Source: own; that a test needs two such threads is from diy.
-use Rattle.std.specs.{Prelude.{ℕ, Bool, true, false, if◌then◌else◌, List, [], ◌∷◌}, List.count_by}
+use Rattle.std.specs.{Prelude.{◌≡◌, ◌≤◌, ℕ, Bool, true, false, if◌then◌else◌, List, [], ◌∷◌}, List.count_by}
 use Rattle.relax_edges.specs.{declared.edge.Edge.Edge, EdgeTable.{is_diff, is_external}}
 use Rattle.cycle_enum.specs.declared.spread.{Spread.Spread, Spread.TheVariants.{Bare, Moved, Neither, Running, First, Ends, Between, Two}}
 
@@ -57,3 +57,8 @@ is_spread cycle = is_two (spread_after Bare cycle)
 -- how many edges of a list lead to another thread
 abbrev pub outside_count : List Edge → ℕ
 outside_count edges = count_by is_external edges
+
+-- two threads of a cycle have edges that lead to another location, and at most so many edges lead to another thread
+pub record IsSpreadOver (threads : ℕ) (cycle : List Edge) : Type 0 where
+  pub spread : is_spread cycle ≡ true
+  pub few : outside_count cycle ≤ threads

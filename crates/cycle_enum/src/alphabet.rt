@@ -9,6 +9,7 @@ use crate::letter::Letter;
 use crate::letters::{Letters, Marks, are_marked, first_letters, marks_of};
 use crate::prefix::Prefix;
 use crate::relaxed::{is_made, may_occur};
+use crate::taken::Taken;
 use edge_algebra::Cycle;
 use edges_from_text::{Relax, Relaxes};
 use relax_edges::{Dir, EDGES, Edge, MAX_EDGES, Mark};
@@ -40,14 +41,14 @@ impl Model for Alphabet {
 }
 
 impl Alphabet {
-    /// Finds the edges that occur in the relaxations, and how cycles of at most `size` edges end.
-    pub(crate) fn of(relaxes: Relaxes, size: u8) -> Alphabet
+    /// Finds the edges that occur in the relaxations, and how cycles of at most `size` edges end, of which a walk may rely on this.
+    pub(crate) fn of(relaxes: Relaxes, size: u8, taken: Taken) -> Alphabet
         requires { size ≤ MAX_EDGES }
         ensures { result ≡ relaxes }
     {
         let marks = marks_of(relaxes.as_slice());
         let letters = first_letters(&marks);
-        let endings = Endings::of(relaxes.as_slice(), size);
+        let endings = Endings::of(relaxes.as_slice(), size, taken);
         let all_single = are_single(relaxes.as_slice());
         Alphabet {
             relaxes,

@@ -1,10 +1,12 @@
 ghost use Rattle.std.specs.Prelude.{◌≡◌, ◌↔◌, ◌<◌, ◌≤◌, ◌+◌, ◌∷◌, List, Option, Some, None, ℕ, IsTrue, IsFalse, length, true};
 ghost use Rattle.relax_edges.specs.{declared.TheConstants.{MAX_EDGES}, declared.edge.Edge.{Edge as EdgeValue}};
-ghost use Rattle.cycle_enum_laws.specs.Search.{IsIn, LeadsNowhere, OccursIn};
-ghost use Rattle.cycle_enum.specs.{declared.spread.Spread.{Spread as SpreadValue}, Spreads.{outside_count}};
-ghost use Rattle.cycle_enum.specs.Endings.{access_of, access_begun, access_entered, access_left, bound_in, row_bound, rows_to, AreRows, BoundsBefore, BoundsWithEdge, EndsWithin, HasRows, IsBelow, IsRow, IsWithin};
+ghost use Rattle.cycle_enum_laws.specs.Search.{IsIn, OccursIn};
+ghost use Rattle.cycle_enum.specs.{declared.spread.Spread.{Spread as SpreadValue}, Spreads.{outside_count, spread_moved}};
+ghost use Rattle.cycle_enum.specs.Endings.{access_of, access_entered, access_left, bound_in, bounds_at, rows_to, AreRows, HasRows, IsRow};
+ghost use Rattle.cycle_enum.specs.Endings.{AreBefore, AreBelow, AreBeforeLeaving, BoundsWith, EndsNowhere, IsBelow, IsOneMore, IsRowBelow, NoneEnds};
 
 use crate::spread::Spread;
+use crate::taken::Taken;
 use arrayvec::ArrayVec;
 use edges_from_text::Relax;
 use relax_edges::{Dir, Edge, MAX_EDGES, Mark};
@@ -107,6 +109,73 @@ impl Bounds {
             Spread::Two => self.two,
         }
     }
+
+    /// The bounds one edge earlier, if this edge comes then.
+    fn before(self, edge: Edge) -> Bounds
+        ensures { AreBefore edge self result }
+    {
+        let kept = if edge.is_external() {
+            self.before_leaving()
+        } else {
+            self
+        };
+        if edge.is_diff() {
+            kept.before_moving()
+        } else {
+            kept
+        }
+    }
+
+    /// The bounds before an edge that leads to another location.
+    fn before_moving(self) -> Bounds
+        ensures { (spread : SpreadValue) → bound_in result spread ≡ bound_in self (spread_moved spread) }
+    {
+        Bounds {
+            bare: self.moved,
+            moved: self.moved,
+            neither: self.running,
+            running: self.running,
+            first: self.ends,
+            ends: self.ends,
+            between: self.two,
+            two: self.two,
+        }
+    }
+
+    /// The bounds before an edge that leads to another thread.
+    fn before_leaving(self) -> Bounds
+        ensures { AreBeforeLeaving self result }
+    {
+        let neither = one_more(self.neither);
+        let first = one_more(self.first);
+        let between = one_more(self.between);
+        let two = one_more(self.two);
+        Bounds {
+            bare: neither,
+            moved: first,
+            neither,
+            running: between,
+            first,
+            ends: two,
+            between,
+            two,
+        }
+    }
+
+    /// Lowers each bound to another one, where that is smaller.
+    fn lower(&mut self, other: Bounds)
+        ensures old { AreBelow self.new self.old }
+        ensures other { AreBelow self.new other }
+    {
+        self.bare = smaller(self.bare, other.bare);
+        self.moved = smaller(self.moved, other.moved);
+        self.neither = smaller(self.neither, other.neither);
+        self.running = smaller(self.running, other.running);
+        self.first = smaller(self.first, other.first);
+        self.ends = smaller(self.ends, other.ends);
+        self.between = smaller(self.between, other.between);
+        self.two = smaller(self.two, other.two);
+    }
 }
 
 /// The same for each access at the end of the list, for one number of edges that are left.
@@ -131,14 +200,14 @@ impl Row {
         }
     }
 
-    fn at(&self, access: Access, spread: Spread) -> Option<u8>
-        ensures { result ≡ row_bound self.now access spread }
+    fn at(&self, access: Access) -> Bounds
+        ensures { result ≡ bounds_at self.now access }
     {
         match access {
-            Access::Read => self.read.at(spread),
-            Access::Write => self.write.at(spread),
-            Access::Acquire => self.acquire.at(spread),
-            Access::Release => self.release.at(spread),
+            Access::Read => self.read,
+            Access::Write => self.write,
+            Access::Acquire => self.acquire,
+            Access::Release => self.release,
         }
     }
 
@@ -146,12 +215,15 @@ impl Row {
     fn may_end(&self, list: &[Edge], threads: u8) -> bool
         requires some { 0 < length list.now }
         requires few { length list.now ≤ MAX_EDGES }
-        ensures { IsFalse result → (relaxes : List (List EdgeValue)) (left : ℕ) → IsRow relaxes (access_begun list.now) left self.now → LeadsNowhere (EndsWithin relaxes threads (length list.now + left)) list.now }
+        ensures { IsFalse result → NoneEnds threads list.now self.now }
     {
         match list {
             [] => true,
             [.., last] => {
-                match self.at(Access::entered_by(*last), Spread::Bare.after(list)) {
+                match self
+                    .at(Access::entered_by(*last))
+                    .at(Spread::Bare.after(list))
+                {
                     Some(least) => usize::from(least) + outside_count(list) <= usize::from(threads),
                     None => false,
                 }
@@ -161,71 +233,73 @@ impl Row {
 
     /// The same with one more edge left, if the edges are those of relaxations.
     fn further(&self, relaxes: &[Relax]) -> Row
-        ensures { BoundsBefore relaxes.now self.now result }
+        ensures { BoundsWith (OccursIn relaxes.now) self.now result }
     {
-        Row {
-            read: self.bounds_before(relaxes, Access::Read),
-            write: self.bounds_before(relaxes, Access::Write),
-            acquire: self.bounds_before(relaxes, Access::Acquire),
-            release: self.bounds_before(relaxes, Access::Release),
-        }
+        let mut row = Row::default();
+        self.lower_by_relaxes(relaxes, &mut row);
+        row
     }
 
-    /// The bounds at an access, with one more edge left.
-    fn bounds_before(&self, relaxes: &[Relax], access: Access) -> Bounds
-        ensures { (spread : SpreadValue) (edge : EdgeValue) → OccursIn relaxes.now edge → BoundsWithEdge self.now access spread (bound_in result spread) edge }
-    {
-        Bounds {
-            bare: self.least_of(relaxes, access, Spread::Bare),
-            moved: self.least_of(relaxes, access, Spread::Moved),
-            neither: self.least_of(relaxes, access, Spread::Neither),
-            running: self.least_of(relaxes, access, Spread::Running),
-            first: self.least_of(relaxes, access, Spread::First),
-            ends: self.least_of(relaxes, access, Spread::Ends),
-            between: self.least_of(relaxes, access, Spread::Between),
-            two: self.least_of(relaxes, access, Spread::Two),
-        }
-    }
-
-    /// The least bound at an access and a spread, with an edge of the relaxations first.
-    fn least_of(&self, relaxes: &[Relax], access: Access, spread: Spread) -> Option<u8>
-        ensures { (edge : EdgeValue) → OccursIn relaxes.now edge → BoundsWithEdge self.now access spread result edge }
+    /// Lowers the bounds of a row with one more edge left to those with an edge of these relaxations first.
+    fn lower_by_relaxes(&self, relaxes: &[Relax], row: &mut Row)
+        ensures below { IsRowBelow row.new row.old }
+        ensures bounds { BoundsWith (OccursIn relaxes.now) self.now row.new }
     {
         match relaxes {
-            [] => None,
-            [first, rest @ ..] => smaller(
-                self.least_with(first.edges(), access, spread),
-                self.least_of(rest, access, spread),
-            ),
+            [] => {}
+            [first, rest @ ..] => {
+                self.lower_by_edges(first.edges(), row);
+                self.lower_by_relaxes(rest, row);
+            }
         }
     }
 
-    /// The least bound at an access and a spread, with one of these edges first.
-    fn least_with(&self, edges: &[Edge], access: Access, spread: Spread) -> Option<u8>
-        ensures { (edge : EdgeValue) → IsIn edges.now edge → BoundsWithEdge self.now access spread result edge }
+    /// Lowers the bounds of a row with one more edge left to those with one of these edges first.
+    fn lower_by_edges(&self, edges: &[Edge], row: &mut Row)
+        ensures below { IsRowBelow row.new row.old }
+        ensures bounds { BoundsWith (IsIn edges.now) self.now row.new }
     {
         match edges {
-            [] => None,
-            [first, rest @ ..] => smaller(
-                self.with_edge(*first, access, spread),
-                self.least_with(rest, access, spread),
-            ),
+            [] => {}
+            [first, rest @ ..] => {
+                self.lower_by_edge(*first, row);
+                self.lower_by_edges(rest, row);
+            }
         }
     }
 
-    /// The bound at an access and a spread, with this edge first.
-    fn with_edge(&self, edge: Edge, access: Access, spread: Spread) -> Option<u8>
-        ensures { BoundsWithEdge self.now access spread result edge }
+    /// Lowers the bounds of a row with one more edge left to those with this edge first.
+    fn lower_by_edge(&self, edge: Edge, row: &mut Row)
+        ensures below { IsRowBelow row.new row.old }
+        ensures bounds { AreBefore edge (bounds_at self.now (access_entered edge)) (bounds_at row.new (access_left edge)) }
     {
-        if !Access::left_by(edge).is(access) {
-            return None;
+        row.lower(
+            Access::left_by(edge),
+            self.at(Access::entered_by(edge)).before(edge),
+        );
+    }
+
+    /// Lowers the bounds at an access.
+    fn lower(&mut self, access: Access, bounds: Bounds)
+        ensures below { IsRowBelow self.new self.old }
+        ensures bounds { AreBelow (bounds_at self.new access) bounds }
+    {
+        match access {
+            Access::Read => self.read.lower(bounds),
+            Access::Write => self.write.lower(bounds),
+            Access::Acquire => self.acquire.lower(bounds),
+            Access::Release => self.release.lower(bounds),
         }
-        let bound = self.at(Access::entered_by(edge), spread.next(edge))?;
-        Some(if edge.is_external() {
-            bound.saturating_add(1)
-        } else {
-            bound
-        })
+    }
+}
+
+/// A bound that is one more than another, if that isn't the greatest number.
+fn one_more(bound: Option<u8>) -> Option<u8>
+    ensures { IsOneMore bound result }
+{
+    match bound {
+        Some(least) => Some(least.saturating_add(1)),
+        None => None,
     }
 }
 
@@ -253,7 +327,7 @@ fn smaller(one: Option<u8>, other: Option<u8>) -> Option<u8>
 }
 
 /// Rows for 0 edges left, 1, 2 and so on.
-pub(crate) type Rows = ArrayVec<Row, ROWS>;
+type Rows = ArrayVec<Row, ROWS>;
 
 /// The rows for cycles that end at an access, up to `size` edges left.
 fn rows_to(relaxes: &[Relax], end: Access, size: u8) -> Rows
@@ -280,8 +354,30 @@ pub(crate) struct Endings {
 }
 
 impl Endings {
+    /// Those by edges of relaxations, up to `size` edges; no rows if the walk may not rely on them.
+    pub(crate) fn of(relaxes: &[Relax], size: u8, taken: Taken) -> Endings
+        requires { size ≤ MAX_EDGES }
+        ensures { HasRows relaxes.now result }
+    {
+        match taken {
+            Taken::Any => Endings::without_rows(),
+            Taken::SpreadOver(_) => Endings::up_to(relaxes, size),
+        }
+    }
+
+    fn without_rows() -> Endings
+        ensures { (relaxes : List (List EdgeValue)) → HasRows relaxes result }
+    {
+        Endings {
+            read: ArrayVec::new(),
+            write: ArrayVec::new(),
+            acquire: ArrayVec::new(),
+            release: ArrayVec::new(),
+        }
+    }
+
     /// Those by edges of relaxations, up to `size` edges.
-    pub(crate) fn of(relaxes: &[Relax], size: u8) -> Endings
+    fn up_to(relaxes: &[Relax], size: u8) -> Endings
         requires { size ≤ MAX_EDGES }
         ensures { HasRows relaxes.now result }
     {
@@ -308,7 +404,7 @@ impl Endings {
     /// Whether a spread cycle with at most `threads` edges to another thread may begin with a list and have `left` edges more.
     pub(crate) fn may_end(&self, list: &[Edge], left: usize, threads: u8) -> bool
         requires { length list.now ≤ MAX_EDGES }
-        ensures { IsFalse result → (relaxes : List (List EdgeValue)) → HasRows relaxes self.now → LeadsNowhere (EndsWithin relaxes threads (length list.now + left)) list.now }
+        ensures { IsFalse result → (relaxes : List (List EdgeValue)) → HasRows relaxes self.now → EndsNowhere relaxes threads left list.now }
     {
         match list {
             [] => true,

@@ -9,8 +9,10 @@ mod limits;
 mod prefix;
 mod relaxed;
 mod spread;
+mod taken;
 mod walk;
 
 pub use limits::Limits;
 pub use spread::is_spread;
+pub use taken::Taken;
 pub use walk::Walk;

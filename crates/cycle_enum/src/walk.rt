@@ -9,6 +9,7 @@ use crate::alphabet::{Alphabet, closes};
 use crate::letter::Letter;
 use crate::limits::Limits;
 use crate::prefix::Prefix;
+use crate::taken::Taken;
 use edge_algebra::Cycle;
 use edges_from_text::Relaxes;
 use relax_edges::{Edge, MAX_EDGES};
@@ -21,7 +22,7 @@ use std::marker::Model;
 struct Space<K, J, P> {
     relaxes: Alphabet,
     limits: Limits,
-    threads: u8,
+    taken: Taken,
     keep: K,
     fit: J,
     take: P,
@@ -34,7 +35,7 @@ impl<K, J, P> Model for Space<K, J, P> {
 
     ghost Value = { Walking K J P };
 
-    ghost view = { λ s. record { relaxes = s.relaxes; limits = s.limits; threads = s.threads; keep = s.keep; fit = s.fit; take = s.take; last = None } };
+    ghost view = { λ s. record { relaxes = s.relaxes; limits = s.limits; taken = s.taken; keep = s.keep; fit = s.fit; take = s.take; last = None } };
 
     ghost invariant = { λ s. s.limits.size ≤ MAX_EDGES };
 }
@@ -68,32 +69,32 @@ impl<K: Fn(&[Edge]) -> bool, J: Fn(&[Edge]) -> bool, P: Fn(&Cycle) -> bool> Walk
     ///
     /// `keep` and `fit` are pruners: if one of them says no on a list of edges, no cycle that begins
     /// with the list is to be listed. `take` is the test that says which cycles are listed. It is called only
-    /// on cycles in normal form, and only if both pruners said yes on all their prefixes. `threads` is the most edges
-    /// that lead to another thread in a cycle on which it says yes.
+    /// on cycles in normal form, and only if both pruners said yes on all their prefixes. `taken` is what the walk may
+    /// rely on of the cycles on which it says yes: by it the walk drops lists that no such cycle begins with.
     ///
     /// The conditions: the size is at most `MAX_EDGES`; `keep` and `fit` may be called on every list of
     /// 1 to `MAX_EDGES` edges; `take` may be called on every cycle on all of whose prefixes, from one
     /// edge to the whole, both pruners say yes, and the walk knows of no other cycle on which it may be
     /// called; each closure has one answer for one list or cycle; if a pruner says no on a list,
-    /// `take` doesn't say yes on any cycle that begins with it; and `take` doesn't say yes on a cycle with more than
-    /// `threads` edges to another thread, or in which fewer than two threads have edges to another location.
+    /// `take` doesn't say yes on any cycle that begins with it; and what `taken` says is true of each cycle on which
+    /// `take` says yes.
     pub fn new(
         relaxes: Relaxes,
         limits: Limits,
-        threads: u8,
+        taken: Taken,
         keep: K,
         fit: J,
         take: P,
     ) -> Walk<K, J, P>
         requires few { limits.size ≤ MAX_EDGES }
-        requires knows { KnowsOf K.pre K.Fn.post J.pre J.Fn.post P.pre P.Fn.post threads keep fit take }
-        ensures { result ≡ record { relaxes = relaxes; limits = limits; threads = threads; keep = keep; fit = fit; take = take; last = None } }
+        requires knows { KnowsOf K.pre K.Fn.post J.pre J.Fn.post P.pre P.Fn.post taken keep fit take }
+        ensures { result ≡ record { relaxes = relaxes; limits = limits; taken = taken; keep = keep; fit = fit; take = take; last = None } }
     {
         Walk {
             space: Space {
-                relaxes: Alphabet::of(relaxes, limits.size),
+                relaxes: Alphabet::of(relaxes, limits.size, taken),
                 limits,
-                threads,
+                taken,
                 keep,
                 fit,
                 take,
@@ -124,7 +125,7 @@ impl<K: Fn(&[Edge]) -> bool, J: Fn(&[Edge]) -> bool, P: Fn(&Cycle) -> bool> Walk
     ///
     /// The condition on the closures is again that of `new`.
     pub fn next(&mut self) -> Option<Cycle>
-        requires knows { KnowsOf K.pre K.Fn.post J.pre J.Fn.post P.pre P.Fn.post self.old.threads self.old.keep self.old.fit self.old.take }
+        requires knows { KnowsOf K.pre K.Fn.post J.pre J.Fn.post P.pre P.Fn.post self.old.taken self.old.keep self.old.fit self.old.take }
         ensures next { IsAnswer (Lists P.Fn.post self.old) self.old.last result }
         ensures some { IfSome result (λ cycle. self.new ≡ record self.old { last = Some cycle }) }
         ensures none { IfNone result (self.new ≡ self.old) }
@@ -153,7 +154,7 @@ fn fill(cycle: &mut Option<Cycle>, edges: &[Edge])
 impl<K: Fn(&[Edge]) -> bool, J: Fn(&[Edge]) -> bool, P: Fn(&Cycle) -> bool> Space<K, J, P> {
     /// Whether a listed cycle comes after the last one; if so, the list becomes the least such cycle.
     fn find(&self, last: &Option<Cycle>, list: &mut Prefix, room: &mut Option<Cycle>) -> bool
-        requires knows { KnowsOf K.pre K.Fn.post J.pre J.Fn.post P.pre P.Fn.post self.now.threads self.now.keep self.now.fit self.now.take }
+        requires knows { KnowsOf K.pre K.Fn.post J.pre J.Fn.post P.pre P.Fn.post self.now.taken self.now.keep self.now.fit self.now.take }
         requires at { IsAtLast list.old last.now }
         ensures found { IsTrue result → IsAnswer (Lists P.Fn.post self.now) last.now (Some list.new) }
         ensures none { IsFalse result → IsAnswer (Lists P.Fn.post self.now) last.now None }
@@ -173,7 +174,7 @@ impl<K: Fn(&[Edge]) -> bool, J: Fn(&[Edge]) -> bool, P: Fn(&Cycle) -> bool> Spac
 
     /// Whether a listed cycle has more than `len` edges; if so, the list becomes the first such cycle.
     fn longer(&self, len: u8, list: &mut Prefix, room: &mut Option<Cycle>) -> bool
-        requires knows { KnowsOf K.pre K.Fn.post J.pre J.Fn.post P.pre P.Fn.post self.now.threads self.now.keep self.now.fit self.now.take }
+        requires knows { KnowsOf K.pre K.Fn.post J.pre J.Fn.post P.pre P.Fn.post self.now.taken self.now.keep self.now.fit self.now.take }
         requires few { len ≤ MAX_EDGES }
         ensures found { IsTrue result → IsAnswer (LongerThan len (Lists P.Fn.post self.now)) None (Some list.new) }
         ensures none { IsFalse result → IsAnswer (LongerThan len (Lists P.Fn.post self.now)) None None }
@@ -189,7 +190,7 @@ impl<K: Fn(&[Edge]) -> bool, J: Fn(&[Edge]) -> bool, P: Fn(&Cycle) -> bool> Spac
 
     /// Whether a listed cycle has `len` edges; if so, the list becomes the first such cycle.
     fn of_len(&self, len: u8, list: &mut Prefix, room: &mut Option<Cycle>) -> bool
-        requires knows { KnowsOf K.pre K.Fn.post J.pre J.Fn.post P.pre P.Fn.post self.now.threads self.now.keep self.now.fit self.now.take }
+        requires knows { KnowsOf K.pre K.Fn.post J.pre J.Fn.post P.pre P.Fn.post self.now.taken self.now.keep self.now.fit self.now.take }
         requires some { 0 < len }
         requires few { len ≤ MAX_EDGES }
         ensures found { IsTrue result → IsAnswer (OfLength len (Lists P.Fn.post self.now)) None (Some list.new) }
@@ -206,7 +207,7 @@ impl<K: Fn(&[Edge]) -> bool, J: Fn(&[Edge]) -> bool, P: Fn(&Cycle) -> bool> Spac
     /// Whether a listed cycle with as many edges as the last one comes after it; if so, the list becomes the first such
     /// cycle.
     fn as_long(&self, last: &Cycle, list: &mut Prefix, room: &mut Option<Cycle>) -> bool
-        requires knows { KnowsOf K.pre K.Fn.post J.pre J.Fn.post P.pre P.Fn.post self.now.threads self.now.keep self.now.fit self.now.take }
+        requires knows { KnowsOf K.pre K.Fn.post J.pre J.Fn.post P.pre P.Fn.post self.now.taken self.now.keep self.now.fit self.now.take }
         requires at { (list.old ≡ []) ⊎ (list.old ≡ last.now) }
         ensures found { IsTrue result → IsAnswer (OfLength (length last.now) (Lists P.Fn.post self.now)) (Some last.now) (Some list.new) }
         ensures none { IsFalse result → IsAnswer (OfLength (length last.now) (Lists P.Fn.post self.now)) (Some last.now) None }
@@ -222,7 +223,7 @@ impl<K: Fn(&[Edge]) -> bool, J: Fn(&[Edge]) -> bool, P: Fn(&Cycle) -> bool> Spac
     /// Sets the list to the shortest prefix of the last cycle on which a pruner says no, or to the cycle if there is
     /// none. The list may be that cycle already, and then stays if no pruner says no.
     fn put_last(&self, last: &Cycle, list: &mut Prefix)
-        requires knows { KnowsOf K.pre K.Fn.post J.pre J.Fn.post P.pre P.Fn.post self.now.threads self.now.keep self.now.fit self.now.take }
+        requires knows { KnowsOf K.pre K.Fn.post J.pre J.Fn.post P.pre P.Fn.post self.now.taken self.now.keep self.now.fit self.now.take }
         requires at { (list.old ≡ []) ⊎ (list.old ≡ last.now) }
         ensures { IsCut (Lists P.Fn.post self.now) (KeepsList K.Fn.post J.Fn.post self.now) last.now list.new }
     {
@@ -236,7 +237,7 @@ impl<K: Fn(&[Edge]) -> bool, J: Fn(&[Edge]) -> bool, P: Fn(&Cycle) -> bool> Spac
 
     /// Whether no pruner says no on a prefix of a list. If one does, no listed cycle begins with the list.
     fn keeps_all(&self, edges: &[Edge]) -> bool
-        requires knows { KnowsOf K.pre K.Fn.post J.pre J.Fn.post P.pre P.Fn.post self.now.threads self.now.keep self.now.fit self.now.take }
+        requires knows { KnowsOf K.pre K.Fn.post J.pre J.Fn.post P.pre P.Fn.post self.now.taken self.now.keep self.now.fit self.now.take }
         requires few { length edges.now ≤ MAX_EDGES }
         ensures kept { IsTrue result → KeptWhole (KeepsList K.Fn.post J.Fn.post self.now) edges.now }
         ensures refused { IsFalse result → LeadsNowhere (Lists P.Fn.post self.now) edges.now }
@@ -253,7 +254,7 @@ impl<K: Fn(&[Edge]) -> bool, J: Fn(&[Edge]) -> bool, P: Fn(&Cycle) -> bool> Spac
     /// begins with it, or to all of them if there is none.
     fn put_first_refused(&self, edges: &[Edge], list: &mut Prefix)
         requires joined { is_joined edges.now ≡ true }
-        requires knows { KnowsOf K.pre K.Fn.post J.pre J.Fn.post P.pre P.Fn.post self.now.threads self.now.keep self.now.fit self.now.take }
+        requires knows { KnowsOf K.pre K.Fn.post J.pre J.Fn.post P.pre P.Fn.post self.now.taken self.now.keep self.now.fit self.now.take }
         requires few { length edges.now ≤ MAX_EDGES }
         requires empty { list.old ≡ [] }
         ensures { IsCut (Lists P.Fn.post self.now) (KeepsList K.Fn.post J.Fn.post self.now) edges.now list.new }
@@ -269,7 +270,7 @@ impl<K: Fn(&[Edge]) -> bool, J: Fn(&[Edge]) -> bool, P: Fn(&Cycle) -> bool> Spac
     /// Whether a listed cycle of `len` edges is still to come at the list; if so, the list becomes the first such
     /// cycle.
     fn search(&self, list: &mut Prefix, len: u8, room: &mut Option<Cycle>) -> bool
-        requires knows { KnowsOf K.pre K.Fn.post J.pre J.Fn.post P.pre P.Fn.post self.now.threads self.now.keep self.now.fit self.now.take }
+        requires knows { KnowsOf K.pre K.Fn.post J.pre J.Fn.post P.pre P.Fn.post self.now.taken self.now.keep self.now.fit self.now.take }
         requires few { len ≤ MAX_EDGES }
         requires limits { KeepsLimits self.now.limits.size self.now.limits.exact len }
         requires within { length list.old ≤ len }
@@ -296,7 +297,7 @@ impl<K: Fn(&[Edge]) -> bool, J: Fn(&[Edge]) -> bool, P: Fn(&Cycle) -> bool> Spac
 
     /// Whether a listed cycle of `len` edges may begin with the list.
     fn leads_on(&self, list: &Prefix, len: u8) -> bool
-        requires knows { KnowsOf K.pre K.Fn.post J.pre J.Fn.post P.pre P.Fn.post self.now.threads self.now.keep self.now.fit self.now.take }
+        requires knows { KnowsOf K.pre K.Fn.post J.pre J.Fn.post P.pre P.Fn.post self.now.taken self.now.keep self.now.fit self.now.take }
         requires some { 0 < length list.now }
         requires few { length list.now ≤ len }
         requires most { len ≤ MAX_EDGES }
@@ -315,20 +316,26 @@ impl<K: Fn(&[Edge]) -> bool, J: Fn(&[Edge]) -> bool, P: Fn(&Cycle) -> bool> Spac
         self.relaxes.may_occur(list.edges())
     }
 
-    /// Whether the list may be the beginning of a listed cycle of `len` edges, by how few edges to another thread can still follow.
+    /// Whether the list may be the beginning of a listed cycle of `len` edges, by how few edges to another thread can
+    /// still follow, if the walk may rely on anything of these.
     fn may_end(&self, list: &[Edge], len: u8) -> bool
-        requires knows { KnowsOf K.pre K.Fn.post J.pre J.Fn.post P.pre P.Fn.post self.now.threads self.now.keep self.now.fit self.now.take }
+        requires knows { KnowsOf K.pre K.Fn.post J.pre J.Fn.post P.pre P.Fn.post self.now.taken self.now.keep self.now.fit self.now.take }
         requires few { length list.now ≤ len }
         requires most { len ≤ MAX_EDGES }
         ensures { IsFalse result → LeadsNowhere (OfLength len (Lists P.Fn.post self.now)) list.now }
     {
-        self.relaxes
-            .may_end(list, usize::from(len) - list.len(), self.threads)
+        match self.taken {
+            Taken::Any => true,
+            Taken::SpreadOver(threads) => {
+                self.relaxes
+                    .may_end(list, usize::from(len) - list.len(), threads)
+            }
+        }
     }
 
     /// Whether both pruners say yes on the list.
     fn is_kept(&self, list: &[Edge]) -> bool
-        requires knows { KnowsOf K.pre K.Fn.post J.pre J.Fn.post P.pre P.Fn.post self.now.threads self.now.keep self.now.fit self.now.take }
+        requires knows { KnowsOf K.pre K.Fn.post J.pre J.Fn.post P.pre P.Fn.post self.now.taken self.now.keep self.now.fit self.now.take }
         requires some { 0 < length list.now }
         requires few { length list.now ≤ MAX_EDGES }
         ensures kept { IsTrue result → KeepsList K.Fn.post J.Fn.post self.now list.now }
@@ -339,7 +346,7 @@ impl<K: Fn(&[Edge]) -> bool, J: Fn(&[Edge]) -> bool, P: Fn(&Cycle) -> bool> Spac
 
     /// Whether the list, which has `len` edges, is a listed cycle.
     fn has_found(&self, list: &Prefix, len: u8, room: &mut Option<Cycle>) -> bool
-        requires knows { KnowsOf K.pre K.Fn.post J.pre J.Fn.post P.pre P.Fn.post self.now.threads self.now.keep self.now.fit self.now.take }
+        requires knows { KnowsOf K.pre K.Fn.post J.pre J.Fn.post P.pre P.Fn.post self.now.taken self.now.keep self.now.fit self.now.take }
         requires limits { KeepsLimits self.now.limits.size self.now.limits.exact (length list.now) }
         requires some { 0 < length list.now }
         requires few { len ≤ MAX_EDGES }
@@ -363,7 +370,7 @@ impl<K: Fn(&[Edge]) -> bool, J: Fn(&[Edge]) -> bool, P: Fn(&Cycle) -> bool> Spac
     /// Whether a cycle in normal form, given by its edges, is listed, if the walk keeps all its prefixes.
     fn has_listed(&self, list: &Prefix, room: &mut Option<Cycle>) -> bool
         requires cycle { IsCycle list.now }
-        requires knows { KnowsOf K.pre K.Fn.post J.pre J.Fn.post P.pre P.Fn.post self.now.threads self.now.keep self.now.fit self.now.take }
+        requires knows { KnowsOf K.pre K.Fn.post J.pre J.Fn.post P.pre P.Fn.post self.now.taken self.now.keep self.now.fit self.now.take }
         requires limits { KeepsLimits self.now.limits.size self.now.limits.exact (length list.now) }
         requires normal { IsNormal list.now }
         requires kept { KeptWhole (KeepsList K.Fn.post J.Fn.post self.now) list.now }
@@ -381,7 +388,7 @@ impl<K: Fn(&[Edge]) -> bool, J: Fn(&[Edge]) -> bool, P: Fn(&Cycle) -> bool> Spac
     /// keeps the limits and the walk keeps all its prefixes.
     fn is_listed(&self, cycle: &Cycle, ranks: &[u16]) -> bool
         requires ranks { ranks.now ≡ map rank_of cycle.now }
-        requires knows { KnowsOf K.pre K.Fn.post J.pre J.Fn.post P.pre P.Fn.post self.now.threads self.now.keep self.now.fit self.now.take }
+        requires knows { KnowsOf K.pre K.Fn.post J.pre J.Fn.post P.pre P.Fn.post self.now.taken self.now.keep self.now.fit self.now.take }
         requires limits { KeepsLimits self.now.limits.size self.now.limits.exact (length cycle.now) }
         requires normal { IsNormal cycle.now }
         requires kept { KeptWhole (KeepsList K.Fn.post J.Fn.post self.now) cycle.now }
@@ -390,9 +397,6 @@ impl<K: Fn(&[Edge]) -> bool, J: Fn(&[Edge]) -> bool, P: Fn(&Cycle) -> bool> Spac
     {
         // Brings the invariant of `Cycle` into the proof.
         let _edges = cycle.edges();
-        if !self.relaxes.makes(cycle, ranks) {
-            return false;
-        }
-        (self.take)(cycle)
+        (self.take)(cycle) && self.relaxes.makes(cycle, ranks)
     }
 }

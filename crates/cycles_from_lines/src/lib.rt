@@ -16,7 +16,7 @@ pub use classify::classify_lines;
 pub use edges::{cycle_spelled, quoted_cycle};
 pub use errors::{ClassifyError, LineKind, LinesError, NormError};
 pub use families::Families;
-pub use line::LineForm;
+pub use line::{LineForm, read_line};
 pub use named::{cycle_named, named_cycles_are_found};
 pub use norm::{norm_lines, send_name_line, write_name_line};
 

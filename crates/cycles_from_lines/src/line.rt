@@ -21,10 +21,11 @@ pub enum LineForm {
     Names(ArchName),
 }
 
-/// Sets `cycle` to what a line says: its cycle, or none if it has only blanks; or returns the first
-/// error that it has. `edges` is space for the edges: what it held doesn't matter.
+/// Sets `cycle` to what a line says, which comes without its line feed: its cycle, or none if it has only blanks; or
+/// returns the first error that it has, and then nothing is known about `cycle`. `edges` is space for the edges: what it
+/// held doesn't matter.
 #[tactic(auto, unfolding(crate::specs::Cycles::line_said))]
-pub(crate) fn read_line(
+pub fn read_line(
     form: LineForm,
     line: &[u8],
     edges: &mut EdgeList,

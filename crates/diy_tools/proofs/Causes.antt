@@ -1,5 +1,5 @@
 -- The cause of a status, and which tools may want memory, from what is answered.
-use Rattle.std.proofs.Common.{◌≡◌, ◌<◌, ◌+◌, ◌^◌, ℕ, List, [], ◌∷◌, length, Option, Some, None, Ok, Err, refl, sym, ap, subst, arith, inl, inr, ◌∙◌}
+use Rattle.std.proofs.Common.{◌≡◌, ◌<◌, ◌+◌, ◌^◌, ℕ, Bool, true, false, List, [], ◌∷◌, length, Option, Some, None, Ok, Err, refl, sym, ap, subst, arith, inl, inr, ◌∙◌}
 use Rattle.std.specs.Prelude.{Result, ◌⊎◌}
 use Rattle.relax_edges.specs.{declared.edge.Edge.Edge, declared.kinds.ArchName.ArchName}
 use Rattle.cycles_from_lines.specs.declared.errors.LinesError.TheVariants as lines
@@ -18,9 +18,10 @@ use Rattle.diy_io.specs.{Count.{Rose, count_of}, Shelf.ShelfSeen, Taken.SourceSe
 use Rattle.diy_words.specs.{declared.usage.Usage.Usage, declared.usage.UsageKind.TheVariants.UnknownName, declared.request.Demo.Demo}
 use Rattle.diy_words.specs.declared.request.Check.{Check}
 use Rattle.diy_words.specs.declared.request.ExecutionForm.{ExecutionForm}
-use Rattle.diy_words.specs.Requests.{Task, TestTask, WhyTask, ListTask, Sought, asked_of, AsksTest, AsksWhy, AsksCoherence, CoherenceTask, AsksName, AsksList, AsksFamilies, AsksSum, AsksCross, AsksDemo, AsksCheck, AsksExecution, AsksCoherenceExecution, AsksNeeds, AsksLines, OfEdges, OfName, OfLines, OfNames, CrossTask}
+use Rattle.diy_words.specs.Requests.{Task, TestTask, WhyTask, ListTask, Sought, asked_of, AsksTest, AsksWhy, AsksCoherence, CoherenceTask, AsksName, AsksList, AsksFamilies, AsksSum, AsksCross, AsksDemo, AsksCheck, AsksExecution, AsksCoherenceExecution, AsksNeeds, AsksLines, AsksLineTests, LineTestsTask, OfEdges, OfName, OfLines, OfNames, CrossTask}
 use Rattle.tests_to_files.specs.{declared.ending.ListingEnd.ListingEnd, ListingEnds.{StopsAtTest, StopsAtAll}, Plans.{IsPlanned, planned_text}}
 use Rattle.tests_to_files.specs.declared.ending.ListingEnd.TheVariants as listings
+use Rattle.msum7_files.specs.declared.sum_form.SumForm.{SumForm}
 use Rattle.msum7_files.specs.declared.sum_end.SumEnd.{SumEnd}
 use Rattle.msum7_files.specs.declared.sum_end.SumEnd.TheVariants as sums
 use Rattle.program_meaning.specs.Executions.{Execution}
@@ -34,12 +35,15 @@ use Rattle.diy_tools.specs.{Statuses.{norm_status, classify_status, listing_stat
 use Rattle.diy_tools.specs.{TestAnswers.{asked_text, test_name, test_refused}, WhyAnswers.{AnswersRuns, WritesRuns, why_unshown}}
 use Rattle.diy_tools.specs.{CoherenceAnswers.{coherence_refused, incoherent_text}, NameAnswers.{AnswersName, AnswersSought}}
 use Rattle.diy_tools.specs.{FamilyAnswers.{AnswersClassify, EndsFamilies, files_status}, CrossAnswers.{AnswersCross, EndsCrossed}, DemoAnswers.demo_asked}
-use Rattle.diy_tools.specs.{CheckAnswers.{EndsCheck, check_status}, SumAnswers.{EndsInput, EndsSum, sum_status}, Answers.{Answers, AnswersAsked}}
-use Rattle.diy_tools.specs.Causes.{Causes, CausesAsked, Finishes, LinesStop, OutStops, RoseFar}
+use Rattle.diy_tools.specs.{CheckAnswers.{EndsCheck, check_status}, SumAnswers.{EndsAmong, EndsInput, EndsSum, first_log, name_logs, sum_status}, Answers.{Answers, AnswersAsked}}
+use Rattle.diy_tools.specs.{Causes.{Causes, CausesAsked, Finishes, LinesStop, OutStops, RoseFar}, LineTestAnswers.{EndsLined, line_tests_status, making_asked}}
+use Rattle.lines_to_files.specs.declared.ending.LineTestsEnd.{LineTestsEnd}
+use Rattle.lines_to_files.specs.declared.ending.LineTestsEnd.TheVariants as tests
+use Rattle.lines_to_files.specs.declared.form.WrongTest.TheVariants as wrong
 use Rattle.test_maker.specs.declared.refusal.Refusal.{Refusal}
 use Rattle.run_status.specs.declared.status.Status.TheVariants as statuses
 use Rattle.run_status.specs.declared.status.TextKind.TheVariants as texts
-use Rattle.diy_tools.proofs.CountedLogs.{file_opened, file_far, input_far}
+use Rattle.diy_tools.proofs.{CountedLogs.{file_opened, file_far, input_far}, LineTestAnswers.lined_failed}
 
 -- devices that are the same one by one are the same
 same_devices : (old new : Devices) → new.input ≡ old.input → new.out ≡ old.out → new.shelf ≡ old.shelf → new ≡ old
@@ -198,7 +202,7 @@ module _ (old new : Devices) where
   lines_caused words asked form (Err norms.OutFault) status all part stop shelf e h =
       of_status words asked status (statuses.WriteFault Out) e (h.wrote.fault, part (record { shelf = shelf; both = h }))
   lines_caused words asked form (Err (norms.Lines (lines.Wrong line kind))) status all part stop shelf e h =
-      of_status words asked status (statuses.BadText None line (texts.Line kind)) e (refl, stop (lines.Wrong line kind) (record { shelf = shelf; both = h }))
+      of_status words asked status (statuses.BadText None line (texts.Line kind)) e (inl (refl, stop (lines.Wrong line kind) (record { shelf = shelf; both = h })))
   lines_caused words asked form (Err (norms.Lines (lines.TooMuch line))) status all part stop shelf e h =
       of_status words asked status (statuses.BadText None line texts.TooMuch) e (
         rose_far old.input.taken new.input.taken (length h.read.text) h.read.took.counted h.read.many,
@@ -217,6 +221,30 @@ module _ (old new : Devices) where
   sought_caused words arch OfNames status shelf h =
       lines_caused words (named arch OfNames) (Names arch) h.result status (λ n. record { shelf = n.shelf; both = n.both }) (λ n. record { shelf = n.shelf; both = n.both })
       (λ error n. n) shelf h.status_is h.norms
+
+  -- the tests of the input's lines are written, as far as can be
+  lined_caused : (words : List (List ℕ)) (asked : LineTestsTask) (end : LineTestsEnd) (status : Status) → status ≡ line_tests_status end
+      → EndsLined asked end old new → CausesAsked words (Ok (AsksLineTests asked)) status old new
+  lined_caused words asked tests.Done status e h = of_status words (Ok (AsksLineTests asked)) status statuses.Done e h
+  lined_caused words asked tests.OutFault status e h = of_status words (Ok (AsksLineTests asked)) status (statuses.WriteFault Out) e (h.line.fault, h)
+  lined_caused words asked tests.ShelfFault status e h =
+      of_status words (Ok (AsksLineTests asked)) status (statuses.WriteFault Shelf) e
+      (lined_failed (making_asked asked) old.input new.input old.shelf new.shelf h.0, h)
+  lined_caused words asked (tests.Wrong line (wrong.Line kind)) status e h =
+      of_status words (Ok (AsksLineTests asked)) status (statuses.BadText None line (texts.Line kind)) e (inr (refl, h))
+  lined_caused words asked (tests.Wrong line (wrong.Refused refusal)) status e h =
+      of_status words (Ok (AsksLineTests asked)) status (statuses.BadText None line (texts.Refused refusal)) e (refl, h)
+  lined_caused words asked (tests.Wrong line wrong.BadName) status e h =
+      of_status words (Ok (AsksLineTests asked)) status (statuses.BadText None line texts.BadName) e (refl, h)
+  lined_caused words asked (tests.Wrong line wrong.NameTaken) status e h =
+      of_status words (Ok (AsksLineTests asked)) status (statuses.BadText None line texts.NameTaken) e (refl, h)
+  lined_caused words asked (tests.TooMuch line) status e h =
+      of_status words (Ok (AsksLineTests asked)) status (statuses.BadText None line texts.TooMuch) e
+      (rose_far old.input.taken new.input.taken (length h.0.text) h.0.took.counted h.0.many, inr (inr h))
+  lined_caused words asked tests.InputFault status e h =
+      of_status words (Ok (AsksLineTests asked)) status (statuses.ReadFault Input) e (h.0.fault, inr (inr h))
+  lined_caused words asked tests.NoMemory status e h =
+      of_status words (Ok (AsksLineTests asked)) status statuses.NoMemory e (tt, record { out = h.1; files = ap (λ (s : ShelfSeen). s.files) h.0 })
 
   list_caused : (words : List (List ℕ)) (asked : ListTask) (end : ListingEnd) (status : Status) → new.input ≡ old.input → status ≡ listing_status end
       → EndsAsked asked end old.shelf new.shelf old.out new.out → CausesAsked words (Ok (AsksList asked)) status old new
@@ -257,7 +285,7 @@ module _ (old new : Devices) where
   families_caused words arch (Err classifies.OutFault) status shelf e h =
       of_status words (of_files arch []) status (statuses.WriteFault Out) e (h.wrote.fault, record { shelf = shelf; both = h })
   families_caused words arch (Err (classifies.Lines (lines.Wrong line kind))) status shelf e h =
-      of_status words (of_files arch []) status (statuses.BadText None line (texts.Line kind)) e (refl, (refl, record { shelf = shelf; both = h }))
+      of_status words (of_files arch []) status (statuses.BadText None line (texts.Line kind)) e (inl (refl, (refl, record { shelf = shelf; both = h })))
   families_caused words arch (Err (classifies.Lines (lines.TooMuch line))) status shelf e h =
       of_status words (of_files arch []) status (statuses.BadText None line texts.TooMuch) e
       (rose_far old.input.taken new.input.taken (length h.0.read.text) h.0.read.took.counted h.0.read.many, inl (refl, record { shelf = shelf; both = h }))
@@ -315,56 +343,59 @@ module _ (old new : Devices) where
   check_caused words asked checking.NoMemory status e h =
       of_status words (Ok (AsksCheck asked)) status statuses.NoMemory e (tt, record { out = h.both.checked; files = h.both.stay })
 
-  files_caused : (tool log : List ℕ) (logs : List (List ℕ)) (end : SumEnd) (status : Status) → status ≡ sum_status end
-      → EndsSum (tool ∷ log ∷ logs) end old new → CausesAsked (tool ∷ log ∷ logs) (Ok AsksSum) status old new
-  files_caused tool log logs sums.Done status e h = of_status (tool ∷ log ∷ logs) (Ok AsksSum) status statuses.Done e h
-  files_caused tool log logs sums.OutFault status e h =
-      of_status (tool ∷ log ∷ logs) (Ok AsksSum) status (statuses.WriteFault Out) e (h.both.summed.wrote.fault, h)
-  files_caused tool log logs (sums.Wrong None line kind) status e h = absurd h.both.summed
-  files_caused tool log logs (sums.Wrong (Some file) line kind) status e h =
-      of_status (tool ∷ log ∷ logs) (Ok AsksSum) status (statuses.BadText (Some file) line (texts.Log kind)) e
-      (h, record { out = h.both.summed.1; files = h.both.files })
-  files_caused tool log logs (sums.TooMuch None line) status e h = absurd h.both.summed
-  files_caused tool log logs (sums.TooMuch (Some file) line) status e h =
-      of_status (tool ∷ log ∷ logs) (Ok AsksSum) status (statuses.BadText (Some file) line texts.TooMuch) e
-      (file_opened old.shelf new.shelf (tool ∷ log ∷ logs) 1 file line h.both.summed.0, file_far old.shelf new.shelf (tool ∷ log ∷ logs) 1 file line h.both.summed.0, (h, record { out = h.both.summed.1; files = h.both.files }))
-  files_caused tool log logs (sums.NoFile word) status e h =
-      of_status (tool ∷ log ∷ logs) (Ok AsksSum) status (statuses.NoFile word) e
-      (inl (h.both.summed.0, (h, record { out = h.both.summed.1; files = h.both.files })))
-  files_caused tool log logs sums.InputFault status e h = absurd h.both.summed
-  files_caused tool log logs sums.ShelfFault status e h =
-      of_status (tool ∷ log ∷ logs) (Ok AsksSum) status (statuses.ReadFault Shelf) e
-      (h.both.summed.0.fault, inl (h, record { out = h.both.summed.1; files = h.both.files }))
-  files_caused tool log logs sums.NoMemory status e h =
-      of_status (tool ∷ log ∷ logs) (Ok AsksSum) status statuses.NoMemory e (tt, record { out = h.both.summed; files = h.both.files })
+  files_caused : (form : SumForm) (words : List (List ℕ)) (end : SumEnd) (status : Status) → status ≡ sum_status end
+      → (EndsAmong true form words end old new → EndsSum form words end old new) → EndsAmong true form words end old new
+      → CausesAsked words (Ok (AsksSum form)) status old new
+  files_caused form words sums.Done status e ends h = of_status words (Ok (AsksSum form)) status statuses.Done e (ends h)
+  files_caused form words sums.OutFault status e ends h =
+      of_status words (Ok (AsksSum form)) status (statuses.WriteFault Out) e (h.both.summed.wrote.fault, ends h)
+  files_caused form words (sums.Wrong None line kind) status e ends h = absurd h.both.summed
+  files_caused form words (sums.Wrong (Some file) line kind) status e ends h =
+      of_status words (Ok (AsksSum form)) status (statuses.BadText (Some file) line (texts.Log kind)) e
+      (ends h, record { out = h.both.summed.1; files = h.both.files })
+  files_caused form words (sums.TooMuch None line) status e ends h = absurd h.both.summed
+  files_caused form words (sums.TooMuch (Some file) line) status e ends h =
+      of_status words (Ok (AsksSum form)) status (statuses.BadText (Some file) line texts.TooMuch) e
+      (file_opened old.shelf new.shelf words (first_log form) file line h.both.summed.0, file_far old.shelf new.shelf words (first_log form) file line h.both.summed.0, (ends h, record { out = h.both.summed.1; files = h.both.files }))
+  files_caused form words (sums.NoFile word) status e ends h =
+      of_status words (Ok (AsksSum form)) status (statuses.NoFile word) e
+      (inl (h.both.summed.0, (ends h, record { out = h.both.summed.1; files = h.both.files })))
+  files_caused form words sums.InputFault status e ends h = absurd h.both.summed
+  files_caused form words sums.ShelfFault status e ends h =
+      of_status words (Ok (AsksSum form)) status (statuses.ReadFault Shelf) e
+      (h.both.summed.0.fault, inl (ends h, record { out = h.both.summed.1; files = h.both.files }))
+  files_caused form words sums.NoMemory status e ends h =
+      of_status words (Ok (AsksSum form)) status statuses.NoMemory e (tt, record { out = h.both.summed; files = h.both.files })
 
-  input_caused : (words : List (List ℕ)) (end : SumEnd) (status : Status) → status ≡ sum_status end
-      → (EndsInput end old new → EndsSum words end old new) → EndsInput end old new → CausesAsked words (Ok AsksSum) status old new
-  input_caused words sums.Done status e ends h = of_status words (Ok AsksSum) status statuses.Done e (ends h)
-  input_caused words sums.OutFault status e ends h = of_status words (Ok AsksSum) status (statuses.WriteFault Out) e (h.both.wrote.fault, ends h)
-  input_caused words (sums.Wrong None line kind) status e ends h =
-      of_status words (Ok AsksSum) status (statuses.BadText None line (texts.Log kind)) e
+  input_caused : (form : SumForm) (words : List (List ℕ)) (end : SumEnd) (status : Status) → status ≡ sum_status end
+      → (EndsInput form end old new → EndsSum form words end old new) → EndsInput form end old new → CausesAsked words (Ok (AsksSum form)) status old new
+  input_caused form words sums.Done status e ends h = of_status words (Ok (AsksSum form)) status statuses.Done e (ends h)
+  input_caused form words sums.OutFault status e ends h = of_status words (Ok (AsksSum form)) status (statuses.WriteFault Out) e (h.both.wrote.fault, ends h)
+  input_caused form words (sums.Wrong None line kind) status e ends h =
+      of_status words (Ok (AsksSum form)) status (statuses.BadText None line (texts.Log kind)) e
       (ends h, record { out = h.both.1; files = ap (λ (s : ShelfSeen). s.files) h.shelf })
-  input_caused words (sums.Wrong (Some file) line kind) status e ends h = absurd h.both
-  input_caused words (sums.TooMuch None line) status e ends h =
-      of_status words (Ok AsksSum) status (statuses.BadText None line texts.TooMuch) e (
+  input_caused form words (sums.Wrong (Some file) line kind) status e ends h = absurd h.both
+  input_caused form words (sums.TooMuch None line) status e ends h =
+      of_status words (Ok (AsksSum form)) status (statuses.BadText None line texts.TooMuch) e (
         input_far old.input new.input [] h.both.0.log h.both.0.bytes line h.both.0.taken h.both.0.is,
-        inr (ends h, record { out = h.both.1; files = ap (λ (s : ShelfSeen). s.files) h.shelf }),
+        inr (inl (ends h, record { out = h.both.1; files = ap (λ (s : ShelfSeen). s.files) h.shelf })),
       )
-  input_caused words (sums.TooMuch (Some file) line) status e ends h = absurd h.both
-  input_caused words (sums.NoFile word) status e ends h = absurd h.both
-  input_caused words sums.InputFault status e ends h =
-      of_status words (Ok AsksSum) status (statuses.ReadFault Input) e
-      (h.both.0.fault, inr (ends h, record { out = h.both.1; files = ap (λ (s : ShelfSeen). s.files) h.shelf }))
-  input_caused words sums.ShelfFault status e ends h = absurd h.both
-  input_caused words sums.NoMemory status e ends h =
-      of_status words (Ok AsksSum) status statuses.NoMemory e (tt, record { out = h.both; files = ap (λ (s : ShelfSeen). s.files) h.shelf })
+  input_caused form words (sums.TooMuch (Some file) line) status e ends h = absurd h.both
+  input_caused form words (sums.NoFile word) status e ends h = absurd h.both
+  input_caused form words sums.InputFault status e ends h =
+      of_status words (Ok (AsksSum form)) status (statuses.ReadFault Input) e
+      (h.both.0.fault, inr (inl (ends h, record { out = h.both.1; files = ap (λ (s : ShelfSeen). s.files) h.shelf })))
+  input_caused form words sums.ShelfFault status e ends h = absurd h.both
+  input_caused form words sums.NoMemory status e ends h =
+      of_status words (Ok (AsksSum form)) status statuses.NoMemory e (tt, record { out = h.both; files = ap (λ (s : ShelfSeen). s.files) h.shelf })
 
-  sum_caused : (words : List (List ℕ)) (end : SumEnd) (status : Status) → status ≡ sum_status end → EndsSum words end old new
-      → CausesAsked words (Ok AsksSum) status old new
-  sum_caused [] end status e h = input_caused [] end status e (λ ends. ends) h
-  sum_caused (tool ∷ []) end status e h = input_caused (tool ∷ []) end status e (λ ends. ends) h
-  sum_caused (tool ∷ log ∷ logs) end status e h = files_caused tool log logs end status e h
+  sum_caused : (form : SumForm) (words : List (List ℕ)) (end : SumEnd) (status : Status) → status ≡ sum_status end → EndsSum form words end old new
+      → CausesAsked words (Ok (AsksSum form)) status old new
+  sum_caused form words end status e h = among (name_logs form words) refl h
+    where
+      among : (b : Bool) → name_logs form words ≡ b → EndsAmong b form words end old new → CausesAsked words (Ok (AsksSum form)) status old new
+      among true q i = files_caused form words end status e (λ ends. subst (λ b. EndsAmong b form words end old new) (sym q) ends) i
+      among false q i = input_caused form words end status e (λ ends. subst (λ b. EndsAmong b form words end old new) (sym q) ends) i
 
   asked_caused : (words : List (List ℕ)) (asked : Result Task Usage) (status : Status)
       → AnswersAsked words asked status old new → CausesAsked words asked status old new
@@ -377,6 +408,7 @@ module _ (old new : Devices) where
       status h.input h.shelf tt (λ refusal e. (e, refl)) (λ none printed. (none, printed)) (λ none printed. (printed.out.prints.fault, (none, printed))) h.out
   asked_caused words (Ok (AsksNeeds asked)) status h = needs_caused words asked (test_refused asked) status refl h.input h.shelf h.out
   asked_caused words (Ok (AsksLines asked)) status h = listed_caused words asked status h
+  asked_caused words (Ok (AsksLineTests asked)) status h = lined_caused words asked h.end status h.status_is h.ends
   asked_caused words (Ok (AsksTest asked)) status h = test_caused words asked (test_refused asked) status refl h.input h.shelf h.out
   asked_caused words (Ok (AsksCoherence asked)) status h = coherence_caused words asked (coherence_refused asked) status refl h.input h.shelf h.out
   asked_caused words (Ok (AsksWhy asked)) status h = why_caused words asked (why_unshown asked) status refl h.input h.both
@@ -385,7 +417,7 @@ module _ (old new : Devices) where
   asked_caused words (Ok (AsksCross asked)) status h = cross_caused words asked status h.input h.both
   asked_caused words (Ok (AsksDemo asked)) status h = demo_caused words asked status h.input h.shelf h.out
   asked_caused words (Ok (AsksFamilies asked)) status h = classify_caused words asked.arch asked.files status h
-  asked_caused words (Ok AsksSum) status h = sum_caused words h.end status h.status_is h.ends
+  asked_caused words (Ok (AsksSum form)) status h = sum_caused form words h.end status h.status_is h.ends
   asked_caused words (Ok (AsksCheck asked)) status h = check_caused words asked h.end status h.status_is h.ends
 
 -- what is answered has its cause

@@ -1,13 +1,13 @@
 -- That what can be done is done, from what is answered.
-use Rattle.std.proofs.Common.{◌≡◌, ◌≤◌, ◌<◌, ◌+◌, ◌^◌, ◌++◌, ℕ, suc, Bool, true, List, [], ◌∷◌, length, get_or, Option, Some, None, Ok, Err, refl, sym, ap, subst, arith, inl, inr, ◌∙◌, length-append}
+use Rattle.std.proofs.Common.{◌≡◌, ◌≤◌, ◌<◌, ◌+◌, ◌^◌, ◌++◌, ℕ, suc, Bool, true, false, List, [], ◌∷◌, length, get_or, Option, Some, None, Ok, Err, refl, sym, ap, subst, arith, inl, inr, ◌∙◌, length-append}
 use Rattle.std.proofs.{lemmas.Bool.and_parts, lemmas.Option.{slice_get-get_or, slice_get_within, get_or_from_slice_get, same_Some}}
 use Rattle.std.specs.{Prelude.{Result, ◌⊎◌, MatchOption, map, slice_get, slice_index_or, unwrap_or, is_ok}, List.list_all, Result.result_err}
-use Rattle.std.specs.Io.KnownBytes.{Consumes}
+use Rattle.std.specs.Io.KnownBytes.{Consumes, Keeps}
 use Rattle.relax_edges.specs.{declared.edge.Edge.Edge, declared.kinds.ArchName.ArchName}
 use Rattle.cycles_from_lines.specs.declared.line.{LineForm.LineForm, LineForm.TheVariants.{Edges, Names}}
 use Rattle.cycles_from_lines.specs.{declared.errors.LineKind.LineKind, declared.errors.LinesError.LinesError, declared.errors.NormError.NormError}
 use Rattle.cycles_from_lines.specs.{declared.errors.ClassifyError.ClassifyError, Classified.Classifies, Cycles.{is_sound, line_said}, Normed.{Norms, name_line}}
-use Rattle.cycles_from_lines.specs.LineReading.{ReadUpTo, ReadToFault, ReadToLimit, whole_of}
+use Rattle.cycles_from_lines.specs.LineReading.{ReadUpTo, ReadToFault, ReadToLimit, TookUpTo, whole_of}
 use Rattle.cycles_from_lines.specs.declared.errors.LinesError.TheVariants as lines
 use Rattle.cycles_from_lines.specs.declared.errors.NormError.TheVariants as norms
 use Rattle.cycles_from_lines.specs.declared.errors.ClassifyError.TheVariants as classifies
@@ -21,10 +21,11 @@ use Rattle.exec_check.specs.{declared.checked_errors.CheckEnd.CheckEnd, FilesChe
 use Rattle.exec_check.specs.declared.checked_errors.CheckEnd.TheVariants as checking
 use Rattle.diy_words.specs.{declared.usage.Usage.Usage, declared.request.Demo.Demo, declared.request.Check.Check}
 use Rattle.diy_words.specs.declared.request.ExecutionForm.{ExecutionForm}
-use Rattle.diy_words.specs.Requests.{Task, ListTask, Sought, asked_of, AsksTest, AsksWhy, AsksCoherence, WhyTask, AsksName, AsksList, AsksFamilies, AsksSum, AsksCross, AsksDemo, AsksCheck, AsksExecution, AsksCoherenceExecution, AsksNeeds, AsksLines, OfEdges, OfName, OfLines, OfNames, CrossTask}
+use Rattle.diy_words.specs.Requests.{Task, ListTask, Sought, asked_of, AsksTest, AsksWhy, AsksCoherence, WhyTask, AsksName, AsksList, AsksFamilies, AsksSum, AsksCross, AsksDemo, AsksCheck, AsksExecution, AsksCoherenceExecution, AsksNeeds, AsksLines, AsksLineTests, LineTestsTask, OfEdges, OfName, OfLines, OfNames, CrossTask}
 use Rattle.tests_to_files.specs.declared.ending.ListingEnd.{ListingEnd}
 use Rattle.tests_to_files.specs.declared.ending.ListingEnd.TheVariants as listings
 use Rattle.log_sum.specs.{declared.errors.LogError.LogError, Representing.logs_text}
+use Rattle.msum7_files.specs.declared.sum_form.SumForm.{SumForm}
 use Rattle.msum7_files.specs.{declared.sum_end.SumEnd.SumEnd, Logs.{IsText, IsShort, IsTooMuch, AreWholeLogs}}
 use Rattle.msum7_files.specs.SumEnds.{AreLogs, IsAtWord, FilesSummed, InputWrong, FileTooMuch, LogFileMissing}
 use Rattle.msum7_files.specs.declared.sum_end.SumEnd.TheVariants as sums
@@ -39,10 +40,13 @@ use Rattle.diy_tools.specs.{Refused.refused_list, Statuses.{norm_status, classif
 use Rattle.diy_tools.specs.{TestAnswers.{asked_text, test_name, test_refused}, WhyAnswers.{AnswersRuns, WritesRuns, why_unshown}}
 use Rattle.diy_tools.specs.{CoherenceAnswers.{coherence_refused, incoherent_text}, FamilyAnswers.{AnswersClassify, files_status, read_on}}
 use Rattle.diy_tools.specs.{NameAnswers.{AnswersName, AnswersSought}, CrossAnswers.{AnswersCross, EndsCrossed}, DemoAnswers.demo_asked}
-use Rattle.diy_tools.specs.{CheckAnswers.{check_status, shown_of}, SumAnswers.{EndsInput, EndsSum, sum_status}, Answers.{Answers, AnswersAsked}}
-use Rattle.diy_tools.specs.Complete.{Complete, CanBeDone, CanName, CanSum, CanClassify, AreRightTests, IsSoundText, IsRightLog, AreRightLogs, OfItsText, OfItsFiles, NoFaults, IsDone}
+use Rattle.diy_tools.specs.{CheckAnswers.{check_status, shown_of}, SumAnswers.{EndsAmong, EndsInput, first_log, name_logs, sum_status}, Answers.{Answers, AnswersAsked}}
+use Rattle.diy_tools.specs.Complete.{Complete, CanBeDone, CanName, CanSumAmong, CanClassify, AreRightTests, IsSoundText, IsRightText, IsRightLog, AreRightLogs, OfItsText, OfItsFiles, NoFaults, IsDone}
 use Rattle.test_maker.specs.declared.refusal.Refusal.{Refusal}
-use Rattle.diy_tools.proofs.{CountedLogs.long_taken, Causes.{by_print, listing_failed, crossing_failed, of_files}}
+use Rattle.diy_tools.proofs.{CountedLogs.long_taken, Causes.{by_print, listing_failed, crossing_failed, of_files}, LineTestAnswers.lined_failed, RightLines.right_lines}
+use Rattle.diy_tools.specs.LineTestAnswers.{EndsLined, line_tests_status, making_asked}
+use Rattle.lines_to_files.specs.{TestFiles.Making, LineTestEnds.{StopsAtWrong, StopsAtLimit}, declared.ending.LineTestsEnd.LineTestsEnd, declared.form.WrongTest.WrongTest}
+use Rattle.lines_to_files.specs.declared.ending.LineTestsEnd.TheVariants as tests
 use Rattle.run_status.specs.declared.status.Status.TheVariants as statuses
 
 -- what was taken of a source and what is left of it are a text that it can have
@@ -50,6 +54,16 @@ whole_can : (old new : Option (List ℕ)) (text : List ℕ) → Consumes old new
 whole_can None new text h = tt
 whole_can (Some all) None text h = absurd h
 whole_can (Some all) (Some left) text h = h
+
+-- so are nothing and what is left, if nothing was taken
+kept_can : (old new : Option (List ℕ)) (text : List ℕ) → text ≡ [] → Keeps old new → IsText old (text ++ unwrap_or new [])
+kept_can None new text e h = tt
+kept_can (Some all) None text e h = absurd h
+kept_can (Some all) (Some left) text e h = rw (e, h) refl
+
+up_to_can : (old new : SourceSeen) (text : List ℕ) → TookUpTo old new text → IsText old.left (whole_of text new)
+up_to_can old new text (inl took) = whole_can old.left new.left text took.consumed
+up_to_can old new text (inr kept) = kept_can old.left new.left text kept.none kept.kept
 
 -- what holds of all holds of one among them
 all_at : {X : Type 0} (test : X → Bool) (before : List X) (x : X) (later : List X) → list_all test (before ++ x ∷ later) ≡ true → test x ≡ true
@@ -112,6 +126,33 @@ sought_done asked arch (OfName at name) status old new none can h = of_name h.1
     of_name (inr found) = prints_done asked (name_line found.cycle) status old.out new.out none.out found.prints
 sought_done asked arch OfLines status old new none can h = lines_done asked (Edges arch) status old new h.result none can h.status_is h.norms
 sought_done asked arch OfNames status old new none can h = lines_done asked (Names arch) status old new h.result none can h.status_is h.norms
+
+-- a text of right lines has no wrong one, and is within the limit
+right_wrong_line : (making : Making) (old new : SourceSeen) (shelf shelf' : ShelfSeen) (line : ℕ) (kind : WrongTest)
+    → OfItsText old.left (IsRightText making) → StopsAtWrong making old new shelf shelf' line kind → ⊥
+right_wrong_line making old new shelf shelf' line kind can h =
+    right_lines making _ h.before line kind (can (whole_of h.text new) (up_to_can old new h.text h.took)).right h.first
+
+right_limit : (making : Making) (old new : SourceSeen) (shelf shelf' : ShelfSeen) (line : ℕ)
+    → OfItsText old.left (IsRightText making) → StopsAtLimit making old new shelf shelf' line → ⊥
+right_limit making old new shelf shelf' line can h =
+    let few : length (h.text ++ unwrap_or new.left []) ≤ MAX_INPUT = (can (whole_of h.text new) (whole_can old.left new.left h.text h.took.consumed)).short in
+    let many : MAX_INPUT < length h.text = h.many in
+    omega (arith, length-append h.text (unwrap_or new.left []))
+
+lined_done : (asked : LineTestsTask) (end : LineTestsEnd) (status : Status) (old new : Devices) → NoFaults old new
+    → OfItsText old.input.left (IsRightText (making_asked asked)) → status ≡ line_tests_status end → EndsLined asked end old new
+    → IsDone (Ok (AsksLineTests asked)) status
+lined_done asked tests.Done status old new none can e h = inl e
+lined_done asked tests.OutFault status old new none can e h = absurd (none.out h.line.fault)
+lined_done asked tests.ShelfFault status old new none can e h =
+    absurd (none.shelf (lined_failed (making_asked asked) old.input new.input old.shelf new.shelf h.0))
+lined_done asked (tests.Wrong line kind) status old new none can e h =
+    absurd (right_wrong_line (making_asked asked) old.input new.input old.shelf new.shelf line kind can h.0)
+lined_done asked (tests.TooMuch line) status old new none can e h =
+    absurd (right_limit (making_asked asked) old.input new.input old.shelf new.shelf line can h.0)
+lined_done asked tests.InputFault status old new none can e h = absurd (none.input h.0.fault)
+lined_done asked tests.NoMemory status old new none can e h = inr (e, tt)
 
 list_done : (asked : ListTask) (end : ListingEnd) (status : Status) (old new : Devices) → NoFaults old new → status ≡ listing_status end
     → EndsAsked asked end old.shelf new.shelf old.out new.out → IsDone (Ok (AsksList asked)) status
@@ -265,19 +306,19 @@ short_log before log bytes line short h =
     let more : 2 ^ 40 < length bytes = long_taken before log bytes line h in
     omega (arith, ap length h.up_to.parts, length-append bytes h.up_to.rest)
 
-input_done : (status : Status) (old new : Devices) (end : SumEnd) → NoFaults old new → OfItsText old.input.left IsRightLog → status ≡ sum_status end
-    → EndsInput end old new → IsDone (Ok AsksSum) status
-input_done status old new sums.Done none right e h = inl e
-input_done status old new sums.OutFault none right e h = absurd (none.out h.both.wrote.fault)
-input_done status old new (sums.Wrong None line kind) none right e h = absurd (log_wrong old.input new.input _ right h.both.0)
-input_done status old new (sums.Wrong (Some file) line kind) none right e h = absurd h.both
-input_done status old new (sums.TooMuch None line) none right e h =
+input_done : (form : SumForm) (status : Status) (old new : Devices) (end : SumEnd) → NoFaults old new → OfItsText old.input.left IsRightLog → status ≡ sum_status end
+    → EndsInput form end old new → IsDone (Ok (AsksSum form)) status
+input_done form status old new sums.Done none right e h = inl e
+input_done form status old new sums.OutFault none right e h = absurd (none.out h.both.wrote.fault)
+input_done form status old new (sums.Wrong None line kind) none right e h = absurd (log_wrong old.input new.input _ right h.both.0)
+input_done form status old new (sums.Wrong (Some file) line kind) none right e h = absurd h.both
+input_done form status old new (sums.TooMuch None line) none right e h =
     absurd (short_log [] h.both.0.log h.both.0.bytes line (right h.both.0.log h.both.0.text).short h.both.0.is)
-input_done status old new (sums.TooMuch (Some file) line) none right e h = absurd h.both
-input_done status old new (sums.NoFile word) none right e h = absurd h.both
-input_done status old new sums.InputFault none right e h = absurd (none.input h.both.0.fault)
-input_done status old new sums.ShelfFault none right e h = absurd h.both
-input_done status old new sums.NoMemory none right e h = inr (e, tt)
+input_done form status old new (sums.TooMuch (Some file) line) none right e h = absurd h.both
+input_done form status old new (sums.NoFile word) none right e h = absurd h.both
+input_done form status old new sums.InputFault none right e h = absurd (none.input h.both.0.fault)
+input_done form status old new sums.ShelfFault none right e h = absurd h.both
+input_done form status old new sums.NoMemory none right e h = inr (e, tt)
 
 none_some : {X : Type 0} (x : X) → None ≡ Some x → ⊥
 none_some x e = cc e
@@ -293,38 +334,38 @@ splits (b ∷ before) (y ∷ all) x same here =
     let first = same_Some y b (same 0 b refl) in
     (rest.0, ap (λ z. z ∷ all) first ∙ ap (λ zs. b ∷ zs) rest.1)
 
-module _ (words : List (List ℕ)) (files : Files) (right : AreRightLogs files words) where
+module _ (form : SumForm) (words : List (List ℕ)) (files : Files) (right : AreRightLogs files words (first_log form)) where
   -- at each place after the first word there is a log
-  at_word : (k : ℕ) → k < length right.logs → files (get_or words (1 + k) []) ≡ Some (get_or right.logs k [])
+  at_word : (k : ℕ) → k < length right.logs → files (get_or words (first_log form + k) []) ≡ Some (get_or right.logs k [])
   at_word k h =
-      right.are.named k (get_or words (1 + k) []) (get_or right.logs k [])
-      (slice_get-get_or words (1 + k) [] (omega (arith, right.all))) (slice_get-get_or right.logs k [] h)
+      right.are.named k (get_or words (first_log form + k) []) (get_or right.logs k [])
+      (slice_get-get_or words (first_log form + k) [] (omega (arith, right.all))) (slice_get-get_or right.logs k [] h)
 
   -- the logs that a call found are those
-  same_logs : (shown : Option Files) (before : List (List ℕ)) → shown ≡ Some files → AreLogs shown words 1 before → length before ≤ length right.logs
+  same_logs : (shown : Option Files) (before : List (List ℕ)) → shown ≡ Some files → AreLogs shown words (first_log form) before → length before ≤ length right.logs
       → (k : ℕ) (log : List ℕ) → slice_get before k ≡ Some log → slice_get right.logs k ≡ Some log
   same_logs shown before e are few k log h =
       let inside : k < length before = slice_get_within before k log h in
-      let found : files (get_or words (1 + k) []) ≡ Some log =
-      shown_file shown files (get_or words (1 + k) []) log e
-      (are.named k (get_or words (1 + k) []) log (slice_get-get_or words (1 + k) [] (omega (arith, right.all))) h) in
-      let here : files (get_or words (1 + k) []) ≡ Some (get_or right.logs k []) = at_word k (omega arith) in
+      let found : files (get_or words (first_log form + k) []) ≡ Some log =
+      shown_file shown files (get_or words (first_log form + k) []) log e
+      (are.named k (get_or words (first_log form + k) []) log (slice_get-get_or words (first_log form + k) [] (omega (arith, right.all))) h) in
+      let here : files (get_or words (first_log form + k) []) ≡ Some (get_or right.logs k []) = at_word k (omega arith) in
       slice_get-get_or right.logs k [] (omega arith) ∙ (sym here ∙ found)
 
   -- a place of a word, and the log that its file has
-  word_log : (shown : Option Files) (place : ℕ) (before : List (List ℕ)) (name : List ℕ) → IsAtWord shown words 1 place before name
+  word_log : (shown : Option Files) (place : ℕ) (before : List (List ℕ)) (name : List ℕ) → IsAtWord shown words (first_log form) place before name
       → (length before < length right.logs) × (files name ≡ slice_get right.logs (length before))
   word_log shown place before name h =
       let within : place < length words = slice_get_within words place name h.word in
       let inside : length before < length right.logs = omega (arith, h.count, right.all) in
-      let name_is : get_or words (1 + length before) [] ≡ name =
-      get_or_from_slice_get words (1 + length before) name [] (subst (λ (p : ℕ). slice_get words p ≡ Some name) h.count h.word) in (
+      let name_is : get_or words (first_log form + length before) [] ≡ name =
+      get_or_from_slice_get words (first_log form + length before) name [] (subst (λ (p : ℕ). slice_get words p ≡ Some name) h.count h.word) in (
         inside,
         subst (λ (n : List ℕ). files n ≡ slice_get right.logs (length before)) name_is
             (at_word (length before) inside ∙ sym (slice_get-get_or right.logs (length before) [] inside)),
       )
 
-  files_wrong : (old new : ShelfSeen) (place : ℕ) (error : LogError) → old.files ≡ Some files → summed.LogFileWrong old new words 1 place error → ⊥
+  files_wrong : (old new : ShelfSeen) (place : ℕ) (error : LogError) → old.files ≡ Some files → summed.LogFileWrong old new words (first_log form) place error → ⊥
   files_wrong old new place error e h =
       let spot = word_log old.files place h.before h.name h.place_is in
       let parts = splits h.before right.logs h.log
@@ -332,7 +373,7 @@ module _ (words : List (List ℕ)) (files : Files) (right : AreRightLogs files w
       (sym spot.1 ∙ shown_file old.files files h.name h.log e h.text) in
       right_wrong right.logs (h.before ++ h.log ∷ parts.0) error right.right parts.1 (h.is.wrong parts.0)
 
-  files_long : (old new : ShelfSeen) (place line : ℕ) → old.files ≡ Some files → FileTooMuch old new words 1 place line → ⊥
+  files_long : (old new : ShelfSeen) (place line : ℕ) → old.files ≡ Some files → FileTooMuch old new words (first_log form) place line → ⊥
   files_long old new place line e h =
       let spot = word_log old.files place h.before h.name h.place_is in
       let log_at : slice_get right.logs (length h.before) ≡ Some h.log = sym spot.1 ∙ shown_file old.files files h.name h.log e h.text in
@@ -340,7 +381,7 @@ module _ (words : List (List ℕ)) (files : Files) (right : AreRightLogs files w
       let short : IsShort (slice_index_or right.logs (length h.before) []) = right.are.short (length h.before) [] spot.0 in
       short_log h.before h.log h.bytes line (subst (λ (l : List ℕ). IsShort l) log_is short) h.is
 
-  file_there : (old new : ShelfSeen) (place : ℕ) → old.files ≡ Some files → LogFileMissing old new words 1 place → ⊥
+  file_there : (old new : ShelfSeen) (place : ℕ) → old.files ≡ Some files → LogFileMissing old new words (first_log form) place → ⊥
   file_there old new place e h =
       let spot = word_log old.files place h.before h.name h.place_is in
       let found : files h.name ≡ Some (get_or right.logs (length h.before) []) = spot.1 ∙ slice_get-get_or right.logs (length h.before) [] spot.0 in
@@ -354,7 +395,7 @@ module _ (words : List (List ℕ)) (files : Files) (right : AreRightLogs files w
 
   files_done : (status : Status) (old new : ShelfSeen) (before after : SinkSeen) (end : SumEnd) → old.files ≡ Some files
       → (Rose old.faults new.faults → ⊥) → (Rose before.faults after.faults → ⊥)
-      → status ≡ sum_status end → FilesSummed old new words 1 before after end → IsDone (Ok AsksSum) status
+      → status ≡ sum_status end → FilesSummed form old new words (first_log form) before after end → IsDone (Ok (AsksSum form)) status
   files_done status old new before after sums.Done shown none none_out e h = inl e
   files_done status old new before after sums.OutFault shown none none_out e h = absurd (none_out h.wrote.fault)
   files_done status old new before after (sums.Wrong None line kind) shown none none_out e h = absurd h
@@ -366,12 +407,12 @@ module _ (words : List (List ℕ)) (files : Files) (right : AreRightLogs files w
   files_done status old new before after sums.ShelfFault shown none none_out e h = absurd (none h.0.fault)
   files_done status old new before after sums.NoMemory shown none none_out e h = inr (e, tt)
 
-summed_done : (words : List (List ℕ)) (status : Status) (old new : ShelfSeen) (before after : SinkSeen) (end : SumEnd) (shown : Option Files) → old.files ≡ shown
-    → OfItsFiles shown (λ files. AreRightLogs files words) → (Rose old.faults new.faults → ⊥) → (Rose before.faults after.faults → ⊥)
-    → status ≡ sum_status end → FilesSummed old new words 1 before after end → IsDone (Ok AsksSum) status
-summed_done words status old new before after end None shown right none none_out e h = absurd right
-summed_done words status old new before after end (Some files) shown right none none_out e h =
-    files_done words files right status old new before after end shown none none_out e h
+summed_done : (form : SumForm) (words : List (List ℕ)) (status : Status) (old new : ShelfSeen) (before after : SinkSeen) (end : SumEnd) (shown : Option Files) → old.files ≡ shown
+    → OfItsFiles shown (λ files. AreRightLogs files words (first_log form)) → (Rose old.faults new.faults → ⊥) → (Rose before.faults after.faults → ⊥)
+    → status ≡ sum_status end → FilesSummed form old new words (first_log form) before after end → IsDone (Ok (AsksSum form)) status
+summed_done form words status old new before after end None shown right none none_out e h = absurd right
+summed_done form words status old new before after end (Some files) shown right none none_out e h =
+    files_done form words files right status old new before after end shown none none_out e h
 
 -- an execution is printed where the edges aren't refused
 run_done : (asked : Result Task Usage) (form : ExecutionForm) (m : Machine) (refused : Option Refusal) (text : List ℕ) (meant : TestRead → Execution) (status : Status) (old new : SinkSeen)
@@ -399,6 +440,7 @@ asked_done words (Ok (AsksCoherenceExecution form asked)) status old new h can n
 asked_done words (Ok (AsksNeeds asked)) status old new h can none =
     edges_done (Ok (AsksNeeds asked)) (test_refused asked) (needs_asked asked) status old.out new.out none.out can h.out
 asked_done words (Ok (AsksLines asked)) status old new h can none = listed_done asked status old.out new.out none.out h.out
+asked_done words (Ok (AsksLineTests asked)) status old new h can none = lined_done asked h.end status old new none can h.status_is h.ends
 asked_done words (Ok (AsksTest asked)) status old new h can none =
     edges_done (Ok (AsksTest asked)) (test_refused asked) (asked_text asked) status old.out new.out none.out can h.out
 asked_done words (Ok (AsksCoherence asked)) status old new h can none =
@@ -411,13 +453,12 @@ asked_done words (Ok (AsksDemo asked)) status old new h can none = demo_done ask
 asked_done words (Ok (AsksFamilies asked)) status old new h can none = classify_done words asked.arch asked.files status old new none can h
 asked_done words (Ok (AsksCheck asked)) status old new h can none =
     check_done words asked status old.shelf new.shelf old.out new.out h.end old.shelf.files refl can none.shelf none.out h.status_is h.ends.both.checked
-asked_done words (Ok AsksSum) status old new h can none = of_words words can h.ends
+asked_done words (Ok (AsksSum form)) status old new h can none = among (name_logs form words) can h.ends
   where
-    of_words : (words : List (List ℕ)) → CanSum words old → EndsSum words h.end old new → IsDone (Ok AsksSum) status
-    of_words [] can ends = input_done status old new h.end none can h.status_is ends
-    of_words (tool ∷ []) can ends = input_done status old new h.end none can h.status_is ends
-    of_words (tool ∷ log ∷ logs) can ends =
-        summed_done (tool ∷ log ∷ logs) status old.shelf new.shelf old.out new.out h.end old.shelf.files refl can none.shelf none.out h.status_is ends.both.summed
+    among : (b : Bool) → CanSumAmong b form words old → EndsAmong b form words h.end old new → IsDone (Ok (AsksSum form)) status
+    among true can ends =
+        summed_done form words status old.shelf new.shelf old.out new.out h.end old.shelf.files refl can none.shelf none.out h.status_is ends.both.summed
+    among false can ends = input_done form status old new h.end none can h.status_is ends
 
 -- where what is asked for can be done and no count of faults rises, it is done
 pub answers_complete : (words : List (List ℕ)) (status : Status) (old new : DevicesSeen) → Answers words status old new → Complete words status old new

@@ -28,7 +28,7 @@ use Rattle.arch_arm.specs.ReadsBack as arm_back
 use Rattle.litmus_text.specs.Printable.{IsTestName}
 use Rattle.diy_words.specs.{declared.usage.Usage.Usage, TestNames.is_name}
 use Rattle.diy_words.specs.declared.request.ExecutionForm.{ExecutionForm}
-use Rattle.diy_words.specs.Requests.{Task, TestTask, ListTask, AsksTest, AsksWhy, WhyTask, AsksCoherence, CoherenceTask, AsksName, AsksList, AsksFamilies, AsksSum, AsksCross, AsksDemo, AsksCheck, AsksExecution, AsksCoherenceExecution, AsksNeeds, AsksLines, CrossTask, asked_of}
+use Rattle.diy_words.specs.Requests.{Task, TestTask, ListTask, AsksTest, AsksWhy, WhyTask, AsksCoherence, CoherenceTask, AsksName, AsksList, AsksFamilies, AsksSum, AsksCross, AsksDemo, AsksCheck, AsksExecution, AsksCoherenceExecution, AsksNeeds, AsksLines, AsksLineTests, LineTestsTask, CrossTask, asked_of}
 use Rattle.cycle_names.specs.CycleNames.{name_of}
 use Rattle.diy_words.proofs.RequestForm.{asked_form}
 use Rattle.test_maker.specs.{declared.refusal.Refusal.Refusal, Refusals.{foreign_edge, refusal_of}, CycleText.cycle_text}
@@ -42,7 +42,7 @@ use Rattle.diy_tools.specs.{ArchMachines.{Machine, machine_of}, PrintAnswers.Ans
 use Rattle.diy_tools.specs.{CoherenceAnswers.{AnswersCoherence, incoherence_refused, incoherent_text}, TestAnswers.{asked_text, test_name}}
 use Rattle.diy_tools.specs.{CrossAnswers.{AnswersCross, cycles_asked, crossed_text}, ListAnswers.{AnswersList, plan_asked}, Answers.{Answers, AnswersAsked}}
 use Rattle.diy_tools.specs.{Devices.{Devices, DevicesSeen, devices}, ExecutionAnswers.{AnswersRun, AnswersExecution, AnswersCoherenceExecution}}
-use Rattle.diy_tools.specs.{Headline.{Headline, HeadlineAsked, PrintsIntended, PrintsIncoherent}, Refused.{refused_list, refused_of, refused_composing}}
+use Rattle.diy_tools.specs.{Headline.{Headline, HeadlineAsked, PrintsIntended, PrintsIncoherent, TestForces}, Refused.{refused_list, refused_of, refused_composing}}
 use Rattle.test_maker.specs.declared.refusal.Refusal.TheVariants as refusals
 use Rattle.two_runs.specs.{IntendedRuns.intended_by, CoherenceRuns.incoherent_by}
 use Rattle.tests_to_files_laws.proofs.OwnFiles.{different_have_own_files, listed_are_different, crossed_are_different}
@@ -55,7 +55,11 @@ use Rattle.diy_tools.proofs.TestNames.{words_name}
 use Rattle.needed_links.proofs.OrderLines.{lists_orders}
 use Rattle.bytes_force_cycles.{specs.Links.LinksDecideIn, proofs.Links.links_decide}
 use Rattle.litmus_text.specs.TestReading.{TestRead, test_read}
-use Rattle.diy_tools.specs.NeedsAnswers.{AnswersNeeds, needs_asked}
+use Rattle.diy_tools.specs.{NeedsAnswers.{AnswersNeeds, needs_asked}, LineTestAnswers.{making_asked, test_form}}
+use Rattle.diy_tools.proofs.LinesForce.{HasCycle, each_right}
+use Rattle.diy_words.specs.declared.request.LineTestForm.{LineTestForm}
+use Rattle.diy_words.specs.declared.request.LineTestForm.TheVariants as forms
+use Rattle.lines_to_files.specs.{GivenTests.GivenTest, TestFiles.refusal_in}
 
 -- what the law over the bytes asks of an architecture
 record KeepsLaws (m : Machine) : Type 0 where
@@ -253,6 +257,12 @@ asked_force words status old new h = of_asked (asked_of words) refl h
         text_forces asked.arch asked.mode (name_of cycle) cycle (cycle_named cycle planned.cycle) planned.cycle
         (wanted_has_test (machine_of asked.arch).puts asked.mode asked.threads asked.accesses cycle planned.taken)
 
+    -- the test of a line forces its cycle or shows incoherence
+    given_forces : (asked : LineTestsTask) (form : LineTestForm) (test : GivenTest) → HasCycle test
+        → refusal_in (machine_of asked.arch).puts (test_form form) test.cycle ≡ None → TestForces (making_asked (record asked { form = form })) test
+    given_forces asked (forms.Observed mode) test has none = text_forces asked.arch mode test.name test.cycle has.named has.is_cycle none
+    given_forces asked forms.Coherence test has none = text_shows asked.arch test.name test.cycle has.named has.is_cycle none
+
     of_list : (asked : ListTask) → AnswersList asked status old.shelf new.shelf old.out new.out → HeadlineAsked (Ok (AsksList asked)) status old new
     of_list asked h = record {
       lists = h;
@@ -289,12 +299,16 @@ asked_force words status old new h = of_asked (asked_of words) refl h
     of_asked (Ok (AsksCross asked)) e h = of_cross asked h.both
     of_asked (Ok (AsksDemo asked)) e h = tt
     of_asked (Ok (AsksFamilies asked)) e h = tt
-    of_asked (Ok AsksSum) e h = tt
+    of_asked (Ok (AsksSum form)) e h = tt
     of_asked (Ok (AsksCheck asked)) e h = tt
     of_asked (Ok (AsksExecution form asked)) e h = of_execution form asked e h.out
     of_asked (Ok (AsksCoherenceExecution form asked)) e h = of_loop form asked e h.out
     of_asked (Ok (AsksNeeds asked)) e h = of_needs asked e h.out
     of_asked (Ok (AsksLines asked)) e h = record { lists = h.out; forces = each_forces asked }
+    of_asked (Ok (AsksLineTests asked)) e h = record {
+      writes = h;
+      forces = λ lines right. each_right (making_asked asked) (TestForces (making_asked asked)) (given_forces asked asked.form) lines right;
+    }
     of_asked (Ok (AsksTest asked)) e h = of_test asked e h.out
     of_asked (Ok (AsksCoherence asked)) e h = of_coherence asked e h.out
 

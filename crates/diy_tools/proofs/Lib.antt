@@ -8,6 +8,9 @@ pub mod ListingAnswers
 pub mod CrossAnswers
 pub mod SumAnswers
 pub mod FamilyAnswers
+pub mod LineTestAnswers
+pub mod LinesForce
+pub mod RightLines
 pub mod Causes
 pub mod Completeness
 pub mod Limits

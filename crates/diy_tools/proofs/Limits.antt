@@ -1,7 +1,10 @@
 -- What is answered after more than 2^40 bytes, from what is answered.
-use Rattle.std.proofs.Common.{◌≡◌, ◌≤◌, ◌<◌, ◌+◌, ◌^◌, ℕ, List, [], ◌∷◌, length, Option, None, Some, Ok, Err, sym, ap, subst, arith, inl, inr}
+use Rattle.std.proofs.Common.{◌≡◌, ◌≤◌, ◌<◌, ◌+◌, ◌^◌, ℕ, Bool, true, false, List, [], ◌∷◌, length, Option, None, Some, Ok, Err, sym, ap, subst, arith, inl, inr}
 use Rattle.std.specs.Prelude.{Result, ◌⊎◌}
-use Rattle.diy_tools.proofs.{Causes.of_files, CountedLogs.{IsWithin, files_within, failed_within}}
+use Rattle.diy_tools.proofs.{Causes.of_files, CountedLogs.{IsWithin, files_within, failed_within}, LineTestAnswers.lined_opens}
+use Rattle.diy_tools.specs.LineTestAnswers.{EndsLined, line_tests_status, making_asked, wrong_kind}
+use Rattle.lines_to_files.specs.declared.ending.LineTestsEnd.{LineTestsEnd}
+use Rattle.lines_to_files.specs.declared.ending.LineTestsEnd.TheVariants as tests
 use Rattle.relax_edges.specs.{declared.edge.Edge.Edge, declared.kinds.ArchName.ArchName}
 use Rattle.cycles_from_lines.specs.declared.errors.LinesError.TheVariants as lines
 use Rattle.cycles_from_lines.specs.{declared.errors.NormError.NormError, declared.errors.ClassifyError.ClassifyError, Classified.Classifies, Normed.Norms}
@@ -15,15 +18,16 @@ use Rattle.exec_check.specs.{declared.checked_errors.CheckEnd.CheckEnd, CheckedL
 use Rattle.exec_check.specs.declared.checked_errors.CheckEnd.TheVariants as checking
 use Rattle.diy_io.specs.{declared.source.TheConstants.MAX_INPUT, Count.count_of, Shelf.ShelfSeen, Taken.SourceSeen, Wrote.SinkSeen}
 use Rattle.diy_words.specs.{declared.usage.Usage.Usage, declared.request.Check.Check}
-use Rattle.diy_words.specs.Requests.{Task, ListTask, Sought, asked_of, AsksTest, AsksWhy, AsksCoherence, AsksName, AsksList, AsksFamilies, AsksSum, AsksCross, AsksDemo, AsksCheck, AsksExecution, AsksCoherenceExecution, AsksNeeds, AsksLines, CrossTask, OfEdges, OfName, OfLines, OfNames}
+use Rattle.diy_words.specs.Requests.{Task, ListTask, Sought, asked_of, AsksTest, AsksWhy, AsksCoherence, AsksName, AsksList, AsksFamilies, AsksSum, AsksCross, AsksDemo, AsksCheck, AsksExecution, AsksCoherenceExecution, AsksNeeds, AsksLines, AsksLineTests, LineTestsTask, CrossTask, OfEdges, OfName, OfLines, OfNames}
 use Rattle.tests_to_files.specs.{declared.ending.ListingEnd.ListingEnd, ListingEnds.{StopsAtTest, StopsAtAll}, Plans.{IsPlanned, planned_text}}
 use Rattle.tests_to_files.specs.declared.ending.ListingEnd.TheVariants as listings
+use Rattle.msum7_files.specs.declared.sum_form.SumForm.{SumForm}
 use Rattle.msum7_files.specs.{declared.sum_end.SumEnd.SumEnd, SumEnds.InputSummed}
 use Rattle.msum7_files.specs.declared.sum_end.SumEnd.TheVariants as sums
 use Rattle.test_maker.specs.declared.refusal.Refusal.{Refusal}
 use Rattle.run_status.specs.{declared.status.Status.Status, declared.status.TextKind.TextKind, declared.status.Device.TheVariants.{Out, Shelf}}
 use Rattle.diy_tools.specs.{Devices.{Devices, DevicesSeen, devices}, Statuses.{norm_status, classify_status}, NameAnswers.AnswersSought}
-use Rattle.diy_tools.specs.{ListAnswers.{EndsAsked, plan_asked}, CrossAnswers.{AnswersCross, EndsCrossed}, SumAnswers.{EndsInput, EndsSum, sum_status}}
+use Rattle.diy_tools.specs.{ListAnswers.{EndsAsked, plan_asked}, CrossAnswers.{AnswersCross, EndsCrossed}, SumAnswers.{EndsAmong, EndsInput, EndsSum, first_log, name_logs, sum_status}}
 use Rattle.diy_tools.specs.{ArchMachines.{Machine, machine_of}, TestAnswers.test_name, WhyAnswers.{AnswersRuns, WritesRuns, why_unshown}}
 use Rattle.diy_tools.specs.{CheckAnswers.{EndsCheck, checked_kind, check_status, shown_of}, Answers.{Answers, AnswersAsked}}
 use Rattle.diy_tools.specs.{Limit.{Limited, StopsReading, TookTooMuch}, FamilyAnswers.{AnswersClassify, EndsFamilies, file_kind, files_status, read_on}}
@@ -117,6 +121,21 @@ module _ (old new : Devices) (much : TookTooMuch old new) where
   sought_limit asked arch OfLines status shelf h = lines_limit asked (Edges arch) status h.result shelf h.status_is h.norms
   sought_limit asked arch OfNames status shelf h = lines_limit asked (Names arch) status h.result shelf h.status_is h.norms
 
+  lined_limit : (asked : LineTestsTask) (end : LineTestsEnd) (status : Status) → status ≡ line_tests_status end → EndsLined asked end old new
+      → StopsReading (Ok (AsksLineTests asked)) status
+  lined_limit asked end status e h =
+      of_end end e h (same_shelf old.shelf new.shelf (lined_opens (making_asked asked) old.input new.input old.shelf new.shelf old.out new.out end h))
+    where
+      of_end : (end : LineTestsEnd) → status ≡ line_tests_status end → EndsLined asked end old new → IsWithin old.shelf new.shelf
+          → StopsReading (Ok (AsksLineTests asked)) status
+      of_end tests.Done e h shelf = absurd (neither (upto_within old.input new.input h.text (inl h.took) h.few) shelf)
+      of_end tests.OutFault e h shelf = absurd (neither (upto_within old.input new.input h.text (inl h.took) h.few) shelf)
+      of_end (tests.Wrong line kind) e h shelf = wrong (Ok (AsksLineTests asked)) status None line (wrong_kind kind) e
+      of_end (tests.TooMuch line) e h shelf = wrong (Ok (AsksLineTests asked)) status None line texts.TooMuch e
+      of_end tests.InputFault e h shelf = absurd (neither (upto_within old.input new.input h.0.text h.0.took h.0.few) shelf)
+      of_end tests.ShelfFault e h shelf = subst (λ (s : Status). StopsReading (Ok (AsksLineTests asked)) s) (sym e) tt
+      of_end tests.NoMemory e h shelf = subst (λ (s : Status). StopsReading (Ok (AsksLineTests asked)) s) (sym e) tt
+
   families_limit : (arch : ArchName) (result : Result (Unit {0}) ClassifyError) (status : Status)
       → IsWithin old.shelf new.shelf → status ≡ classify_status result
       → Classifies arch old.input new.input old.out new.out result → StopsReading (of_files arch []) status
@@ -153,38 +172,41 @@ module _ (old new : Devices) (much : TookTooMuch old new) where
       absurd (neither (same_input old.input new.input h.input)
       (λ more. omega (arith, checked_few (shown_of asked.form) asked.arch (machine_of asked.arch).writing old.shelf new.shelf words asked.test asked.execution old.out new.out end h.both.checked (λ none. cc none) more)))
 
-  files_limit : (tool log : List ℕ) (logs : List (List ℕ)) (end : SumEnd) (status : Status) → status ≡ sum_status end
-      → EndsSum (tool ∷ log ∷ logs) end old new → StopsReading (Ok AsksSum) status
-  files_limit tool log logs sums.Done status e h = absurd (neither (same_input old.input new.input h.input) (files_within old.shelf new.shelf h.both.summed.read.logs h.both.summed.read.took h.both.summed.read.are.short))
-  files_limit tool log logs sums.OutFault status e h = absurd (neither (same_input old.input new.input h.input) (files_within old.shelf new.shelf h.both.summed.read.logs h.both.summed.read.took h.both.summed.read.are.short))
-  files_limit tool log logs (sums.Wrong file line kind) status e h = wrong (Ok AsksSum) status file line (texts.Log kind) e
-  files_limit tool log logs (sums.TooMuch file line) status e h = wrong (Ok AsksSum) status file line texts.TooMuch e
-  files_limit tool log logs (sums.NoFile word) status e h =
+  files_limit : (form : SumForm) (words : List (List ℕ)) (end : SumEnd) (status : Status) → status ≡ sum_status end
+      → EndsAmong true form words end old new → StopsReading (Ok (AsksSum form)) status
+  files_limit form words sums.Done status e h = absurd (neither (same_input old.input new.input h.input) (files_within old.shelf new.shelf h.both.summed.read.logs h.both.summed.read.took h.both.summed.read.are.short))
+  files_limit form words sums.OutFault status e h = absurd (neither (same_input old.input new.input h.input) (files_within old.shelf new.shelf h.both.summed.read.logs h.both.summed.read.took h.both.summed.read.are.short))
+  files_limit form words (sums.Wrong file line kind) status e h = wrong (Ok (AsksSum form)) status file line (texts.Log kind) e
+  files_limit form words (sums.TooMuch file line) status e h = wrong (Ok (AsksSum form)) status file line texts.TooMuch e
+  files_limit form words (sums.NoFile word) status e h =
       absurd (neither (same_input old.input new.input h.input)
       (files_within old.shelf new.shelf h.both.summed.0.before h.both.summed.0.took h.both.summed.0.place_is.are.short))
-  files_limit tool log logs sums.InputFault status e h = absurd h.both.summed
-  files_limit tool log logs sums.ShelfFault status e h =
-      absurd (neither (same_input old.input new.input h.input) (failed_within old.shelf new.shelf (tool ∷ log ∷ logs) 1 h.both.summed.0))
-  files_limit tool log logs sums.NoMemory status e h = subst (λ (s : Status). StopsReading (Ok AsksSum) s) (sym e) tt
+  files_limit form words sums.InputFault status e h = absurd h.both.summed
+  files_limit form words sums.ShelfFault status e h =
+      absurd (neither (same_input old.input new.input h.input) (failed_within old.shelf new.shelf words (first_log form) h.both.summed.0))
+  files_limit form words sums.NoMemory status e h = subst (λ (s : Status). StopsReading (Ok (AsksSum form)) s) (sym e) tt
 
-  input_limit : (end : SumEnd) (status : Status) → status ≡ sum_status end → EndsInput end old new → StopsReading (Ok AsksSum) status
-  input_limit end status e h = of_end end e h.both (same_shelf old.shelf new.shelf (ap (λ (s : ShelfSeen). s.opened) h.shelf))
+  input_limit : (form : SumForm) (end : SumEnd) (status : Status) → status ≡ sum_status end → EndsInput form end old new → StopsReading (Ok (AsksSum form)) status
+  input_limit form end status e h = of_end end e h.both (same_shelf old.shelf new.shelf (ap (λ (s : ShelfSeen). s.opened) h.shelf))
     where
       of_end : (end : SumEnd) → status ≡ sum_status end
-          → InputSummed old.input new.input old.out new.out end → IsWithin old.shelf new.shelf → StopsReading (Ok AsksSum) status
+          → InputSummed form old.input new.input old.out new.out end → IsWithin old.shelf new.shelf → StopsReading (Ok (AsksSum form)) status
       of_end sums.Done e n shelf = absurd (neither (kept_within old.input.taken new.input.taken (length n.read.log) n.read.taken n.read.short) shelf)
       of_end sums.OutFault e n shelf = absurd (neither (kept_within old.input.taken new.input.taken (length n.read.log) n.read.taken n.read.short) shelf)
-      of_end (sums.Wrong file line kind) e n shelf = wrong (Ok AsksSum) status file line (texts.Log kind) e
-      of_end (sums.TooMuch file line) e n shelf = wrong (Ok AsksSum) status file line texts.TooMuch e
+      of_end (sums.Wrong file line kind) e n shelf = wrong (Ok (AsksSum form)) status file line (texts.Log kind) e
+      of_end (sums.TooMuch file line) e n shelf = wrong (Ok (AsksSum form)) status file line texts.TooMuch e
       of_end (sums.NoFile word) e n shelf = absurd n
       of_end sums.InputFault e n shelf = absurd (neither (kept_within old.input.taken new.input.taken (length n.0.bytes) n.0.taken n.0.short) shelf)
       of_end sums.ShelfFault e n shelf = absurd n
-      of_end sums.NoMemory e n shelf = subst (λ (s : Status). StopsReading (Ok AsksSum) s) (sym e) tt
+      of_end sums.NoMemory e n shelf = subst (λ (s : Status). StopsReading (Ok (AsksSum form)) s) (sym e) tt
 
-  sum_limit : (words : List (List ℕ)) (end : SumEnd) (status : Status) → status ≡ sum_status end → EndsSum words end old new → StopsReading (Ok AsksSum) status
-  sum_limit [] end status e h = input_limit end status e h
-  sum_limit (tool ∷ []) end status e h = input_limit end status e h
-  sum_limit (tool ∷ log ∷ logs) end status e h = files_limit tool log logs end status e h
+  sum_limit : (form : SumForm) (words : List (List ℕ)) (end : SumEnd) (status : Status) → status ≡ sum_status end → EndsSum form words end old new
+      → StopsReading (Ok (AsksSum form)) status
+  sum_limit form words end status e h = among (name_logs form words) h
+    where
+      among : (b : Bool) → EndsAmong b form words end old new → StopsReading (Ok (AsksSum form)) status
+      among true i = files_limit form words end status e i
+      among false i = input_limit form end status e i
 
   asked_limit : (words : List (List ℕ)) (asked : Result Task Usage) (status : Status) → AnswersAsked words asked status old new → StopsReading asked status
   asked_limit words (Err usage) status h =
@@ -202,6 +224,7 @@ module _ (old new : Devices) (much : TookTooMuch old new) where
       absurd (neither (same_input old.input new.input h.input) (same_shelf old.shelf new.shelf (ap (λ (s : ShelfSeen). s.opened) h.shelf)))
   asked_limit words (Ok (AsksLines asked)) status h =
       absurd (neither (same_input old.input new.input h.input) (same_shelf old.shelf new.shelf (ap (λ (s : ShelfSeen). s.opened) h.shelf)))
+  asked_limit words (Ok (AsksLineTests asked)) status h = lined_limit asked h.end status h.status_is h.ends
   asked_limit words (Ok (AsksWhy asked)) status h =
       absurd (neither (same_input old.input new.input h.input)
       (same_shelf old.shelf new.shelf
@@ -217,7 +240,7 @@ module _ (old new : Devices) (much : TookTooMuch old new) where
   asked_limit words (Ok (AsksDemo asked)) status h =
       absurd (neither (same_input old.input new.input h.input) (same_shelf old.shelf new.shelf (ap (λ (s : ShelfSeen). s.opened) h.shelf)))
   asked_limit words (Ok (AsksFamilies asked)) status h = classify_limit words asked.arch asked.files status h
-  asked_limit words (Ok AsksSum) status h = sum_limit words h.end status h.status_is h.ends
+  asked_limit words (Ok (AsksSum form)) status h = sum_limit form words h.end status h.status_is h.ends
   asked_limit words (Ok (AsksCheck asked)) status h = check_limit words asked h.end status h.status_is h.ends
 
 -- what is answered keeps the limit of what is read

@@ -16,18 +16,21 @@ use Rattle.exec_check.specs.declared.checked_errors.CheckedKind.TheVariants as c
 use Rattle.diy_io.specs.{Count.{Rose, count_of}, Taken.SourceSeen, Wrote.{SinkSeen, WroteAll, WrotePart}}
 use Rattle.diy_words.specs.{declared.usage.Usage.Usage, declared.usage.UsageKind.UsageKind, declared.usage.UsageKind.TheVariants.UnknownName}
 use Rattle.diy_words.specs.declared.request.ExecutionForm.{ExecutionForm}
-use Rattle.diy_words.specs.Requests.{Task, TestTask, CoherenceTask, Sought, WhyTask, AsksTest, AsksWhy, AsksCoherence, AsksName, AsksList, AsksFamilies, AsksSum, AsksCross, AsksDemo, AsksCheck, AsksExecution, AsksCoherenceExecution, AsksNeeds, AsksLines, OfEdges, OfName, OfLines, OfNames, asked_of}
+use Rattle.diy_words.specs.Requests.{Task, TestTask, CoherenceTask, Sought, WhyTask, AsksTest, AsksWhy, AsksCoherence, AsksName, AsksList, AsksFamilies, AsksSum, AsksCross, AsksDemo, AsksCheck, AsksExecution, AsksCoherenceExecution, AsksNeeds, AsksLines, AsksLineTests, OfEdges, OfName, OfLines, OfNames, asked_of}
 use Rattle.tests_to_files.specs.declared.ending.ListingEnd.TheVariants as listings
 use Rattle.msum7_files.specs.{declared.sum_end.SumEnd.SumEnd, SumEnds.LogFileMissing}
 use Rattle.msum7_files.specs.declared.sum_end.SumEnd.TheVariants as sums
 use Rattle.two_runs.specs.{IntendedRuns.intended_by, CoherenceRuns.incoherent_by}
 use Rattle.test_maker.specs.declared.refusal.Refusal.{Refusal}
+use Rattle.lines_to_files.specs.declared.{ending.LineTestsEnd.LineTestsEnd, form.WrongTest.WrongTest}
+use Rattle.lines_to_files.specs.declared.ending.LineTestsEnd.TheVariants as tests
+use Rattle.lines_to_files.specs.declared.form.WrongTest.TheVariants as wrong
 use Rattle.run_status.specs.{declared.status.Status.Status, declared.status.Device.TheVariants.{Input, Out, Shelf}}
 use Rattle.diy_tools.specs.{Devices.{Devices, OutAlone, InputAndOut, ShelfAndOut, DevicesSeen, devices}, CheckAnswers.EndsCheck, CrossAnswers.EndsCrossed}
 use Rattle.diy_tools.specs.{DemoAnswers.demo_asked, FamilyAnswers.EndsFamilies, ListAnswers.{EndsAsked, AnswersListed}, Memory.MayWantMemory}
-use Rattle.diy_tools.specs.{NameAnswers.PrintsNamed, Refused.refused_list, SumAnswers.EndsSum, TestAnswers.{asked_text, test_name, test_refused}}
+use Rattle.diy_tools.specs.{NameAnswers.PrintsNamed, Refused.refused_list, SumAnswers.{EndsSum, first_log}, TestAnswers.{asked_text, test_name, test_refused}}
 use Rattle.diy_tools.specs.{ArchMachines.machine_of, WhyAnswers.{WritesRuns, why_unshown}, CoherenceAnswers.{coherence_refused, incoherent_text}}
-use Rattle.diy_tools.specs.{ExecutionAnswers.PrintsRun, NeedsAnswers.needs_asked}
+use Rattle.diy_tools.specs.{ExecutionAnswers.PrintsRun, LineTestAnswers.EndsLined, NeedsAnswers.needs_asked}
 use Rattle.run_status.specs.declared.status.Status.TheVariants as statuses
 use Rattle.run_status.specs.declared.status.TextKind.TheVariants as texts
 
@@ -102,15 +105,31 @@ CheckedStops words asked None line kind old new = ⊥
 
 -- the reading of logs by msum7 ends in this way, and nothing is written
 abbrev pub SumStops : List (List ℕ) → Result Task Usage → SumEnd → Devices → Devices → Type 0
-SumStops words (Ok AsksSum) end old new = EndsSum words end old new × NothingWritten old new
+SumStops words (Ok (AsksSum form)) end old new = EndsSum form words end old new × NothingWritten old new
 SumStops words _ end old new = ⊥
 
--- more than 2^40 bytes were taken: from the input of norm7, classify7 or msum7, or its count is at its maximum; or from a file that is a
--- log of msum7
+-- msum7 doesn't find the log that the argument at an index names, and nothing is written
+abbrev pub SumMisses : List (List ℕ) → Result Task Usage → ℕ → Devices → Devices → Type 0
+SumMisses words (Ok (AsksSum form)) word old new =
+    LogFileMissing old.shelf new.shelf words (first_log form) word × SumStops words (Ok (AsksSum form)) (sums.NoFile word) old new
+SumMisses words _ word old new = ⊥
+
+-- the writing of the tests of the input's lines by diyone7 -lines ends in this way: the files of the lines before are written
+abbrev pub LineTestsStop : Result Task Usage → LineTestsEnd → Devices → Devices → Type 0
+LineTestsStop (Ok (AsksLineTests asked)) end old new = EndsLined asked end old new
+LineTestsStop _ end old new = ⊥
+
+-- a line of the input, or the test that it asks for, is wrong in this way, the first such
+abbrev pub LineTestWrong : Result Task Usage → Option ℕ → ℕ → WrongTest → Devices → Devices → Type 0
+LineTestWrong asked file line kind old new = (file ≡ None) × LineTestsStop asked (tests.Wrong line kind) old new
+
+-- more than 2^40 bytes were taken: from the input of norm7, classify7, msum7 or diyone7 -lines, or its count is at its maximum; or from a
+-- file that is a log of msum7
 abbrev pub PassesLimit : List (List ℕ) → Result Task Usage → Option ℕ → ℕ → Devices → Devices → Type 0
 PassesLimit words asked None line old new =
     RoseFar old.input.taken new.input.taken
-    × (LinesStop asked (lines.TooMuch line) old new ⊎ SumStops words asked (sums.TooMuch None line) old new)
+    × (LinesStop asked (lines.TooMuch line) old new
+    ⊎ (SumStops words asked (sums.TooMuch None line) old new ⊎ LineTestsStop asked (tests.TooMuch line) old new))
 PassesLimit words asked (Some file) line old new =
     Rose old.shelf.opened new.shelf.opened
     × (2 ^ 40 < new.shelf.taken)
@@ -134,9 +153,10 @@ CoherenceExecutionStops form asked status old new =
     (coherence_refused asked ≡ None)
     × OutAlone (PrintsRun form (machine_of asked.arch) (incoherent_text asked) (incoherent_by asked.edges) status) old new
 
--- diy7, diycross7 or diyone7 -why has written files up to the one at which the shelf failed
+-- diy7, diycross7 or diyone7 with -why or -lines has written files up to the one at which the shelf failed
 abbrev pub ListStops : Result Task Usage → Devices → Devices → Type 0
 ListStops (Ok (AsksWhy asked)) old new = WhyStops asked (statuses.WriteFault Shelf) old new
+ListStops (Ok (AsksLineTests asked)) old new = EndsLined asked tests.ShelfFault old new
 ListStops (Ok (AsksList asked)) old new = ShelfAndOut (EndsAsked asked listings.ShelfFault) old new
 ListStops (Ok (AsksCross asked)) old new = ShelfAndOut (EndsCrossed asked listings.ShelfFault) old new
 ListStops _ old new = ⊥
@@ -172,13 +192,14 @@ Finishes words (Ok (AsksList asked)) old new = ShelfAndOut (EndsAsked asked list
 Finishes words (Ok (AsksCross asked)) old new = ShelfAndOut (EndsCrossed asked listings.Done) old new
 Finishes words (Ok (AsksDemo asked)) old new = OutAlone (λ out out'. WroteAll out out' (demo_asked asked)) old new
 Finishes words (Ok (AsksFamilies asked)) old new = FamiliesAll words asked.arch asked.files old new
-Finishes words (Ok AsksSum) old new = EndsSum words sums.Done old new
+Finishes words (Ok (AsksSum form)) old new = EndsSum form words sums.Done old new
 Finishes words (Ok (AsksCheck asked)) old new = EndsCheck words asked checking.Done old new
 Finishes words (Ok (AsksExecution form asked)) old new = ExecutionStops form asked statuses.Done old new
 Finishes words (Ok (AsksCoherenceExecution form asked)) old new = CoherenceExecutionStops form asked statuses.Done old new
 Finishes words (Ok (AsksNeeds asked)) old new =
     (test_refused asked ≡ None) × OutAlone (λ out out'. WroteAll out out' (needs_asked asked)) old new
 Finishes words (Ok (AsksLines asked)) old new = OutAlone (AnswersListed asked statuses.Done) old new
+Finishes words (Ok (AsksLineTests asked)) old new = EndsLined asked tests.Done old new
 
 -- norm7 has written a prefix of its lines; if it reads the input, these are the lines of the cycles before the first error of what was read
 abbrev pub NamesPart : ArchName → Sought → SourceSeen → SourceSeen → SinkSeen → SinkSeen → Type 0
@@ -188,7 +209,7 @@ NamesPart arch (OfName at name) old new before after = (new ≡ old) × PrintsNa
 NamesPart arch OfLines old new before after = NormedPart (Edges arch) old new before after
 NamesPart arch OfNames old new before after = NormedPart (Names arch) old new before after
 
--- a prefix of what goes to standard output is written, and by diy7, diycross7 and diyone7 -why all files
+-- a prefix of what goes to standard output is written, and by diy7, diycross7 and diyone7 with -why or -lines all files
 abbrev pub OutStops : List (List ℕ) → Result Task Usage → Devices → Devices → Type 0
 OutStops words (Err usage) old new = ⊥
 OutStops words (Ok (AsksTest asked)) old new =
@@ -201,13 +222,14 @@ OutStops words (Ok (AsksList asked)) old new = ShelfAndOut (EndsAsked asked list
 OutStops words (Ok (AsksCross asked)) old new = ShelfAndOut (EndsCrossed asked listings.OutFault) old new
 OutStops words (Ok (AsksDemo asked)) old new = OutAlone (λ out out'. WrotePart out out' (demo_asked asked)) old new
 OutStops words (Ok (AsksFamilies asked)) old new = FamiliesPart words asked.arch asked.files old new
-OutStops words (Ok AsksSum) old new = EndsSum words sums.OutFault old new
+OutStops words (Ok (AsksSum form)) old new = EndsSum form words sums.OutFault old new
 OutStops words (Ok (AsksCheck asked)) old new = EndsCheck words asked checking.OutFault old new
 OutStops words (Ok (AsksExecution form asked)) old new = ExecutionStops form asked (statuses.WriteFault Out) old new
 OutStops words (Ok (AsksCoherenceExecution form asked)) old new = CoherenceExecutionStops form asked (statuses.WriteFault Out) old new
 OutStops words (Ok (AsksNeeds asked)) old new =
     (test_refused asked ≡ None) × OutAlone (λ out out'. WrotePart out out' (needs_asked asked)) old new
 OutStops words (Ok (AsksLines asked)) old new = OutAlone (AnswersListed asked (statuses.WriteFault Out)) old new
+OutStops words (Ok (AsksLineTests asked)) old new = EndsLined asked tests.OutFault old new
 
 -- the cause of a status, and what is left on the devices
 abbrev pub CausesAsked : List (List ℕ) → Result Task Usage → Status → Devices → Devices → Type 0
@@ -217,8 +239,13 @@ CausesAsked words asked statuses.Done old new = Finishes words asked old new
 CausesAsked words asked (statuses.Refused refusal) old new = (asked_refused asked ≡ Some refusal) × (new ≡ old)
 -- the arguments make no request, or no cycle has the name that norm7 is given; no device changed
 CausesAsked words asked (statuses.Usage word kind) old new = IsUsage asked word kind × (new ≡ old)
--- a line of cycles of norm7 or classify7 has this error, the first such
-CausesAsked words asked (statuses.BadText file line (texts.Line kind)) old new = (file ≡ None) × LinesStop asked (lines.Wrong line kind) old new
+-- a line of cycles of norm7, classify7 or diyone7 -lines has this error, the first such
+CausesAsked words asked (statuses.BadText file line (texts.Line kind)) old new =
+    ((file ≡ None) × LinesStop asked (lines.Wrong line kind) old new) ⊎ LineTestWrong asked file line (wrong.Line kind) old new
+-- the cycle of a line of diyone7 -lines has no test, or its test has no name of its form or that of a line before, the first such
+CausesAsked words asked (statuses.BadText file line (texts.Refused refusal)) old new = LineTestWrong asked file line (wrong.Refused refusal) old new
+CausesAsked words asked (statuses.BadText file line texts.BadName) old new = LineTestWrong asked file line wrong.BadName old new
+CausesAsked words asked (statuses.BadText file line texts.NameTaken) old new = LineTestWrong asked file line wrong.NameTaken old new
 -- a log of msum7 has this error, the first such
 CausesAsked words asked (statuses.BadText file line (texts.Log kind)) old new = SumStops words asked (sums.Wrong file line kind) old new
 -- a file of classify7, or the test of mcheck7, has this error, the first such: it is no test, or is one of another architecture
@@ -230,17 +257,18 @@ CausesAsked words asked (statuses.BadText file line texts.WrongArch) old new =
 CausesAsked words asked (statuses.BadText file line texts.NoCycle) old new = FileStops words asked file line kinds.NoCycle old new
 -- the file of the execution of mcheck7 has this error, the first such
 CausesAsked words asked (statuses.BadText file line (texts.Exec kind)) old new = CheckedStops words asked file line (checked.Exec kind) old new
--- a text of norm7, classify7 or msum7 has more than 2^40 bytes
+-- a text of norm7, classify7, msum7 or diyone7 -lines has more than 2^40 bytes
 CausesAsked words asked (statuses.BadText file line texts.TooMuch) old new = PassesLimit words asked file line old new
 -- a file that msum7 is to sum, or classify7 or mcheck7 to read, doesn't exist, and the shelf's error count is what it was; or, if the shelf
 -- doesn't show its files, that count rose or is at its maximum
 CausesAsked words asked (statuses.NoFile word) old new =
-    (LogFileMissing old.shelf new.shelf words 1 word × SumStops words asked (sums.NoFile word) old new)
+    SumMisses words asked word old new
     ⊎ (FilesStop words asked (classing.NoFile word) old new ⊎ CheckStops words asked (checking.NoFile word) old new)
--- the input of norm7, classify7 or msum7 failed: its error count rose or is at its maximum
+-- the input of norm7, classify7, msum7 or diyone7 -lines failed: its error count rose or is at its maximum
 CausesAsked words asked (statuses.ReadFault Input) old new =
     Rose old.input.faults new.input.faults
-    × (LinesStop asked lines.InputFault old new ⊎ SumStops words asked sums.InputFault old new)
+    × (LinesStop asked lines.InputFault old new
+    ⊎ (SumStops words asked sums.InputFault old new ⊎ LineTestsStop asked tests.InputFault old new))
 -- the shelf failed while msum7 read a log, or classify7 or mcheck7 a file
 CausesAsked words asked (statuses.ReadFault Shelf) old new =
     Rose old.shelf.faults new.shelf.faults
@@ -249,10 +277,10 @@ CausesAsked words asked (statuses.ReadFault Shelf) old new =
 CausesAsked words asked (statuses.ReadFault Out) old new = ⊥
 -- standard output failed
 CausesAsked words asked (statuses.WriteFault Out) old new = Rose old.out.faults new.out.faults × OutStops words asked old new
--- the shelf failed while diy7, diycross7 or diyone7 -why wrote a file
+-- the shelf failed while diy7, diycross7 or diyone7 with -why or -lines wrote a file
 CausesAsked words asked (statuses.WriteFault Shelf) old new = Rose old.shelf.faults new.shelf.faults × ListStops asked old new
 CausesAsked words asked (statuses.WriteFault Input) old new = ⊥
--- classify7, msum7, diycross7, mcheck7 or diyone7 with -why or -exec ran out of memory; nothing is written
+-- classify7, msum7, diycross7, mcheck7 or diyone7 with -why, -exec, -dot or -lines ran out of memory; nothing is written
 CausesAsked words asked statuses.NoMemory old new = MayWantMemory asked × NothingWritten old new
 
 -- a call with these arguments ends with this status for its cause, and takes the devices from old to new

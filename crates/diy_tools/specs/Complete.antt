@@ -1,6 +1,6 @@
 -- If the arguments ask for what can be done and no device fails, it is done, unless a tool that can run out of memory does.
 -- Source: own.
-use Rattle.std.specs.Prelude.{◌≡◌, ◌≤◌, ◌+◌, ◌⊎◌, ⊤, ℕ, true, List, ◌∷◌, [], length, Option, Some, None, Result, Ok, Err}
+use Rattle.std.specs.Prelude.{◌≡◌, ◌≤◌, ◌+◌, ◌⊎◌, ⊤, ℕ, Bool, true, false, List, ◌∷◌, [], length, Option, Some, None, Result, Ok, Err}
 use Rattle.relax_edges.specs.{declared.edge.Edge.Edge, declared.kinds.ArchName.ArchName}
 use Rattle.tests_from_files.specs.FilesEnds.{ReadFiles}
 use Rattle.exec_check.specs.FilesChecked.{AreTestAndExecution}
@@ -9,28 +9,35 @@ use Rattle.cycles_from_lines.specs.{Cycles.are_sound, declared.line.LineForm.Lin
 use Rattle.text_parts.specs.Lines.{lines_of}
 use Rattle.diy_io.specs.{declared.source.TheConstants.MAX_INPUT, Count.Rose, Shelf.Files}
 use Rattle.diy_words.specs.{declared.usage.Usage.Usage, declared.request.Check.Check}
-use Rattle.diy_words.specs.Requests.{Task, Sought, AsksTest, AsksWhy, AsksCoherence, AsksName, AsksList, AsksFamilies, AsksSum, AsksCross, AsksDemo, AsksCheck, AsksExecution, AsksCoherenceExecution, AsksNeeds, AsksLines, OfEdges, OfName, OfLines, OfNames, asked_of}
+use Rattle.diy_words.specs.Requests.{Task, Sought, AsksTest, AsksWhy, AsksCoherence, AsksName, AsksList, AsksFamilies, AsksSum, AsksCross, AsksDemo, AsksCheck, AsksExecution, AsksCoherenceExecution, AsksNeeds, AsksLines, AsksLineTests, OfEdges, OfName, OfLines, OfNames, asked_of}
+use Rattle.msum7_files.specs.declared.sum_form.SumForm.{SumForm}
 use Rattle.msum7_files.specs.{Logs.{IsText, IsShort, AreWholeLogs}, SumEnds.AreLogs}
 use Rattle.run_status.specs.{declared.status.Status.Status, declared.status.Status.TheVariants.{Done, NoMemory}}
 use Rattle.diy_tools.specs.{Devices.{Devices, DevicesSeen, devices}}
-use Rattle.diy_tools.specs.{FamilyAnswers.read_on, ArchMachines.machine_of, Memory.MayWantMemory, Refused.refused_list, TestAnswers.test_refused}
-use Rattle.diy_tools.specs.{WhyAnswers.why_unshown, CoherenceAnswers.coherence_refused}
+use Rattle.diy_tools.specs.{FamilyAnswers.read_on, ArchMachines.machine_of, Memory.MayWantMemory, Refused.refused_list, TestAnswers.test_refused, SumAnswers.{first_log, name_logs}}
+use Rattle.diy_tools.specs.{WhyAnswers.why_unshown, CoherenceAnswers.coherence_refused, LineTestAnswers.making_asked}
+use Rattle.lines_to_files.specs.{TestFiles.Making, LineTestEnds.AreRightLines}
 
 -- a text has at most 2^40 bytes, and none of its lines of cycles has an error
 pub record IsSoundText (form : LineForm) (text : List ℕ) : Type 0 where
   pub short : length text ≤ MAX_INPUT
   pub sound : are_sound form (lines_of text) ≡ true
 
+-- a text has at most 2^40 bytes, none of its lines of cycles has an error, and all tests that they give can be written
+pub record IsRightText (making : Making) (text : List ℕ) : Type 0 where
+  pub short : length text ≤ MAX_INPUT
+  pub right : AreRightLines making (lines_of text)
+
 -- a log has at most 2^40 bytes and no error
 pub record IsRightLog (log : List ℕ) : Type 0 where
   pub short : IsShort log
   pub right : AreWholeLogs (log ∷ [])
 
--- the arguments after the first name files that exist, each of at most 2^40 bytes, and as logs they have no error
-pub record AreRightLogs (files : Files) (words : List (List ℕ)) : Type 0 where
+-- the arguments from this index on name files that exist, each of at most 2^40 bytes, and as logs they have no error
+pub record AreRightLogs (files : Files) (words : List (List ℕ)) (first : ℕ) : Type 0 where
   pub logs : List (List ℕ)
-  pub all : 1 + length logs ≡ length words
-  pub are : AreLogs (Some files) words 1 logs
+  pub all : first + length logs ≡ length words
+  pub are : AreLogs (Some files) words first logs
   pub right : AreWholeLogs logs
 
 -- this holds of every text that a device may have: of the one that it shows, or of every text if it shows none
@@ -50,10 +57,14 @@ CanName arch (OfName at name) old = NamesNone name arch → ⊥
 CanName arch OfLines old = OfItsText old.input.left (IsSoundText (Edges arch))
 CanName arch OfNames old = OfItsText old.input.left (IsSoundText (Names arch))
 
--- msum7 can sum the logs that the arguments after the first name, or the input if there are none
-abbrev pub CanSum : List (List ℕ) → Devices → Type 0
-CanSum (tool ∷ log ∷ logs) old = OfItsFiles old.shelf.files (λ files. AreRightLogs files (tool ∷ log ∷ logs))
-CanSum _ old = OfItsText old.input.left IsRightLog
+-- msum7 can sum the logs that the arguments name if they do, or else the input
+abbrev pub CanSumAmong : Bool → SumForm → List (List ℕ) → Devices → Type 0
+CanSumAmong true form words old = OfItsFiles old.shelf.files (λ files. AreRightLogs files words (first_log form))
+CanSumAmong false form words old = OfItsText old.input.left IsRightLog
+
+-- so it can for these arguments
+abbrev pub CanSum : SumForm → List (List ℕ) → Devices → Type 0
+CanSum form words old = CanSumAmong (name_logs form words) form words old
 
 -- the arguments at these indices name files, each of which is a test of the architecture that quotes a cycle
 pub record AreRightTests (files : Files) (words : List (List ℕ)) (arch : ArchName) (places : List ℕ) : Type 0 where
@@ -82,12 +93,13 @@ CanBeDone words (Ok (AsksList asked)) old = ⊤
 CanBeDone words (Ok (AsksCross asked)) old = ⊤
 CanBeDone words (Ok (AsksDemo asked)) old = ⊤
 CanBeDone words (Ok (AsksFamilies asked)) old = CanClassify words asked.arch asked.files old
-CanBeDone words (Ok AsksSum) old = CanSum words old
+CanBeDone words (Ok (AsksSum form)) old = CanSum form words old
 CanBeDone words (Ok (AsksCheck asked)) old = CanCheck words asked old
 CanBeDone words (Ok (AsksExecution form asked)) old = test_refused asked ≡ None
 CanBeDone words (Ok (AsksCoherenceExecution form asked)) old = coherence_refused asked ≡ None
 CanBeDone words (Ok (AsksNeeds asked)) old = test_refused asked ≡ None
 CanBeDone words (Ok (AsksLines asked)) old = ⊤
+CanBeDone words (Ok (AsksLineTests asked)) old = OfItsText old.input.left (IsRightText (making_asked asked))
 
 -- no error count rises or is at its maximum
 pub record NoFaults (old new : Devices) : Type 0 where

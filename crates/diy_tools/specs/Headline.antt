@@ -3,14 +3,14 @@
 -- show why a cycle needs an observer; a coherence test shows incoherence; and the orders that are printed as sufficient against an outcome
 -- are.
 -- Source: own.
-use Rattle.std.specs.{Prelude.{◌≡◌, ◌≤◌, ◌⊎◌, ◌↔◌, ℕ, List, length, Result, Ok, Option, None}, List.Contains}
+use Rattle.std.specs.{Prelude.{◌≡◌, ◌≤◌, ◌⊎◌, ◌↔◌, ℕ, List, length, Result, Ok, Option, None}, List.{Contains, AllByRecursion}}
 use Rattle.relax_edges.specs.declared.{edge.Edge.Edge, kinds.ObsMode.ObsMode}
 use Rattle.cycle_events.specs.Resolution.{turned}
 use Rattle.cycle_names.specs.CycleNames.{name_of}
 use Rattle.diy_io.specs.{Shelf.ShelfSeen, Wrote.SinkSeen}
 use Rattle.diy_words.specs.declared.usage.Usage.{Usage}
 use Rattle.diy_words.specs.declared.request.ExecutionForm.{ExecutionForm}
-use Rattle.diy_words.specs.Requests.{Task, ListTask, AsksTest, AsksWhy, AsksCoherence, AsksList, CrossTask, AsksCross, AsksExecution, AsksCoherenceExecution, AsksNeeds, AsksLines, asked_of}
+use Rattle.diy_words.specs.Requests.{Task, ListTask, AsksTest, AsksWhy, AsksCoherence, AsksList, CrossTask, AsksCross, AsksExecution, AsksCoherenceExecution, AsksNeeds, AsksLines, AsksLineTests, LineTestsTask, asked_of}
 use Rattle.tests_to_files.specs.{ListedFiles.last_number, Plans.{IsPlanned, planned_text}}
 use Rattle.tests_to_files_laws.specs.OwnFiles.{HaveOwnFiles}
 use Rattle.bytes_force_cycles.specs.{Links.LinksDecideIn, PrintedHeadline.BytesForce}
@@ -24,6 +24,9 @@ use Rattle.diy_tools.specs.{Devices.Devices, Devices.DevicesSeen, Devices.device
 use Rattle.diy_tools.specs.{PrintAnswers.Prints, TestAnswers.asked_text, TestAnswers.test_name, WhyAnswers.WritesRuns, WhyAnswers.why_unshown}
 use Rattle.diy_tools.specs.{CoherenceAnswers.coherence_refused, CoherenceAnswers.incoherent_text, CrossAnswers.AnswersCross}
 use Rattle.diy_tools.specs.{CrossAnswers.cycles_asked, CrossAnswers.crossed_text, ListAnswers.AnswersList, ListAnswers.AnswersListed, ListAnswers.plan_asked, ExecutionAnswers.PrintsRun}
+use Rattle.diy_tools.specs.LineTestAnswers.{AnswersLineTests, making_asked}
+use Rattle.lines_to_files.specs.{declared.form.TestForm.TestForm, declared.form.TestForm.TheVariants.{Observed, Coherence}}
+use Rattle.lines_to_files.specs.{GivenTests.{GivenTest, tests_of}, TestFiles.{Making, text_in}, RightTests.AreRight}
 use Rattle.cycle_enum_laws.specs.Listing.{IsOneOf, AreAllListed}
 
 -- a text is printed, or a prefix of it if standard output fails, and the bytes of the text force a cycle
@@ -61,6 +64,22 @@ pub record ListsLines (asked : ListTask) (status : Status) (old new : SinkSeen) 
   pub forces : (cycle : List Edge) → IsPlanned (plan_asked asked) cycle →
       BytesForce (machine_of asked.arch).puts.name (machine_of asked.arch).writing (name_of cycle) (planned_text (plan_asked asked) cycle) (turned cycle) asked.mode
 
+-- the bytes of a text, with a name, force a cycle or, if it is the text of a coherence test, show incoherence
+abbrev pub FormForces : Making → TestForm → List ℕ → List ℕ → List Edge → Type 0
+FormForces making (Observed mode) name text cycle = BytesForce making.puts.name making.writing name text (turned cycle) mode
+FormForces making Coherence name text cycle = BytesShowIncoherence making.puts.name making.writing name text (turned cycle)
+
+-- the text of a test that a line gives forces its cycle or shows incoherence
+abbrev pub TestForces : Making → GivenTest → Type 0
+TestForces making test = FormForces making making.form test.name (text_in making.puts making.writing making.form test.name test.cycle) test.cycle
+
+-- the tests of the input's lines are written as asked for, or there is a reason why they can't be; and the text of each test that lines
+-- give, if all of these can be written, forces its cycle or shows incoherence
+pub record WritesForcing (asked : LineTestsTask) (status : Status) (old new : Devices) : Type 0 where
+  pub writes : AnswersLineTests asked status old new
+  pub forces : (lines : List (List ℕ)) → AreRight (making_asked asked) (tests_of (making_asked asked).puts.name lines)
+      → AllByRecursion (TestForces (making_asked asked)) (tests_of (making_asked asked).puts.name lines)
+
 -- the tests of a listing are written as asked for, and the bytes of the text of each listed cycle force that cycle; and the listed cycles, as
 -- many as can be counted, have files of their own: no two tests have one file, so each file holds the text of its own test
 pub record ListsForcing (asked : ListTask) (status : Status) (old new : ShelfSeen) (before after : SinkSeen) : Type 0 where
@@ -85,7 +104,8 @@ pub record CrossesForcing (asked : CrossTask) (status : Status) (old new : Shelf
 -- there is no memory, or that execution is printed, and the bytes of the test force the cycle or show incoherence. If they ask what
 -- suffices against the outcome of a test, it is printed, and suffices as the law on links says. If they ask for the lines of a listing,
 -- these are written, and the tests of its cycles force them. If they ask for the tests of a listing or of choices, these are written, or for
--- choices there is no memory, and each test forces its cycle.
+-- choices there is no memory, and each test forces its cycle. If they ask for the tests of lines, these are written, or there is a reason why
+-- they can't be, and each test of lines that can all be written forces its cycle or shows incoherence.
 abbrev pub HeadlineAsked : Result Task Usage → Status → Devices → Devices → Type 0
 HeadlineAsked (Ok (AsksTest asked)) status old new =
     refused_of (machine_of asked.arch).puts asked.mode asked.edges ≡ None →
@@ -107,6 +127,7 @@ HeadlineAsked (Ok (AsksNeeds asked)) status old new =
     refused_of (machine_of asked.arch).puts asked.mode asked.edges ≡ None →
     PrintsNeeds (machine_of asked.arch) (asked_text asked) (test_name asked.name asked.edges) asked.edges asked.mode status old.out new.out
 HeadlineAsked (Ok (AsksLines asked)) status old new = ListsLines asked status old.out new.out
+HeadlineAsked (Ok (AsksLineTests asked)) status old new = WritesForcing asked status old new
 HeadlineAsked (Ok (AsksList asked)) status old new = ListsForcing asked status old.shelf new.shelf old.out new.out
 HeadlineAsked (Ok (AsksCross asked)) status old new = CrossesForcing asked status old.shelf new.shelf old.out new.out
 HeadlineAsked _ status old new = Unit {0}

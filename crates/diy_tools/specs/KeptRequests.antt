@@ -7,7 +7,8 @@ use Rattle.cycles_from_lines.specs.{Normed.name_line, declared.line.LineForm.The
 use Rattle.diy_io.specs.{Shelf.ShelfSeen, Taken.SourceSeen, Wrote.SinkSeen, declared.errors.Failed.Failed}
 use Rattle.diy_words.specs.{declared.request.Sought.Sought, declared.usage.Usage.Usage, declared.request.Check.Check, declared.request.Cross.Cross}
 use Rattle.diy_words.specs.{declared.request.DiyOne.DiyOne, declared.request.Coherence.Coherence, declared.request.Why.Why}
-use Rattle.diy_words.specs.Requests.{Task, ListTask, AsksCross}
+use Rattle.diy_words.specs.{declared.request.LineTests.LineTests, Requests.{Task, ListTask, LineTestsTask, AsksCross}}
+use Rattle.lines_to_files.specs.{declared.ending.LineTestsEnd.LineTestsEnd, LineTestEnds.EndsLineTests}
 use Rattle.diy_words.specs.declared.request.Sought.TheVariants as sought
 use Rattle.tests_to_files.specs.{declared.ending.ListingEnd.ListingEnd, declared.listing.Listing.Listing, ListedLines.EndsLines, ListingEnds.EndsListing}
 use Rattle.tests_to_files.specs.Plans.{plan_of, plan_in}
@@ -18,8 +19,9 @@ use Rattle.diy_tools.specs.{ExecutionAnswers.{AnswersRun, Shows}, PrintAnswers.{
 use Rattle.run_status.specs.{declared.status.Status.Status}
 use Rattle.diy_tools.specs.{CheckAnswers.{EndsChecked, check_status, shown_of}, CrossAnswers.{AnswersCross, AnswersChoices}}
 use Rattle.diy_tools.specs.{FamilyAnswers.{EndsNamed, files_status}, ArchMachines.{Machine, machine, machine_of}, NameAnswers.{AnswersLines, AnswersName}}
-use Rattle.diy_tools.specs.{TestAnswers.test_name, Devices.{DevicesSeen, devices}, SumAnswers.{sum_status, AnswersSum}, Refused.refused_list}
-use Rattle.diy_tools.specs.WhyAnswers.{WritesFiles, AnswersRuns, why_files, why_line}
+use Rattle.diy_tools.specs.{TestAnswers.test_name, Devices.{DevicesSeen, devices}, SumAnswers.{sum_status, AnswersSum, first_log}, Refused.refused_list}
+use Rattle.diy_tools.specs.{WhyAnswers.{WritesFiles, AnswersRuns, why_files, why_line}, LineTestAnswers.{AnswersLineTests, making_asked}}
+use Rattle.msum7_files.specs.declared.sum_form.SumForm.{SumForm}
 use Rattle.msum7_files.specs.{declared.sum_end.SumEnd.SumEnd, SumEnds.{InputSummed, FilesSummed}}
 use Rattle.test_maker.specs.{CycleText.cycle_text, Refusals.refusal_of, declared.refusal.Refusal.Refusal}
 use Rattle.test_maker.specs.declared.refusal.Refusal.TheVariants as refusals
@@ -215,6 +217,18 @@ asked_listing arch listing = record {
 abbrev pub EndsLinesOn : Machine → Listing → SinkSeen → SinkSeen → Result (Unit {0}) Failed → Type 0
 EndsLinesOn m listing = EndsLines (plan_in m.puts m.writing listing) listing.after
 
+-- what diyone7 is asked for with -lines, as the request holds it
+abbrev pub line_tests_kept : LineTests → LineTestsTask
+line_tests_kept request = record { arch = request.arch; form = request.form; folder = folder_lent request.folder }
+
+-- what the writing of the tests of the input's lines leaves, as a request asks for it
+abbrev pub EndsLinedFor : LineTests → LineTestsEnd → SourceSeen → SourceSeen → ShelfSeen → ShelfSeen → SinkSeen → SinkSeen → Type 0
+EndsLinedFor request end = EndsLineTests (making_asked (line_tests_kept request)) end
+
+-- what is answered of a request for the tests of lines, by what is seen of the devices
+abbrev pub AnswersLined : LineTests → Status → DevicesSeen → DevicesSeen → Type 0
+AnswersLined request status old new = AnswersLineTests (line_tests_kept request) status (devices old) (devices new)
+
 -- the files that the arguments at these indices name are classified, or there is a reason why they can't be; no file changes
 pub record ClassifiesNamedFiles (words : List (List ℕ)) (arch : ArchName) (files : List ℕ) (status : Status) (old new : ShelfSeen) (before after : SinkSeen) : Type 0 where
   pub end : FilesEnd
@@ -232,19 +246,19 @@ abbrev pub CheckEndsFor : List (List ℕ) → Check → CheckEnd → ShelfSeen �
 CheckEndsFor words request end old new before after =
     FilesChecked (shown_of request.form) request.arch (machine_of request.arch).writing old new words request.test request.execution before after end
 
--- the input is summed as one log, or there is a reason why it can't be
-pub record SumsInput (status : Status) (old new : SourceSeen) (before after : SinkSeen) : Type 0 where
+-- the input is summed as one log, in a form, or there is a reason why it can't be
+pub record SumsInput (form : SumForm) (status : Status) (old new : SourceSeen) (before after : SinkSeen) : Type 0 where
   pub end : SumEnd
-  pub summed : InputSummed old new before after end
+  pub summed : InputSummed form old new before after end
   pub status_is : status ≡ sum_status end
 
--- the logs that the arguments after the first name are summed, or there is a reason why they can't be; no file changes
-pub record SumsFiles (words : List (List ℕ)) (status : Status) (old new : ShelfSeen) (before after : SinkSeen) : Type 0 where
+-- the logs that the arguments name are summed, in a form, or there is a reason why they can't be; no file changes
+pub record SumsFiles (form : SumForm) (words : List (List ℕ)) (status : Status) (old new : ShelfSeen) (before after : SinkSeen) : Type 0 where
   pub end : SumEnd
-  pub summed : FilesSummed old new words 1 before after end
+  pub summed : FilesSummed form old new words (first_log form) before after end
   pub files : new.files ≡ old.files
   pub status_is : status ≡ sum_status end
 
 -- what msum7 does with the logs that the arguments name, or with the input if they name none, by what is seen of the devices
-abbrev pub AnswersSumOf : List (List ℕ) → Status → DevicesSeen → DevicesSeen → Type 0
-AnswersSumOf words status old new = AnswersSum words status (devices old) (devices new)
+abbrev pub AnswersSumOf : SumForm → List (List ℕ) → Status → DevicesSeen → DevicesSeen → Type 0
+AnswersSumOf form words status old new = AnswersSum form words status (devices old) (devices new)

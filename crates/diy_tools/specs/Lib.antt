@@ -14,6 +14,7 @@ pub mod DemoAnswers
 pub mod CheckAnswers
 pub mod WhyAnswers
 pub mod CoherenceAnswers
+pub mod LineTestAnswers
 pub mod Answers
 pub mod KeptRequests
 pub mod Memory

@@ -1,7 +1,7 @@
 ghost use Rattle.std.specs.Prelude.{◌≡◌, ◌<◌, length};
 ghost use Rattle.diy_io.specs.Shelf.{Idle};
 ghost use Rattle.diy_tools.specs.{CheckAnswers.{check_status, checked_kind, shown_of}, KeptRequests.{CheckEndsFor, ChecksFiles}};
-ghost use Rattle.run_status.specs.{Report.{StatusNamesLocation}};
+ghost use Rattle.run_status.specs.{Report.{KindNamesLocation, StatusNamesLocation}};
 
 use crate::machines::on_machine;
 use diy_io::{Shelf, Sink, Words};
@@ -86,7 +86,8 @@ fn check_end(end: CheckEnd) -> Status
 }
 
 fn text_kind(kind: CheckedKind) -> TextKind
-    ensures { result ≡ checked_kind kind }
+    ensures same { result ≡ checked_kind kind }
+    ensures location { KindNamesLocation result }
 {
     match kind {
         CheckedKind::Test(kind) => TextKind::Test(kind),

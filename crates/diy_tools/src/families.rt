@@ -4,7 +4,7 @@ ghost use Rattle.tests_from_files.specs.FilesEnds.{FilesClassified};
 ghost use Rattle.diy_words.specs.{Given.{GivesTask}, Requests.{asked_of}};
 ghost use Rattle.diy_words.specs.declared.request.Request.TheVariants as requests;
 ghost use Rattle.diy_tools.specs.{Answers.{Answers}, FamilyAnswers.{AnswersFamilies, file_kind, files_status, read_on}, KeptRequests.{ClassifiesNamedFiles}};
-ghost use Rattle.run_status.specs.{Report.{StatusNamesLocation}};
+ghost use Rattle.run_status.specs.{Report.{KindNamesLocation, StatusNamesLocation}};
 ghost use Rattle.diy_tools.specs.{Statuses.{classify_status}};
 
 use crate::machines::on_machine;
@@ -122,7 +122,8 @@ fn files_end(end: FilesEnd) -> Status
 }
 
 fn text_kind(kind: FileKind) -> TextKind
-    ensures { result ≡ file_kind kind }
+    ensures same { result ≡ file_kind kind }
+    ensures location { KindNamesLocation result }
 {
     match kind {
         FileKind::Test(kind) => TextKind::Test(kind),

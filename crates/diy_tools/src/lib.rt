@@ -8,6 +8,7 @@ mod demo;
 mod edges;
 mod execution;
 mod families;
+mod lined;
 mod listing;
 mod machines;
 mod naming;

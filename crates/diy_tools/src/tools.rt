@@ -9,6 +9,7 @@ use crate::crossing::cross;
 use crate::demo::demo;
 use crate::execution::{coherence_execution, execution};
 use crate::families::families;
+use crate::lined::line_tests;
 use crate::listing::{list, list_lines};
 use crate::naming::norm;
 use crate::needs::needs;
@@ -24,7 +25,7 @@ use std::alloc::Global;
 /// execution that one of them asks for, as a text or as a picture, or what suffices against the outcome of a
 /// test, or the names of cycles, or the lines of a listing's cycles, or the sum of logs, or how many tests of
 /// each family were made and how long they are, or what holds of an execution of a test, or a picture of it;
-/// or it writes to the shelf the tests of a listing or of choices,
+/// or it writes to the shelf the tests of a listing, of choices or of lines of cycles,
 /// or a test with two executions that show why an observer is needed.
 ///
 /// If the arguments make no request, or the edges are refused, no device but `err` changes. `Answers` says
@@ -89,10 +90,11 @@ fn answer<I: Source, O: Sink, H: Shelf>(
         Ok(Request::Name(request)) => norm(&request, input, out),
         Ok(Request::List(request)) => list(request, shelf, out),
         Ok(Request::Lines(request)) => list_lines(request, out),
+        Ok(Request::LineTests(request)) => line_tests(alloc, request, input, shelf, out),
         Ok(Request::Families(arch)) => families(alloc, words, arch, input, shelf, out),
         Ok(Request::Cross(request)) => cross(alloc, words, request, shelf, out),
         Ok(Request::Demo(request)) => demo(&request, out),
         Ok(Request::Check(request)) => check(alloc, words, request, shelf, out),
-        Ok(Request::Sum) => sum(alloc, words, input, shelf, out),
+        Ok(Request::Sum(form)) => sum(alloc, form, words, input, shelf, out),
     }
 }

@@ -4,12 +4,12 @@ use Rattle.relax_edges.specs.declared.edge.Edge.{Edge}
 use Rattle.std.specs.Prelude.{ℕ}
 use Rattle.diy_words.specs.declared.{request.Request.Request, usage.Usage.Usage}
 use Rattle.diy_words.specs.{Notes.{Notes, gathered_noted}, Given.GivesTask}
-use Rattle.diy_words.specs.Requests.{edges_chosen, with_chosen, diyone_with, diyone_asked}
+use Rattle.diy_words.specs.Requests.{edges_chosen, with_chosen, diyone_with, cycle_asked}
 use Rattle.diy_words.specs.CodeNotes.{EdgesChosen, ChoosesEdges, GivesFrom}
 
 -- what is given of notes whose edges are chosen is given of all that is gathered
 pub chosen_gives : (count : ℕ) (old new : Notes) (result : Result Request Usage) → ChoosesEdges old new (Ok tt)
-    → GivesFrom (λ given. diyone_with count given) new result → GivesFrom (λ given. diyone_asked count given) old result
+    → GivesFrom (λ given. diyone_with count given) new result → GivesFrom (λ given. cycle_asked count given) old result
 chosen_gives count old new result chooses gives edges places files e f =
     of_chosen (edges_chosen old.given.arch old.given.from old.given.operand edges) (chooses edges e)
   where

@@ -7,7 +7,7 @@ use Rattle.diy_words.specs.declared.{usage.Usage.Usage}
 use Rattle.diy_words.specs.Parts.{Alone, Valued, Unvalued, parts_from, parts_of, option_named, tool_named}
 use Rattle.diy_words.specs.{Sayings.Saying, Sayings.said_by, SaidInOrder.said_first, SaidInOrder.said_all, Given.GivesTask}
 use Rattle.diy_words.specs.Gathered.{Gathered, edges_of_saying, places_of_word, files_of_saying, all_given}
-use Rattle.diy_words.specs.Requests.{said_asked, tool_asked, asked_for, asked_of}
+use Rattle.diy_words.specs.Requests.{said_asked, tool_asked, loosely_asked, asked_for, asked_of}
 use Rattle.diy_words.specs.Notes.{Notes, no_notes, with_saying, with_next, notes_with, notes_of, before_noted, said_noted, gathered_noted}
 use Rattle.diy_words.specs.CodeNotes.{GivesAtEnd, notes_after, all_notes, sayings_from, notes_at_end}
 use Rattle.diy_words.proofs.NotedLaws.{edges_noted, choices_noted, all_noted, said_so}
@@ -88,7 +88,7 @@ notes_left_by notes (Ok saying ∷ rest) = notes_left_by (with_saying notes sayi
 -- the request of a tool from the notes after all words
 pub gives_finished : (tool : Tool) (words : List (List ℕ)) (at : ℕ) (notes : Notes) (result : Result Request Usage) → length words ≤ at
     → notes_at_end tool words at notes ≡ notes_at_end tool words 1 no_notes → GivesAtEnd tool (length words) notes result
-    → GivesTask result (asked_for (Some tool) (length words) (drop 1 words))
+    → GivesTask result (loosely_asked tool (length words) (drop 1 words))
 gives_finished tool words at notes result last e finishes =
     subst (λ (said : List (Result Saying Usage)). GivesTask result (said_asked tool (length words) (said_all said))) (said_so tool [] (parts_of tool 1 (drop 1 words)))
     (of_all (said_all (sayings_from tool no_notes words 1)) (ended ∙ e ∙ notes_left_by no_notes (sayings_from tool no_notes words 1)))
@@ -108,7 +108,7 @@ gives_finished tool words at notes result last e finishes =
 
 -- the first error among the words
 pub gives_fault : (tool : Tool) (words : List (List ℕ)) (usage : Usage) → Err usage ≡ notes_at_end tool words 1 no_notes
-    → GivesTask (Err usage) (asked_for (Some tool) (length words) (drop 1 words))
+    → GivesTask (Err usage) (loosely_asked tool (length words) (drop 1 words))
 gives_fault tool words usage e =
     subst (λ (said : List (Result Saying Usage)). GivesTask (Err usage) (said_asked tool (length words) (said_all said))) (said_so tool [] (parts_of tool 1 (drop 1 words)))
     (of_all (said_all (sayings_from tool no_notes words 1)) (e ∙ notes_left_by no_notes (sayings_from tool no_notes words 1)))

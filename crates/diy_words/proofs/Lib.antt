@@ -10,3 +10,4 @@ pub mod AskedLaws
 pub mod FileLaws
 pub mod PlaceLaws
 pub mod ChosenEdges
+pub mod StrictLaws

@@ -5,8 +5,8 @@ use Rattle.list_laws.proofs.Elements.{option_or-none}
 use Rattle.edges_from_text.specs.{KeptEdges.kept_edges, KeptEdges.edges_added, KeptLaws.added_more, KeptLaws.added_whole}
 use Rattle.diy_words.specs.declared.{options.Tool.Tool, request.TheConstants.MAX_CHOICES, usage.Usage.Usage}
 use Rattle.diy_words.specs.{Parts.Part, Requests.choice_count}
-use Rattle.diy_words.specs.Sayings.{Saying, SaysArch, SaysName, SaysMode, SaysFrom, SaysEdges, SaysRelaxes, SaysSize, SaysExact, SaysWhy, SaysCo, SaysExec, SaysNeeds, SaysLines, SaysGraph, SaysNames, SaysThreads, SaysAccesses, SaysAfter, SaysFolder, SaysTest, SaysExecution, SaysPlace, SaysCount, said_by}
-use Rattle.diy_words.specs.Gathered.{arch_of_saying, name_of_saying, mode_of_saying, from_of_saying, operand_of_saying, relaxes_of_saying, size_of_saying, is_exact, is_co, is_exec, is_needs, is_lines, is_graph, is_names, threads_of_saying, accesses_of_saying, after_of_saying, folder_of_saying, is_why, count_of_saying, test_of_saying, execution_of_saying, edges_of_saying, places_of_word, files_of_saying, last_given, first_given, all_given, gathered_of}
+use Rattle.diy_words.specs.Sayings.{Saying, SaysArch, SaysName, SaysMode, SaysFrom, SaysEdges, SaysRelaxes, SaysSize, SaysExact, SaysWhy, SaysCo, SaysExec, SaysNeeds, SaysLines, SaysGraph, SaysNames, SaysTable, SaysLineTests, SaysThreads, SaysAccesses, SaysAfter, SaysFolder, SaysTest, SaysExecution, SaysPlace, SaysCount, said_by}
+use Rattle.diy_words.specs.Gathered.{arch_of_saying, name_of_saying, mode_of_saying, from_of_saying, operand_of_saying, relaxes_of_saying, size_of_saying, is_exact, is_co, is_exec, is_needs, is_lines, is_graph, is_names, is_table, is_line_tests, threads_of_saying, accesses_of_saying, after_of_saying, folder_of_saying, is_why, count_of_saying, test_of_saying, execution_of_saying, edges_of_saying, places_of_word, files_of_saying, last_given, first_given, all_given, gathered_of}
 use Rattle.diy_words.specs.SaidInOrder.{is_limited, before_of, said_in, sayings}
 use Rattle.diy_words.specs.Notes.{Notes, no_notes, with_saying, with_next, notes_with, notes_of, before_noted, said_noted, gathered_noted}
 use Rattle.diy_words.proofs.ChoiceLaws.{choices_after, choices_more, choices_said}
@@ -144,9 +144,23 @@ graph_step : (notes : Notes) (saying : Saying) → (with_saying notes saying).gi
 graph_step notes SaysGraph = refl
 graph_step notes saying = refl
 
+table_step : (notes : Notes) (saying : Saying) → (with_saying notes saying).given.table ≡ (is_table saying || notes.given.table)
+table_step notes SaysTable = refl
+table_step notes saying = refl
+
 names_step : (notes : Notes) (saying : Saying) → (with_saying notes saying).given.names ≡ (is_names saying || notes.given.names)
 names_step notes SaysNames = refl
 names_step notes saying = refl
+
+line_tests_step : (notes : Notes) (saying : Saying) → (with_saying notes saying).given.line_tests ≡ (is_line_tests saying || notes.given.line_tests)
+line_tests_step notes SaysLineTests = refl
+line_tests_step notes saying = refl
+
+name_noted : (said : List Saying) → (notes_of said).given.name ≡ last_given name_of_saying said
+name_noted said = last_noted (λ n. n.given.name) name_of_saying refl name_step said
+
+from_noted : (said : List Saying) → (notes_of said).given.from ≡ last_given from_of_saying said
+from_noted said = last_noted (λ n. n.given.from) from_of_saying refl from_step said
 
 mode_noted : (said : List Saying) → (notes_of said).given.mode ≡ last_given mode_of_saying said
 mode_noted said = last_noted (λ n. n.given.mode) mode_of_saying refl mode_step said
@@ -168,6 +182,9 @@ needs_noted said = any_noted (λ n. n.given.needs) is_needs refl needs_step said
 
 lines_noted : (said : List Saying) → (notes_of said).given.lines ≡ list_any is_lines said
 lines_noted said = any_noted (λ n. n.given.lines) is_lines refl lines_step said
+
+line_tests_noted : (said : List Saying) → (notes_of said).given.line_tests ≡ list_any is_line_tests said
+line_tests_noted said = any_noted (λ n. n.given.line_tests) is_line_tests refl line_tests_step said
 
 folder_noted : (said : List Saying) → (notes_of said).given.folder ≡ last_given folder_of_saying said
 folder_noted said = last_noted (λ n. n.given.folder) folder_of_saying refl folder_step said
@@ -228,9 +245,9 @@ pub all_noted : (said : List Saying) → gathered_noted (notes_of said) (all_giv
 all_noted said =
     rw (
       last_noted (λ n. n.given.arch) arch_of_saying refl arch_step said,
-      last_noted (λ n. n.given.name) name_of_saying refl name_step said,
+      name_noted said,
       mode_noted said,
-      last_noted (λ n. n.given.from) from_of_saying refl from_step said,
+      from_noted said,
       operand_noted said,
       last_noted (λ n. n.given.relaxes) relaxes_of_saying refl relaxes_step said,
       value_noted (λ n. n.given.size) size_of_saying size_step said,
@@ -249,11 +266,27 @@ all_noted said =
       lines_noted said,
       graph_noted said,
       any_noted (λ n. n.given.names) is_names refl names_step said,
+      any_noted (λ n. n.given.table) is_table refl table_step said,
+      line_tests_noted said,
     ) refl
 
 -- and what bears on the error of the next word
 before_all : (said : List Saying) → before_noted (notes_of said) ≡ before_of said
-before_all said = rw (taken_noted said, mode_noted said, why_noted said, co_noted said, exec_noted said, needs_noted said, graph_noted said, folder_noted said, lines_noted said) refl
+before_all said =
+    rw (
+      taken_noted said,
+      name_noted said,
+      from_noted said,
+      mode_noted said,
+      why_noted said,
+      co_noted said,
+      exec_noted said,
+      needs_noted said,
+      graph_noted said,
+      line_tests_noted said,
+      folder_noted said,
+      lines_noted said,
+    ) refl
 
 notes_more : (notes : Notes) (xs ys : List Saying) → notes_with notes (xs ++ ys) ≡ notes_with (notes_with notes xs) ys
 notes_more notes [] ys = refl

@@ -1,6 +1,6 @@
 -- Where words ask for something of diycross7, each word that is neither an option nor its value spells the relaxations of a place.
 use Rattle.std.proofs.Common.{◌≡◌, ◌<◌, ◌≤◌, ◌+◌, ℕ, Bool, true, false, List, [], ◌∷◌, ◌++◌, length, Option, Some, None, Result, Ok, Err, append_assoc, append-nil, refl, sym, ap, ◌∙◌, slice_get, nat_lt, nat_le}
-use Rattle.std.specs.Prelude.{◌&&◌, if◌then◌else◌, IsOk}
+use Rattle.std.specs.{Prelude.{◌&&◌, if◌then◌else◌, IsOk, codes}, Str.bytes_eq}
 use Rattle.relax_edges.specs.{declared.TheConstants.MAX_EDGES, declared.edge.Edge.Edge, declared.kinds.ArchName.ArchName, declared.kinds.ObsMode.ObsMode}
 use Rattle.relax_edges.specs.Architectures.{arch_of}
 use Rattle.edges_from_text.specs.{declared.relax_error.RelaxError.RelaxError, Relaxations.relaxes_of}
@@ -9,7 +9,7 @@ use Rattle.edges_from_text.specs.{declared.read.Separators.TheVariants.BlanksAnd
 use Rattle.diy_words.specs.{declared.options.OptionName.OptionName, declared.request.TheConstants.MAX_CHOICES, declared.usage.Usage.Usage}
 use Rattle.diy_words.specs.{declared.usage.UsageKind.TheVariants.{UnknownOption, BadName, BadFolder, TooManyChoices}, TestNames.is_name, NumberWords.number_to}
 use Rattle.diy_words.specs.{Parts.{Valued, option_named, mode_named}, Gathered.{Gathered, places_of_word}, SaidInOrder.before_of}
-use Rattle.diy_words.specs.Sayings.{Saying, SaysName, SaysFolder, SaysRelaxes, SaysPlace, SaysSize, SaysThreads, SaysAccesses, usage_fault, arch_said, mode_said, relaxes_said, number_said, cycle_word_said, after_said, begins_option, said_by}
+use Rattle.diy_words.specs.Sayings.{Saying, SaysName, SaysFolder, SaysRelaxes, SaysPlace, SaysStrict, SaysSize, SaysThreads, SaysAccesses, usage_fault, arch_said, mode_said, relaxes_said, number_said, cycle_word_said, after_said, begins_option, said_by}
 use Rattle.diy_words.specs.Requests.{Task, AsksCross, choice_count, asks, cross_with, mode_or_accept, tool_asked, asked_of, IsCrossing, places_of}
 use Rattle.diy_words.specs.declared.options.OptionName.TheVariants as opts
 use Rattle.diy_words.specs.declared.options.Tool.TheVariants as tools
@@ -31,26 +31,56 @@ pub record PlaceFirst (words : List (List ℕ)) (at : ℕ) (text : List ℕ) : T
   pub faultless : AreFaultless tools.Cross words (at + 1)
   pub first : (relaxes : List (List Edge)) → relaxes_of text ≡ Ok relaxes → places_from words at ≡ relaxes ∷ places_from words (at + 1)
 
--- a word that is no option of diycross7 spells relaxations, and the words after it have no error
-pub place_first : (words : List (List ℕ)) (at : ℕ) (text : List ℕ) → slice_get words at ≡ Some text → option_named tools.Cross text ≡ None → AreFaultless tools.Cross words at → PlaceFirst words at text
-place_first words at text got plain fit =
-    of_test (begins_option text) (relaxes_of text) refl (alone_then tools.Cross same_said words at text got plain (alone_silent (begins_option text) (relaxes_of text)))
-  where
-    alone_silent : (b : Bool) (read : Result (List (List Edge)) RelaxError) → IsSilent (if b then usage_fault at UnknownOption else relaxes_said SaysPlace at read)
-    alone_silent true read = λ before. refl
-    alone_silent false (Ok relaxes) = λ before. refl
-    alone_silent false (Err error) = λ before. refl
+-- a word of diycross7 by itself changes nothing for those after it
+alone_silent : (at : ℕ) (b strict : Bool) (read : Result (List (List Edge)) RelaxError)
+    → IsSilent (if b then (if strict then Ok SaysStrict else usage_fault at UnknownOption) else relaxes_said SaysPlace at read)
+alone_silent at true true read = λ before. refl
+alone_silent at true false read = λ before. refl
+alone_silent at false strict (Ok relaxes) = λ before. refl
+alone_silent at false strict (Err error) = λ before. refl
 
-    of_test : (b : Bool) (read : Result (List (List Edge)) RelaxError) → relaxes_of text ≡ read → said_from tools.Cross words at ≡ (if b then usage_fault at UnknownOption else relaxes_said SaysPlace at read) ∷ said_from tools.Cross words (at + 1) → PlaceFirst words at text
-    of_test true read r e = let k = rw e at fit in cc k.0
-    of_test false (Err error) r e = let k = rw e at fit in cc k.0
-    of_test false (Ok own) r e =
+-- what such a word says, before what those after it say
+abbrev SaysFirst : List (List ℕ) → ℕ → List ℕ → Bool → Bool → Result (List (List Edge)) RelaxError → Type 0
+SaysFirst words at text b strict read =
+    said_from tools.Cross words at ≡ (if b then (if strict then Ok SaysStrict else usage_fault at UnknownOption) else relaxes_said SaysPlace at read) ∷ said_from tools.Cross words (at + 1)
+
+says_first : (words : List (List ℕ)) (at : ℕ) (text : List ℕ) → slice_get words at ≡ Some text → option_named tools.Cross text ≡ None
+    → SaysFirst words at text (begins_option text) (bytes_eq text (codes "-strict")) (relaxes_of text)
+says_first words at text got plain =
+    alone_then tools.Cross same_said words at text got plain (alone_silent at (begins_option text) (bytes_eq text (codes "-strict")) (relaxes_of text))
+
+-- an operand of diycross7 spells relaxations, and the words after it have no error
+pub place_first : (words : List (List ℕ)) (at : ℕ) (text : List ℕ) → slice_get words at ≡ Some text → option_named tools.Cross text ≡ None
+    → begins_option text ≡ false → AreFaultless tools.Cross words at → PlaceFirst words at text
+place_first words at text got plain operand fit =
+    of_test (begins_option text) (bytes_eq text (codes "-strict")) (relaxes_of text) refl operand (says_first words at text got plain)
+  where
+    of_test : (b strict : Bool) (read : Result (List (List Edge)) RelaxError) → relaxes_of text ≡ read → b ≡ false → SaysFirst words at text b strict read → PlaceFirst words at text
+    of_test true strict read r o e = cc o
+    of_test false strict (Err error) r o e = let k = rw e at fit in cc k.0
+    of_test false strict (Ok own) r o e =
         let k = rw e at fit in
         record {
           read = rw r refl;
           faultless = k.1;
           first = λ relaxes given. ap (given_among places_of_word) e ∙ (let same : own ≡ relaxes = cc in ap (λ x. x ∷ places_from words (at + 1)) same);
         }
+
+-- `-strict` before others: it is no list
+pub record StrictFirst (words : List (List ℕ)) (at : ℕ) : Type 0 where
+  pub faultless : AreFaultless tools.Cross words (at + 1)
+  pub first : places_from words at ≡ places_from words (at + 1)
+
+-- a word of diycross7 that begins with `-` and takes no value is no list, and the words after it have no error
+pub strict_first : (words : List (List ℕ)) (at : ℕ) (text : List ℕ) → slice_get words at ≡ Some text → option_named tools.Cross text ≡ None
+    → begins_option text ≡ true → AreFaultless tools.Cross words at → StrictFirst words at
+strict_first words at text got plain dashed fit =
+    of_test (begins_option text) (bytes_eq text (codes "-strict")) (relaxes_of text) dashed (says_first words at text got plain)
+  where
+    of_test : (b strict : Bool) (read : Result (List (List Edge)) RelaxError) → b ≡ true → SaysFirst words at text b strict read → StrictFirst words at
+    of_test false strict read o e = cc o
+    of_test true false read o e = let k = rw e at fit in cc k.0
+    of_test true true read o e = let k = rw e at fit in record { faultless = k.1; first = ap (given_among places_of_word) e }
 
 arch_other : (at : ℕ) (arch : Option ArchName) → IsOther places_of_word (arch_said at arch)
 arch_other at None = record { none = refl; silent = λ before. refl }
@@ -136,15 +166,22 @@ pub record PlacesRead (words : List (List ℕ)) (at : ℕ) (places : List (List 
 pub places_begun : (words : List (List ℕ)) → IsCrossing (asked_of words) → PlacesRead words 1 []
 places_begun words h = let begun = cross_words words h in record { faultless = begun.faultless; read = begun.first }
 
--- a word that is no option of diycross7 is one more list
+-- an operand of diycross7 is one more list
 pub place_read : (words : List (List ℕ)) (at : ℕ) (text : List ℕ) (places : List (List (List Edge))) (relaxes : List (List Edge)) →
-    slice_get words at ≡ Some text → option_named tools.Cross text ≡ None → PlacesRead words at places → relaxes_of text ≡ Ok relaxes → PlacesRead words (at + 1) (places ++ relaxes ∷ [])
-place_read words at text places relaxes got plain before spelled =
-    let next = place_first words at text got plain before.faultless in
+    slice_get words at ≡ Some text → option_named tools.Cross text ≡ None → begins_option text ≡ false → PlacesRead words at places → relaxes_of text ≡ Ok relaxes → PlacesRead words (at + 1) (places ++ relaxes ∷ [])
+place_read words at text places relaxes got plain operand before spelled =
+    let next = place_first words at text got plain operand before.faultless in
     record {
       faultless = next.faultless;
       read = append_assoc places (relaxes ∷ []) (places_from words (at + 1)) ∙ ap (λ rest. places ++ rest) (sym (next.first relaxes spelled)) ∙ before.read;
     }
+
+-- `-strict` is no list
+pub strict_read : (words : List (List ℕ)) (at : ℕ) (text : List ℕ) (places : List (List (List Edge))) → slice_get words at ≡ Some text
+    → option_named tools.Cross text ≡ None → begins_option text ≡ true → PlacesRead words at places → PlacesRead words (at + 1) places
+strict_read words at text places got plain dashed before =
+    let next = strict_first words at text got plain dashed before.faultless in
+    record { faultless = next.faultless; read = ap (λ rest. places ++ rest) (sym next.first) ∙ before.read }
 
 -- an option of diycross7 and its value are no list
 pub option_read : (words : List (List ℕ)) (at : ℕ) (text : List ℕ) (option : OptionName) (places : List (List (List Edge))) →

@@ -1,7 +1,7 @@
 -- What a request has of its own form: the name of a test, the size of a listing, a folder, and the files of mcheck7.
 use Rattle.std.proofs.Common.{◌≡◌, ◌≤◌, ◌<◌, ◌+◌, ℕ, ap, arith, lit≤, nat_lt, nat_le, Bool, true, false, List, [], ◌∷◌, ◌++◌, Option, Some, None, Result, Ok, Err, refl, sym, subst, length}
 use Rattle.std.proofs.lemmas.Bool.Decides.{nat_tests}
-use Rattle.std.specs.{Prelude.{if◌then◌else◌, IfOk, IfSome, ◌&&◌, ◌||◌, ◌==◌, codes}, Str.bytes_eq, Str.Parse.digits_value, List.AllByRecursion, Borrow.Bor}
+use Rattle.std.specs.{Prelude.{if◌then◌else◌, IfOk, IfSome, ◌&&◌, ◌||◌, ◌==◌, codes}, Str.bytes_eq, Str.Parse.digits_value, List.{AllByRecursion, list_any}, Borrow.Bor}
 use Rattle.std.specs.Option.{option_map, option_or, unwrap_or, ForSome}
 use Rattle.relax_edges.specs.{declared.edge.Edge.Edge, declared.TheConstants.MAX_EDGES}
 use Rattle.edges_from_text.specs.declared.relax_error.RelaxError.{RelaxError}
@@ -15,11 +15,13 @@ use Rattle.diy_words.specs.{declared.request.Request.Request, declared.usage.Usa
 use Rattle.diy_words.specs.declared.usage.UsageKind.TheVariants.{UnknownOption, BadName, BadFolder, StrayWord, ExcludedOption, TooManyChoices}
 use Rattle.diy_words.specs.{TestNames.is_name, NumberWords.{is_number, number_to}}
 use Rattle.diy_words.specs.Parts.{Part, Alone, Valued, Unvalued, waiting_at, alone_before, parts_from, parts_of, option_named, tool_named, mode_named}
-use Rattle.diy_words.specs.Sayings.{Saying, SaysName, SaysRelaxes, SaysPlace, SaysSize, SaysExact, SaysWhy, SaysCo, SaysExec, SaysNeeds, SaysLines, SaysGraph, SaysNames, SaysThreads, SaysAccesses, SaysFolder, SaysCount, SaysTest, SaysExecution, Before, usage_fault, why_said, co_said, exec_said, dot_said, needs_said, lines_said, folder_said, dashed_said, operand_said, relaxes_said, number_said, after_said, cycle_word_said, said_by, arch_said, mode_said, edges_said, begins_option}
+use Rattle.diy_words.specs.Sayings.{Saying, SaysName, SaysRelaxes, SaysPlace, SaysSize, SaysExact, SaysWhy, SaysCo, SaysExec, SaysNeeds, SaysLines, SaysGraph, SaysNames, SaysTable, SaysStrict, SaysThreads, SaysAccesses, SaysFolder, SaysCount, SaysTest, SaysExecution, Before, usage_fault, why_said, co_said, exec_said, dot_said, needs_said, lines_said, folder_said, dashed_said, operand_said, relaxes_said, number_said, after_said, cycle_word_said, said_by, arch_said, mode_said, edges_said, begins_option, SaysFrom, SaysLineTests, line_tests_said, name_said}
 use Rattle.diy_words.specs.Gathered.{Gathered, gathered_of, last_given, name_of_saying, size_of_saying, folder_of_saying, count_of_saying, test_of_saying, execution_of_saying}
 use Rattle.diy_words.specs.SaidInOrder.{before_of, said_in, sayings, said_first, said_all}
-use Rattle.diy_words.specs.Requests.{Task, AsksTest, AsksWhy, AsksCoherence, AsksName, AsksList, AsksFamilies, AsksCross, AsksDemo, AsksCheck, AsksExecution, AsksCoherenceExecution, AsksNeeds, AsksLines, NameTask, ListTask, FamiliesTask, list_with, families_with, cross_with, demo_with, check_with, choice_count, mode_or_accept, asks, test_with, why_with, coherence_with, why_asked, coherence_asked, test_asked, test_or_execution, test_or_picture, test_or_needs, coherence_or_execution, coherence_or_picture, one_asked, diyone_with, edges_chosen, with_chosen, diyone_asked, diy_asked, asked_for, norm_asked, tool_asked, said_asked, asked_of}
+use Rattle.diy_words.specs.Requests.{Task, AsksTest, AsksWhy, AsksCoherence, AsksName, AsksList, AsksFamilies, AsksCross, AsksDemo, AsksCheck, AsksExecution, AsksCoherenceExecution, AsksNeeds, AsksLines, NameTask, ListTask, FamiliesTask, list_with, families_with, cross_with, demo_with, check_with, choice_count, mode_or_accept, asks, test_with, why_with, coherence_with, why_asked, coherence_asked, test_asked, test_or_execution, test_or_picture, test_or_needs, coherence_or_execution, coherence_or_picture, one_asked, diyone_with, edges_chosen, with_chosen, diyone_asked, diy_asked, asked_for, norm_asked, tool_asked, said_asked, loosely_asked, idle_error, unless_error, strictly_asked, asked_of, AsksLineTests, line_form, line_tests_with, line_tests_asked, cycle_asked}
 use Rattle.diy_words.specs.declared.request.ExecutionForm.TheVariants.{Text, Drawn}
+use Rattle.diy_words.specs.Strict.{is_strict}
+use Rattle.diy_words.specs.declared.request.LineTestForm.{LineTestForm}
 use Rattle.diy_words.specs.Given.{GivesTask, HasForm, WithinWords, list_kept}
 use Rattle.diy_io.specs.declared.shelf.TheConstants.{MAX_FOLDER}
 use Rattle.diy_words.specs.declared.request.Request.TheVariants as requests
@@ -58,39 +60,53 @@ dashed_form : (count at : ℕ) (b : Bool) → SaysForm count (if b then Ok SaysG
 dashed_form count at true = tt
 dashed_form count at false = tt
 
+table_form : (count at : ℕ) (b : Bool) → SaysForm count (if b then Ok SaysTable else usage_fault at UnknownOption)
+table_form count at true = tt
+table_form count at false = tt
+
 names_form : (count at : ℕ) (b : Bool) → SaysForm count (if b then Ok SaysNames else usage_fault at UnknownOption)
 names_form count at true = tt
 names_form count at false = tt
+
+strict_form : (count at : ℕ) (b : Bool) → SaysForm count (if b then Ok SaysStrict else usage_fault at UnknownOption)
+strict_form count at true = tt
+strict_form count at false = tt
 
 -- an option that takes no value, where it isn't excluded
 option_form : (count at : ℕ) (saying : Saying) (b : Bool) → IsFit count saying → SaysForm count (if b then usage_fault at ExcludedOption else Ok saying)
 option_form count at saying true h = tt
 option_form count at saying false h = h
 
-special_form : (count : ℕ) (before : Before) (at : ℕ) (why co exec needs dot : Bool)
+special_form : (count : ℕ) (before : Before) (at : ℕ) (why co exec needs dot lines : Bool)
     → SaysForm count (if why then why_said before at else if co then co_said before at else if exec then exec_said before at else if needs then needs_said before at
-    else if dot then dot_said before at else usage_fault at UnknownOption)
-special_form count before at true co exec needs dot = option_form count at SaysWhy (before.obs || before.co || before.exec || before.needs || before.graph) tt
-special_form count before at false true exec needs dot = option_form count at SaysCo (before.obs || before.why || before.needs) tt
-special_form count before at false false true needs dot = option_form count at SaysExec (before.why || before.needs || before.graph) tt
-special_form count before at false false false true dot = option_form count at SaysNeeds (before.why || before.co || before.exec || before.graph) tt
-special_form count before at false false false false true = option_form count at SaysGraph (before.why || before.exec || before.needs) tt
-special_form count before at false false false false false = tt
+    else if dot then dot_said before at else if lines then line_tests_said before at else usage_fault at UnknownOption)
+special_form count before at true co exec needs dot lines =
+    option_form count at SaysWhy (before.obs || before.co || before.exec || before.needs || before.graph || before.line_tests) tt
+special_form count before at false true exec needs dot lines = option_form count at SaysCo (before.obs || before.why || before.needs) tt
+special_form count before at false false true needs dot lines =
+    option_form count at SaysExec (before.why || before.needs || before.graph || before.line_tests) tt
+special_form count before at false false false true dot lines =
+    option_form count at SaysNeeds (before.why || before.co || before.exec || before.graph || before.line_tests) tt
+special_form count before at false false false false true lines =
+    option_form count at SaysGraph (before.why || before.exec || before.needs || before.line_tests) tt
+special_form count before at false false false false false true =
+    option_form count at SaysLineTests (before.why || before.exec || before.graph || before.needs || before.from || before.name) tt
+special_form count before at false false false false false false = tt
 
-listing_form : (count : ℕ) (before : Before) (at : ℕ) (exact lines : Bool)
-    → SaysForm count (if exact then Ok SaysExact else if lines then lines_said before at else usage_fault at UnknownOption)
-listing_form count before at true lines = tt
-listing_form count before at false true = option_form count at SaysLines before.folder tt
-listing_form count before at false false = tt
+listing_form : (count : ℕ) (before : Before) (at : ℕ) (exact lines strict : Bool)
+    → SaysForm count (if exact then Ok SaysExact else if lines then lines_said before at else if strict then Ok SaysStrict else usage_fault at UnknownOption)
+listing_form count before at true lines strict = tt
+listing_form count before at false true strict = option_form count at SaysLines before.folder tt
+listing_form count before at false false strict = strict_form count at strict
 
 alone_dashed : (count : ℕ) (tool : Tool) (before : Before) (at : ℕ) (text : List ℕ) → SaysForm count (dashed_said tool before at text)
 alone_dashed count tools.DiyOne before at text = special_form count before at (bytes_eq text (codes "-why")) (bytes_eq text (codes "-co")) (bytes_eq text (codes "-exec"))
-    (bytes_eq text (codes "-needs")) (bytes_eq text (codes "-dot"))
-alone_dashed count tools.Diy before at text = listing_form count before at (bytes_eq text (codes "-exact")) (bytes_eq text (codes "-list"))
+    (bytes_eq text (codes "-needs")) (bytes_eq text (codes "-dot")) (bytes_eq text (codes "-lines"))
+alone_dashed count tools.Diy before at text = listing_form count before at (bytes_eq text (codes "-exact")) (bytes_eq text (codes "-list")) (bytes_eq text (codes "-strict"))
 alone_dashed count tools.Norm before at text = names_form count at (bytes_eq text (codes "-names"))
 alone_dashed count tools.Classify before at text = tt
-alone_dashed count tools.Msum before at text = tt
-alone_dashed count tools.Cross before at text = tt
+alone_dashed count tools.Msum before at text = table_form count at (bytes_eq text (codes "-table") && at == 1)
+alone_dashed count tools.Cross before at text = strict_form count at (bytes_eq text (codes "-strict"))
 alone_dashed count tools.Demo before at text = tt
 alone_dashed count tools.Check before at text = dashed_form count at (bytes_eq text (codes "-dot"))
 
@@ -167,6 +183,11 @@ name_form : (count at : ℕ) (text : List ℕ) (b : Bool) → is_name text ≡ b
 name_form count at text true e = e
 name_form count at text false e = tt
 
+-- an option with a value, where it isn't excluded
+value_form : (count at : ℕ) (said : Result Saying Usage) (b : Bool) → SaysForm count said → SaysForm count (if b then usage_fault at ExcludedOption else said)
+value_form count at said true h = tt
+value_form count at said false h = h
+
 -- a word by itself is one of so many
 abbrev IsAmong : ℕ → Part → Type 0
 IsAmong count (Alone at text) = at < count
@@ -188,9 +209,10 @@ parts_among count tool None at (word ∷ words) h =
 said_form : (count : ℕ) (tool : Tool) (before : Before) (part : Part) → IsAmong count part → SaysForm count (said_by tool before part)
 said_form count tool before (Alone at text) h = alone_form count tool before at text (begins_option text) h
 said_form count tool before (Valued opts.Arch at value) h = arch_form count _ (arch_of value)
-said_form count tool before (Valued opts.Name at value) h = name_form count _ value (is_name value) refl
+said_form count tool before (Valued opts.Name at value) h =
+    value_form count at (name_said (at + 1) value) before.line_tests (name_form count _ value (is_name value) refl)
 said_form count tool before (Valued opts.Obs at value) h = obs_form count at (mode_named value) (before.why || before.co)
-said_form count tool before (Valued opts.From at value) h = tt
+said_form count tool before (Valued opts.From at value) h = value_form count at (Ok (SaysFrom (at + 1) value)) before.line_tests tt
 said_form count tool before (Valued opts.Edges at value) h = relaxes_form count SaysRelaxes _ (relaxes_of value) (λ x. tt)
 said_form count tool before (Valued opts.Size at value) h = said_number_form count SaysSize _ MAX_EDGES value (λ n h. h.1)
 said_form count tool before (Valued opts.Nprocs at value) h = said_number_form count SaysThreads _ MAX_EDGES value (λ n h. tt)
@@ -285,6 +307,7 @@ IsNamedSo count (AsksExecution form asked) = IfSome asked.name (λ name. is_name
 IsNamedSo count (AsksCoherenceExecution form asked) = IfSome asked.name (λ name. is_name name ≡ true)
 IsNamedSo count (AsksNeeds asked) = IfSome asked.name (λ name. is_name name ≡ true)
 IsNamedSo count (AsksLines asked) = (asked.size ≤ MAX_EDGES) × IfSome asked.folder (λ folder. length folder ≤ MAX_FOLDER)
+IsNamedSo count (AsksLineTests asked) = IfSome asked.folder (λ folder. length folder ≤ MAX_FOLDER)
 IsNamedSo count _ = Unit {0}
 
 abbrev IsTaskSo : ℕ → Result Task Usage → Type 0
@@ -315,6 +338,12 @@ coherence_form : (count : ℕ) (arch : Option ArchName) (name : Option (List ℕ
 coherence_form count None name edges folder h = tt
 coherence_form count (Some arch) name edges (Some folder) h = tt
 coherence_form count (Some arch) name edges None h = (h, h)
+
+line_tests_form : (count : ℕ) (arch : Option ArchName) (operand : Option ℕ) (form : LineTestForm) (folder : Option (List ℕ))
+    → IfSome folder (λ folder. length folder ≤ MAX_FOLDER) → IsTaskSo count (asks AsksLineTests (line_tests_with count arch operand form folder))
+line_tests_form count None operand form folder h = tt
+line_tests_form count (Some arch) (Some operand) form folder h = tt
+line_tests_form count (Some arch) None form folder h = h
 
 norm_form : (count : ℕ) (asked : Result NameTask Usage) → IsTaskSo count (asks AsksName asked)
 norm_form count (Ok asked) = tt
@@ -381,12 +410,19 @@ chosen_form count given f = of_why given.why
     of_why true = explained_form count given.arch given.name given.edges given.folder f.0 f.2
     of_why false = of_co given.co
 
-diyone_form : (count : ℕ) (given : Gathered) → AreFit count given → IsTaskSo count (diyone_asked count given)
-diyone_form count given f = of_chosen (edges_chosen given.arch given.from given.operand given.edges)
+cycle_form_of : (count : ℕ) (given : Gathered) → AreFit count given → IsTaskSo count (cycle_asked count given)
+cycle_form_of count given f = of_chosen (edges_chosen given.arch given.from given.operand given.edges)
   where
     of_chosen : (chosen : Result (List Edge) Usage) → IsTaskSo count (with_chosen count given chosen)
     of_chosen (Ok edges) = chosen_form count (record given { edges = edges }) f
     of_chosen (Err usage) = tt
+
+diyone_form : (count : ℕ) (given : Gathered) → AreFit count given → IsTaskSo count (diyone_asked count given)
+diyone_form count given f = of_lines given.line_tests
+  where
+    of_lines : (b : Bool) → IsTaskSo count (if b then asks AsksLineTests (line_tests_asked count given) else cycle_asked count given)
+    of_lines true = line_tests_form count given.arch given.operand (line_form given.co given.mode) given.folder f.2
+    of_lines false = cycle_form_of count given f
 
 tool_form : (tool : Tool) (count : ℕ) (given : Gathered) → AreFit count given
     → IsTaskSo count (tool_asked tool count given)
@@ -405,11 +441,25 @@ words_said_form : (tool : Tool) (count : ℕ) (said : Result (List Saying) Usage
 words_said_form tool count (Err usage) h = tt
 words_said_form tool count (Ok said) h = tool_form tool count (gathered_of said) (gathered_fit count said h)
 
+-- what is asked for with `-strict` has its form where it has that without
+strictly_form : (count : ℕ) (parts : List Part) (asked : Result Task Usage) → IsTaskSo count asked → IsTaskSo count (strictly_asked parts asked)
+strictly_form count parts (Err usage) h = tt
+strictly_form count parts (Ok task) h = of_strict (list_any is_strict parts)
+  where
+    of_idle : (idle : Option Usage) → IsTaskSo count (unless_error idle task)
+    of_idle None = h
+    of_idle (Some usage) = tt
+
+    of_strict : (strict : Bool) → IsTaskSo count (if strict then unless_error (idle_error parts task) task else Ok task)
+    of_strict true = of_idle (idle_error parts task)
+    of_strict false = h
+
 found_form : (found : Option Tool) (count : ℕ) (words : List (List ℕ)) → 1 + length words ≤ count → IsTaskSo count (asked_for found count words)
 found_form None count words h = tt
 found_form (Some tool) count words h =
-    words_said_form tool count _
-    (said_all_form count (sayings tool [] (parts_of tool 1 words)) (parts_form count tool [] (parts_of tool 1 words) (parts_among count tool None 1 words h)))
+    strictly_form count (parts_of tool 1 words) (loosely_asked tool count words)
+    (words_said_form tool count _
+    (said_all_form count (sayings tool [] (parts_of tool 1 words)) (parts_form count tool [] (parts_of tool 1 words) (parts_among count tool None 1 words h))))
 
 words_form : (words : List (List ℕ)) → IsTaskSo (length words) (asked_of words)
 words_form [] = tt
@@ -451,17 +501,20 @@ request_form words result h = of_asked result (asked_of words) (words_form words
         named_so request.name (subst (λ (name : Option (List ℕ)). IfSome name (λ name. is_name name ≡ true)) (sym h.1.1) e)
     of_asked (Ok (requests.List request)) (Ok (AsksList asked)) e h = listed_so request asked h e
     of_asked (Ok (requests.Lines request)) (Ok (AsksLines asked)) e h = listed_so request asked h e
+    of_asked (Ok (requests.LineTests request)) (Ok (AsksLineTests asked)) e h =
+        folder_so request.folder (subst (λ (f : Option (List ℕ)). IfSome f (λ folder. length folder ≤ MAX_FOLDER)) (sym h.2) e)
     of_asked (Ok (requests.Cross request)) (Ok (AsksCross asked)) e h = folder_so request.folder (subst (λ (f : Option (List ℕ)). IfSome f (λ folder. length folder ≤ MAX_FOLDER)) (sym h.2) e)
     of_asked (Ok (requests.Demo request)) (Ok (AsksDemo asked)) e h = subst (λ (d : Demo). (1 ≤ d.count) × (d.count ≤ MAX_TESTS)) (sym h) e
     of_asked (Ok (requests.Name request)) asked e h = tt
     of_asked (Ok (requests.Families arch)) asked e h = tt
-    of_asked (Ok requests.Sum) asked e h = tt
+    of_asked (Ok (requests.Sum form)) asked e h = tt
     of_asked (Ok (requests.Check request)) asked e h = tt
     of_asked (Ok (requests.Test request)) asked e h = absurd h
     of_asked (Ok (requests.Execution form request)) asked e h = absurd h
     of_asked (Ok (requests.CoherenceExecution form request)) asked e h = absurd h
     of_asked (Ok (requests.Needs request)) asked e h = absurd h
     of_asked (Ok (requests.Lines request)) asked e h = absurd h
+    of_asked (Ok (requests.LineTests request)) asked e h = absurd h
     of_asked (Ok (requests.Why request)) asked e h = absurd h
     of_asked (Ok (requests.Coherence request)) asked e h = absurd h
     of_asked (Ok (requests.List request)) asked e h = absurd h

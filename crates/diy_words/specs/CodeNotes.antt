@@ -38,6 +38,8 @@ code_notes notes = record {
     lines = notes.lines;
     graph = notes.graph;
     names = notes.names;
+    table = notes.table;
+    line_tests = notes.line_tests;
   };
   edges = notes.edges;
   choices = notes.choices;

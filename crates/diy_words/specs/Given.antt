@@ -4,7 +4,7 @@ use Rattle.relax_edges.specs.declared.TheConstants.{MAX_EDGES}
 use Rattle.edges_from_text.specs.KeptEdges.{kept_edges}
 use Rattle.diy_words.specs.{declared.request.Diy.Diy, declared.request.TheConstants.MAX_TESTS, declared.request.Request.Request, declared.request.Sought.Sought}
 use Rattle.diy_words.specs.{declared.usage.Usage.Usage, declared.request.DiyOne.DiyOne, declared.request.Coherence.Coherence, TestNames.is_name}
-use Rattle.diy_words.specs.Requests.{Task, AsksTest, AsksWhy, AsksCoherence, AsksName, AsksList, AsksFamilies, AsksSum, AsksCross, AsksDemo, AsksCheck, AsksExecution, AsksCoherenceExecution, AsksNeeds, AsksLines, TestTask, CoherenceTask, ListTask, OfEdges, OfName, OfLines, OfNames}
+use Rattle.diy_words.specs.Requests.{Task, AsksTest, AsksWhy, AsksCoherence, AsksName, AsksList, AsksFamilies, AsksSum, AsksCross, AsksDemo, AsksCheck, AsksExecution, AsksCoherenceExecution, AsksNeeds, AsksLines, AsksLineTests, TestTask, CoherenceTask, ListTask, OfEdges, OfName, OfLines, OfNames}
 use Rattle.diy_io.specs.declared.shelf.TheConstants.{MAX_FOLDER}
 use Rattle.diy_words.specs.declared.request.Request.TheVariants as requests
 use Rattle.diy_words.specs.declared.request.Sought.TheVariants as sought
@@ -55,8 +55,10 @@ HoldsTask (requests.CoherenceExecution form request) (AsksCoherenceExecution ask
 HoldsTask (requests.Name request) (AsksName asked) = (request.arch ≡ asked.arch) × IsSought request.cycle asked.cycle
 HoldsTask (requests.List request) (AsksList asked) = list_kept request ≡ asked
 HoldsTask (requests.Lines request) (AsksLines asked) = list_kept request ≡ asked
+HoldsTask (requests.LineTests request) (AsksLineTests asked) =
+    (request.arch ≡ asked.arch) × (request.form ≡ asked.form) × (option_map (λ folder. folder.now) request.folder ≡ asked.folder)
 HoldsTask (requests.Families arch) (AsksFamilies asked) = arch ≡ asked.arch
-HoldsTask requests.Sum AsksSum = Unit {0}
+HoldsTask (requests.Sum form) (AsksSum asked) = form ≡ asked
 HoldsTask (requests.Cross request) (AsksCross asked) =
     (request.arch ≡ asked.arch) × (request.mode ≡ asked.mode) × (option_map (λ folder. folder.now) request.folder ≡ asked.folder)
 HoldsTask (requests.Demo request) (AsksDemo asked) = request ≡ asked
@@ -82,6 +84,7 @@ HasForm (requests.Needs request) = IfSome request.name (λ name. is_name name.by
 HasForm (requests.CoherenceExecution form request) = IfSome request.name (λ name. is_name name.bytes ≡ true)
 HasForm (requests.List request) = (request.limits.size ≤ MAX_EDGES) × ForSome request.folder (λ folder. length folder.now ≤ MAX_FOLDER)
 HasForm (requests.Lines request) = (request.limits.size ≤ MAX_EDGES) × ForSome request.folder (λ folder. length folder.now ≤ MAX_FOLDER)
+HasForm (requests.LineTests request) = ForSome request.folder (λ folder. length folder.now ≤ MAX_FOLDER)
 HasForm (requests.Cross request) = ForSome request.folder (λ folder. length folder.now ≤ MAX_FOLDER)
 HasForm (requests.Demo request) = (1 ≤ request.count) × (request.count ≤ MAX_TESTS)
 HasForm _ = Unit {0}

@@ -9,3 +9,5 @@ pub mod Given
 pub mod GivenLaws
 pub mod Notes
 pub mod CodeNotes
+pub mod Strict
+pub mod StrictSteps

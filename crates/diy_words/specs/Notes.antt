@@ -5,7 +5,7 @@ use Rattle.relax_edges.specs.declared.edge.Edge.{Edge}
 use Rattle.edges_from_text.specs.{declared.list.EdgeList.EdgeList, KeptEdges.{kept_edges, edges_added}}
 use Rattle.diy_words.specs.{declared.options.Tool.Tool, declared.request.TheConstants.MAX_CHOICES, declared.usage.Usage.Usage, Parts.Part}
 use Rattle.diy_words.specs.Gathered.{Gathered, gathered_of}
-use Rattle.diy_words.specs.Sayings.{Saying, SaysArch, SaysName, SaysMode, SaysFrom, SaysEdges, SaysRelaxes, SaysSize, SaysExact, SaysWhy, SaysCo, SaysExec, SaysNeeds, SaysLines, SaysGraph, SaysNames, SaysThreads, SaysAccesses, SaysAfter, SaysFolder, SaysLog, SaysFile, SaysTest, SaysExecution, SaysPlace, SaysCount, Before, said_by}
+use Rattle.diy_words.specs.Sayings.{Saying, SaysArch, SaysName, SaysMode, SaysFrom, SaysEdges, SaysRelaxes, SaysSize, SaysExact, SaysWhy, SaysCo, SaysExec, SaysNeeds, SaysLines, SaysGraph, SaysNames, SaysTable, SaysStrict, SaysThreads, SaysAccesses, SaysAfter, SaysFolder, SaysLog, SaysFile, SaysTest, SaysExecution, SaysPlace, SaysCount, Before, said_by, SaysLineTests}
 
 -- what is gathered so far, except for edges, positions and files, of which nothing is gathered here; the edges, as many as a list holds;
 -- in how many ways a relaxation can be chosen for each position, up to one more than allowed; and how many operands were taken of those
@@ -43,10 +43,13 @@ with_saying notes SaysNeeds = record notes { given = record notes.given { needs 
 with_saying notes SaysLines = record notes { given = record notes.given { lines = true } }
 with_saying notes SaysGraph = record notes { given = record notes.given { graph = true } }
 with_saying notes SaysNames = record notes { given = record notes.given { names = true } }
+with_saying notes SaysTable = record notes { given = record notes.given { table = true } }
+with_saying notes SaysLineTests = record notes { given = record notes.given { line_tests = true } }
 with_saying notes (SaysThreads threads) = record notes { given = record notes.given { threads = threads } }
 with_saying notes (SaysAccesses accesses) = record notes { given = record notes.given { accesses = Some accesses } }
 with_saying notes (SaysAfter cycle) = record notes { given = record notes.given { after = Some cycle } }
 with_saying notes (SaysFolder folder) = record notes { given = record notes.given { folder = Some folder } }
+with_saying notes SaysStrict = notes
 with_saying notes SaysLog = notes
 with_saying notes (SaysFile at) = notes
 with_saying notes (SaysPlace relaxes) = record notes { choices = more_choices notes.choices (length relaxes) }
@@ -72,12 +75,15 @@ notes_of = notes_with no_notes
 abbrev pub before_noted : Notes → Before
 before_noted notes = record {
   taken = notes.taken;
+  name = is_some notes.given.name;
+  from = is_some notes.given.from;
   obs = is_some notes.given.mode;
   why = notes.given.why;
   co = notes.given.co;
   exec = notes.given.exec;
   needs = notes.given.needs;
   graph = notes.given.graph;
+  line_tests = notes.given.line_tests;
   folder = is_some notes.given.folder;
   lines = notes.given.lines;
 }

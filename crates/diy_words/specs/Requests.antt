@@ -1,14 +1,16 @@
 -- The request that the arguments make, or the first error among them. They are judged from left to right, an option together with its
 -- value, and then as a whole. Source: own, after the command lines of the diy tools.
-use Rattle.std.specs.{Prelude.{ℕ, ◌*◌, Bool, nat_lt, if◌then◌else◌, List, [], ◌∷◌, length, Option, Some, None, Result, Ok, Err}, Option.unwrap_or}
+use Rattle.std.specs.{Prelude.{ℕ, ◌*◌, Bool, nat_lt, if◌then◌else◌, List, [], ◌∷◌, length, Option, Some, None, Result, Ok, Err}, Option.unwrap_or, List.list_any}
 use Rattle.relax_edges.specs.{declared.kinds.ArchName.ArchName, declared.kinds.ObsMode.ObsMode, declared.kinds.ObsMode.TheVariants.Accept}
 use Rattle.relax_edges.specs.declared.edge.Edge.{Edge}
 use Rattle.cycles_from_lines.specs.NamedCycles.{cycle_named}
+use Rattle.msum7_files.specs.{declared.sum_form.SumForm.SumForm, declared.sum_form.SumForm.TheVariants.{Log, Table}}
 use Rattle.diy_words.specs.{declared.request.CheckForm.CheckForm, declared.request.CheckForm.TheVariants.{Verdict, Graph}, declared.usage.Usage.Usage}
 use Rattle.diy_words.specs.{declared.request.ExecutionForm.ExecutionForm, declared.request.ExecutionForm.TheVariants.{Text, Drawn}}
+use Rattle.diy_words.specs.{declared.request.LineTestForm.LineTestForm, declared.request.LineTestForm.TheVariants.{Observed, Coherence}}
 use Rattle.diy_words.specs.{declared.request.Check.Check, declared.request.Demo.Demo, declared.request.TheConstants.MAX_CHOICES, declared.options.Tool.Tool}
 use Rattle.diy_words.specs.declared.usage.UsageKind.TheVariants.{UnknownTool, UnknownName, StrayWord, MissingArch, MissingEdges, MissingNumber, MissingFile, MissingWhy, TooManyChoices}
-use Rattle.diy_words.specs.{Parts.{parts_of, tool_named}, Sayings.Saying, Gathered.{Gathered, gathered_of}, SaidInOrder.{sayings, said_all}}
+use Rattle.diy_words.specs.{Parts.{Part, parts_of, tool_named}, Strict.{is_strict, lists_in, idle_in_listing, idle_in_positions}, Sayings.Saying, Gathered.{Gathered, gathered_of}, SaidInOrder.{sayings, said_all}}
 use Rattle.diy_words.specs.declared.options.Tool.TheVariants as tools
 
 -- what diyone7 is asked for without `-why` and `-co`: a test, the execution that it asks for, or what suffices against its outcome, under
@@ -33,6 +35,12 @@ pub record CoherenceTask : Type 0 where
   pub arch : ArchName
   pub name : Option (List ℕ)
   pub edges : List Edge
+
+-- what diyone7 is asked for with `-lines`: the tests of a form of the cycles of the input's lines, each in a file
+pub record LineTestsTask : Type 0 where
+  pub arch : ArchName
+  pub form : LineTestForm
+  pub folder : Option (List ℕ)
 
 -- the cycles whose names norm7 is asked for: the one that edges make; the one that has a name, which is the argument at an index; those
 -- of the lines of the input; or those that the lines of the input name
@@ -78,7 +86,7 @@ pub record FamiliesTask : Type 0 where
 -- names of cycles by their families; the sum of the logs that the arguments after the first name, or of the input if there are none; the
 -- tests of the choices of relaxations; a number of tests; what holds of an execution of a test; instead of a test or a coherence test, the
 -- execution that it asks for; instead of a test, what suffices against its outcome; instead of the tests of a listing, the lines of its
--- cycles. For demo and mcheck7 the request itself has the same type
+-- cycles; the tests of the input's lines of cycles. For demo and mcheck7 the request itself has the same type
 pub data Task : Type 0 where
   AsksTest : TestTask → Task
   AsksWhy : WhyTask → Task
@@ -86,7 +94,7 @@ pub data Task : Type 0 where
   AsksName : NameTask → Task
   AsksList : ListTask → Task
   AsksFamilies : FamiliesTask → Task
-  AsksSum : Task
+  AsksSum : SumForm → Task
   AsksCross : CrossTask → Task
   AsksDemo : Demo → Task
   AsksCheck : Check → Task
@@ -94,6 +102,7 @@ pub data Task : Type 0 where
   AsksCoherenceExecution : ExecutionForm → CoherenceTask → Task
   AsksNeeds : TestTask → Task
   AsksLines : ListTask → Task
+  AsksLineTests : LineTestsTask → Task
 
 -- in how many ways a relaxation can be chosen for each position; if there is no position, in one way
 abbrev pub choice_count : List (List (List Edge)) → ℕ
@@ -120,6 +129,12 @@ abbrev pub coherence_with : ℕ → Option ArchName → Option (List ℕ) → Li
 coherence_with count None name edges folder = Err (record { word = count; kind = MissingArch })
 coherence_with count (Some arch) name edges (Some folder) = Err (record { word = count; kind = MissingWhy })
 coherence_with count (Some arch) name edges None = Ok (record { arch = arch; name = name; edges = edges })
+
+-- the request of diyone7 with `-lines` from what was given: the first operand is stray
+abbrev pub line_tests_with : ℕ → Option ArchName → Option ℕ → LineTestForm → Option (List ℕ) → Result LineTestsTask Usage
+line_tests_with count None operand form folder = Err (record { word = count; kind = MissingArch })
+line_tests_with count (Some arch) (Some operand) form folder = Err (record { word = operand; kind = StrayWord })
+line_tests_with count (Some arch) None form folder = Ok (record { arch = arch; form = form; folder = folder })
 
 -- the request of norm7 from what was given: the cycle of `-from` or that of the operands, or without both the cycles of the input's lines;
 -- together with `-from`, the first operand is stray
@@ -235,9 +250,21 @@ abbrev pub with_chosen : ℕ → Gathered → Result (List Edge) Usage → Resul
 with_chosen count given (Ok edges) = diyone_with count (record given { edges = edges })
 with_chosen count given (Err usage) = Err usage
 
+-- the request of diyone7 without `-lines`
+abbrev pub cycle_asked : ℕ → Gathered → Result Task Usage
+cycle_asked count given = with_chosen count given (edges_chosen given.arch given.from given.operand given.edges)
+
+-- which test of a line's cycle is made: with `-co` the coherence test, otherwise the test in the mode
+abbrev pub line_form : Bool → Option ObsMode → LineTestForm
+line_form co mode = if co then Coherence else Observed (mode_or_accept mode)
+
+-- what diyone7 is asked for with `-lines`
+abbrev pub line_tests_asked : ℕ → Gathered → Result LineTestsTask Usage
+line_tests_asked count given = line_tests_with count given.arch given.operand (line_form given.co given.mode) given.folder
+
 -- the request of diyone7
 abbrev pub diyone_asked : ℕ → Gathered → Result Task Usage
-diyone_asked count given = with_chosen count given (edges_chosen given.arch given.from given.operand given.edges)
+diyone_asked count given = if given.line_tests then asks AsksLineTests (line_tests_asked count given) else cycle_asked count given
 
 -- the request of norm7 without `-names`, from all that is gathered
 abbrev pub name_asked : ℕ → Gathered → Result NameTask Usage
@@ -264,6 +291,10 @@ list_or_lines count given = if given.lines then asks AsksLines (diy_asked count 
 abbrev pub check_asked : ℕ → Gathered → Result Check Usage
 check_asked count given = check_with count given.arch given.test given.execution (if given.graph then Graph else Verdict)
 
+-- the form in which msum7 is asked to print a sum, whether `-table` is given or not
+abbrev pub form_asked : Bool → SumForm
+form_asked table = if table then Table else Log
+
 -- the request of diycross7
 abbrev pub cross_asked : ℕ → Gathered → Result CrossTask Usage
 cross_asked count given = cross_with count given.arch (mode_or_accept given.mode) given.folder given.places
@@ -274,7 +305,7 @@ tool_asked tools.DiyOne count given = diyone_asked count given
 tool_asked tools.Diy count given = list_or_lines count given
 tool_asked tools.Norm count given = asks AsksName (norm_asked count given)
 tool_asked tools.Classify count given = asks AsksFamilies (families_with count given.arch given.files)
-tool_asked tools.Msum count given = Ok AsksSum
+tool_asked tools.Msum count given = Ok (AsksSum (form_asked given.table))
 tool_asked tools.Cross count given = asks AsksCross (cross_asked count given)
 tool_asked tools.Demo count given = asks AsksDemo (demo_with count given.arch given.count)
 tool_asked tools.Check count given = asks AsksCheck (check_asked count given)
@@ -284,10 +315,31 @@ abbrev pub said_asked : Tool → ℕ → Result (List Saying) Usage → Result T
 said_asked tool count (Err usage) = Err usage
 said_asked tool count (Ok said) = tool_asked tool count (gathered_of said)
 
+-- the request of a tool from the arguments after the first, whether `-strict` is given or not
+abbrev pub loosely_asked : Tool → ℕ → List (List ℕ) → Result Task Usage
+loosely_asked tool count words = said_asked tool count (said_all (sayings tool [] (parts_of tool 1 words)))
+
+-- the error at the first idle relaxation of what is asked for, if it has one, from the parts of the arguments
+abbrev pub idle_error : List Part → Task → Option Usage
+idle_error parts (AsksList asked) = idle_in_listing asked.arch asked.relaxes (lists_in parts)
+idle_error parts (AsksLines asked) = idle_in_listing asked.arch asked.relaxes (lists_in parts)
+idle_error parts (AsksCross asked) = idle_in_positions asked.arch (lists_in parts)
+idle_error parts _ = None
+
+-- what is asked for, unless there is an error
+abbrev pub unless_error : Option Usage → Task → Result Task Usage
+unless_error None task = Ok task
+unless_error (Some usage) task = Err usage
+
+-- what is asked for, unless `-strict` is given and a relaxation is idle
+abbrev pub strictly_asked : List Part → Result Task Usage → Result Task Usage
+strictly_asked parts (Ok task) = if list_any is_strict parts then unless_error (idle_error parts task) task else Ok task
+strictly_asked parts (Err usage) = Err usage
+
 -- the request of a tool from the arguments after the first, if the first names a tool
 abbrev pub asked_for : Option Tool → ℕ → List (List ℕ) → Result Task Usage
 asked_for None count words = Err (record { word = 0; kind = UnknownTool })
-asked_for (Some tool) count words = said_asked tool count (said_all (sayings tool [] (parts_of tool 1 words)))
+asked_for (Some tool) count words = strictly_asked (parts_of tool 1 words) (loosely_asked tool count words)
 
 -- the request that the arguments make, the first of which names the tool, or their first error
 abbrev pub asked_of : List (List ℕ) → Result Task Usage

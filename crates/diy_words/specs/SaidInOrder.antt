@@ -2,7 +2,7 @@
 use Rattle.std.specs.{Prelude.{Bool, true, false, List, [], ◌∷◌, ◌++◌, length, filter, is_some, Result, Ok, Err}, List.list_any}
 use Rattle.diy_words.specs.{declared.usage.Usage.Usage, declared.options.Tool.Tool, Parts.Part}
 use Rattle.diy_words.specs.Sayings.{Saying, SaysCount, SaysTest, SaysExecution, Before, said_by}
-use Rattle.diy_words.specs.Gathered.{mode_of_saying, folder_of_saying, is_why, is_co, is_exec, is_graph, is_needs, is_lines, last_given}
+use Rattle.diy_words.specs.Gathered.{name_of_saying, from_of_saying, mode_of_saying, folder_of_saying, is_why, is_co, is_exec, is_graph, is_needs, is_lines, is_line_tests, last_given}
 
 -- one of the operands whose number is limited: the number of demo and the files of mcheck7
 abbrev pub is_limited : Saying → Bool
@@ -15,12 +15,15 @@ is_limited _ = false
 abbrev pub before_of : List Saying → Before
 before_of said = record {
   taken = length (filter is_limited said);
+  name = is_some (last_given name_of_saying said);
+  from = is_some (last_given from_of_saying said);
   obs = is_some (last_given mode_of_saying said);
   why = list_any is_why said;
   co = list_any is_co said;
   exec = list_any is_exec said;
   needs = list_any is_needs said;
   graph = list_any is_graph said;
+  line_tests = list_any is_line_tests said;
   folder = is_some (last_given folder_of_saying said);
   lines = list_any is_lines said;
 }

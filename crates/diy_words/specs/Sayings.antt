@@ -36,6 +36,9 @@ pub data Saying : Type 0 where
   SaysLines : Saying
   SaysGraph : Saying
   SaysNames : Saying
+  SaysTable : Saying
+  SaysStrict : Saying
+  SaysLineTests : Saying
   SaysThreads : ℕ → Saying
   SaysAccesses : ℕ → Saying
   SaysAfter : List Edge → Saying
@@ -48,15 +51,18 @@ pub data Saying : Type 0 where
   SaysCount : ℕ → Saying
 
 -- what was said before an argument that decides whether it is an error: how many operands were taken of those whose number is limited,
--- and whether each of `-obs`, `-why`, `-co`, `-exec`, `-needs`, `-dot`, `-o` and `-list` was given
+-- and whether each of `-name`, `-from`, `-obs`, `-why`, `-co`, `-exec`, `-needs`, `-dot`, `-lines`, `-o` and `-list` was given
 pub record Before : Type 0 where
   pub taken : ℕ
+  pub name : Bool
+  pub from : Bool
   pub obs : Bool
   pub why : Bool
   pub co : Bool
   pub exec : Bool
   pub needs : Bool
   pub graph : Bool
+  pub line_tests : Bool
   pub folder : Bool
   pub lines : Bool
 
@@ -73,6 +79,10 @@ arch_said at None = usage_fault at UnknownArch
 abbrev pub name_said : ℕ → List ℕ → Result Saying Usage
 name_said at text = if is_name text then Ok (SaysName text) else usage_fault at BadName
 
+-- `-name` at its index with its value: after `-lines` it is excluded, whatever its value
+abbrev pub test_name_said : Before → ℕ → List ℕ → Result Saying Usage
+test_name_said before at value = if before.line_tests then usage_fault at ExcludedOption else name_said (at + 1) value
+
 -- the value of `-obs`, at its index
 abbrev pub mode_said : ℕ → Option ObsMode → Result Saying Usage
 mode_said at (Some mode) = Ok (SaysMode mode)
@@ -82,25 +92,36 @@ mode_said at None = usage_fault at BadMode
 abbrev pub obs_said : Before → ℕ → List ℕ → Result Saying Usage
 obs_said before at value = if before.why || before.co then usage_fault at ExcludedOption else mode_said (at + 1) (mode_named value)
 
--- `-why` at its index: after `-obs`, `-co`, `-exec`, `-needs` or `-dot` it is excluded
+-- `-from` at its index with its value: after `-lines` it is excluded
+abbrev pub from_said : Before → ℕ → List ℕ → Result Saying Usage
+from_said before at value = if before.line_tests then usage_fault at ExcludedOption else Ok (SaysFrom (at + 1) value)
+
+-- `-why` at its index: after `-obs`, `-co`, `-exec`, `-needs`, `-dot` or `-lines` it is excluded
 abbrev pub why_said : Before → ℕ → Result Saying Usage
-why_said before at = if before.obs || before.co || before.exec || before.needs || before.graph then usage_fault at ExcludedOption else Ok SaysWhy
+why_said before at =
+    if before.obs || before.co || before.exec || before.needs || before.graph || before.line_tests then usage_fault at ExcludedOption else Ok SaysWhy
 
 -- `-co` at its index: after `-obs`, `-why` or `-needs` it is excluded
 abbrev pub co_said : Before → ℕ → Result Saying Usage
 co_said before at = if before.obs || before.why || before.needs then usage_fault at ExcludedOption else Ok SaysCo
 
--- `-exec` at its index: after `-why`, `-needs` or `-dot` it is excluded
+-- `-exec` at its index: after `-why`, `-needs`, `-dot` or `-lines` it is excluded
 abbrev pub exec_said : Before → ℕ → Result Saying Usage
-exec_said before at = if before.why || before.needs || before.graph then usage_fault at ExcludedOption else Ok SaysExec
+exec_said before at = if before.why || before.needs || before.graph || before.line_tests then usage_fault at ExcludedOption else Ok SaysExec
 
--- `-dot` of diyone7 at its index: after `-why`, `-exec` or `-needs` it is excluded
+-- `-dot` of diyone7 at its index: after `-why`, `-exec`, `-needs` or `-lines` it is excluded
 abbrev pub dot_said : Before → ℕ → Result Saying Usage
-dot_said before at = if before.why || before.exec || before.needs then usage_fault at ExcludedOption else Ok SaysGraph
+dot_said before at = if before.why || before.exec || before.needs || before.line_tests then usage_fault at ExcludedOption else Ok SaysGraph
 
--- `-needs` at its index: after `-why`, `-co`, `-exec` or `-dot` it is excluded
+-- `-needs` at its index: after `-why`, `-co`, `-exec`, `-dot` or `-lines` it is excluded
 abbrev pub needs_said : Before → ℕ → Result Saying Usage
-needs_said before at = if before.why || before.co || before.exec || before.graph then usage_fault at ExcludedOption else Ok SaysNeeds
+needs_said before at =
+    if before.why || before.co || before.exec || before.graph || before.line_tests then usage_fault at ExcludedOption else Ok SaysNeeds
+
+-- `-lines` at its index: after `-why`, `-exec`, `-dot`, `-needs`, `-from` or `-name` it is excluded
+abbrev pub line_tests_said : Before → ℕ → Result Saying Usage
+line_tests_said before at =
+    if before.why || before.exec || before.graph || before.needs || before.from || before.name then usage_fault at ExcludedOption else Ok SaysLineTests
 
 -- `-list` at its index: after `-o` it is excluded
 abbrev pub lines_said : Before → ℕ → Result Saying Usage
@@ -161,12 +182,16 @@ dashed_said tools.DiyOne before at text =
     else if bytes_eq text (codes "-exec") then exec_said before at
     else if bytes_eq text (codes "-needs") then needs_said before at
     else if bytes_eq text (codes "-dot") then dot_said before at
+    else if bytes_eq text (codes "-lines") then line_tests_said before at
     else usage_fault at UnknownOption
 dashed_said tools.Diy before at text =
     if bytes_eq text (codes "-exact") then Ok SaysExact
     else if bytes_eq text (codes "-list") then lines_said before at
+    else if bytes_eq text (codes "-strict") then Ok SaysStrict
     else usage_fault at UnknownOption
+dashed_said tools.Cross before at text = if bytes_eq text (codes "-strict") then Ok SaysStrict else usage_fault at UnknownOption
 dashed_said tools.Norm before at text = if bytes_eq text (codes "-names") then Ok SaysNames else usage_fault at UnknownOption
+dashed_said tools.Msum before at text = if bytes_eq text (codes "-table") && at == 1 then Ok SaysTable else usage_fault at UnknownOption
 dashed_said tools.Check before at text = if bytes_eq text (codes "-dot") then Ok SaysGraph else usage_fault at UnknownOption
 dashed_said _ before at text = usage_fault at UnknownOption
 
@@ -190,9 +215,9 @@ operand_said tools.Check taken at text = checked_said taken at
 abbrev pub said_by : Tool → Before → Part → Result Saying Usage
 said_by tool before (Alone at text) = if begins_option text then dashed_said tool before at text else operand_said tool before.taken at text
 said_by tool before (Valued opts.Arch at value) = arch_said (at + 1) (arch_of value)
-said_by tool before (Valued opts.Name at value) = name_said (at + 1) value
+said_by tool before (Valued opts.Name at value) = test_name_said before at value
 said_by tool before (Valued opts.Obs at value) = obs_said before at value
-said_by tool before (Valued opts.From at value) = Ok (SaysFrom (at + 1) value)
+said_by tool before (Valued opts.From at value) = from_said before at value
 said_by tool before (Valued opts.Edges at value) = relaxes_said SaysRelaxes (at + 1) (relaxes_of value)
 said_by tool before (Valued opts.Size at value) = number_said SaysSize (at + 1) (number_to MAX_EDGES value)
 said_by tool before (Valued opts.Nprocs at value) = number_said SaysThreads (at + 1) (number_to MAX_EDGES value)

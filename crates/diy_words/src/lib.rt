@@ -9,13 +9,14 @@ mod options;
 mod places;
 mod read;
 mod request;
+mod strict;
 mod usage;
 
 pub use files::read_files;
 pub use places::read_places;
 pub use read::read_request;
 pub use request::{
-    Check, CheckForm, Coherence, Cross, Demo, Diy, DiyOne, ExecutionForm, MAX_CHOICES,
-    MAX_GIVEN_NAME, MAX_TESTS, Norm, Request, Sought, Source, TestName, Why,
+    Check, CheckForm, Coherence, Cross, Demo, Diy, DiyOne, ExecutionForm, LineTestForm, LineTests,
+    MAX_CHOICES, MAX_GIVEN_NAME, MAX_TESTS, Norm, Request, Sought, Source, TestName, Why,
 };
 pub use usage::{Usage, UsageKind};

@@ -5,7 +5,7 @@ ghost use Rattle.edges_from_text.specs.{declared.read.Separators.TheVariants.{Bl
 ghost use Rattle.edge_algebra.specs.Compose.{composed};
 ghost use Rattle.diy_words.specs.{CodeNotes.{cycle_kept}, NumberWords.{number_to}, declared.usage.UsageKind.TheVariants.{ExcludedOption}};
 ghost use Rattle.diy_words.specs.{Parts.{Unvalued, mode_named}, Notes.{before_noted, more_choices}};
-ghost use Rattle.diy_words.specs.Sayings.{Before, SaysRelaxes, SaysPlace, SaysSize, SaysThreads, SaysAccesses, said_by, arch_said, name_said, mode_said, obs_said, why_said, co_said, exec_said, dot_said, needs_said, lines_said, file_folder_said, edges_said, relaxes_said, relax_usage, number_said, after_said, folder_said, checked_said, operand_said, begins_option};
+ghost use Rattle.diy_words.specs.Sayings.{Before, SaysRelaxes, SaysPlace, SaysSize, SaysThreads, SaysAccesses, said_by, arch_said, name_said, test_name_said, mode_said, obs_said, from_said, why_said, co_said, exec_said, dot_said, needs_said, line_tests_said, lines_said, file_folder_said, edges_said, relaxes_said, relax_usage, number_said, after_said, folder_said, checked_said, operand_said, begins_option};
 ghost use Rattle.diy_words.specs.declared.options.Tool.TheVariants as tools;
 
 use crate::name::name_of;
@@ -64,6 +64,10 @@ pub struct Notes<'a> {
     pub graph: bool,
     /// Whether `-names` was given.
     pub names: bool,
+    /// Whether `-table` was given.
+    pub table: bool,
+    /// Whether `-lines` was given.
+    pub line_tests: bool,
 }
 
 impl<'a> Notes<'a> {
@@ -100,6 +104,8 @@ impl<'a> Notes<'a> {
             lines: false,
             graph: false,
             names: false,
+            table: false,
+            line_tests: false,
         }
     }
 
@@ -118,15 +124,9 @@ impl<'a> Notes<'a> {
         let _tool = tool;
         match option {
             OptionName::Arch => self.take_arch(at + 1, value),
-            OptionName::Name => self.take_name(at + 1, value),
+            OptionName::Name => self.take_test_name(at, value),
             OptionName::Obs => self.take_obs(at, value),
-            OptionName::From => {
-                self.from = Some(Source {
-                    word: at + 1,
-                    name: value,
-                });
-                Ok(())
-            }
+            OptionName::From => self.take_from(at, value),
             OptionName::Edges => self.take_relaxes(at + 1, value),
             OptionName::Size => self.take_size(at + 1, value),
             OptionName::Nprocs => self.take_threads(at + 1, value),
@@ -142,6 +142,17 @@ impl<'a> Notes<'a> {
         let arch = read_arch(value).ok_or(usage_at(at, UsageKind::UnknownArch))?;
         self.arch = Some(arch);
         Ok(())
+    }
+
+    /// Takes in `-name` at index `at` with its value, unless `-lines` comes before it.
+    fn take_test_name(&mut self, at: usize, value: &str) -> Result<(), Usage>
+        requires { at + 1 < 2 ^ 64 }
+        ensures { notes_left result (code_notes self.new) ≡ notes_after (code_notes self.old) (test_name_said (before_noted (code_notes self.old)) at value.now) }
+    {
+        if self.line_tests {
+            return Err(excluded_option(at));
+        }
+        self.take_name(at + 1, value)
     }
 
     fn take_name(&mut self, at: usize, value: &str) -> Result<(), Usage>
@@ -168,6 +179,21 @@ impl<'a> Notes<'a> {
     {
         let mode = mode_named(value).ok_or(usage_at(at, UsageKind::BadMode))?;
         self.mode = Some(mode);
+        Ok(())
+    }
+
+    /// Takes in `-from` at index `at` with its value, unless `-lines` comes before it.
+    fn take_from(&mut self, at: usize, value: &'a str) -> Result<(), Usage>
+        requires { at + 1 < 2 ^ 64 }
+        ensures { notes_left result (code_notes self.new) ≡ notes_after (code_notes self.old) (from_said (before_noted (code_notes self.old)) at value.now) }
+    {
+        if self.line_tests {
+            return Err(excluded_option(at));
+        }
+        self.from = Some(Source {
+            word: at + 1,
+            name: value,
+        });
         Ok(())
     }
 
@@ -272,13 +298,20 @@ impl<'a> Notes<'a> {
             Tool::DiyOne if text == "-exec" => self.take_exec(at),
             Tool::DiyOne if text == "-needs" => self.take_needs(at),
             Tool::DiyOne if text == "-dot" => self.take_dot(at),
+            Tool::DiyOne if text == "-lines" => self.take_line_tests(at),
             Tool::Diy if text == "-exact" => {
                 self.limits.exact = true;
                 Ok(())
             }
             Tool::Diy if text == "-list" => self.take_lines(at),
+            Tool::Diy if text == "-strict" => Ok(()),
+            Tool::Cross if text == "-strict" => Ok(()),
             Tool::Norm if text == "-names" => {
                 self.names = true;
+                Ok(())
+            }
+            Tool::Msum if text == "-table" && at == 1 => {
+                self.table = true;
                 Ok(())
             }
             Tool::Check if text == "-dot" => {
@@ -289,11 +322,17 @@ impl<'a> Notes<'a> {
         }
     }
 
-    /// Takes in `-why`, unless `-obs`, `-co`, `-exec`, `-needs` or `-dot` comes before it.
+    /// Takes in `-why`, unless `-obs`, `-co`, `-exec`, `-needs`, `-dot` or `-lines` comes before it.
     fn take_why(&mut self, at: usize) -> Result<(), Usage>
         ensures { notes_left result (code_notes self.new) ≡ notes_after (code_notes self.old) (why_said (before_noted (code_notes self.old)) at) }
     {
-        if self.mode.is_some() || self.co || self.exec || self.needs || self.graph {
+        if self.mode.is_some()
+            || self.co
+            || self.exec
+            || self.needs
+            || self.graph
+            || self.line_tests
+        {
             return Err(excluded_option(at));
         }
         self.why = true;
@@ -311,36 +350,53 @@ impl<'a> Notes<'a> {
         Ok(())
     }
 
-    /// Takes in `-exec`, unless `-why`, `-needs` or `-dot` comes before it.
+    /// Takes in `-exec`, unless `-why`, `-needs`, `-dot` or `-lines` comes before it.
     fn take_exec(&mut self, at: usize) -> Result<(), Usage>
         ensures { notes_left result (code_notes self.new) ≡ notes_after (code_notes self.old) (exec_said (before_noted (code_notes self.old)) at) }
     {
-        if self.why || self.needs || self.graph {
+        if self.why || self.needs || self.graph || self.line_tests {
             return Err(excluded_option(at));
         }
         self.exec = true;
         Ok(())
     }
 
-    /// Takes in `-dot` for diyone7, unless `-why`, `-exec` or `-needs` comes before it.
+    /// Takes in `-dot` for diyone7, unless `-why`, `-exec`, `-needs` or `-lines` comes before it.
     fn take_dot(&mut self, at: usize) -> Result<(), Usage>
         ensures { notes_left result (code_notes self.new) ≡ notes_after (code_notes self.old) (dot_said (before_noted (code_notes self.old)) at) }
     {
-        if self.why || self.exec || self.needs {
+        if self.why || self.exec || self.needs || self.line_tests {
             return Err(excluded_option(at));
         }
         self.graph = true;
         Ok(())
     }
 
-    /// Takes in `-needs`, unless `-why`, `-co`, `-exec` or `-dot` comes before it.
+    /// Takes in `-needs`, unless `-why`, `-co`, `-exec`, `-dot` or `-lines` comes before it.
     fn take_needs(&mut self, at: usize) -> Result<(), Usage>
         ensures { notes_left result (code_notes self.new) ≡ notes_after (code_notes self.old) (needs_said (before_noted (code_notes self.old)) at) }
     {
-        if self.why || self.co || self.exec || self.graph {
+        if self.why || self.co || self.exec || self.graph || self.line_tests {
             return Err(excluded_option(at));
         }
         self.needs = true;
+        Ok(())
+    }
+
+    /// Takes in `-lines`, unless `-why`, `-exec`, `-dot`, `-needs`, `-from` or `-name` comes before it.
+    fn take_line_tests(&mut self, at: usize) -> Result<(), Usage>
+        ensures { notes_left result (code_notes self.new) ≡ notes_after (code_notes self.old) (line_tests_said (before_noted (code_notes self.old)) at) }
+    {
+        if self.why
+            || self.exec
+            || self.graph
+            || self.needs
+            || self.from.is_some()
+            || self.name.is_some()
+        {
+            return Err(excluded_option(at));
+        }
+        self.line_tests = true;
         Ok(())
     }
 
@@ -516,7 +572,8 @@ pub fn missing_value(tool: Tool, option: OptionName, at: usize) -> Usage
     usage_at(at, UsageKind::MissingValue)
 }
 
-fn begins_option(text: &[u8]) -> bool
+/// Whether a text begins with `-`.
+pub(crate) fn begins_option(text: &[u8]) -> bool
     ensures { result ≡ begins_option text.now }
 {
     match text {

@@ -2,6 +2,7 @@ ghost use Rattle.std.specs.Prelude.{◌≡◌, Ok, IfOk, IsOk};
 ghost use Rattle.edges_from_text.specs.Relaxations.{relaxes_of};
 ghost use Rattle.diy_words.specs.Requests.{asked_of, IsCrossing, places_of};
 
+use crate::notes::begins_option;
 use crate::options::{Tool, option_named};
 use diy_io::{NoMemory, Words};
 use edges_from_text::{Relaxes, read_relaxes};
@@ -19,6 +20,7 @@ pub fn read_places(alloc: Global, words: &Words) -> Result<Vec<Relaxes>, NoMemor
         let word = words.get(at);
         match option_named(Tool::Cross, word) {
             Some(_) => at += 2,
+            None if begins_option(word.as_bytes()) => at += 1,
             None => {
                 places.push(read_place(word))?;
                 at += 1;

@@ -1,16 +1,18 @@
 ghost use Rattle.std.specs.Prelude.{◌≡◌, ◌<◌, ◌+◌, ◌^◌, ℕ, List, Some, length, drop, IfOk};
 ghost use Rattle.diy_words.specs.declared.usage.UsageKind.TheVariants.{MissingArch, MissingWhy};
-ghost use Rattle.diy_words.specs.Requests.{asked_of, asked_for, asks, AsksWhy, AsksName, AsksFamilies, AsksCross, AsksDemo, AsksCheck, why_asked, test_or_execution, coherence_or_execution, list_or_lines, check_asked, one_asked, diyone_asked, diyone_with, norm_asked, name_asked, names_asked, cross_asked, families_with, demo_with};
+ghost use Rattle.diy_words.specs.Requests.{asked_of, asked_for, loosely_asked, asks, AsksWhy, AsksName, AsksFamilies, AsksCross, AsksDemo, AsksCheck, why_asked, test_or_execution, coherence_or_execution, list_or_lines, check_asked, one_asked, diyone_asked, diyone_with, norm_asked, name_asked, names_asked, cross_asked, families_with, demo_with, AsksLineTests, cycle_asked, line_tests_asked, line_form, form_asked};
 ghost use Rattle.diy_words.specs.{Given.{GivesTask, HasForm, WithinWords}, CodeNotes.{Steps, GivesAtEnd, GivesFrom, IsPlain, IsOption, code_notes}};
 
 use crate::notes::{Notes, missing_value};
 use crate::options::{OptionName, Tool, option_named, tool_named};
 use crate::request::{
-    Check, CheckForm, Coherence, Cross, Demo, Diy, DiyOne, ExecutionForm, MAX_CHOICES, Norm,
-    Request, Sought, Why,
+    Check, CheckForm, Coherence, Cross, Demo, Diy, DiyOne, ExecutionForm, LineTestForm, LineTests,
+    MAX_CHOICES, Norm, Request, Sought, Why,
 };
+use crate::strict::unless_idle;
 use crate::usage::{Usage, UsageKind, usage_at};
 use diy_io::{MAX_FOLDER, Words};
+use msum7_files::SumForm;
 use relax_edges::ObsMode;
 
 /// The request that the arguments make, or the first error among them: they are judged from left to
@@ -37,6 +39,17 @@ pub fn read_request(words: &Words) -> Result<Request<'_>, Usage>
 fn read_words(tool: Tool, words: &Words) -> Result<Request<'_>, Usage>
     requires { 0 < length words.now }
     ensures { GivesTask result (asked_for (Some tool) (length words.now) (drop 1 words.now)) }
+{
+    match read_loosely(tool, words) {
+        Ok(request) => unless_idle(tool, words, request),
+        Err(usage) => Err(usage),
+    }
+}
+
+/// The request that the arguments make, whether `-strict` is given or not.
+fn read_loosely(tool: Tool, words: &Words) -> Result<Request<'_>, Usage>
+    requires { 0 < length words.now }
+    ensures { GivesTask result (loosely_asked tool (length words.now) (drop 1 words.now)) }
 {
     let mut notes = Notes::new();
     let mut at = 1;
@@ -105,15 +118,65 @@ fn finish(tool: Tool, count: usize, notes: Notes<'_>) -> Result<Request<'_>, Usa
         Tool::Diy => finish_list(count, notes),
         Tool::Norm => finish_norm(count, notes),
         Tool::Classify => finish_families(count, notes),
-        Tool::Msum => Ok(Request::Sum),
+        Tool::Msum => Ok(Request::Sum(sum_form(&notes))),
         Tool::Cross => finish_cross(count, notes),
         Tool::Demo => finish_demo(count, notes),
         Tool::Check => finish_check(count, notes),
     }
 }
 
-fn finish_diyone(count: usize, mut notes: Notes<'_>) -> Result<Request<'_>, Usage>
+/// In which form msum7 is to print the sum.
+fn sum_form(notes: &Notes<'_>) -> SumForm
+    ensures { result ≡ form_asked notes.now.table }
+{
+    if notes.table {
+        SumForm::Table
+    } else {
+        SumForm::Log
+    }
+}
+
+fn finish_diyone(count: usize, notes: Notes<'_>) -> Result<Request<'_>, Usage>
     ensures { GivesFrom (λ given. diyone_asked count given) (code_notes notes.entry) result }
+{
+    if notes.line_tests {
+        finish_line_tests(count, notes)
+    } else {
+        finish_cycle(count, notes)
+    }
+}
+
+/// The request of diyone7 with `-lines`.
+fn finish_line_tests(count: usize, notes: Notes<'_>) -> Result<Request<'_>, Usage>
+    ensures { GivesFrom (λ given. asks AsksLineTests (line_tests_asked count given)) (code_notes notes.entry) result }
+{
+    let Some(arch) = notes.arch else {
+        return Err(missing_arch(count));
+    };
+    if let Some(word) = notes.operand {
+        return Err(usage_at(word, UsageKind::StrayWord));
+    }
+    Ok(Request::LineTests(LineTests {
+        arch,
+        form: line_form(notes.co, notes.mode),
+        folder: notes.folder,
+    }))
+}
+
+/// Which test of a line's cycle is made, by whether `-co` was given and by the value of `-obs`.
+fn line_form(co: bool, mode: Option<ObsMode>) -> LineTestForm
+    ensures { result ≡ line_form co mode }
+{
+    if co {
+        LineTestForm::Coherence
+    } else {
+        LineTestForm::Observed(mode.unwrap_or(ObsMode::Accept))
+    }
+}
+
+/// The request of diyone7 without `-lines`.
+fn finish_cycle(count: usize, mut notes: Notes<'_>) -> Result<Request<'_>, Usage>
+    ensures { GivesFrom (λ given. cycle_asked count given) (code_notes notes.entry) result }
 {
     match notes.choose_edges() {
         Ok(()) => finish_chosen(count, notes),
@@ -233,6 +296,8 @@ fn finish_list(count: usize, notes: Notes<'_>) -> Result<Request<'_>, Usage>
         lines,
         graph: _,
         names: _,
+        table: _,
+        line_tests: _,
     } = notes;
     let Some(arch) = arch else {
         return Err(missing_arch(count));

@@ -3,6 +3,7 @@ use cycle_enum::Limits;
 use diy_io::MAX_FOLDER;
 use edge_algebra::Cycle;
 use edges_from_text::{EdgeList, Relaxes};
+use msum7_files::SumForm;
 use relax_edges::{ArchName, ObsMode};
 
 /// The most bytes that a given name of a test can have.
@@ -33,8 +34,9 @@ pub enum Request<'a> {
     /// The names of cycles of the architecture by their families, of classify7: those of the tests in the files that
     /// its operands name, which `read_files` finds, or those of the input's lines if there is no operand.
     Families(ArchName),
-    /// The sum of the logs that the arguments after the first name, or of the input if there are none, of msum7.
-    Sum,
+    /// The sum of the logs that the arguments after the first name, or of the input if there are none, in a form, of
+    /// msum7; or of those after `-table`, which comes right after the first.
+    Sum(SumForm),
     /// The tests of the choices of relaxations, of diycross7.
     Cross(Cross<'a>),
     /// A number of tests, of demo.
@@ -49,6 +51,8 @@ pub enum Request<'a> {
     Needs(DiyOne),
     /// The lines of the cycles of a listing, of diy7 with `-list`.
     Lines(Diy<'a>),
+    /// The tests of the input's lines of cycles, of diyone7 with `-lines`.
+    LineTests(LineTests<'a>),
 }
 
 /// What norm7 is asked for.
@@ -128,6 +132,26 @@ pub struct Coherence {
     pub name: Option<TestName>,
     /// The edges of its cycle, as given.
     pub edges: EdgeList,
+}
+
+/// Which test of a line's cycle diyone7 makes with `-lines`.
+#[derive(Clone, Copy)]
+pub enum LineTestForm {
+    /// The test of its edges, with observers by the mode.
+    Observed(ObsMode),
+    /// Its coherence test, with `-co`.
+    Coherence,
+}
+
+/// What diyone7 is asked for with `-lines`: the tests of the input's lines of cycles, each in a file.
+#[derive(Drop)]
+pub struct LineTests<'a> {
+    /// The architecture of the tests.
+    pub arch: ArchName,
+    /// Which test of a cycle is made.
+    pub form: LineTestForm,
+    /// The folder of the files, if one is given.
+    pub folder: Option<&'a str>,
 }
 
 /// What diy7 is asked for.

@@ -41,10 +41,10 @@ pub enum UsageKind {
     UnknownName,
     /// The edges of `-after` make no cycle: there are none, more than 48, or some that don't compose.
     BadAfter,
-    /// The tool takes no operand, or no further one, or an operand comes together with `-from`.
+    /// The tool takes no operand, or no further one, or an operand comes together with `-from` or `-lines`.
     StrayWord,
     /// An option comes after one that excludes it: `-obs`, `-why` and `-co` exclude each other, and so do
-    /// `-why` and `-exec`, and `-list` and `-o`.
+    /// `-why` and `-exec`, `-lines` and `-name`, and `-list` and `-o`.
     ExcludedOption,
     /// The tool requires `-arch`, which is missing.
     MissingArch,
@@ -54,10 +54,17 @@ pub enum UsageKind {
     MissingNumber,
     /// The tool requires two files, of which at least one is missing.
     MissingFile,
-    /// `-o` of diyone7 requires `-why`, which is missing.
+    /// `-o` of diyone7 requires `-why` or `-lines`, and both are missing.
     MissingWhy,
     /// There are more than 65,536 ways to choose a relaxation for each position.
     TooManyChoices,
+    /// With `-strict`: the relaxation in this part of the argument can stand in no cycle of the call.
+    IdleRelax {
+        /// The byte, from 0, where it begins.
+        start: usize,
+        /// How many bytes it has.
+        len: usize,
+    },
 }
 
 /// An error with the index of its argument, or with the number of arguments if it is at none of them.

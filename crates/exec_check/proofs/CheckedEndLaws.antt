@@ -96,14 +96,14 @@ both_read arch w old mid new words test exec read x f same e = record {
 
 -- and this is done with the text that shows the execution
 pub execution_shown : (shown : Shown) (arch : ArchName) (w : Writing) (old mid new : ShelfSeen) (words : List (List ℕ)) (test exec : ℕ) (read : TestRead) (j : Judged)
-    (done : List ℕ → Type 0) (text : List ℕ) → FileIs (test_said arch w) old mid (name_at words test) read → mid.files ≡ old.files
-    → ExecFileTo arch w read mid new (name_at words exec) (Ok j) → text ≡ shown_text shown read j.exec j.verdict → done text
+    (done : List ℕ → Type 0) → FileIs (test_said arch w) old mid (name_at words test) read → mid.files ≡ old.files
+    → ExecFileTo arch w read mid new (name_at words exec) (Ok j) → done (shown_text shown read j.exec j.verdict)
     → ExecutionShown shown arch w old new words test exec done
-execution_shown shown arch w old mid new words test exec read j done text f same h is wrote = record {
+execution_shown shown arch w old mid new words test exec read j done f same h wrote = record {
   judged = read;
   x = j.exec;
   read = both_read arch w old mid new words test exec read j.exec f same h.file;
   v = j.verdict;
   is = h.is;
-  wrote = subst done is wrote;
+  wrote = wrote;
 }

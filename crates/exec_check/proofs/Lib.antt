@@ -6,3 +6,4 @@ pub mod CheckedFileLaws
 pub mod CheckedEndLaws
 pub mod ShownLaws
 pub mod QuotedArrows
+pub mod TextSinkLaws

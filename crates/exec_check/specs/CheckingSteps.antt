@@ -1,13 +1,13 @@
 -- What each of the two files gives. Only private functions and proofs cite this.
 -- Source: own.
-use Rattle.std.specs.Prelude.{◌≡◌, ⊤, ℕ, List, Option, Some, None, Result, Ok, Err, IsErr}
-use Rattle.diy_io.specs.{declared.errors.Failed.Failed, Shelf.ShelfSeen, Opened.FileAbsent}
+use Rattle.std.specs.Prelude.{◌≡◌, ⊤, ℕ, List, Option, Result, Ok, Err, IsErr}
+use Rattle.diy_io.specs.{declared.errors.Failed.Failed, Shelf.ShelfSeen, Opened.FileAbsent, Sink.shown_bytes, Wrote.SinkSeen}
 use Rattle.relax_edges.specs.declared.kinds.ArchName.{ArchName}
 use Rattle.arch_trait.specs.{PlaceNames.number_in, Writing.Writing}
 use Rattle.litmus_text.specs.TestReading.{TestRead}
-use Rattle.exec_check.specs.{declared.errors.CheckError.CheckError, declared.verdict.Judged.Judged, declared.verdict.Verdict.Verdict}
+use Rattle.exec_check.specs.{declared.errors.CheckError.CheckError, declared.verdict.Judged.Judged, declared.text_sink.TextSink.TextSink}
 use Rattle.exec_check.specs.{declared.checked_errors.CheckedKind.CheckedKind, declared.checked_errors.CheckFault.CheckFault}
-use Rattle.exec_check.specs.{declared.checked_errors.CheckEnd.CheckEnd, Verdicts.{IsVerdict, Checks, verdict_text}, FilesChecked.exec_said}
+use Rattle.exec_check.specs.{declared.checked_errors.CheckEnd.CheckEnd, Verdicts.{IsVerdict, Checks}, FilesChecked.exec_said}
 use Rattle.exec_check.specs.declared.errors.CheckError.TheVariants as checks
 use Rattle.tests_from_files.specs.{declared.errors.FileFault.FileFault, declared.errors.NoTest.NoTest, declared.errors.TestFileKind.TestFileKind}
 use Rattle.tests_from_files.specs.{FilesRead.{FileFailed, FileIs, FileFaulty}, TestSaid.test_said}
@@ -112,7 +112,6 @@ ExecFileTo arch w test old new name (Err (faults.Wrong line (kinds.Exec kind))) 
 ExecFileTo arch w test old new name (Err (faults.Wrong line kind)) = ⊥
 ExecFileTo arch w test old new name (Err faults.NoMemory) = ⊤
 
--- the text that is written: that of the graph, if there is one, or that of the verdict
-abbrev pub text_of : Option (List ℕ) → Verdict → List ℕ
-text_of (Some graph) v = graph
-text_of None v = verdict_text v
+-- a sink that keeps its bytes in memory shows them
+abbrev pub text_sink_seen : TextSink → SinkSeen
+text_sink_seen sink = record { shown = shown_bytes sink.text.items; faults = sink.faults }

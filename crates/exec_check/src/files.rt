@@ -4,9 +4,10 @@ ghost use Rattle.exec_check.specs.FilesChecked.{FilesChecked};
 
 use crate::checked_errors::CheckEnd;
 use crate::file::{Room, execution_in_file, test_in_file};
-use crate::shown::{Shown, graph_shown, write_shown};
+use crate::shown::{Shown, write_shown};
 use arch_trait::Arch;
-use diy_io::{Failed, NoMemory, Shelf, Sink, Words};
+use diy_io::{Shelf, Sink, Words};
+use exec_graph::DrawError;
 use std::alloc::Global;
 
 /// The positions of the arguments that name the two files, from 0.
@@ -48,12 +49,9 @@ pub fn check_files<A: Arch, H: Shelf, O: Sink>(
         Ok(judged) => judged,
         Err(fault) => return fault.end_at(exec),
     };
-    let graph = match graph_shown(alloc, shown, &read, &judged) {
-        Ok(graph) => graph,
-        Err(NoMemory) => return CheckEnd::NoMemory,
-    };
-    match write_shown(&graph, &judged.verdict, out) {
+    match write_shown(alloc, shown, &read, &judged, out) {
         Ok(()) => CheckEnd::Done,
-        Err(Failed) => CheckEnd::OutFault,
+        Err(DrawError::NoMemory) => CheckEnd::NoMemory,
+        Err(DrawError::OutFault) => CheckEnd::OutFault,
     }
 }

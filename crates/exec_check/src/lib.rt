@@ -10,6 +10,7 @@ mod file;
 mod files;
 mod law;
 mod shown;
+mod text_sink;
 mod verdict;
 mod writing;
 

@@ -1,19 +1,19 @@
-ghost use Rattle.std.specs.Prelude.{◌≡◌, IfOk, length, option_map};
-ghost use Rattle.diy_io.specs.Wrote.{Wrote};
+ghost use Rattle.std.specs.Prelude.{◌≡◌, IfOk, length};
 ghost use Rattle.arch_trait.specs.PlaceNames.{number_in};
 ghost use Rattle.litmus_text.specs.ReadPrograms.{program_read};
 ghost use Rattle.program_meaning.specs.Programs.{IsCandidate};
-ghost use Rattle.exec_graph.specs.JudgedCycles.{AreEdgesOf};
-ghost use Rattle.exec_check.specs.{Verdicts.{IsVerdict, judged_cycle}, ShownTexts.{IsGraph, graph_if, graph_text, shown_text}, CheckingSteps.{text_of}};
+ghost use Rattle.exec_graph.specs.{Drawing.{Draws}, JudgedCycles.{AreEdgesOf}};
+ghost use Rattle.exec_check.specs.{Verdicts.{IsVerdict, judged_cycle}, ShownTexts.{IsGraph, graph_if, graph_text, shown_text}};
 
 use crate::checking::verdict_on;
 use crate::edges::resolved_cycle;
+use crate::text_sink::TextSink;
 use crate::verdict::{Judged, Verdict};
 use crate::writing::write_verdict;
 use arch_trait::Arch;
 use cycles_from_lines::quoted_cycle;
-use diy_io::{Failed, NoMemory, Page, Sink};
-use exec_graph::{Picture, draw_graph, draw_none};
+use diy_io::{Failed, NoMemory, Sink};
+use exec_graph::{DrawError, Picture, write_graph, write_no_graph};
 use exec_meaning::{Execution, candidate_runs, seen_accesses};
 use litmus_text::ReadTest;
 use std::alloc::Global;
@@ -27,19 +27,24 @@ pub enum Shown {
     Graph,
 }
 
-/// The graph of an execution, if its graph is to be shown.
-pub(crate) fn graph_shown<A: Arch>(
+/// Writes what shows an execution of a test, on which this is the verdict: the verdict, or the graph. For a graph all memory is
+/// taken before anything is written.
+pub(crate) fn write_shown<A: Arch, O: Sink>(
     alloc: Global,
     shown: Shown,
     test: &ReadTest<A>,
     judged: &Judged,
-) -> Result<Option<Vec<u8>>, NoMemory>
+    out: &mut O,
+) -> Result<(), DrawError>
     requires { IsVerdict A.NAME (number_in A.writing.registers) test.now judged.now.exec judged.now.verdict }
-    ensures { IfOk result (λ graph. text_of (option_map (λ text. text.items) graph) judged.now.verdict ≡ shown_text shown test.now judged.now.exec judged.now.verdict) }
+    ensures { Draws (shown_text shown test.now judged.now.exec judged.now.verdict) (O.seen out.old) (O.seen out.new) result }
 {
     match shown {
-        Shown::Verdict => Ok(None),
-        Shown::Graph => Ok(Some(graph_by(alloc, test, &judged.exec, &judged.verdict)?)),
+        Shown::Verdict => match write_verdict(&judged.verdict, out) {
+            Ok(()) => Ok(()),
+            Err(Failed) => Err(DrawError::OutFault),
+        },
+        Shown::Graph => write_graph_by(alloc, test, &judged.exec, &judged.verdict, out),
     }
 }
 
@@ -55,12 +60,11 @@ pub fn draw_execution<A: Arch>(
     ensures { IfOk result (λ text. IsGraph A.NAME (number_in A.writing.registers) test.now exec.now text.items) }
 {
     let verdict = verdict_on(alloc, test, exec)?;
-    graph_by(alloc, test, exec, &verdict)
+    graph_text_by(alloc, test, exec, &verdict)
 }
 
 /// The text of the graph of an execution of a test, on which this is the verdict.
-#[tactic(auto, using(crate::proofs::ShownLaws::drawn_edges, crate::proofs::ShownLaws::drawn_candidate))]
-fn graph_by<A: Arch>(
+fn graph_text_by<A: Arch>(
     alloc: Global,
     test: &ReadTest<A>,
     exec: &Execution,
@@ -69,26 +73,54 @@ fn graph_by<A: Arch>(
     requires { IsVerdict A.NAME (number_in A.writing.registers) test.now exec.now verdict.now }
     ensures { IfOk result (λ text. text.items ≡ graph_if verdict.now.candidate test.now exec.now verdict.now) }
 {
-    if verdict.candidate {
-        graph_of(alloc, test, exec, verdict)
-    } else {
-        draw_none(alloc, test.name())
+    let mut sink = TextSink::new(alloc);
+    match write_graph_by(alloc, test, exec, verdict, &mut sink) {
+        Ok(()) => Ok(sink.into_text()),
+        Err(_) => Err(NoMemory),
     }
 }
 
-/// The text of the graph of a candidate execution of a test, on which this is the verdict.
-fn graph_of<A: Arch>(
+/// Writes the graph of an execution of a test, on which this is the verdict.
+#[tactic(auto, using(crate::proofs::ShownLaws::drawn_edges, crate::proofs::ShownLaws::drawn_candidate))]
+fn write_graph_by<A: Arch, O: Sink>(
     alloc: Global,
     test: &ReadTest<A>,
     exec: &Execution,
     verdict: &Verdict,
-) -> Result<Vec<u8>, NoMemory>
+    out: &mut O,
+) -> Result<(), DrawError>
+    requires { IsVerdict A.NAME (number_in A.writing.registers) test.now exec.now verdict.now }
+    ensures { Draws (graph_if verdict.now.candidate test.now exec.now verdict.now) (O.seen out.old) (O.seen out.new) result }
+{
+    if verdict.candidate {
+        return write_candidate(alloc, test, exec, verdict, out);
+    }
+    match write_no_graph(test.name(), out) {
+        Ok(()) => Ok(()),
+        Err(Failed) => Err(DrawError::OutFault),
+    }
+}
+
+/// Writes the graph of a candidate execution of a test, on which this is the verdict.
+fn write_candidate<A: Arch, O: Sink>(
+    alloc: Global,
+    test: &ReadTest<A>,
+    exec: &Execution,
+    verdict: &Verdict,
+    out: &mut O,
+) -> Result<(), DrawError>
     requires candidate { IsCandidate (program_read test.now) exec.now }
     requires edges { AreEdgesOf (judged_cycle A.NAME test.now) verdict.now.edges.items }
-    ensures { IfOk result (λ text. text.items ≡ graph_text test.now exec.now verdict.now) }
+    ensures { Draws (graph_text test.now exec.now verdict.now) (O.seen out.old) (O.seen out.new) result }
 {
-    let seen = seen_accesses(alloc, test, exec)?;
-    let runs = candidate_runs(alloc, test, exec)?;
+    let seen = match seen_accesses(alloc, test, exec) {
+        Ok(seen) => seen,
+        Err(NoMemory) => return Err(DrawError::NoMemory),
+    };
+    let runs = match candidate_runs(alloc, test, exec) {
+        Ok(runs) => runs,
+        Err(NoMemory) => return Err(DrawError::NoMemory),
+    };
     let cycle = resolved_cycle(quoted_cycle(A::NAME, test.quoted()));
     let picture = Picture {
         name: test.name(),
@@ -101,28 +133,5 @@ fn graph_of<A: Arch>(
         holds: verdict.condition,
         coherent: verdict.coherent,
     };
-    draw_graph(alloc, &picture, &cycle)
-}
-
-/// Writes the graph, if there is one, and otherwise the verdict. If the sink fails, it has taken a prefix of the text.
-pub(crate) fn write_shown<O: Sink>(
-    graph: &Option<Vec<u8>>,
-    verdict: &Verdict,
-    out: &mut O,
-) -> Result<(), Failed>
-    ensures { Wrote (O.seen out.old) (O.seen out.new) (text_of (option_map (λ text. text.items) graph.now) verdict.now) result }
-{
-    match graph {
-        Some(text) => write_text(text.as_slice(), out),
-        None => write_verdict(verdict, out),
-    }
-}
-
-/// Writes a text through an output buffer.
-fn write_text<O: Sink>(text: &[u8], out: &mut O) -> Result<(), Failed>
-    ensures { Wrote (O.seen out.old) (O.seen out.new) text.now result }
-{
-    let mut page = Page::new();
-    page.send(text, out)?;
-    page.flush(out)
+    write_graph(alloc, &picture, &cycle, out)
 }

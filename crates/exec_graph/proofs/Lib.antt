@@ -3,3 +3,4 @@ pub mod DrawnLaws
 pub mod ArrowLaws
 pub mod GraphLines
 pub mod TieLaws
+pub mod SentLines

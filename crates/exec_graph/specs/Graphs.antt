@@ -20,7 +20,8 @@ use Rattle.program_meaning.specs.{declared.WriteAt.WriteAt, declared.seen.SeenAc
 use Rattle.program_meaning.specs.Accesses.{Barred, Visit, accesses_of, got_from, is_read, visits_of, write}
 use Rattle.program_meaning.specs.{Programs.{Program, visits_in}, SeenAccesses.seen_in, Interleavings.writes_to, Standing.event_name}
 use Rattle.exec_graph.specs.{declared.graph.Picture.Picture, declared.drawn.Point.Point, declared.drawn.Drawn.Drawn, declared.drawn.Relation.Relation}
-use Rattle.exec_graph.specs.{declared.arrows.Arrow.Arrow, declared.strokes.{Side.Side, Stroke.Stroke, Style.Style}, Ties.{Ties, ties_if, untied}}
+use Rattle.exec_graph.specs.{declared.arrows.Arrow.Arrow, declared.strokes.{Side.Side, Stroke.Stroke, Style.Style}, declared.words.Word.Word, Ties.{Ties, ties_if, untied}}
+use Rattle.exec_graph.specs.declared.words.Word.TheVariants.{OfEdge, OfPair}
 use Rattle.exec_graph.specs.declared.drawn.{Point.TheVariants.{Initial, At}, Relation.TheVariants.{Po, Rf, Co, Fr, Addr, Data, Ctrl}}
 use Rattle.exec_graph.specs.declared.strokes.{Side.TheVariants.{OnArrow, Beside}, Style.TheVariants.{Thin, Bold, Dashed}}
 
@@ -214,6 +215,15 @@ column thread = 260 * thread
 abbrev pub row : ℕ → ℕ
 row number = 160 * number
 
+-- the sign of a coordinate that is so far down, which is none at the top
+abbrev pub down_sign : ℕ → List ℕ
+down_sign zero = []
+down_sign (suc _) = codes "-"
+
+-- a position, so many points right and down
+unfoldable pub position_word : ℕ → ℕ → List ℕ
+position_word across down = decimal across ++ codes "," ++ down_sign down ++ decimal down
+
 -- an access is the first write to a location in coherence order
 abbrev pub is_first_write : ℕ → SeenAccess → Bool
 is_first_write place seen = writes_to place seen.access && (seen.order == 1)
@@ -242,17 +252,27 @@ initial_line places seen initial place =
     codes "  \"" ++ place_word places place ++ codes "\" [label=\"W[" ++ place_word places place ++ codes "]=0\", pos=\""
     ++ decimal (column (home seen place) + 100) ++ codes "," ++ decimal (50 * count_by (is_below seen place) initial + 90) ++ codes "\"]\n"
 
--- what an access does, with its letter before it
-unfoldable pub access_word : List (List ℕ) → ℕ → SeenAccess → List ℕ
-access_word places n seen =
-    letter_word n ++ codes ": " ++ dir_word seen.access.dir ++ mark_word seen.mark ++ codes "[" ++ place_word places seen.access.place
-    ++ codes "]=" ++ decimal seen.access.value
+-- whether an access reads or writes, and its mark
+unfoldable pub deed_word : SeenAccess → List ℕ
+deed_word seen = codes ": " ++ dir_word seen.access.dir ++ mark_word seen.mark ++ codes "["
 
--- the line of an access by its number among all: in the column of its thread, below the one before it
+-- the location and the value of an access
+unfoldable pub value_word : List (List ℕ) → SeenAccess → List ℕ
+value_word places seen = place_word places seen.access.place ++ codes "]=" ++ decimal seen.access.value
+
+-- the line of an access up to its position, by its number among all: its name, its letter and what it does
+unfoldable pub access_label : List (List ℕ) → ℕ × SeenAccess → List ℕ
+access_label places numbered =
+    (codes "  " ++ name_word numbered.1.thread numbered.1.number)
+    ++ ((codes " [label=\"" ++ letter_word numbered.0) ++ (deed_word numbered.1 ++ value_word places numbered.1))
+
+-- the position in the line of an access: in the column of its thread, below the one before it
+unfoldable pub access_place : SeenAccess → List ℕ
+access_place seen = codes "\", pos=\"" ++ position_word (column seen.thread + 100) (row seen.number) ++ codes "\"]\n"
+
+-- the line of an access by its number among all
 unfoldable pub access_line : List (List ℕ) → ℕ × SeenAccess → List ℕ
-access_line places numbered =
-    codes "  " ++ name_word numbered.1.thread numbered.1.number ++ codes " [label=\"" ++ access_word places numbered.0 numbered.1
-    ++ codes "\", pos=\"" ++ decimal (column numbered.1.thread + 100) ++ codes ",-" ++ decimal (row numbered.1.number) ++ codes "\"]\n"
+access_line places numbered = access_label places numbered ++ access_place numbered.1
 
 -- an access is in a thread
 abbrev pub is_in_thread : ℕ → SeenAccess → Bool
@@ -298,6 +318,10 @@ pick_word picks.R = codes "r"
 pick_word picks.W = codes "w"
 pick_word picks.RW = codes "rw"
 
+-- a RISC-V fence, as its instruction is written
+abbrev pub fence_word : Pick → Pick → List ℕ
+fence_word pred succ = codes "fence " ++ pick_word pred ++ codes "," ++ pick_word succ
+
 -- a barrier, as its instruction is written
 abbrev pub barrier_word : Barrier → List ℕ
 barrier_word (barriers.Fence fences.MFence) = codes "mfence"
@@ -309,7 +333,7 @@ barrier_word (barriers.Fence fences.DmbSy) = codes "dmb sy"
 barrier_word (barriers.Fence fences.DmbLd) = codes "dmb ld"
 barrier_word (barriers.Fence fences.DmbSt) = codes "dmb st"
 barrier_word (barriers.Fence fences.Dmb) = codes "dmb"
-barrier_word (barriers.Fence (fences.Fence pred succ)) = codes "fence " ++ pick_word pred ++ codes "," ++ pick_word succ
+barrier_word (barriers.Fence (fences.Fence pred succ)) = fence_word pred succ
 barrier_word barriers.Isb = codes "isb"
 
 -- a barrier after another
@@ -330,6 +354,11 @@ relation_word Fr bs = codes "fr"
 relation_word Addr bs = codes "addr"
 relation_word Data bs = codes "data"
 relation_word Ctrl bs = codes "ctrl"
+
+-- the word of an arrow: the name of an edge, or the word of a relation
+abbrev pub word_text : Word → List ℕ
+word_text (OfEdge edge) = word_of edge
+word_text (OfPair relation barriers) = relation_word relation barriers.now
 
 -- the colour of a relation, as in the literature
 abbrev pub relation_colour : Relation → List ℕ
@@ -401,18 +430,21 @@ word_distance stroke = cond (are_apart stroke.from stroke.to) (codes "9") (near_
 -- the word of an arrow, on it, near its source
 unfoldable pub word_on : Stroke → List ℕ → List ℕ
 word_on stroke word =
-    codes ", taillabel=<<table border=\"0\" cellpadding=\"1\" cellspacing=\"0\"><tr><td bgcolor=\"white\">" ++ word
-    ++ codes "</td></tr></table>>, labeldistance=" ++ word_distance stroke ++ codes ", labelangle=0, fontcolor=\"" ++ relation_colour stroke.relation ++ codes "\""
+    codes ", taillabel=<<table border=\"0\" cellpadding=\"1\" cellspacing=\"0\"><tr><td bgcolor=\"white\">"
+    ++ (word ++ (codes "</td></tr></table>>, labeldistance=" ++ word_distance stroke ++ codes ", labelangle=0, fontcolor=\"" ++ relation_colour stroke.relation ++ codes "\""))
 
--- a position, so many points right and down
-unfoldable pub position_word : ℕ → ℕ → List ℕ
-position_word across down = decimal across ++ codes ",-" ++ decimal down
+-- a word beside an arrow, at a position: a node of its own, since arrows are drawn around nodes. Its name is the word with the position
+unfoldable pub beside_name : List ℕ → ℕ → ℕ → List ℕ
+beside_name word across down = codes "  \"" ++ (word ++ (codes "@" ++ position_word across down))
 
--- a word beside an arrow, at a position: a node of its own, since arrows are drawn around nodes
+-- what follows the name of such a node: what it shows, its colour and its position
+unfoldable pub beside_label : Relation → List ℕ → ℕ → ℕ → List ℕ
+beside_label relation word across down =
+    codes "\" [label=\"" ++ (word ++ (codes "\", fontcolor=\"" ++ relation_colour relation ++ codes "\", pos=\"" ++ position_word across down ++ codes "\"]\n"))
+
+-- the line of such a node
 unfoldable pub word_beside : Relation → List ℕ → ℕ → ℕ → List ℕ
-word_beside relation word across down =
-    codes "  \"" ++ word ++ codes "@" ++ position_word across down ++ codes "\" [label=\"" ++ word ++ codes "\", fontcolor=\""
-    ++ relation_colour relation ++ codes "\", pos=\"" ++ position_word across down ++ codes "\"]\n"
+word_beside relation word across down = beside_name word across down ++ beside_label relation word across down
 
 -- what an arrow's word adds to the arrow's own line
 abbrev pub side_word : Stroke → List ℕ → Side → List ℕ
@@ -424,11 +456,13 @@ abbrev pub side_line : Relation → List ℕ → Side → List ℕ
 side_line relation word OnArrow = []
 side_line relation word (Beside across down) = word_beside relation word across down
 
+-- the colour and the style of an arrow
+unfoldable pub look_word : Stroke → List ℕ
+look_word stroke = codes " [color=\"" ++ relation_colour stroke.relation ++ codes "\"" ++ style_word stroke.style
+
 -- the ends of an arrow, and its colour and style
 unfoldable pub ends_word : List (List ℕ) → Stroke → List ℕ
-ends_word places stroke =
-    codes "  " ++ point_word places stroke.from ++ codes " -> " ++ point_word places stroke.to ++ codes " [color=\""
-    ++ relation_colour stroke.relation ++ codes "\"" ++ style_word stroke.style
+ends_word places stroke = (codes "  " ++ point_word places stroke.from) ++ ((codes " -> " ++ point_word places stroke.to) ++ look_word stroke)
 
 -- the lines of an arrow with this word
 unfoldable pub stroke_lines : List (List ℕ) → Stroke → List ℕ → List ℕ
@@ -549,11 +583,15 @@ point_lines picture initial =
     ++ (flat_map (access_line picture.places) (enumerate_from 0 picture.seen)
     ++ (flat_map (cluster_line picture.judged picture.seen) (upto picture.threads) ++ words_opening))
 
+-- whether the terms of a condition hold, and whether an execution is coherent, as the caption says them
+unfoldable pub answers_word : Bool → Bool → List ℕ
+answers_word holds coherent = codes "\\ncondition " ++ answer_word holds ++ codes "\\ncoherent " ++ answer_word coherent ++ codes "\"\n"
+
 -- what is under the picture: the name of the test, its condition, whether its terms hold, and whether the execution is coherent
 unfoldable pub caption : PictureSeen → List ℕ
 caption picture =
-    codes "  labeljust=c\n  label=\"" ++ flat_map quoted_byte picture.name ++ codes "\\n" ++ flat_map quoted_byte (cond_text picture.condition)
-    ++ codes "\\ncondition " ++ answer_word picture.holds ++ codes "\\ncoherent " ++ answer_word picture.coherent ++ codes "\"\n"
+    (codes "  labeljust=c\n  label=\"" ++ flat_map quoted_byte picture.name)
+    ++ ((codes "\\n" ++ flat_map quoted_byte (cond_text picture.condition)) ++ answers_word picture.holds picture.coherent)
 
 -- the text of a graph with these initial writes, points and arrows
 abbrev pub lines_drawn : PictureSeen → List ℕ → List Drawn → List Arrow → List ℕ

@@ -6,8 +6,10 @@ mod arrows;
 mod drawn;
 mod graph;
 mod law;
+mod points;
 mod strokes;
 mod ties;
+mod words;
 
-pub use graph::{Picture, answer_word, draw_graph, draw_none};
+pub use graph::{DrawError, Picture, answer_word, write_graph, write_no_graph};
 pub use law::{drawn_edges, drawn_relations};

@@ -1,17 +1,14 @@
-ghost use Rattle.std.specs.{Prelude.{◌≡◌, ◌++◌, [], length, OnOk}, List.{flat_map}};
-ghost use Rattle.diy_io.specs.Pieces.{joined_text};
-ghost use Rattle.exec_graph.specs.Graphs.{access_point, are_apart, barrier_word, column, edge_lines, edge_side, edge_stroke, edge_style, ends_word, further_barrier, left_of_dependency, left_of_order, name_word, near_distance, order_word, pair_line, pick_word, place_word, point_word, position_word, relation_colour, relation_word, right_of_order, row, side_line, side_word, stroke_lines, style_word, thin_side, thin_stroke, word_beside, word_distance, word_on};
+ghost use Rattle.std.specs.{Prelude.{◌≡◌, ◌<◌, ◌^◌, ◌++◌, codes, length}, Fmt.{decimal}};
+ghost use Rattle.diy_io.specs.{Page.{Sends}, Pieces.{joined_text}};
+ghost use Rattle.exec_graph.specs.Graphs.{access_point, are_apart, beside_label, beside_name, column, down_sign, edge_lines, edge_side, edge_stroke, edge_style, ends_word, left_of_dependency, left_of_order, look_word, name_word, near_distance, pair_line, place_word, point_word, relation_colour, right_of_order, row, side_line, side_word, stroke_lines, style_word, thin_side, thin_stroke, word_beside, word_distance, word_on, word_text};
 
 use crate::arrows::{Arrow, kind_relation};
 use crate::drawn::{Drawn, Point, Relation};
+use crate::words::{Word, send_word, word_width};
 use arch_trait::Places;
-use arrayvec::ArrayString;
-use diy_io::NoMemory;
+use diy_io::{Failed, Page, Sink};
 use itoa::Buffer;
-use micro_ops::Barrier;
-use program_meaning::{Barred, WriteAt};
-use relax_edges::{FenceKind, Pick};
-use std::alloc::Global;
+use program_meaning::WriteAt;
 
 /// How an arrow is drawn.
 #[derive(Clone, Copy)]
@@ -42,27 +39,19 @@ pub(crate) struct Stroke {
     pub(crate) side: Side,
 }
 
-/// Appends pieces one after another.
-#[tactic(auto, using(crate::proofs::GraphLines::piece_more))]
-pub(crate) fn push_pieces(pieces: &[&[u8]], text: &mut Vec<u8>) -> Result<(), NoMemory>
-    ensures { OnOk result (text.new.items ≡ text.old.items ++ joined_text pieces.now) }
+/// The digits of a number, in this buffer.
+pub(crate) fn digits(number: u128, buffer: &mut Buffer) -> &[u8]
+    ensures { result.now ≡ decimal number }
 {
-    for piece in pieces {
-        text.extend_from_slice(piece)?;
-    }
-    Ok(())
+    buffer.format(number).as_bytes()
 }
 
-/// Appends the name of an access: its thread and its number there.
-#[tactic(auto, unfolding(crate::specs::Graphs::name_word))]
-pub(crate) fn push_name(thread: u8, number: usize, text: &mut Vec<u8>) -> Result<(), NoMemory>
-    ensures { OnOk result (text.new.items ≡ text.old.items ++ name_word thread number) }
+/// The sign of a coordinate that is so far down.
+#[tactic(auto, using(crate::proofs::GraphLines::below_top))]
+pub(crate) fn down_sign(down: u128) -> &'static [u8]
+    ensures { result.now ≡ down_sign down }
 {
-    let mut thread_digits = Buffer::new();
-    let thread = thread_digits.format(thread).as_bytes();
-    let mut number_digits = Buffer::new();
-    let number = number_digits.format(number).as_bytes();
-    push_pieces(&[b"\"", thread, b".", number, b"\""], text)
+    if down == 0 { b"" } else { b"-" }
 }
 
 /// The name of a location, which is empty if there is no such location.
@@ -77,16 +66,54 @@ pub(crate) fn place_word(places: &Places, place: u8) -> &[u8]
     }
 }
 
-/// Appends the name of a point.
-fn push_point(places: &Places, point: Point, text: &mut Vec<u8>) -> Result<(), NoMemory>
-    ensures { OnOk result (text.new.items ≡ text.old.items ++ point_word places.now point) }
+/// Sends the name of a point after a text.
+fn send_point_after<O: Sink>(
+    before: &[u8],
+    places: &Places,
+    point: Point,
+    page: &mut Page,
+    out: &mut O,
+) -> Result<(), Failed>
+    ensures { Sends (O.seen out.old) page.old (O.seen out.new) page.new (before.now ++ point_word places.now point) result }
 {
     match point {
-        Point::Initial { place } => {
-            push_pieces(&[b"\"", place_word(places, place), b"\""], text)
-        }
-        Point::At { thread, number } => push_name(thread, number, text),
+        Point::Initial { place } => send_initial_after(
+            before,
+            place_word(places, place),
+            page,
+            out,
+        ),
+        Point::At { thread, number } => send_access_after(before, thread, number, page, out),
     }
+}
+
+/// Sends the name of an initial write, which is that of its location, after a text.
+fn send_initial_after<O: Sink>(
+    before: &[u8],
+    place: &[u8],
+    page: &mut Page,
+    out: &mut O,
+) -> Result<(), Failed>
+    ensures { Sends (O.seen out.old) page.old (O.seen out.new) page.new (before.now ++ (codes "\"" ++ place.now ++ codes "\"")) result }
+{
+    page.send_pieces(&[before, b"\"", place, b"\""], out)
+}
+
+/// Sends the name of an access, its thread and its number there, after a text.
+pub(crate) fn send_access_after<O: Sink>(
+    before: &[u8],
+    thread: u8,
+    number: usize,
+    page: &mut Page,
+    out: &mut O,
+) -> Result<(), Failed>
+    ensures { Sends (O.seen out.old) page.old (O.seen out.new) page.new (before.now ++ name_word thread number) result }
+{
+    let mut thread_digits = Buffer::new();
+    let thread = digits(u128::from(thread), &mut thread_digits);
+    let mut number_digits = Buffer::new();
+    let number = digits(number as u128, &mut number_digits);
+    page.send_pieces(&[before, b"\"", thread, b".", number, b"\""], out)
 }
 
 /// How far to the right the column of a thread is.
@@ -101,91 +128,6 @@ pub(crate) fn row(number: usize) -> u128
     ensures { result ≡ row number }
 {
     160 * number as u128
-}
-
-/// The letters of one side of a RISC-V fence.
-fn pick_word(pick: Pick) -> &'static [u8]
-    ensures { result.now ≡ pick_word pick }
-{
-    match pick {
-        Pick::R => b"r",
-        Pick::W => b"w",
-        Pick::RW => b"rw",
-    }
-}
-
-/// Appends a barrier, as its instruction is written.
-fn push_barrier(barrier: Barrier, text: &mut Vec<u8>) -> Result<(), NoMemory>
-    ensures { OnOk result (text.new.items ≡ text.old.items ++ barrier_word barrier) }
-{
-    let fence = match barrier {
-        Barrier::Fence(fence) => fence,
-        Barrier::Isb => return push_pieces(&[b"isb"], text),
-    };
-    match fence {
-        FenceKind::MFence => push_pieces(&[b"mfence"], text),
-        FenceKind::Sync => push_pieces(&[b"sync"], text),
-        FenceKind::LwSync => push_pieces(&[b"lwsync"], text),
-        FenceKind::Eieio => push_pieces(&[b"eieio"], text),
-        FenceKind::ISync => push_pieces(&[b"isync"], text),
-        FenceKind::DmbSy => push_pieces(&[b"dmb sy"], text),
-        FenceKind::DmbLd => push_pieces(&[b"dmb ld"], text),
-        FenceKind::DmbSt => push_pieces(&[b"dmb st"], text),
-        FenceKind::Dmb => push_pieces(&[b"dmb"], text),
-        FenceKind::Fence { pred, succ } => {
-            push_pieces(&[b"fence ", pick_word(pred), b",", pick_word(succ)], text)
-        }
-    }
-}
-
-/// Appends a barrier after another.
-fn push_further(barred: &Barred, text: &mut Vec<u8>) -> Result<(), NoMemory>
-    ensures { OnOk result (text.new.items ≡ text.old.items ++ further_barrier barred.now) }
-{
-    text.extend_from_slice(b"; ")?;
-    push_barrier(barred.kind, text)
-}
-
-/// Appends barriers after another.
-fn push_all_further(barriers: &[Barred], text: &mut Vec<u8>) -> Result<(), NoMemory>
-    ensures { OnOk result (text.new.items ≡ text.old.items ++ flat_map further_barrier barriers.now) }
-{
-    for barred in barriers {
-        push_further(barred, text)?;
-    }
-    Ok(())
-}
-
-/// Appends the word of program order to an access with these barriers before it.
-fn push_order(barriers: &[Barred], text: &mut Vec<u8>) -> Result<(), NoMemory>
-    ensures { OnOk result (text.new.items ≡ text.old.items ++ order_word barriers.now) }
-{
-    match barriers {
-        [] => push_pieces(&[b"po"], text),
-        [first, rest @ ..] => {
-            push_barrier(first.kind, text)?;
-            push_all_further(rest, text)
-        }
-    }
-}
-
-/// Appends the word of a relation to an access with these barriers before it.
-fn push_relation(
-    relation: Relation,
-    barriers: &[Barred],
-    text: &mut Vec<u8>,
-) -> Result<(), NoMemory>
-    ensures { OnOk result (text.new.items ≡ text.old.items ++ relation_word relation barriers.now) }
-{
-    match relation {
-        Relation::Po => push_order(barriers, text),
-        Relation::Rf => push_pieces(&[b"rf"], text),
-        Relation::Co => push_pieces(&[b"co"], text),
-        Relation::Fr => push_pieces(&[b"fr"], text),
-        Relation::Addr => push_pieces(&[b"addr"], text),
-        Relation::Data => push_pieces(&[b"data"], text),
-        Relation::Ctrl => push_pieces(&[b"ctrl"], text),
-    }
 }
 
 /// The colour of a relation.
@@ -227,27 +169,30 @@ fn left_of_dependency(to: Point, up: u128) -> Side
 }
 
 /// Right of an arrow of program order, below the access that it leaves.
-fn right_of_order(thread: u8, number: usize, wide: usize) -> Side
+fn right_of_order(thread: u8, number: usize, wide: u128) -> Side
+    requires { wide < 2 ^ 100 }
     ensures { result ≡ right_of_order thread number wide }
 {
     Side::Beside {
-        across: u128::from(column(thread)) + 114 + 3 * wide as u128,
+        across: u128::from(column(thread)) + 114 + 3 * wide,
         down: row(number) + 75,
     }
 }
 
 /// Left of an arrow of program order, below the access that it leaves.
-fn left_of_order(thread: u8, number: usize, wide: usize) -> Side
+fn left_of_order(thread: u8, number: usize, wide: u128) -> Side
+    requires { wide < 2 ^ 100 }
     ensures { result ≡ left_of_order thread number wide }
 {
     Side::Beside {
-        across: (u128::from(column(thread)) + 86).saturating_sub(3 * wide as u128),
+        across: (u128::from(column(thread)) + 86).saturating_sub(3 * wide),
         down: row(number) + 120,
     }
 }
 
 /// Where the word of a thin arrow is, if it has this many bytes.
-fn thin_side(relation: Relation, from: Point, to: Point, wide: usize) -> Side
+fn thin_side(relation: Relation, from: Point, to: Point, wide: u128) -> Side
+    requires { wide < 2 ^ 100 }
     ensures { result ≡ thin_side relation from to wide }
 {
     match relation {
@@ -263,7 +208,8 @@ fn thin_side(relation: Relation, from: Point, to: Point, wide: usize) -> Side
 }
 
 /// Where the word of an edge is, if it has this many bytes.
-fn edge_side(relation: Relation, stands: bool, source: WriteAt, wide: usize) -> Side
+fn edge_side(relation: Relation, stands: bool, source: WriteAt, wide: u128) -> Side
+    requires { wide < 2 ^ 100 }
     ensures { result ≡ edge_side relation stands source wide }
 {
     let number = usize::from(source.access);
@@ -312,18 +258,36 @@ fn word_distance(stroke: &Stroke) -> &'static [u8]
     }
 }
 
-/// Appends the word of an arrow that is on it.
-#[tactic(auto, unfolding(crate::specs::Graphs::word_on))]
-fn push_on(stroke: &Stroke, word: &[u8], text: &mut Vec<u8>) -> Result<(), NoMemory>
-    ensures { OnOk result (text.new.items ≡ text.old.items ++ word_on stroke.now word.now) }
+/// Sends a text, the word of an arrow and further pieces of a text.
+fn send_around<O: Sink>(
+    before: &[u8],
+    word: Word<'_>,
+    after: &[&[u8]],
+    page: &mut Page,
+    out: &mut O,
+) -> Result<(), Failed>
+    ensures { Sends (O.seen out.old) page.old (O.seen out.new) page.new (before.now ++ (word_text word.entry ++ joined_text after.now)) result }
 {
-    text.extend_from_slice(
-        b", taillabel=<<table border=\"0\" cellpadding=\"1\" cellspacing=\"0\"><tr><td bgcolor=\"white\">",
-    )?;
-    text.extend_from_slice(word)?;
+    page.send(before, out)?;
+    send_word(word, page, out)?;
+    page.send_pieces(after, out)
+}
+
+/// Sends the word of an arrow that is on it.
+#[tactic(auto, unfolding(crate::specs::Graphs::word_on))]
+fn send_on<O: Sink>(
+    stroke: &Stroke,
+    word: Word<'_>,
+    page: &mut Page,
+    out: &mut O,
+) -> Result<(), Failed>
+    ensures { Sends (O.seen out.old) page.old (O.seen out.new) page.new (word_on stroke.now (word_text word.entry)) result }
+{
     let distance = word_distance(stroke);
     let colour = relation_colour(stroke.relation);
-    push_pieces(
+    send_around(
+        b", taillabel=<<table border=\"0\" cellpadding=\"1\" cellspacing=\"0\"><tr><td bgcolor=\"white\">",
+        word,
         &[
             b"</td></tr></table>>, labeldistance=",
             distance,
@@ -331,110 +295,156 @@ fn push_on(stroke: &Stroke, word: &[u8], text: &mut Vec<u8>) -> Result<(), NoMem
             colour,
             b"\"",
         ],
-        text,
+        page,
+        out,
     )
 }
 
-/// Appends a position, so many points right and down.
-#[tactic(auto, unfolding(crate::specs::Graphs::position_word))]
-fn push_position(across: u128, down: u128, text: &mut Vec<u8>) -> Result<(), NoMemory>
-    ensures { OnOk result (text.new.items ≡ text.old.items ++ position_word across down) }
-{
-    let mut across_digits = Buffer::new();
-    let across = across_digits.format(across).as_bytes();
-    let mut down_digits = Buffer::new();
-    let down = down_digits.format(down).as_bytes();
-    push_pieces(&[across, b",-", down], text)
-}
-
-/// Appends the line of a word beside an arrow, so many points right and down.
-#[tactic(auto, unfolding(crate::specs::Graphs::word_beside))]
-fn push_beside(
-    relation: Relation,
-    word: &[u8],
+/// Sends the name of the node of a word beside an arrow, so many points right and down.
+fn send_beside_name<O: Sink>(
+    word: Word<'_>,
     across: u128,
     down: u128,
-    text: &mut Vec<u8>,
-) -> Result<(), NoMemory>
-    ensures { OnOk result (text.new.items ≡ text.old.items ++ word_beside relation word.now across down) }
+    page: &mut Page,
+    out: &mut O,
+) -> Result<(), Failed>
+    ensures { Sends (O.seen out.old) page.old (O.seen out.new) page.new (beside_name (word_text word.entry) across down) result }
 {
-    let colour = relation_colour(relation);
-    text.extend_from_slice(b"  \"")?;
-    text.extend_from_slice(word)?;
-    text.extend_from_slice(b"@")?;
-    push_position(across, down, text)?;
-    text.extend_from_slice(b"\" [label=\"")?;
-    text.extend_from_slice(word)?;
-    push_pieces(&[b"\", fontcolor=\"", colour, b"\", pos=\""], text)?;
-    push_position(across, down, text)?;
-    text.extend_from_slice(b"\"]\n")?;
-    Ok(())
+    let sign = down_sign(down);
+    let mut across_digits = Buffer::new();
+    let across = digits(across, &mut across_digits);
+    let mut down_digits = Buffer::new();
+    let down = digits(down, &mut down_digits);
+    send_around(b"  \"", word, &[b"@", across, b",", sign, down], page, out)
 }
 
-/// Appends what an arrow's word adds to the arrow's own line.
-fn push_side_word(stroke: &Stroke, word: &[u8], text: &mut Vec<u8>) -> Result<(), NoMemory>
-    ensures { OnOk result (text.new.items ≡ text.old.items ++ side_word stroke.now word.now stroke.now.side) }
+/// Sends what follows that name.
+fn send_beside_label<O: Sink>(
+    relation: Relation,
+    word: Word<'_>,
+    across: u128,
+    down: u128,
+    page: &mut Page,
+    out: &mut O,
+) -> Result<(), Failed>
+    ensures { Sends (O.seen out.old) page.old (O.seen out.new) page.new (beside_label relation (word_text word.entry) across down) result }
+{
+    let colour = relation_colour(relation);
+    let sign = down_sign(down);
+    let mut across_digits = Buffer::new();
+    let across = digits(across, &mut across_digits);
+    let mut down_digits = Buffer::new();
+    let down = digits(down, &mut down_digits);
+    send_around(
+        b"\" [label=\"",
+        word,
+        &[
+            b"\", fontcolor=\"",
+            colour,
+            b"\", pos=\"",
+            across,
+            b",",
+            sign,
+            down,
+            b"\"]\n",
+        ],
+        page,
+        out,
+    )
+}
+
+/// Sends the line of a word beside an arrow, so many points right and down.
+#[tactic(auto, unfolding(crate::specs::Graphs::word_beside))]
+fn send_beside<O: Sink>(
+    relation: Relation,
+    word: Word<'_>,
+    across: u128,
+    down: u128,
+    page: &mut Page,
+    out: &mut O,
+) -> Result<(), Failed>
+    ensures { Sends (O.seen out.old) page.old (O.seen out.new) page.new (word_beside relation (word_text word.entry) across down) result }
+{
+    send_beside_name(word, across, down, page, out)?;
+    send_beside_label(relation, word, across, down, page, out)
+}
+
+/// Sends what an arrow's word adds to the arrow's own line.
+#[tactic(auto, using(diy_io::specs::PageLaws::not_spilled))]
+fn send_side_word<O: Sink>(
+    stroke: &Stroke,
+    word: Word<'_>,
+    page: &mut Page,
+    out: &mut O,
+) -> Result<(), Failed>
+    ensures { Sends (O.seen out.old) page.old (O.seen out.new) page.new (side_word stroke.now (word_text word.entry) stroke.now.side) result }
 {
     match stroke.side {
-        Side::OnArrow => push_on(stroke, word, text),
+        Side::OnArrow => send_on(stroke, word, page, out),
         Side::Beside { .. } => Ok(()),
     }
 }
 
-/// Appends the line of an arrow's word, if it has one of its own.
-fn push_side_line(
+/// Sends the line of an arrow's word, if it has one of its own.
+#[tactic(auto, using(diy_io::specs::PageLaws::not_spilled))]
+fn send_side_line<O: Sink>(
     relation: Relation,
-    word: &[u8],
+    word: Word<'_>,
     side: Side,
-    text: &mut Vec<u8>,
-) -> Result<(), NoMemory>
-    ensures { OnOk result (text.new.items ≡ text.old.items ++ side_line relation word.now side) }
+    page: &mut Page,
+    out: &mut O,
+) -> Result<(), Failed>
+    ensures { Sends (O.seen out.old) page.old (O.seen out.new) page.new (side_line relation (word_text word.entry) side) result }
 {
     match side {
         Side::OnArrow => Ok(()),
-        Side::Beside { across, down } => push_beside(relation, word, across, down, text),
+        Side::Beside { across, down } => send_beside(relation, word, across, down, page, out),
     }
 }
 
-/// Appends the ends of an arrow, and its colour and style.
-#[tactic(auto, unfolding(crate::specs::Graphs::ends_word))]
-fn push_ends(places: &Places, stroke: &Stroke, text: &mut Vec<u8>) -> Result<(), NoMemory>
-    ensures { OnOk result (text.new.items ≡ text.old.items ++ ends_word places.now stroke.now) }
+/// Sends the colour and the style of an arrow.
+#[tactic(auto, unfolding(crate::specs::Graphs::look_word))]
+fn send_look<O: Sink>(stroke: &Stroke, page: &mut Page, out: &mut O) -> Result<(), Failed>
+    ensures { Sends (O.seen out.old) page.old (O.seen out.new) page.new (look_word stroke.now) result }
 {
-    text.extend_from_slice(b"  ")?;
-    push_point(places, stroke.from, text)?;
-    text.extend_from_slice(b" -> ")?;
-    push_point(places, stroke.to, text)?;
-    push_pieces(
-        &[
-            b" [color=\"",
-            relation_colour(stroke.relation),
-            b"\"",
-            style_word(stroke.style),
-        ],
-        text,
-    )
+    let colour = relation_colour(stroke.relation);
+    let style = style_word(stroke.style);
+    page.send_pieces(&[b" [color=\"", colour, b"\"", style], out)
 }
 
-/// Appends the lines of an arrow with this word.
-#[tactic(auto, unfolding(crate::specs::Graphs::stroke_lines))]
-fn push_stroke(
+/// Sends the ends of an arrow, and its colour and style.
+fn send_ends<O: Sink>(
     places: &Places,
     stroke: &Stroke,
-    word: &[u8],
-    text: &mut Vec<u8>,
-) -> Result<(), NoMemory>
-    ensures { OnOk result (text.new.items ≡ text.old.items ++ stroke_lines places.now stroke.now word.now) }
+    page: &mut Page,
+    out: &mut O,
+) -> Result<(), Failed>
+    ensures { Sends (O.seen out.old) page.old (O.seen out.new) page.new (ends_word places.now stroke.now) result }
 {
-    push_side_line(stroke.relation, word, stroke.side, text)?;
-    push_ends(places, stroke, text)?;
-    push_side_word(stroke, word, text)?;
-    text.extend_from_slice(b"]\n")?;
-    Ok(())
+    send_point_after(b"  ", places, stroke.from, page, out)?;
+    send_point_after(b" -> ", places, stroke.to, page, out)?;
+    send_look(stroke, page, out)
+}
+
+/// Sends the lines of an arrow with this word.
+fn send_stroke<O: Sink>(
+    places: &Places,
+    stroke: &Stroke,
+    word: Word<'_>,
+    page: &mut Page,
+    out: &mut O,
+) -> Result<(), Failed>
+    ensures { Sends (O.seen out.old) page.old (O.seen out.new) page.new (stroke_lines places.now stroke.now (word_text word.entry)) result }
+{
+    send_side_line(stroke.relation, word, stroke.side, page, out)?;
+    send_ends(places, stroke, page, out)?;
+    send_side_word(stroke, word, page, out)?;
+    page.send(b"]\n", out)
 }
 
 /// The thin arrow of a pair of a relation, whose word has this many bytes.
-fn thin_stroke(relation: Relation, from: Point, to: Point, wide: usize) -> Stroke
+fn thin_stroke(relation: Relation, from: Point, to: Point, wide: u128) -> Stroke
+    requires { wide < 2 ^ 100 }
     ensures { result ≡ thin_stroke relation from to wide }
 {
     Stroke {
@@ -446,22 +456,21 @@ fn thin_stroke(relation: Relation, from: Point, to: Point, wide: usize) -> Strok
     }
 }
 
-/// Appends the lines of a pair of a relation.
-pub(crate) fn push_pair(
-    alloc: Global,
+/// Sends the lines of a pair of a relation.
+pub(crate) fn send_pair<O: Sink>(
     places: &Places,
     relation: Relation,
     from: &Drawn,
     to: &Drawn,
-    text: &mut Vec<u8>,
-) -> Result<(), NoMemory>
-    ensures { OnOk result (text.new.items ≡ text.old.items ++ pair_line places.now relation (from.now, to.now)) }
+    page: &mut Page,
+    out: &mut O,
+) -> Result<(), Failed>
+    ensures { Sends (O.seen out.old) page.old (O.seen out.new) page.new (pair_line places.now relation (from.now, to.now)) result }
 {
-    let mut word = Vec::new(alloc);
-    push_relation(relation, to.ties.barriers(), &mut word)?;
-    let word = word.as_slice();
-    let stroke = thin_stroke(relation, from.point, to.point, word.len());
-    push_stroke(places, &stroke, word, text)
+    let barriers = to.ties.barriers();
+    let word = Word::OfPair { relation, barriers };
+    let stroke = thin_stroke(relation, from.point, to.point, word_width(word));
+    send_stroke(places, &stroke, word, page, out)
 }
 
 /// The style of the arrow of an edge.
@@ -481,7 +490,8 @@ fn access_point(name: WriteAt) -> Point
 }
 
 /// The arrow of an edge whose name has this many bytes.
-fn edge_stroke(arrow: &Arrow, wide: usize) -> Stroke
+fn edge_stroke(arrow: &Arrow, wide: u128) -> Stroke
+    requires { wide < 2 ^ 100 }
     ensures { result ≡ edge_stroke arrow.now wide }
 {
     let relation = kind_relation(arrow.edge.kind());
@@ -494,13 +504,16 @@ fn edge_stroke(arrow: &Arrow, wide: usize) -> Stroke
     }
 }
 
-/// Appends the lines of the arrow of an edge.
-pub(crate) fn push_edge(places: &Places, arrow: &Arrow, text: &mut Vec<u8>) -> Result<(), NoMemory>
-    ensures { OnOk result (text.new.items ≡ text.old.items ++ edge_lines places.now arrow.now) }
+/// Sends the lines of the arrow of an edge.
+pub(crate) fn send_edge<O: Sink>(
+    places: &Places,
+    arrow: &Arrow,
+    page: &mut Page,
+    out: &mut O,
+) -> Result<(), Failed>
+    ensures { Sends (O.seen out.old) page.old (O.seen out.new) page.new (edge_lines places.now arrow.now) result }
 {
-    let mut word: ArrayString<16> = ArrayString::new();
-    arrow.edge.word(&mut word);
-    let word = word.as_str().as_bytes();
-    let stroke = edge_stroke(arrow, word.len());
-    push_stroke(places, &stroke, word, text)
+    let word = Word::OfEdge { edge: arrow.edge };
+    let stroke = edge_stroke(arrow, word_width(word));
+    send_stroke(places, &stroke, word, page, out)
 }

@@ -1,11 +1,11 @@
 -- A text that is cut after a line feed gives the files of both parts.
-use Rattle.std.proofs.Common.{◌≡◌, ℕ, ◌+◌, List, [], ◌++◌, length, refl, sym, ◌∙◌, ap, subst, append-nil, arith}
+use Rattle.std.proofs.Common.{◌≡◌, ℕ, ◌+◌, List, [], ◌++◌, length, sym, ◌∙◌, ap, subst, append-nil, arith}
 use Rattle.std.proofs.lemmas.List.Concat.{flat_map-append}
 use Rattle.relax_edges.specs.declared.kinds.ArchName.{ArchName}
 use Rattle.text_parts.specs.Lines.{lines_of, ended_lines, unended, last_line}
 use Rattle.cycles_from_lines.proofs.LineLaws.{lines_after}
-use Rattle.lines_to_files.specs.{GivenTests.{GivenTest, given_by, tests_of, tests_in}, TestFiles.{Making, files_from, names_from}, RightTests.AreRight}
-use Rattle.lines_to_files.specs.Laws.{CutAddsUp, CutTextsAddUp}
+use Rattle.lines_to_files.specs.{GivenTests.{given_by, tests_of, tests_in}, TestFiles.{files_from, names_from}, RightTests.AreRight}
+use Rattle.lines_to_files.specs.Laws.{CutTextsAddUp}
 use Rattle.lines_to_files.proofs.{NumberedFiles.{files_both, names_both, files_alone, names_alone}, TestParts.{first_right, later_right}}
 
 -- the lines of a text that is cut after a line feed

@@ -1,29 +1,27 @@
 -- The lines of the cycles of a listing give the files of the listing.
-use Rattle.std.proofs.Common.{◌≡◌, ◌<◌, ℕ, zero, suc, ◌+◌, Bool, true, false, List, [], ◌∷◌, ◌++◌, length, map, Option, Some, None, Ok, refl, sym, ◌∙◌, ap, subst, arith, inl, inr, append_assoc}
-use Rattle.std.specs.{Prelude.{codes, not, ◌==◌, ◌&&◌, nat_le, nat_lt, nat_eq, is_ok, is_none}, List.{AllByRecursion, enumerate_from, list_all, flat_map, slice_get}, Option.option_map}
+use Rattle.std.proofs.Common.{◌≡◌, ℕ, zero, suc, ◌+◌, Bool, true, false, List, [], ◌∷◌, ◌++◌, length, map, Option, Some, None, refl, sym, ◌∙◌, ap, subst, arith, inl, inr, append_assoc}
+use Rattle.std.specs.{Prelude.{codes, not, ◌==◌, nat_le, nat_lt, nat_eq, is_ok, is_none}, List.{AllByRecursion, enumerate_from, flat_map, slice_get}}
 use Rattle.std.proofs.lemmas.{Bool.and_parts, Bool.Decides.nat_tests, List.length-map}
 use Rattle.list_laws.proofs.Elements.{list_all-weaker}
-use Rattle.relax_edges.specs.{declared.edge.Edge.Edge, declared.kinds.ArchName.ArchName}
-use Rattle.edge_algebra_laws.specs.{Composable.IsCycle, Rotation.IsRotation, CycleOrder.{IsLeast, IsNormal}}
+use Rattle.relax_edges.specs.{declared.edge.Edge.Edge}
+use Rattle.edge_algebra_laws.specs.{Composable.IsCycle, CycleOrder.{IsNormal}}
 use Rattle.edge_algebra_laws.proofs.Rotating.{rotation_back}
-use Rattle.cycle_enum_laws.specs.Listing.{AreAllListed, IsOneOf}
-use Rattle.arch_trait.specs.{Threads.Puts, Writing.Writing}
+use Rattle.cycle_enum_laws.specs.Listing.{IsOneOf}
+use Rattle.arch_trait.specs.{Threads.Puts}
 use Rattle.text_parts.specs.Lines.{lines_of, last_line, unended}
 use Rattle.text_parts.proofs.LineLaws as lines
-use Rattle.cycle_names.specs.{declared.family.Family.Family, Families.family_word, LinkWords.link_words, CycleNames.{name_of, name_from, links_text}, Rotations.{found_family, named_rotation}, Laws.are_of_arch}
+use Rattle.cycle_names.specs.{declared.family.Family.Family, Families.family_word, LinkWords.link_words, CycleNames.{name_of, name_from, links_text}, Rotations.{found_family, named_rotation}, Laws.{are_of_arch, IsName}}
 use Rattle.cycle_names.specs.declared.family.Family.TheVariants as families
 use Rattle.cycle_names.proofs.{NameLaws.{decide_names, named, names_of_cycles}, NamedRotations.named_rotates}
-use Rattle.cycles_from_lines.specs.{declared.line.LineForm.TheVariants.Edges, Cycles.{are_sound, is_sound, line_said, cycle_said}, Normed.{name_line, name_lines}}
+use Rattle.cycles_from_lines.specs.{declared.line.LineForm.TheVariants.Edges, Cycles.{are_sound, cycle_said}, Normed.{name_line, name_lines}}
 use Rattle.cycles_from_lines.proofs.{Cuts.without_is, LineLaws.{ended_nil, unended_nil}}
 use Rattle.cycle_events.specs.Resolution.{resolution_of}
 use Rattle.test_maker.proofs.HavingTests.{neither, not_foreign}
 use Rattle.test_maker.specs.Refusals.{refusal_of, foreign_edge, resolved_refusal}
 use Rattle.tests_to_files.specs.{ListedFiles.{file_of, path_of, all_path, file_lines, test_files}, GivenCycles.given_files, Plans.{Plan, IsPlanned, planned_text, is_wanted}}
-use Rattle.tests_to_files_laws.specs.OwnFiles.{AreDifferent}
 use Rattle.tests_to_files_laws.proofs.OwnFiles.{listed_are_different}
-use Rattle.lines_to_files.specs.declared.form.TestForm.TheVariants.{Observed}
-use Rattle.lines_to_files.specs.{GivenTests.{GivenTest, given_by, test_given, tests_of, tests_in, normal_of}, TestFiles.{Making, file_in, files_from, names_from, all_files}}
-use Rattle.lines_to_files.specs.{RightTests.{AreRight, names_file, is_number_name}, Laws.{making_of, ReadsBack, ListedLinesReadBack}}
+use Rattle.lines_to_files.specs.{GivenTests.{GivenTest, given_by, test_given, tests_of, tests_in, normal_of}, TestFiles.{files_from, names_from, all_files}}
+use Rattle.lines_to_files.specs.{RightTests.{AreRight, names_file, is_number_name}, Laws.{making_of, ListedLinesReadBack}}
 use Rattle.lines_to_files.proofs.{NormalForms.normal_is, PrintedLines.{printed, name_line_is, is_line_byte, line_no_feed, printed_bytes, printed_said, printed_label}}
 
 -- a cycle of a listing
@@ -128,9 +126,8 @@ no_number [] h = refl
 no_number (b ∷ name) h = rw h refl
 
 -- so the name of a cycle can name a file
-name_names : (u : List Edge) → IsCycle u → names_file (name_of u) ≡ true
-name_names u c =
-    let name = names_of_cycles u c in
+pub name_names : (u : List Edge) → IsName (name_of u) → names_file (name_of u) ≡ true
+name_names u name =
     let some : nat_lt 0 (length (name_of u)) ≡ true = grind (arith, nat_tests, name.some) in
     let short : nat_le (length (name_of u)) 800 ≡ true = grind (arith, nat_tests, name.short) in
     rw (some, short, name.bytes, no_number (name_of u) (name_begins u)) refl
@@ -170,7 +167,7 @@ all_of P (u ∷ us) h = (h u (inl refl), all_of P us (λ v one. h v (inr one)))
 
 named_each : (puts : Puts) (cycles : List (List Edge)) → AllByRecursion (IsFit puts) cycles → AllByRecursion (λ (test : GivenTest). names_file test.name ≡ true) (map own_test cycles)
 named_each puts [] h = tt
-named_each puts (u ∷ us) h = (name_names u h.0.cycle_is, named_each puts us h.1)
+named_each puts (u ∷ us) h = (name_names u (names_of_cycles u h.0.cycle_is), named_each puts us h.1)
 
 accepted_each : (plan : Plan) (cycles : List (List Edge)) → AllByRecursion (λ u. refusal_of plan.puts u plan.mode ≡ None) cycles
     → AllByRecursion (λ (test : GivenTest). refusal_of plan.puts test.cycle plan.mode ≡ None) (map own_test cycles)

@@ -1,12 +1,12 @@
 -- The normal form of a cycle is the least of its rotations.
-use Rattle.std.proofs.Common.{◌≡◌, ◌<◌, ℕ, List, [], ◌∷◌, length, map, refl, sym, ◌∙◌, ap, subst, arith}
+use Rattle.std.proofs.Common.{◌≡◌, ◌<◌, List, [], ◌∷◌, length, map, refl, ap, arith}
 use Rattle.std.proofs.lemmas.List.{length-map}
 use Rattle.std.specs.Prelude.{unwrap_or}
 use Rattle.relax_edges.specs.{declared.edge.Edge.Edge, Order.rank_of}
-use Rattle.edge_algebra_laws.specs.{Rotation.IsRotation, CycleOrder.{IsLeast, IsNormal}}
+use Rattle.edge_algebra_laws.specs.{CycleOrder.{IsLeast}}
 use Rattle.edge_algebra_laws.proofs.{Ordering.above_of_ranks, RankLaws.rank_injective, Rotating.{rotation_back, rotation_length, rotation_on}}
 use Rattle.cycle_names.specs.Rotations.{rotations, edges_below}
-use Rattle.cycle_names.proofs.{Members.{Member, same_head, same_tail}, EdgeListOrder.{IsFirst, first_is_least, neither_below}}
+use Rattle.cycle_names.proofs.{Members.{same_head, same_tail}, EdgeListOrder.{IsFirst, first_is_least, neither_below}}
 use Rattle.cycle_names.proofs.NamedRotations.{rotation_of_member, member_of_rotation}
 use Rattle.lines_to_files.specs.GivenTests.{normal_of}
 

@@ -1,21 +1,21 @@
 -- A line that is printed of a cycle gives the test of the cycle under its name.
-use Rattle.std.proofs.Common.{◌≡◌, ◌≤◌, ◌<◌, ℕ, ◌+◌, ◌*◌, Bool, true, false, List, [], ◌∷◌, ◌++◌, length, Option, Some, None, Ok, Err, refl, sym, ◌∙◌, ap, subst, arith, append_assoc, length-append, cond, nat_lt}
+use Rattle.std.proofs.Common.{◌≡◌, ◌≤◌, ◌<◌, ℕ, ◌*◌, Bool, true, false, List, [], ◌∷◌, ◌++◌, length, Some, Ok, Err, refl, sym, ◌∙◌, ap, arith, append_assoc, length-append, cond, nat_lt}
 use Rattle.std.proofs.lemmas.Bool.Decides.{nat_tests}
-use Rattle.std.specs.{Prelude.{codes, map, not, ◌==◌, ◌||◌, ◌&&◌, Result, unwrap_or}, List.{join_by, list_all, slice_split}, Option.option_map}
+use Rattle.std.specs.{Prelude.{codes, map, not, ◌==◌, ◌||◌}, List.{join_by, list_all, slice_split}, Option.option_map}
 use Rattle.list_laws.proofs.Elements.{list_all-weaker}
 use Rattle.relax_edges.specs.{declared.edge.Edge.Edge, declared.TheConstants.MAX_EDGES, declared.kinds.ArchName.ArchName, WordParts.word_of, Spelling.edge_of}
 use Rattle.relax_edges.specs.ReadEdges.{before_edges}
 use Rattle.relax_edges.proofs.WordBounds.{word_not_short, word_short}
 use Rattle.edge_algebra_laws.proofs.SpellingLaws.{edge_of-word_of}
 use Rattle.edge_algebra_laws.specs.Composable.{IsCycle}
-use Rattle.edge_algebra.specs.{declared.errors.CycleError.CycleError, Compose.composed, ComposingLaws.composes_exactly}
-use Rattle.text_parts.specs.{Blanks.{is_blank, is_inked, unblanked, before_blanks, trim_blanks}, Cuts.{cut_at, is_without}, LeadingRuns.after_run, Names.is_name_byte}
+use Rattle.edge_algebra.specs.{Compose.composed, ComposingLaws.composes_exactly}
+use Rattle.text_parts.specs.{Blanks.{is_blank, is_inked, before_blanks, trim_blanks}, Cuts.{is_without}, LeadingRuns.after_run, Names.is_name_byte}
 use Rattle.text_parts.proofs.{BlankLaws.inked_ends, CutLaws.{all_both, cut_back}, PieceLaws.{split_whole, split_off}, RunLaws.after_halts}
 use Rattle.edges_from_text.specs.{declared.read.Separators.TheVariants.Blanks, Spelled.{edges_spelled, separates, text_edges}}
-use Rattle.cycle_names.specs.{CycleNames.name_of, Rotations.named_rotation, Laws.{are_of_arch, IsName}, declared.name.TheConstants.MAX_CYCLE_NAME}
+use Rattle.cycle_names.specs.{CycleNames.name_of, Rotations.named_rotation, Laws.{are_of_arch}}
 use Rattle.cycle_names.proofs.{NameLaws.{arch_turned, named, names_of_cycles}, NamedRotations.named_rotates, Tables.word_bytes}
 use Rattle.cycles_from_lines.specs.{declared.line.LineForm.TheVariants.Edges, Normed.name_line}
-use Rattle.cycles_from_lines.specs.Cycles.{line_said, form_said, is_long_line, without_label, spelled_made, cycle_made, composed_or}
+use Rattle.cycles_from_lines.specs.Cycles.{line_said, is_long_line, without_label, spelled_made, cycle_made, composed_or}
 use Rattle.cycles_from_lines.specs.declared.errors.LineKind.TheVariants.{TooLong, NotOfArch}
 use Rattle.cycles_from_lines.proofs.Cuts.{label_cut}
 use Rattle.lines_to_files.specs.GivenTests.{label_of}

@@ -1,9 +1,8 @@
 -- The laws of the files that lines of cycles give, as statements.
 -- Source: own.
-use Rattle.std.specs.{Prelude.{◌≡◌, ◌≤◌, ℕ, true, List, [], ◌∷◌, ◌++◌, length, Option, None}, List.AllByRecursion}
-use Rattle.relax_edges.specs.{declared.kinds.ArchName.ArchName, declared.kinds.ObsMode.ObsMode, declared.edge.Edge.Edge}
+use Rattle.std.specs.{Prelude.{◌≡◌, ◌≤◌, ℕ, true, List, [], ◌++◌, length, Option}, List.AllByRecursion}
+use Rattle.relax_edges.specs.{declared.kinds.ArchName.ArchName, declared.edge.Edge.Edge}
 use Rattle.text_parts.specs.Lines.{lines_of, unended}
-use Rattle.edge_algebra_laws.specs.{Composable.IsCycle, CycleOrder.IsNormal}
 use Rattle.cycle_enum_laws.specs.Listing.{AreAllListed}
 use Rattle.cycles_from_lines.specs.{Cycles.are_sound, Normed.name_lines, declared.line.LineForm.TheVariants.Edges}
 use Rattle.tests_to_files.specs.{GivenCycles.given_files, Plans.{Plan, IsPlanned, planned_text}}

@@ -3,3 +3,8 @@ pub mod TestFiles
 pub mod RightTests
 pub mod LineTestEnds
 pub mod Laws
+pub mod ReadTexts
+pub mod TextLines
+pub mod Judged
+pub mod PutLines
+pub mod Stops

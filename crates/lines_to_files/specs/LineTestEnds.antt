@@ -5,8 +5,9 @@ use Rattle.diy_io.specs.{declared.source.TheConstants.MAX_INPUT, Count.Rose, Sin
 use Rattle.diy_io.specs.Wrote.{SinkSeen, WroteAll, WrotePart}
 use Rattle.text_parts.specs.Lines.{without_return, ended_lines, unended, lines_of}
 use Rattle.cycles_from_lines.specs.{Cycles.{are_sound, is_long_line}, LineReading.{TookUpTo, whole_of}, declared.line.LineForm.TheVariants.Edges}
+use Rattle.test_maker.specs.Made.{NamesLocation}
 use Rattle.tests_to_files.specs.{ListedFiles.count_line, GivenCycles.PutUpTo, Putting.PutFiles}
-use Rattle.lines_to_files.specs.{declared.ending.LineTestsEnd.LineTestsEnd, declared.form.WrongTest.WrongTest}
+use Rattle.lines_to_files.specs.{declared.ending.LineTestsEnd.LineTestsEnd, declared.form.WrongTest.WrongTest, declared.form.WrongTest.TheVariants.Refused}
 use Rattle.lines_to_files.specs.declared.ending.LineTestsEnd.TheVariants.{Done, Wrong, TooMuch, InputFault, ShelfFault, OutFault, NoMemory}
 use Rattle.lines_to_files.specs.{GivenTests.{tests_of, tests_in}, TestFiles.{Making, files_from, all_files}, RightTests.{AreRight, FirstWrong}}
 
@@ -62,8 +63,10 @@ pub record StopsAtFault (making : Making) (old new : SourceSeen) (shelf shelf' :
 
 -- the first lines of what a source had, as far as that is shown, are right, and the shelf failed at one of the files of their tests or, if
 -- these are all lines, at the file that names them; the files before it were written
-pub record StopsAtFile (making : Making) (new : SourceSeen) (shelf shelf' : ShelfSeen) : Type 0 where
+pub record StopsAtFile (making : Making) (old new : SourceSeen) (shelf shelf' : ShelfSeen) : Type 0 where
   pub text : List ℕ
+  pub took : TookUpTo old new text
+  pub few : length text ≤ MAX_INPUT + 1
   pub before : List (List ℕ)
   pub later : List (List ℕ)
   pub parts : lines_of (whole_of text new) ≡ before ++ later
@@ -77,5 +80,15 @@ EndsLineTests making OutFault old new shelf shelf' out out' = WritesTests making
 EndsLineTests making (Wrong line kind) old new shelf shelf' out out' = StopsAtWrong making old new shelf shelf' line kind × (out' ≡ out)
 EndsLineTests making (TooMuch line) old new shelf shelf' out out' = StopsAtLimit making old new shelf shelf' line × (out' ≡ out)
 EndsLineTests making InputFault old new shelf shelf' out out' = StopsAtFault making old new shelf shelf' × (out' ≡ out)
-EndsLineTests making ShelfFault old new shelf shelf' out out' = StopsAtFile making new shelf shelf' × (out' ≡ out)
+EndsLineTests making ShelfFault old new shelf shelf' out out' = StopsAtFile making old new shelf shelf' × (out' ≡ out)
 EndsLineTests making NoMemory old new shelf shelf' out out' = (shelf' ≡ shelf) × (out' ≡ out)
+
+-- a location that what is wrong with a line names is less than the greatest number of edges
+abbrev pub KindNamesLocation : WrongTest → Type 0
+KindNamesLocation (Refused refusal) = NamesLocation refusal
+KindNamesLocation _ = Unit {0}
+
+-- the same for how the writing ended
+abbrev pub EndNamesLocation : LineTestsEnd → Type 0
+EndNamesLocation (Wrong line kind) = KindNamesLocation kind
+EndNamesLocation _ = Unit {0}

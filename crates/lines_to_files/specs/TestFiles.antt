@@ -1,11 +1,11 @@
 -- The files of the tests that lines give, and the file that names them.
 -- Source: own.
-use Rattle.std.specs.{Prelude.{ℕ, List, [], ◌∷◌, ◌++◌, map, codes, Option}, List.{flat_map, enumerate_from}}
+use Rattle.std.specs.{Prelude.{ℕ, List, [], ◌∷◌, ◌++◌, map, codes, Option}, List.{flat_map, enumerate_from}, Borrow.Bor}
 use Rattle.relax_edges.specs.declared.edge.Edge.{Edge}
 use Rattle.arch_trait.specs.{Threads.Puts, Writing.Writing}
 use Rattle.test_maker.specs.{declared.refusal.Refusal.Refusal, Refusals.refusal_of, CycleText.cycle_text}
 use Rattle.co_tests.specs.CoRefusals.{coherence_refusal_of, coherence_text}
-use Rattle.tests_to_files.specs.ListedFiles.{file_named, path_of, all_path}
+use Rattle.tests_to_files.specs.{ListedFiles.{file_named, path_of, all_path}, Plans.folder_in}
 use Rattle.lines_to_files.specs.{declared.form.TestForm.TestForm, declared.form.TestForm.TheVariants.{Observed, Coherence}, GivenTests.GivenTest}
 
 -- which tests are made and where their files are: the architecture, by its code and how that is written, the form, and the folder
@@ -14,6 +14,10 @@ pub record Making : Type 0 where
   pub writing : Writing
   pub form : TestForm
   pub folder : Option (List ℕ)
+
+-- the same from the arguments of a call
+abbrev pub making_in : Puts → Writing → TestForm → Option (Bor (List ℕ)) → Making
+making_in puts writing form folder = record { puts = puts; writing = writing; form = form; folder = folder_in folder }
 
 -- the first reason why a cycle has no test of a form on an architecture
 abbrev pub refusal_in : Puts → TestForm → List Edge → Option Refusal

@@ -1,7 +1,7 @@
 -- States with their sums, as a table keeps them.
-use Rattle.std.proofs.Common.{◌≡◌, ℕ, zero, suc, ◌+◌, ◌<◌, List, [], ◌∷◌, ◌++◌, Some, None, true, false, cond, length, refl, sym, ap, ◌∙◌, arith, subst}
+use Rattle.std.proofs.Common.{◌≡◌, ℕ, zero, suc, ◌+◌, List, [], ◌∷◌, ◌++◌, Some, None, true, false, cond, length, refl, sym, ap, ◌∙◌, arith, subst}
 use Rattle.std.proofs.{lemmas.Map.Text.is_eq-slice_cmp, lemmas.Slice.Eq.bytes_eq-Decides, lemmas.List.length-map}
-use Rattle.std.specs.Prelude.{Bool, Option, map, slice_get, option_map, T, min, Ok}
+use Rattle.std.specs.Prelude.{Bool, Option, map, slice_get, option_map, T, min, Result, Ok, Err, OnOk, OnErr, IfOk}
 use Rattle.std.specs.{Bool.OnTrue, Ordering.{nat_cmp, is_eq}, Cmp.Lexicographic.slice_cmp, BTreeMap.insert_entry, FinMap.Entries.{is_sorted, below_all}}
 use Rattle.std.specs.{List.{IsDistinct, AllByRecursion}, List.Sorted.IsStrictlySortedBy, Str.bytes_eq, Map.{lookup, keys_of, values_of}, declared.vec.Vec.Vec}
 use Rattle.std.specs.{declared.alloc.Global.Global, declared.cmp.Ordering.TheVariants.Less}
@@ -9,8 +9,9 @@ use Rattle.list_laws.proofs.Cases.{by_test}
 use Rattle.log_sum.specs.{declared.kinds.Mark.Mark, declared.spelling.Spelling.Spelling, declared.state_table.StateSum.StateSum, Summed.StateSummed}
 use Rattle.log_sum.specs.{LogStates.form_read, SummingSteps.known_state, StateSpelling.{is_spelled, IsSpelled, AddsText}}
 use Rattle.log_sum.specs.StateEntries.{sum_view, sum_in, is_kept, has_text, state_view, state_at, states_view, and_state, placed_state, EntriesAreWritten, HasState}
-use Rattle.log_sum.specs.TextPlaces.{set_value_at, index_among, places_view, ArePlaced}
+use Rattle.log_sum.specs.TextPlaces.{set_value_at, index_among, places_view, ArePlaced, IsSeenAt}
 use Rattle.diy_io.specs.Count.{last_count}
+use Rattle.log_sum.proofs.TextPlaceLaws.{last_text, text_at}
 use Rattle.log_sum.proofs.OrderLaws.{ordered_known, ordered_put, ordered_sorted, same_states}
 
 -- the texts that are kept of states are read as these where a sum is changed to one whose texts are
@@ -84,7 +85,7 @@ pub view_more : (es : List (Vec ℕ Global × StateSum)) (key : Vec ℕ Global) 
 view_more es key w none = grind (arith, ordered_put, map_more, known_more, ordered_known)
 
 -- a new entry whose texts are read as its state keeps that so for all entries
-pub written_more : (es : List (Vec ℕ Global × StateSum)) (key : Vec ℕ Global) (w : StateSum) → IsSpelled key.items w.spelling → EntriesAreWritten es → EntriesAreWritten (es ++ (key, w) ∷ [])
+written_more : (es : List (Vec ℕ Global × StateSum)) (key : Vec ℕ Global) (w : StateSum) → IsSpelled key.items w.spelling → EntriesAreWritten es → EntriesAreWritten (es ++ (key, w) ∷ [])
 written_more [] key w shown h zero other sum e = grind arith
 written_more [] key w shown h (suc i) other sum e = cc
 written_more (x ∷ es) key w shown h zero other sum e = h zero other sum e
@@ -108,24 +109,12 @@ pub known_at : (es : List (Vec ℕ Global × StateSum)) (i : ℕ) (text : List �
     → slice_get (values_of es) i ≡ Some v → known_state (states_view es) text ≡ Some (sum_view v)
 known_at es i text v d h g = ordered_known (map state_view es) text ∙ known_here es i text v d h g
 
--- an index that has a state has a sum
-pub nothing_at : (es : List (Vec ℕ Global × StateSum)) (i : ℕ) (text : List ℕ) → state_at es i ≡ Some text → slice_get (values_of es) i ≡ None → ⊥
-nothing_at (e ∷ es) (suc i) text h g = nothing_at es i text h g
-nothing_at es i text h g = grind arith
-
 -- a count added to that of the state at an index
 pub view_added : (es : List (Vec ℕ Global × StateSum)) (i count total : ℕ) (v : StateSum) (text : List ℕ) (known : Mark × ℕ) → IsDistinct (λ (x y : Vec ℕ Global). bytes_eq x.items y.items) (keys_of es)
     → Some v ≡ slice_get (values_of es) i → total ≡ min (v.count + count) last_count → state_at es i ≡ Some text → known_state (states_view es) text ≡ Some known
     → states_view (set_value_at es i (record v { count = total })) ≡ insert_entry (slice_cmp nat_cmp) (states_view es) text (known.0, min (known.1 + count) last_count)
 view_added es i count total v text known d g sum h is =
     grind (arith, (known_at es i text v d h (sym g)), (view_written es i (record v { count = total }) text d h))
-
--- no entries are written
-pub none_written : (es : List (Vec ℕ Global × StateSum)) → es ≡ [] → EntriesAreWritten es
-none_written es e = subst EntriesAreWritten (sym e) nothing
-  where
-    nothing : EntriesAreWritten []
-    nothing i key sum h = grind arith
 
 -- a text that is kept of a state is read as that state
 spelled_read : (state text : List ℕ) (spelling : Spelling) → IsSpelled state spelling → is_spelled state spelling text ≡ true → form_read text ≡ Ok state
@@ -182,13 +171,37 @@ pub known_some : (text : List ℕ) (es : List (Vec ℕ Global × StateSum)) (i :
 known_some text es i h = ordered_known (map state_view es) text ∙ known_index text es ∙ ap (option_map (sum_in es)) h
 
 -- a state that has an index is among the states
-pub state_stays : (es : List (Vec ℕ Global × StateSum)) (text : List ℕ) (mark : Mark) (i : ℕ) → index_among text es ≡ Some i → and_state es text mark ≡ states_view es
+state_stays : (es : List (Vec ℕ Global × StateSum)) (text : List ℕ) (mark : Mark) (i : ℕ) → index_among text es ≡ Some i → and_state es text mark ≡ states_view es
 state_stays es text mark i h = rw (known_some text es i h) refl
 
 -- a state without an index is put to the others
-pub state_put : (es : List (Vec ℕ Global × StateSum)) (key : Vec ℕ Global) (w : StateSum) (text : List ℕ) (mark : Mark) → key.items ≡ text → w.mark ≡ mark → w.count ≡ 0 → index_among text es ≡ None
+state_put : (es : List (Vec ℕ Global × StateSum)) (key : Vec ℕ Global) (w : StateSum) (text : List ℕ) (mark : Mark) → key.items ≡ text → w.mark ≡ mark → w.count ≡ 0 → index_among text es ≡ None
     → states_view (es ++ (key, w) ∷ []) ≡ and_state es text mark
 state_put es key w text mark e f g none = grind (arith, (view_more es key w), (known_none text es none))
+
+-- what holds of the states after one was found, or put last
+written_seen : (es new : List (Vec ℕ Global × StateSum)) (text : List ℕ) (w : StateSum) (o : Option ℕ) (i : ℕ) → IsSeenAt es new text w o i → IsSpelled text w.spelling → EntriesAreWritten es → EntriesAreWritten new
+written_seen es new text w (Some known) i seen shown h = subst EntriesAreWritten (sym seen.1) h
+written_seen es new text w None i seen shown h =
+    subst EntriesAreWritten (sym seen.1.entries) (written_more es seen.1.key w (subst (λ t. IsSpelled t w.spelling) (sym seen.1.text_is) shown) h)
+
+pub all_written : {E : Type 0} (es new : List (Vec ℕ Global × StateSum)) (text : List ℕ) (w : StateSum) (o : Option ℕ) (r : Result ℕ E) → IfOk r (IsSeenAt es new text w o) → OnErr r (new ≡ es)
+    → IsSpelled text w.spelling → EntriesAreWritten es → EntriesAreWritten new
+all_written es new text w o (Ok i) seen same shown h = written_seen es new text w o i seen shown h
+all_written es new text w o (Err e) seen same shown h = subst EntriesAreWritten (sym same) h
+
+pub state_seen : {E : Type 0} (es new : List (Vec ℕ Global × StateSum)) (text : List ℕ) (w : StateSum) (o : Option ℕ) (r : Result ℕ E) → index_among text es ≡ o → IfOk r (IsSeenAt es new text w o)
+    → IfOk r (λ i. state_at new i ≡ Some text)
+state_seen es new text w (Some known) (Ok i) h seen = ap (λ entries. state_at entries i) seen.1 ∙ ap (state_at es) seen.0 ∙ text_at text es known h
+state_seen es new text w None (Ok i) h seen =
+    ap (λ entries. state_at entries i) seen.1.entries ∙ last_text es (seen.1.key, w) i seen.0 ∙ ap (λ t. Some t) seen.1.text_is
+state_seen es new text w o (Err e) h seen = tt
+
+pub states_seen : {E : Type 0} (es new : List (Vec ℕ Global × StateSum)) (text : List ℕ) (w : StateSum) (o : Option ℕ) (r : Result ℕ E) → index_among text es ≡ o → IfOk r (IsSeenAt es new text w o)
+    → (mark : Mark) → w.mark ≡ mark → w.count ≡ 0 → OnOk r (states_view new ≡ and_state es text mark)
+states_seen es new text w (Some known) (Ok i) h seen mark e f = ap states_view seen.1 ∙ sym (state_stays es text mark known h)
+states_seen es new text w None (Ok i) h seen mark e f = ap states_view seen.1.entries ∙ state_put es seen.1.key w text mark seen.1.text_is e f h
+states_seen es new text w o (Err x) h seen mark e f = tt
 
 -- the states of a map in byte order are the states
 below_placed : (es : List (Vec ℕ Global × StateSum)) (x : List ℕ) (places : List (Vec ℕ Global × ℕ)) → AllByRecursion (λ (y : Vec ℕ Global). slice_cmp nat_cmp x y.items ≡ Less) (keys_of places)

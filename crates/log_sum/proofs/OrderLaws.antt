@@ -37,14 +37,6 @@ ordered_known (e ∷ es) q = known_put (ordered es) e.0 e.1 q ∙ ap (cond (is_e
 pub same_states : (es fs : List StateSummed) → T (is_sorted (slice_cmp nat_cmp) es) → T (is_sorted (slice_cmp nat_cmp) fs) → ((q : List ℕ) → known_state es q ≡ known_state fs q) → es ≡ fs
 same_states es fs g h same = same_entries (slice_cmp nat_cmp) order is_text es fs g h (λ q. find_is q es ∙ same q ∙ sym (find_is q fs))
 
--- states in order stay as they are
-pub ordered_is : (es : List StateSummed) → T (is_sorted (slice_cmp nat_cmp) es) → ordered es ≡ es
-ordered_is es h = same_states (ordered es) es (ordered_sorted es) h (ordered_known es)
-
--- states of which the same is known of each text are the same in order
-pub ordered_same : (es fs : List StateSummed) → ((q : List ℕ) → known_state es q ≡ known_state fs q) → ordered es ≡ ordered fs
-ordered_same es fs same = same_states (ordered es) (ordered fs) (ordered_sorted es) (ordered_sorted fs) (λ q. ordered_known es q ∙ same q ∙ sym (ordered_known fs q))
-
 -- where a state alone is known anew, the ordered states have it inserted
 pub ordered_put : (es fs : List StateSummed) (k : List ℕ) (v : Mark × ℕ) → ((q : List ℕ) → known_state fs q ≡ cond (is_eq (slice_cmp nat_cmp q k)) (Some v) (known_state es q)) → ordered fs ≡ insert_entry (slice_cmp nat_cmp) (ordered es) k v
 ordered_put es fs k v same =

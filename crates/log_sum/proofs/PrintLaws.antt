@@ -1,12 +1,13 @@
 -- The printed sum, piece by piece.
-use Rattle.std.proofs.Common.{◌≡◌, ◌≤◌, ℕ, zero, suc, ◌-◌, List, [], ◌∷◌, ◌++◌, length, take, drop, refl, ap, ◌∙◌, arith, min, append_assoc, append-nil}
-use Rattle.std.proofs.{lemmas.List.Concat.flat_map-append, lemmas.List.map_push}
+use Rattle.std.proofs.Common.{◌≡◌, ◌≤◌, ◌<◌, get_or, ℕ, zero, suc, ◌+◌, ◌-◌, List, [], ◌∷◌, ◌++◌, length, take, drop, refl, sym, ap, ◌∙◌, subst, arith, min, append_assoc, append-nil}
+use Rattle.std.proofs.{lemmas.List.Concat.flat_map-append, lemmas.List.map_push, lemmas.List.take_more}
 use Rattle.std.specs.{Prelude.{map, replicate, codes, Result, Ok, Err}, Fmt.decimal, List.flat_map, Result.IsErrAnd}
 use Rattle.diy_io.specs.{declared.errors.Failed.Failed, Wrote.{SinkSeen, WrotePart}, Page.{SentAll, Sends}}
 use Rattle.diy_io.specs.PageLaws.{sent_both, sent_part, sent_part_more, sends_then, sends_stopped}
 use Rattle.log_sum.specs.{declared.kinds.Kind.TheVariants.Allowed, declared.kinds.Mark.Mark, Summed.{Summed, summed, some_or, is_validated}}
-use Rattle.log_sum.specs.{Representing.{Kept, sum_table, kept_text}, Facts.{Entry, facts_of, tests_of}}
-use Rattle.log_sum.specs.SumText.{summed_text, sum_text, line_end, filling, mark_sign, state_line, sum_kind_word, verdict_word, how_often, head_text, sum_verdict_text, observation_text}
+use Rattle.log_sum.specs.{Representing.{Kept, sum_table, kept_text, kept_table}, Facts.{Entry, facts_of, tests_of}}
+use Rattle.log_sum.specs.SumText.{summed_text, sum_text, line_end, filling, mark_sign, state_line, sum_kind_word, verdict_word, how_often, head_text, sum_verdict_text, observation_text, table_line, table_text, TableIsObserved}
+use Rattle.log_sum.proofs.StateLaws.{take_whole}
 
 -- the rest of six blanks and a sign, from a place on
 pub blanks_and_sign : (k a b : ℕ) → k ≤ 6 → take (8 - k) (drop k (32 ∷ 32 ∷ 32 ∷ 32 ∷ 32 ∷ 32 ∷ a ∷ b ∷ [])) ≡ replicate (6 - k) 32 ++ a ∷ b ∷ []
@@ -106,6 +107,49 @@ covers_next f g ys it rest x y all e h k = grind (arith, map_push, append_assoc)
 pub covers_this : {A B T : Type 0} (f : A → T) (g : B → T) (ys : List A) (it rest : List B) (x : A) (y : B) (all : List T) → f x ≡ g y → it ≡ y ∷ rest → map f ys ++ map g it ≡ all
     → map f ys ++ f x ∷ map g rest ≡ all
 covers_this f g ys it rest x y all e h k = (cc)
+
+-- the same for the elements of a list by their indices
+pub taken_go : {A T : Type 0} (f : A → T) (line : T → List ℕ) (a b c : SinkSeen) (held mid kept : List ℕ) (xs : List A) (k : ℕ) (x : A) (text : List ℕ) → k < length xs → x ≡ get_or xs k x
+    → SentAll a held b mid (flat_map line (map f (take k xs))) → SentAll b mid c kept text → text ≡ line (f x) → SentAll a held c kept (flat_map line (map f (take (k + 1) xs)))
+taken_go f line a b c held mid kept xs k x text l is p q e =
+    subst (λ ys. SentAll a held c kept (flat_map line (map f ys))) (ap (λ y. take k xs ++ y ∷ []) is ∙ sym (take_more xs k x l))
+    (lines_go f line a b c held mid kept (take k xs) x text p q e)
+
+-- after the last index all are sent
+pub taken_end : {A T : Type 0} (f : A → T) (line : T → List ℕ) (a b : SinkSeen) (held kept : List ℕ) (xs : List A) (k : ℕ) → length xs ≤ k
+    → SentAll a held b kept (flat_map line (map f (take k xs))) → Sends a held b kept (flat_map line (map f xs)) (Ok tt)
+taken_end f line a b held kept xs k l p = record {
+  ok = subst (λ ys. SentAll a held b kept (flat_map line (map f ys))) (take_whole xs k l) p;
+  failed = tt;
+}
+
+-- the elements before one, this one, and those after it are all elements
+pub covers_at : {A T : Type 0} (f : A → T) (xs : List A) (k : ℕ) (d x : A) → k < length xs → x ≡ get_or xs k d → map f (take k xs) ++ f x ∷ map f (drop (suc k) xs) ≡ map f xs
+covers_at f [] k d x l h = absurd (omega arith)
+covers_at f (y ∷ xs) zero d x l h = ap (λ z. f z ∷ map f xs) h
+covers_at f (y ∷ xs) (suc k) d x l h = ap (λ t. f y ∷ t) (covers_at f xs k d x (omega arith) h)
+
+-- the pieces of a line of the table are its text
+pub table_line_is : (name often starred plain : List ℕ) (test : Summed)
+    → often ≡ how_often test.starred test.plain → starred ≡ decimal test.starred → plain ≡ decimal test.plain
+    → name ++ (9 ∷ []) ++ often ++ (9 ∷ []) ++ starred ++ (9 ∷ []) ++ plain ++ line_end ≡ table_line name test
+unfolding table_line
+table_line_is name often starred plain test e f h = rw (e, f, h) (grind (arith, append_assoc))
+
+-- a line of the table has the words of the line of the observation
+pub table_is_observed : TableIsObserved
+unfolding table_line observation_text
+table_is_observed name test = (refl, grind (arith, append_assoc))
+
+rows_of : (test : List ℕ → Summed) (names : List (List ℕ)) → flat_map (λ (row : List ℕ × Summed). table_line row.0 row.1) (map (λ name. (name, test name)) names) ≡ flat_map (λ name. table_line name (test name)) names
+rows_of test [] = refl
+rows_of test (name ∷ names) = ap (λ t. table_line name (test name) ++ t) (rows_of test names)
+
+-- the table of what is kept is that of the facts that its tests have
+pub table_is : (kept : Kept) (entries : List Entry) → kept.progress.tests ≡ sum_table entries → kept_table kept ≡ table_text entries
+unfolding table_text
+table_is kept entries tests =
+    ap (flat_map (λ (row : List ℕ × Summed). table_line row.0 row.1)) tests ∙ rows_of (λ name. summed (facts_of name entries)) (tests_of entries)
 
 texts_of : (test : List ℕ → Summed) (names : List (List ℕ)) → flat_map (λ (row : List ℕ × Summed). summed_text row.0 row.1) (map (λ name. (name, test name)) names) ≡ flat_map (λ name. summed_text name (test name)) names
 texts_of test [] = refl

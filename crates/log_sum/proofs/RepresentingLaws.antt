@@ -1,10 +1,10 @@
 -- Laws of a summer that was fed in pieces, for those who use it.
-use Rattle.std.proofs.Common.{◌≡◌, ◌⊎◌, ℕ, List, [], ◌∷◌, ◌++◌, Ok, Err, true, refl, sym, ap, ◌∙◌, arith, append_assoc, append-nil, inl, inr}
+use Rattle.std.proofs.Common.{◌≡◌, ◌⊎◌, ℕ, List, [], ◌∷◌, ◌++◌, Ok, Err, refl, sym, ap, ◌∙◌, arith, append_assoc, append-nil, inl, inr}
 use Rattle.std.specs.Prelude.{Result}
 use Rattle.text_parts.specs.{Lines.whole_lines, ReadingSteps.◌>>=◌}
-use Rattle.log_sum.specs.{Facts.Entry, SumText.sum_text, declared.errors.LogError.LogError, LogReading.{LogSeen, input_judged}}
-use Rattle.log_sum.specs.Representing.{Kept, Represents, ShowsFault, ShowsNone, sum_table, facts_so_far, kept_text, logs_text, SumOrFault}
-use Rattle.log_sum.proofs.{PrintLaws.sum_is, StayLaws.file_more, Grammar.{judged_text, text_fault}, CarryLaws.{fault_shown, none_shown}}
+use Rattle.log_sum.specs.{Facts.Entry, SumText.{sum_text, table_text}, declared.errors.LogError.LogError, LogReading.{LogSeen, input_judged}}
+use Rattle.log_sum.specs.Representing.{Kept, Represents, ShowsFault, ShowsNone, sum_table, facts_so_far, kept_text, kept_table, logs_text, logs_table, SumOrFault}
+use Rattle.log_sum.proofs.{PrintLaws.{sum_is, table_is}, StayLaws.file_more, Grammar.{judged_text, text_fault}, CarryLaws.{fault_shown, none_shown}}
 
 -- nothing has been said so far where nothing has come
 nothing_said : (entries : List Entry) → entries ++ facts_so_far [] ≡ entries
@@ -18,6 +18,13 @@ represented_text kept files h =
     ap (λ (r : Result (List Entry) LogError). r >>= λ entries. Ok (sum_text entries)) h.whole
     ∙ ap (λ text. Ok text) (sym (sum_is kept h.before (h.tests ∙ ap sum_table (nothing_said h.before))))
 
+-- and so is the printed table
+pub represented_table : (kept : Kept) (files : List (List ℕ)) → Represents kept files [] → logs_table files ≡ Ok (kept_table kept)
+unfolding logs_table
+represented_table kept files h =
+    ap (λ (r : Result (List Entry) LogError). r >>= λ entries. Ok (table_text entries)) h.whole
+    ∙ ap (λ text. Ok text) (sym (table_is kept h.before (h.tests ∙ ap sum_table (nothing_said h.before))))
+
 -- the bytes so far of a log show an error, or none
 pub shown : (files : List (List ℕ)) (bytes : List ℕ) → ((error : LogError) × ShowsFault files bytes error) ⊎ ShowsNone files bytes
 shown files bytes = by_judged (input_judged files bytes) refl
@@ -26,9 +33,9 @@ shown files bytes = by_judged (input_judged files bytes) refl
     by_judged (Ok seen) e = inr (none_shown files bytes seen e)
     by_judged (Err error) e = inl (error, fault_shown files bytes error e)
 
--- what is printed of whole logs is their sum, and bytes show an error or none
+-- what is printed of whole logs is their sum, or their table, and bytes show an error or none
 pub sum_or_fault : SumOrFault
-sum_or_fault = record { written = represented_text; shown = shown }
+sum_or_fault = record { written = represented_text; table = represented_table; shown = shown }
 
 -- bytes show one error at most
 pub one_fault : (files : List (List ℕ)) (bytes : List ℕ) (one other : LogError) → ShowsFault files bytes one → ShowsFault files bytes other → one ≡ other

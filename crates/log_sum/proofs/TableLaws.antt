@@ -1,13 +1,13 @@
 -- The tests as the code's table keeps them.
-use Rattle.std.proofs.Common.{◌≡◌, ℕ, zero, suc, ◌+◌, ◌<◌, List, [], ◌∷◌, ◌++◌, Some, None, true, false, length, get_or, refl, sym, ap, ◌∙◌, arith, subst}
-use Rattle.std.proofs.{lemmas.List.Quantifiers.position-Some, lemmas.Slice.Eq.bytes_eq-Decides}
-use Rattle.std.specs.{Prelude.{Bool, Option, map, Result, Ok, Err, slice_get, fold, position}, List.{list_any, list_all, position_or_len}}
-use Rattle.std.specs.{Map.{keys_of, values_of}, Str.bytes_eq, declared.vec.Vec.Vec, declared.alloc.Global.Global}
+use Rattle.std.proofs.Common.{◌≡◌, ℕ, suc, List, [], ◌∷◌, ◌++◌, Some, None, true, false, length, refl, sym, ap, ◌∙◌, arith, subst}
+use Rattle.std.proofs.{lemmas.Slice.Eq.bytes_eq-Decides}
+use Rattle.std.specs.{Prelude.{Option, map, Result, Ok, Err, slice_get, fold, option_map}, List.{list_any}}
+use Rattle.std.specs.{Map.{values_of}, Str.bytes_eq, declared.vec.Vec.Vec, declared.alloc.Global.Global}
 use Rattle.list_laws.proofs.Cases.{by_test, eq_swap}
-use Rattle.indexmap.specs.{IndexMap.insert_entry, Layout.set_value_at}
-use Rattle.log_sum.specs.{declared.errors.LogKind.LogKind, declared.kinds.Kind.Kind, declared.state_table.StateTable.StateTable, declared.table.Table.Table}
+use Rattle.log_sum.specs.TextPlaces.{set_value_at, index_among}
+use Rattle.log_sum.specs.{declared.errors.LogKind.LogKind, declared.kinds.Kind.Kind, declared.table.Table.Table}
 use Rattle.log_sum.specs.{declared.test_sum.TestSum.TestSum, declared.errors.Fault.Fault, SumViews.{named_view, test_view, GivesOr}}
-use Rattle.log_sum.specs.{Summed.{StateSummed, Summed, summed}, SummingSteps.{fact_to, row_to, of_kind}, StateEntries.states_view}
+use Rattle.log_sum.specs.{Summed.{Summed, summed}, SummingSteps.{fact_to, row_to, of_kind}}
 use Rattle.log_sum.specs.Representing.{sum_table, test_name_at}
 use Rattle.log_sum.specs.Facts.{Fact, Entry, Row, a_kind, facts_of, tests_of, fact_fault, with_test_name, marked_sum, states_of}
 use Rattle.log_sum.specs.Feeding.{AreMarked, WithFact, FactPut, RowPut}
@@ -15,11 +15,6 @@ use Rattle.log_sum.proofs.{SumLaws.{by_fault, fact_put_is}, ReadingLaws.{Differ,
 
 abbrev names : List (List ℕ × Summed) → List (List ℕ)
 names shown = map (λ (r : List ℕ × Summed). r.0) shown
-
--- the test of the entry at an index is the test at the index
-pub value_at : (es : List (Vec ℕ Global × TestSum)) (i : ℕ) (key : Vec ℕ Global) (t : TestSum) → slice_get es i ≡ Some (key, t) → slice_get (values_of es) i ≡ Some t
-value_at (e ∷ es) (suc i) key t h = value_at es i key t h
-value_at es i key t h = grind arith
 
 -- the names of a table are those of its tests
 names_of : (test : List ℕ → Summed) (xs : List (List ℕ)) → names (map (λ x. (x, test x)) xs) ≡ xs
@@ -59,16 +54,6 @@ at_shown : (es : List (Vec ℕ Global × TestSum)) (i : ℕ) (name : List ℕ) (
 at_shown (e ∷ es) (suc i) name t h g = at_shown es i name t h g
 at_shown es i name t h g = grind arith
 
--- an index that has a name has a test
-pub none_there : (es : List (Vec ℕ Global × TestSum)) (i : ℕ) (name : List ℕ) → test_name_at (map named_view es) i ≡ Some name → slice_get (values_of es) i ≡ None → ⊥
-none_there (e ∷ es) (suc i) name h g = none_there es i name h g
-none_there es i name h g = grind arith
-
--- an index that has a name has an entry
-pub none_at : (es : List (Vec ℕ Global × TestSum)) (i : ℕ) (name : List ℕ) → test_name_at (map named_view es) i ≡ Some name → slice_get es i ≡ None → ⊥
-none_at (e ∷ es) (suc i) name h g = none_at es i name h g
-none_at es i name h g = grind arith
-
 row_is : (test : List ℕ → Summed) (xs : List (List ℕ)) (i : ℕ) (name : List ℕ) (t : Summed) → slice_get {X = List ℕ × Summed} (map (λ x. (x, test x)) xs) i ≡ Some (name, t) → t ≡ test name
 row_is test (x ∷ xs) (suc i) name t h = row_is test xs i name t h
 row_is test xs i name t h = grind arith
@@ -101,7 +86,7 @@ fact_refused entries es i name t fact kind s e = fault_some _ _ kind (sym (test_
 
 -- a fact without an error, written to the table
 pub fact_written : (entries : List Entry) (es : List (Vec ℕ Global × TestSum)) (i : ℕ) (name : List ℕ) (t u : TestSum) (fact : Fact) (new : Table) → IsTestAt entries es i name t
-    → fact_to (test_view t) fact ≡ Ok (test_view u) → new.tests.entries ≡ set_value_at es i u → new.running ≡ i → WithFact entries name fact new
+    → fact_to (test_view t) fact ≡ Ok (test_view u) → new.tests.entries.items ≡ set_value_at es i u → new.running ≡ i → WithFact entries name fact new
 fact_written entries es i name t u fact new s e w r =
     grind (
       arith,
@@ -114,7 +99,7 @@ fact_written entries es i name t u fact new s e w r =
 
 -- an answer to a fact, written to the table
 pub fact_answered : (entries : List Entry) (es : List (Vec ℕ Global × TestSum)) (i : ℕ) (name : List ℕ) (t u : TestSum) (fact : Fact) (new : Table) → IsTestAt entries es i name t
-    → new.tests.entries ≡ set_value_at es i u → new.running ≡ i → (r : Result (Unit {0}) Fault) → GivesOr (λ _. test_view u) r (fact_to (test_view t) fact) → FactPut entries name fact new r
+    → new.tests.entries.items ≡ set_value_at es i u → new.running ≡ i → (r : Result (Unit {0}) Fault) → GivesOr (λ _. test_view u) r (fact_to (test_view t) fact) → FactPut entries name fact new r
 fact_answered entries es i name t u fact new s w r y g = grind (arith, fact_written, fact_refused)
 
 -- a write of what is there already: the fact changes nothing
@@ -124,41 +109,18 @@ same_written es i t h = grind arith
 
 -- a fact without an error that leaves its test as it is
 pub fact_given : (entries : List Entry) (es : List (Vec ℕ Global × TestSum)) (i : ℕ) (name : List ℕ) (t : TestSum) (fact : Fact) (new : Table) → IsTestAt entries es i name t
-    → fact_to (test_view t) fact ≡ Ok (test_view t) → new.tests.entries ≡ es → new.running ≡ i → WithFact entries name fact new
+    → fact_to (test_view t) fact ≡ Ok (test_view t) → new.tests.entries.items ≡ es → new.running ≡ i → WithFact entries name fact new
 fact_given entries es i name t fact new s e w r = search (arith, fact_written, same_written)
 
--- the index of a name
-keys_shown : (p : Vec ℕ Global → Bool) (name : List ℕ) → ((k : Vec ℕ Global) → p k ≡ bytes_eq name k.items) → (es : List (Vec ℕ Global × TestSum))
-    → position_or_len p (keys_of es) ≡ position_or_len (bytes_eq name) (names (map named_view es))
-keys_shown p name same [] = refl
-keys_shown p name same (e ∷ es) = rw (same e.0, keys_shown p name same es) refl
+-- the name at an index
+pub name_at : (es : List (Vec ℕ Global × TestSum)) (i : ℕ) (name : List ℕ) → option_map (λ (e : Vec ℕ Global × TestSum). e.0.items) (slice_get es i) ≡ Some name → test_name_at (map named_view es) i ≡ Some name
+name_at (e ∷ es) (suc i) name h = name_at es i name h
+name_at es i name h = grind arith
 
-keys_many : (es : List (Vec ℕ Global × TestSum)) → length (keys_of es) ≡ length (names (map named_view es))
-keys_many [] = refl
-keys_many (e ∷ es) = ap suc (keys_many es)
-
-position_shown : (p : Vec ℕ Global → Bool) (name : List ℕ) → ((k : Vec ℕ Global) → p k ≡ bytes_eq name k.items) → (es : List (Vec ℕ Global × TestSum))
-    → position p (keys_of es) ≡ position (bytes_eq name) (names (map named_view es))
-position_shown p name same es = rw (keys_shown p name same es, keys_many es) refl
-
-name_there : (shown : List (List ℕ × Summed)) (i : ℕ) → i < length (names shown) → test_name_at shown i ≡ Some (get_or (names shown) i [])
-name_there (r ∷ shown) (suc i) h = name_there shown i (omega arith)
-name_there shown i h = grind arith
-
--- the index at which a name is found has this name
-pub name_found : (p : Vec ℕ Global → Bool) (name : List ℕ) → ((k : Vec ℕ Global) → p k ≡ bytes_eq name k.items) → (es : List (Vec ℕ Global × TestSum)) (i : ℕ)
-    → position p (keys_of es) ≡ Some i → test_name_at (map named_view es) i ≡ Some name
-name_found p name same es i h =
-    grind (
-      arith,
-      (position-Some (bytes_eq name) (names (map named_view es)) i [] (sym (position_shown p name same es) ∙ h)),
-      (name_there (map named_view es) i),
-      (bytes_eq-Decides name (get_or (names (map named_view es)) i [])),
-    )
-
-any_before : (p : List ℕ → Bool) (xs : List (List ℕ)) → list_any p xs ≡ true → position_or_len p xs < length xs
-any_before p [] h = cc
-any_before p (x ∷ xs) h = grind (arith, (any_before p xs))
+-- a name that has no index is none of a test
+name_missing : (name : List ℕ) (es : List (Vec ℕ Global × TestSum)) → index_among name es ≡ None → list_any (bytes_eq name) (names (map named_view es)) ≡ false
+name_missing name [] h = refl
+name_missing name (e ∷ es) h = grind (arith, (name_missing name es))
 
 -- a name that no entry has
 any_name : (name : List ℕ) (xs ys : List (List ℕ)) → list_any (bytes_eq name) (fold with_test_name xs ys) ≡ false → (list_any (bytes_eq name) xs ≡ false) × (list_any (bytes_eq name) ys ≡ false)
@@ -180,14 +142,13 @@ no_facts name [] h = refl
 no_facts name (e ∷ entries) h = grind (arith, (no_facts name entries), eq_swap)
 
 -- a new test goes last
-insert_shown : (eq : Vec ℕ Global → Vec ℕ Global → Bool) → ((x y : Vec ℕ Global) → eq x y ≡ bytes_eq x.items y.items) → (es : List (Vec ℕ Global × TestSum)) (key : Vec ℕ Global) (t : TestSum)
-    → map named_view (insert_entry eq es key t) ≡ put_at key.items (test_view t) (map named_view es)
-insert_shown eq same [] key t = refl
-insert_shown eq same (e ∷ es) key t = grind (arith, (insert_shown eq same es key t))
+put_last : (es : List (Vec ℕ Global × TestSum)) (key : Vec ℕ Global) (t : TestSum) → index_among key.items es ≡ None → map named_view (es ++ (key, t) ∷ []) ≡ put_at key.items (test_view t) (map named_view es)
+put_last [] key t h = refl
+put_last (e ∷ es) key t h = grind (arith, (put_last es key t))
 
-put_there : (name : List ℕ) (t : Summed) (shown : List (List ℕ × Summed)) → test_name_at (put_at name t shown) (position_or_len (bytes_eq name) (names shown)) ≡ Some name
-put_there name t [] = refl
-put_there name t (r ∷ shown) = grind (arith, (put_there name t shown), bytes_eq-Decides)
+last_there : (es : List (Vec ℕ Global × TestSum)) (key : Vec ℕ Global) (t : TestSum) → test_name_at (map named_view (es ++ (key, t) ∷ [])) (length es) ≡ Some key.items
+last_there [] key t = refl
+last_there (e ∷ es) key t = last_there es key t
 
 -- a block begins a test that is new
 pub record IsNew (entries : List Entry) (es : List (Vec ℕ Global × TestSum)) (key : Vec ℕ Global) (name : List ℕ) (t : TestSum) (kind : Kind) : Type 0 where
@@ -196,26 +157,22 @@ pub record IsNew (entries : List Entry) (es : List (Vec ℕ Global × TestSum)) 
   pub test_is : test_view t ≡ of_kind kind
 
 -- the table has the fact that a block of a new test begins
-pub test_begun : (p : Vec ℕ Global → Bool) (eq : Vec ℕ Global → Vec ℕ Global → Bool) (entries : List Entry) (es : List (Vec ℕ Global × TestSum)) (key : Vec ℕ Global) (name : List ℕ) (t : TestSum) (kind : Kind) (new : Table)
-    → ((k : Vec ℕ Global) → p k ≡ bytes_eq name k.items) → ((x y : Vec ℕ Global) → eq x y ≡ bytes_eq x.items y.items)
-    → IsNew entries es key name t kind → position p (keys_of es) ≡ None
-    → new.tests.entries ≡ insert_entry eq es key t → new.running ≡ position_or_len (eq key) (keys_of es) → WithFact entries name (a_kind kind) new
+pub test_begun : (entries : List Entry) (es : List (Vec ℕ Global × TestSum)) (key : Vec ℕ Global) (name : List ℕ) (t : TestSum) (kind : Kind) (new : Table)
+    → IsNew entries es key name t kind → index_among key.items es ≡ None → new.tests.entries.items ≡ es ++ (key, t) ∷ [] → new.running ≡ length es → WithFact entries name (a_kind kind) new
 unfolding fact_fault summed marked_sum states_of
-test_begun p eq entries es key name t kind new same_p same_eq s missing w r =
+test_begun entries es key name t kind new s missing w r =
     grind (
       arith,
       (table_names entries),
-      (position_shown p name same_p es),
+      (name_missing key.items es missing),
       (no_facts name entries),
       (any_name name []),
-      (insert_shown eq same_eq es key t),
-      (keys_shown (eq key) key.items (same_eq key) es),
+      (put_last es key t missing),
+      (last_there es key t),
       (table_put entries name (a_kind kind) (tests_differ entries)),
-      (put_there name (test_view t) (map named_view es)),
-      any_before,
     )
 
 -- an answer to a row, written to the table
 pub row_answered : (entries : List Entry) (es : List (Vec ℕ Global × TestSum)) (i : ℕ) (name : List ℕ) (t u : TestSum) (new : Table) → IsTestAt entries es i name t
-    → new.tests.entries ≡ set_value_at es i u → new.running ≡ i → (read : Result Row LogKind) (r : Result (Unit {0}) Fault) → GivesOr (λ _. test_view u) r (row_to (test_view t) read) → RowPut entries name read new r
+    → new.tests.entries.items ≡ set_value_at es i u → new.running ≡ i → (read : Result Row LogKind) (r : Result (Unit {0}) Fault) → GivesOr (λ _. test_view u) r (row_to (test_view t) read) → RowPut entries name read new r
 row_answered entries es i name t u new s w k read r g = grind (arith, fact_answered)

@@ -40,10 +40,6 @@ pub known_kept : (known : Mark × ℕ) (row : Row) (count : ℕ) (there : Option
     → ◌≡◌ {A = Mark × ℕ} (known.0, count) (row.mark, min (count_known there + row.count) last_count)
 known_kept known row count there e h f = grind arith
 
--- what is kept of a new state
-pub new_kept : (row : Row) (there : Option (Mark × ℕ)) → None ≡ there → row.count ≤ last_count → ◌≡◌ {A = Mark × ℕ} (row.mark, row.count) (row.mark, min (count_known there + row.count) last_count)
-new_kept row there e h = grind arith
-
 -- a test with a row more
 pub row_kept : (test : Summed) (row : Row) (states : List StateSummed) (kept : Mark × ℕ) (sum : ℕ) → states ≡ insert_entry (slice_cmp nat_cmp) test.states row.state kept
     → kept ≡ (row.mark, min (count_known (known_state test.states row.state) + row.count) last_count) → sum ≡ marked test row.mark

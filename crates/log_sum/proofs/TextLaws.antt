@@ -1,5 +1,5 @@
 -- Words that are joined, one after another.
-use Rattle.std.proofs.Common.{◌≡◌, ℕ, ◌<◌, List, [], ◌∷◌, ◌++◌}
+use Rattle.std.proofs.Common.{ℕ, List, [], ◌∷◌, ◌++◌}
 use Rattle.log_sum.specs.Texts.{later_words, joined_words}
 
 -- words appended to a text that joins earlier ones

@@ -1,7 +1,7 @@
 -- Entries by their texts, and the map that has the index of each.
 use Rattle.std.proofs.Common.{◌≡◌, ℕ, zero, suc, ◌<◌, ◌≤◌, get_or, List, [], ◌∷◌, ◌++◌, Some, None, true, false, cond, length, refl, sym, ap, ◌∙◌, arith, subst}
 use Rattle.std.proofs.{lemmas.Map.Text.is_eq-slice_cmp, lemmas.Slice.Eq.bytes_eq-Decides, lemmas.Map.Keys.IsDistinct-push}
-use Rattle.std.specs.{Prelude.{Bool, Option, map, slice_get, slice_set, option_map, unwrap_or}, Ordering.{nat_cmp, is_eq}, Cmp.Lexicographic.slice_cmp, BTreeMap.insert_entry}
+use Rattle.std.specs.{Prelude.{Option, slice_get, slice_set, option_map, unwrap_or}, Ordering.{nat_cmp, is_eq}, Cmp.Lexicographic.slice_cmp, BTreeMap.insert_entry}
 use Rattle.std.specs.{List.{IsDistinct, list_any}, Str.bytes_eq, Map.{lookup, keys_of, values_of, set_value}, declared.vec.Vec.Vec, declared.alloc.Global.Global}
 use Rattle.std.specs.{Cmp.IsEquivalence, FinMap.Entries.{put, find, find-put}}
 use Rattle.log_sum.specs.TextPlaces.{set_value_at, index_among, index_in, places_view, AreApart, ArePlaced, IsPut}
@@ -155,14 +155,7 @@ put_known old key text last known e there =
           ∙ by_test (bytes_eq other text) (λ f. rw f refl) (λ f. rw f (first other ∙ rw f refl));
     }
 
--- a map that was put a text always has it
-pub put_there : (old : List (Vec ℕ Global × ℕ)) (key : Vec ℕ Global) (text : List ℕ) (last : ℕ) → key.items ≡ text
-    → lookup (λ (k : Vec ℕ Global). is_eq (slice_cmp nat_cmp text k.items)) (insert_entry (λ (x y : Vec ℕ Global). slice_cmp nat_cmp x.items y.items) old key last) ≡ None → ⊥
-put_there old key text last e h =
-    let same : is_eq (slice_cmp nat_cmp text key.items) ≡ true = rw (is_eq-slice_cmp text key.items, e) ((bytes_eq-Decides text text).1 refl) in
-    let g : Some last ≡ None = sym (index_put old key last text ∙ rw same refl) ∙ sym (index_by text (insert_entry (λ (x y : Vec ℕ Global). slice_cmp nat_cmp x.items y.items) old key last)) ∙ h in
-    cc
-
+-- a new entry is apart from the others
 pub last_apart : {X : Type 0} (es : List (Vec ℕ Global × X)) (key : Vec ℕ Global) (x : X) → AreApart es → index_among key.items es ≡ None → AreApart (es ++ (key, x) ∷ [])
 last_apart es key x h none =
     subst (IsDistinct (λ (x y : Vec ℕ Global). bytes_eq x.items y.items)) (sym (keys_last es key x)) (IsDistinct-push by_bytes (keys_of es) key h (no_text key es none))
@@ -176,10 +169,10 @@ keys_kept : {X : Type 0} (es : List (Vec ℕ Global × X)) (i : ℕ) (x : X) →
 keys_kept (e ∷ es) (suc i) x = ap (λ t. e.0 ∷ t) (keys_kept es i x)
 keys_kept es i x = grind arith
 
-pub kept_placed : {X : Type 0} (es : List (Vec ℕ Global × X)) (places : List (Vec ℕ Global × ℕ)) (i : ℕ) (x : X) → ArePlaced es places → ArePlaced (set_value_at es i x) places
+kept_placed : {X : Type 0} (es : List (Vec ℕ Global × X)) (places : List (Vec ℕ Global × ℕ)) (i : ℕ) (x : X) → ArePlaced es places → ArePlaced (set_value_at es i x) places
 kept_placed es places i x h text = h text ∙ sym (index_kept text es i x)
 
-pub kept_apart : {X : Type 0} (es : List (Vec ℕ Global × X)) (i : ℕ) (x : X) → AreApart es → AreApart (set_value_at es i x)
+kept_apart : {X : Type 0} (es : List (Vec ℕ Global × X)) (i : ℕ) (x : X) → AreApart es → AreApart (set_value_at es i x)
 kept_apart es i x h = subst (IsDistinct (λ (x y : Vec ℕ Global). bytes_eq x.items y.items)) (sym (keys_kept es i x)) h
 
 -- an entry written at its index with another value
@@ -188,14 +181,16 @@ written_is [] i d e x l h = absurd (omega arith)
 written_is {X = X} (y ∷ es) zero d e x l h = ap (λ (z : Vec ℕ Global × X). (z.0, x) ∷ es) h
 written_is {X = X} (y ∷ es) (suc i) d e x l h = ap (λ (t : List (Vec ℕ Global × X)). y ∷ t) (written_is es i d e x (omega arith) h)
 
+-- and so the entries stay apart and placed
+pub written_apart : {X : Type 0} (es : List (Vec ℕ Global × X)) (i : ℕ) (d e : Vec ℕ Global × X) (x : X) → i < length es → e ≡ get_or es i d → AreApart es → AreApart (slice_set es i (e.0, x))
+written_apart es i d e x l h apart = subst AreApart (sym (written_is es i d e x l h)) (kept_apart es i x apart)
+
+pub written_placed : {X : Type 0} (es : List (Vec ℕ Global × X)) (places : List (Vec ℕ Global × ℕ)) (i : ℕ) (d e : Vec ℕ Global × X) (x : X) → i < length es → e ≡ get_or es i d → ArePlaced es places
+    → ArePlaced (slice_set es i (e.0, x)) places
+written_placed es places i d e x l h placed = subst (λ entries. ArePlaced entries places) (sym (written_is es i d e x l h)) (kept_placed es places i x placed)
+
 -- the value of an entry
 pub value_there : {X : Type 0} (es : List (Vec ℕ Global × X)) (i : ℕ) (d e : Vec ℕ Global × X) → i < length es → e ≡ get_or es i d → slice_get (values_of es) i ≡ Some e.1
 value_there [] i d e l h = absurd (omega arith)
 value_there {X = X} (y ∷ es) zero d e l h = ap (λ (z : Vec ℕ Global × X). Some z.1) (sym h)
 value_there (y ∷ es) (suc i) d e l h = value_there es i d e (omega arith) h
-
--- an index with a text is one of the entries
-pub text_within : {X : Type 0} (es : List (Vec ℕ Global × X)) (i : ℕ) (text : List ℕ) → option_map (λ (x : Vec ℕ Global × X). x.0.items) (slice_get es i) ≡ Some text → i < length es
-text_within [] i text h = absurd (cc)
-text_within (e ∷ es) zero text h = omega arith
-text_within (e ∷ es) (suc i) text h = let l = text_within es i text h in omega arith

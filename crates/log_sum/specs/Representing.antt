@@ -5,7 +5,7 @@ use Rattle.std.specs.List.{flat_map}
 use Rattle.diy_io.specs.{Count.count_of, Sink.line_feed_count}
 use Rattle.log_sum.specs.{declared.errors.LogError.LogError, declared.errors.SumError.SumError, declared.errors.SumError.TheVariants.{Log, NoMemory}}
 use Rattle.log_sum.specs.{declared.kinds.Place.Place, declared.kinds.Place.TheVariants.Outside, Facts.{Entry, facts_of, tests_of}, Summed.{Summed, summed}}
-use Rattle.log_sum.specs.{SumText.{summed_text, sum_text}, LogGrammar.{LogLine, ended_texts, texts_before, numbered, facts_in, lines_say, inside, all_judged}}
+use Rattle.log_sum.specs.{SumText.{summed_text, sum_text, table_line, table_text}, LogGrammar.{LogLine, ended_texts, texts_before, numbered, facts_in, lines_say, inside, all_judged}}
 use Rattle.text_parts.specs.{Lines.{whole_lines, unended}, ReadingSteps.◌>>=◌}
 
 -- how far the reading is: the tests by name, in the order in which each was first seen; the position in the running log, the
@@ -25,6 +25,10 @@ pub record Kept : Type 0 where
 -- the printed sum of whole logs, or their first error
 unfoldable pub logs_text : List (List ℕ) → Result (List ℕ) LogError
 logs_text logs = all_judged logs >>= λ entries. Ok (sum_text entries)
+
+-- the printed table of whole logs, or their first error
+unfoldable pub logs_table : List (List ℕ) → Result (List ℕ) LogError
+logs_table logs = all_judged logs >>= λ entries. Ok (table_text entries)
 
 -- the tests of some facts, each with what it is by its facts
 abbrev pub sum_table : List Entry → List (List ℕ × Summed)
@@ -103,7 +107,12 @@ IsKeptRefusal new result = IfErr result (λ refusal. new.refusal ≡ Some refusa
 abbrev pub kept_text : Kept → List ℕ
 kept_text kept = flat_map (λ test. summed_text test.0 test.1) kept.progress.tests
 
--- what a summer that was fed whole logs prints is their sum; and the bytes so far of a log show an error, or show none
+-- the printed table of what is kept
+abbrev pub kept_table : Kept → List ℕ
+kept_table kept = flat_map (λ test. table_line test.0 test.1) kept.progress.tests
+
+-- what a summer that was fed whole logs prints is their sum, or their table; and the bytes so far of a log show an error, or show none
 pub record SumOrFault : Type 0 where
   pub written : (kept : Kept) (files : List (List ℕ)) → Represents kept files [] → logs_text files ≡ Ok (kept_text kept)
+  pub table : (kept : Kept) (files : List (List ℕ)) → Represents kept files [] → logs_table files ≡ Ok (kept_table kept)
   pub shown : (files : List (List ℕ)) (bytes : List ℕ) → ((error : LogError) × ShowsFault files bytes error) ⊎ ShowsNone files bytes

@@ -1,7 +1,7 @@
 -- States with their sums, as a table keeps them.
 -- Source: own.
-use Rattle.std.specs.Prelude.{◌≡◌, ◌+◌, ℕ, Bool, false, suc, cond, min, List, [], ◌∷◌, Option, Some, None, map, option_map, slice_get, is_some, Ok}
-use Rattle.std.specs.{Ordering.nat_cmp, Cmp.Lexicographic.slice_cmp, BTreeMap.insert_entry, BTreeMap.is_at, List.IsDistinct, Map.{lookup, keys_of}, Str.bytes_eq}
+use Rattle.std.specs.Prelude.{◌≡◌, ◌+◌, ℕ, Bool, false, cond, min, List, [], ◌∷◌, Option, Some, None, map, option_map, slice_get, is_some, Ok}
+use Rattle.std.specs.{Ordering.nat_cmp, Cmp.Lexicographic.slice_cmp, BTreeMap.insert_entry}
 use Rattle.std.specs.{declared.vec.Vec.Vec, declared.alloc.Global.Global}
 use Rattle.log_sum.specs.{declared.kinds.Mark.Mark, declared.kinds.Mark.TheVariants.Plain, declared.state_table.StateSum.StateSum, LogStates.form_read, StateSpelling.{IsSpelled, is_spelled}}
 use Rattle.log_sum.specs.{SummingSteps.known_state, Summed.StateSummed}

@@ -1,6 +1,6 @@
 -- The printed sum of logs.
 -- Source: the output of msum7; for conditions that aren't `exists`, the two sums and the word of the observation are own.
-use Rattle.std.specs.Prelude.{ℕ, ◌-◌, ◌==◌, Bool, true, false, cond, List, [], ◌∷◌, ◌++◌, length, replicate, Option, Some, None, codes, decimal}
+use Rattle.std.specs.Prelude.{◌≡◌, ℕ, ◌-◌, ◌==◌, Bool, true, false, cond, List, [], ◌∷◌, ◌++◌, length, replicate, Option, Some, None, codes, decimal}
 use Rattle.std.specs.List.{flat_map}
 use Rattle.log_sum.specs.{declared.kinds.Kind.Kind, declared.kinds.Kind.TheVariants.{Allowed, Forbidden, Required}, declared.kinds.Mark.Mark}
 use Rattle.log_sum.specs.{declared.kinds.Mark.TheVariants.{Starred, Plain}, Facts.{Entry, facts_of, tests_of}}
@@ -75,11 +75,43 @@ observation_text name test =
     codes "Observation " ++ name ++ codes " " ++ how_often test.starred test.plain
     ++ codes " " ++ decimal test.starred ++ codes " " ++ decimal test.plain ++ line_end ++ line_end
 
+-- words with a sign between each two
+abbrev pub joined_by : ℕ → List (List ℕ) → List ℕ
+joined_by sign [] = []
+joined_by sign (word ∷ []) = word
+joined_by sign (word ∷ rest) = word ++ sign ∷ joined_by sign rest
+
+-- what is observed of a test: its name, how often the starred states were seen, and the sums of the counts of both marks
+abbrev pub observed : List ℕ → Summed → List (List ℕ)
+observed name test = name ∷ how_often test.starred test.plain ∷ decimal test.starred ∷ decimal test.plain ∷ []
+
+-- the line of a test in a table: what is observed of it, with tabs between
+unfoldable pub table_line : List ℕ → Summed → List ℕ
+table_line name test = joined_by 9 (observed name test) ++ line_end
+
+-- the line of the observation in the sum has the same words, with blanks between
+abbrev pub TableIsObserved : Type 0
+TableIsObserved =
+    (name : List ℕ) (test : Summed) → (table_line name test ≡ joined_by 9 (observed name test) ++ line_end)
+    × (observation_text name test ≡ codes "Observation " ++ joined_by 32 (observed name test) ++ line_end ++ line_end)
+
 -- the text of a test
 unfoldable pub summed_text : List ℕ → Summed → List ℕ
 summed_text name test =
     head_text name test ++ flat_map state_line test.states ++ sum_verdict_text test
     ++ condition_text test ++ observation_text name test
+
+-- the texts of tests with their names
+abbrev pub sums_text : List (List ℕ × Summed) → List ℕ
+sums_text tests = flat_map (λ test. summed_text test.0 test.1) tests
+
+-- the lines of tests with their names in a table
+abbrev pub lines_text : List (List ℕ × Summed) → List ℕ
+lines_text tests = flat_map (λ test. table_line test.0 test.1) tests
+
+-- the table of the facts of logs: a line for each test, in the order of the sum
+unfoldable pub table_text : List Entry → List ℕ
+table_text entries = flat_map (λ name. table_line name (summed (facts_of name entries))) (tests_of entries)
 
 -- the sum of the facts of logs: its tests in the order in which each was first seen
 unfoldable pub sum_text : List Entry → List ℕ

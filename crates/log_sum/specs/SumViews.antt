@@ -66,7 +66,7 @@ test_view test = record {
   always_validated = test.always_validated;
   starred = test.starred;
   plain = test.plain;
-  states = states_view test.states.sums.items;
+  states = states_view test.states.sums.entries.items;
 }
 
 -- the result for a fact of a test: the test has the fact too, or the fact has this error, or there was no memory
@@ -79,7 +79,7 @@ named_view test = (test.0.items, test_view test.1)
 
 -- the tests of a table as the definitions see them
 abbrev pub tests_view : Table → List (List ℕ × Summed)
-tests_view table = map named_view table.tests.entries
+tests_view table = map named_view table.tests.entries.items
 
 -- how far a reading is, as the definitions see it
 abbrev pub progress_view : Reading → SumProgress

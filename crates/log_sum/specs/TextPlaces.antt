@@ -1,6 +1,6 @@
 -- Entries by their texts: the index of each, which a map in byte order gives.
 -- Source: own.
-use Rattle.std.specs.Prelude.{◌≡◌, ℕ, zero, suc, cond, List, [], ◌∷◌, Option, Some, None, map, option_map, unwrap_or, Result, Ok, Err}
+use Rattle.std.specs.Prelude.{◌≡◌, ℕ, zero, suc, cond, List, [], ◌∷◌, ◌++◌, Option, Some, None, map, option_map, unwrap_or, length, Result, Ok, Err}
 use Rattle.std.specs.{Ordering.nat_cmp, Cmp.Lexicographic.slice_cmp, BTreeMap.is_at, List.IsDistinct, Map.{lookup, keys_of}, Str.bytes_eq}
 use Rattle.std.specs.{declared.vec.Vec.Vec, declared.alloc.Global.Global}
 
@@ -40,3 +40,14 @@ pub record IsPut (old new : List (Vec ℕ Global × ℕ)) (text : List ℕ) (las
 abbrev pub IsIndexOrLast : {E : Type 0} → List (Vec ℕ Global × ℕ) → List (Vec ℕ Global × ℕ) → List ℕ → ℕ → Result ℕ E → Type 0
 IsIndexOrLast old new text last (Ok index) = IsPut old new text last index
 IsIndexOrLast old new text last (Err e) = (other : List ℕ) → index_in new other ≡ index_in old other
+
+-- entries after a text was put last with a value
+pub record IsPutLast {X : Type 0} (old new : List (Vec ℕ Global × X)) (text : List ℕ) (value : X) : Type 0 where
+  pub key : Vec ℕ Global
+  pub text_is : key.items ≡ text
+  pub entries : new ≡ old ++ (key, value) ∷ []
+
+-- an index that a text has among entries, and these stay; or it had none, and was put last with a value
+abbrev pub IsSeenAt : {X : Type 0} → List (Vec ℕ Global × X) → List (Vec ℕ Global × X) → List ℕ → X → Option ℕ → ℕ → Type 0
+IsSeenAt old new text value (Some known) index = (index ≡ known) × (new ≡ old)
+IsSeenAt old new text value None index = (index ≡ length old) × IsPutLast old new text value

@@ -1,4 +1,4 @@
-ghost use Rattle.log_sum.specs.{Representing.{SumOrFault}, SumPieces.{SameAnswers}};
+ghost use Rattle.log_sum.specs.{Representing.{SumOrFault}, SumPieces.{SameAnswers}, SumText.{TableIsObserved}};
 
 /// A law: the same bytes give the same results and the same sum, in whatever pieces they come.
 ///
@@ -10,9 +10,14 @@ pub fn same_answers()
     ensures { SameAnswers }
 {}
 
-/// A law: what is printed of whole logs is their sum, and the bytes so far of a log show an error or none.
+/// A law: a line of the table has the words of the line of the observation in the sum.
+pub fn table_is_observed()
+    ensures { TableIsObserved }
+{}
+
+/// A law: what is printed of whole logs is their sum or their table, and the bytes so far of a log show an error or none.
 ///
-/// So what a summer between two logs prints is the sum of the facts that the blocks of its logs state. If
+/// So what a summer between two logs prints is the sum, or the table, of the facts that the blocks of its logs state. If
 /// the bytes so far of a log show an error, this is the first error of the logs, whatever follows.
 #[tactic(auto, using(crate::proofs::RepresentingLaws::sum_or_fault))]
 pub fn sum_or_fault()

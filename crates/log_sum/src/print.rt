@@ -1,7 +1,7 @@
-ghost use Rattle.std.specs.{Prelude.{◌≡◌, ◌++◌, []}, List.{flat_map}};
+ghost use Rattle.std.specs.{Prelude.{◌≡◌, ◌++◌, [], map}, List.{flat_map}};
 ghost use Rattle.diy_io.specs.Page.{Sends};
-ghost use Rattle.log_sum.specs.{SumViews.{test_view}, Summed.{is_validated, some_or}};
-ghost use Rattle.log_sum.specs.SumText.{sum_kind_word, mark_sign, verdict_word, verdict_end, how_often, filling, head_text, state_line, sum_verdict_text, claim_text, hash_text, condition_text, observation_text, summed_text};
+ghost use Rattle.log_sum.specs.{SumViews.{named_view, test_view}, Summed.{is_validated, some_or}};
+ghost use Rattle.log_sum.specs.SumText.{sum_kind_word, mark_sign, verdict_word, verdict_end, how_often, filling, head_text, state_line, sum_verdict_text, claim_text, hash_text, condition_text, observation_text, lines_text, summed_text, sums_text, table_line};
 
 use crate::kinds::{Kind, Mark};
 use crate::test_sum::TestSum;
@@ -91,7 +91,7 @@ fn print_head<O: Sink>(
     ensures { Sends (O.seen out.old) page.old (O.seen out.new) page.new (head_text name.now (test_view test.now)) result }
 {
     let mut count = Buffer::new();
-    let count = count.format(test.states.places.len()).as_bytes();
+    let count = count.format(test.states.sums.places.len()).as_bytes();
     let kind = kind_word(test.kind);
     page.send_pieces(
         &[
@@ -126,7 +126,7 @@ fn print_state<O: Sink>(
 fn print_states<O: Sink>(test: &TestSum, page: &mut Page, out: &mut O) -> Result<(), Failed>
     ensures { Sends (O.seen out.old) page.old (O.seen out.new) page.new (flat_map state_line (test_view test.now).states) result }
 {
-    for (form, i) in &test.states.places {
+    for (form, i) in &test.states.sums.places {
         let (mark, count) = test.states.sum_at(*i);
         print_state(form.as_slice(), mark, count, page, out)?;
     }
@@ -209,6 +209,40 @@ fn print_observation<O: Sink>(
     )
 }
 
+/// Sends the line of a test in the table.
+fn print_line<O: Sink>(
+    name: &[u8],
+    test: &TestSum,
+    page: &mut Page,
+    out: &mut O,
+) -> Result<(), Failed>
+    ensures { Sends (O.seen out.old) page.old (O.seen out.new) page.new (table_line name.now (test_view test.now)) result }
+{
+    let mut starred = Buffer::new();
+    let starred = starred.format(test.starred).as_bytes();
+    let mut plain = Buffer::new();
+    let plain = plain.format(test.plain).as_bytes();
+    let often = how_often(test.starred, test.plain);
+    page.send_pieces(
+        &[name, b"\t", often, b"\t", starred, b"\t", plain, b"\n"],
+        out,
+    )
+}
+
+/// Sends the lines of tests in the table, through the output buffer `page`.
+pub(crate) fn print_lines<O: Sink>(
+    tests: &[(Vec<u8>, TestSum)],
+    page: &mut Page,
+    out: &mut O,
+) -> Result<(), Failed>
+    ensures { Sends (O.seen out.old) page.old (O.seen out.new) page.new (lines_text (map named_view tests.now)) result }
+{
+    for test in tests.iter() {
+        print_line(test.0.as_slice(), &test.1, page, out)?;
+    }
+    Ok(())
+}
+
 /// Sends the lines above the condition of a test.
 fn print_upper<O: Sink>(
     name: &[u8],
@@ -225,7 +259,7 @@ fn print_upper<O: Sink>(
 }
 
 /// Sends the text of a test, through the output buffer `page`.
-pub(crate) fn print_sum<O: Sink>(
+fn print_sum<O: Sink>(
     name: &[u8],
     test: &TestSum,
     page: &mut Page,
@@ -236,4 +270,18 @@ pub(crate) fn print_sum<O: Sink>(
     print_upper(name, test, page, out)?;
     print_condition(test, page, out)?;
     print_observation(name, test, page, out)
+}
+
+/// Sends the texts of tests, through the output buffer `page`.
+pub(crate) fn print_sums<O: Sink>(
+    tests: &[(Vec<u8>, TestSum)],
+    page: &mut Page,
+    out: &mut O,
+) -> Result<(), Failed>
+    ensures { Sends (O.seen out.old) page.old (O.seen out.new) page.new (sums_text (map named_view tests.now)) result }
+{
+    for test in tests.iter() {
+        print_sum(test.0.as_slice(), &test.1, page, out)?;
+    }
+    Ok(())
 }

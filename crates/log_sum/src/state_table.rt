@@ -1,13 +1,12 @@
 ghost use Rattle.std.specs.{Prelude.{◌≡◌, ℕ, [], Some, None, Ok, OnOk, IfOk, IfSome}, Bool.{OnTrue}};
-ghost use Rattle.log_sum.specs.{LogStates.{form_read}, StateSpelling.{IsSpelled}, TextPlaces.{AreApart, ArePlaced, IsIndexOrLast}};
-ghost use Rattle.std.proofs.Props.{props};
+ghost use Rattle.log_sum.specs.{LogStates.{form_read}, StateSpelling.{IsSpelled}};
 ghost use Rattle.log_sum.specs.StateEntries.{EntriesAreWritten, ForStateAt, HasState, SeenMore, and_state, has_text, known_in, state_at, states_view, sum_in};
 
+use crate::first_seen::FirstSeen;
 use crate::kinds::Mark;
 use crate::spelling::Spelling;
 use diy_io::NoMemory;
 use std::alloc::Global;
-use std::collections::BTreeMap;
 
 /// The mark of a state, and the sum of its counts.
 #[derive(Drop)]
@@ -22,68 +21,34 @@ pub(crate) struct StateSum {
 #[derive(Drop)]
 pub(crate) struct StateTable {
     /// The states, in the order in which each was first seen.
-    pub(crate) sums: Vec<(Vec<u8>, StateSum)>,
-    /// The index of each state, in byte order. A search compares texts, so no choice of states makes it slow.
-    pub(crate) places: BTreeMap<Vec<u8>, usize>,
+    pub(crate) sums: FirstSeen<StateSum>,
     /// The index after that of the state to which a count was last added, or 0 after the last index.
     next: usize,
-    ghost are_written: { EntriesAreWritten sums.items },
-    ghost are_apart: { AreApart sums.items } by { Prim.hlevel props },
-    ghost are_placed: { ArePlaced sums.items places.entries },
+    ghost are_written: { EntriesAreWritten sums.entries.items },
 }
 
-/// A state with this printed form and mark, which a log wrote first by `text`, and no count.
-fn new_state(
-    alloc: Global,
-    form: &[u8],
-    text: &[u8],
-    mark: Mark,
-) -> Result<(Vec<u8>, StateSum), NoMemory>
+/// The sum of a state with this printed form and mark, which a log wrote first by `text`, and no count.
+fn new_sum(alloc: Global, form: &[u8], text: &[u8], mark: Mark) -> Result<StateSum, NoMemory>
     requires { form_read text.now ≡ Ok form.now }
-    ensures form { IfOk result (λ state. state.0.items ≡ form.now) }
-    ensures mark { IfOk result (λ state. state.1.mark ≡ mark) }
-    ensures count { IfOk result (λ state. state.1.count ≡ 0) }
-    ensures written { IfOk result (λ state. IsSpelled form.now state.1.spelling) }
+    ensures mark { IfOk result (λ sum. sum.mark ≡ mark) }
+    ensures count { IfOk result (λ sum. sum.count ≡ 0) }
+    ensures written { IfOk result (λ sum. IsSpelled form.now sum.spelling) }
 {
-    let sum = StateSum {
+    Ok(StateSum {
         mark,
         count: 0,
         spelling: Spelling::of_first(alloc, text, form)?,
-    };
-    Ok((Vec::from_slice(alloc, form)?, sum))
-}
-
-/// The index that a map has for a text, which is put with the index `last` if the map has none.
-fn index_or_last(
-    places: &mut BTreeMap<Vec<u8>, usize>,
-    key: Vec<u8>,
-    text: &[u8],
-    last: usize,
-) -> Result<usize, NoMemory>
-    requires { key.items ≡ text.now }
-    ensures { IsIndexOrLast places.old.entries places.new.entries text.now last result }
-{
-    match places.insert(key, last)? {
-        Some(known) => match places.get_mut(text) {
-            Some(place) => {
-                *place = known;
-                Ok(known)
-            }
-            None => Ok(known),
-        },
-        None => Ok(last),
-    }
+    })
 }
 
 impl StateTable {
     /// A table without states.
     #[tactic(auto, unfolding(crate::specs::StateEntries::ordered))]
     pub(crate) fn new(alloc: Global) -> StateTable
-        ensures { states_view result.sums.items ≡ [] }
+        ensures { states_view result.sums.entries.items ≡ [] }
     {
         StateTable {
-            sums: Vec::new(alloc),
-            places: BTreeMap::new(alloc),
+            sums: FirstSeen::new(alloc),
             next: 0,
         }
     }
@@ -91,7 +56,7 @@ impl StateTable {
     /// The index of the state that a text writes, if this text is kept for it and it is one of the two after the last one: logs of
     /// one test list its states in one order.
     pub(crate) fn written_index(&self, text: &[u8]) -> Option<usize>
-        ensures { IfSome result (HasState self.now.sums.items text.now) }
+        ensures { IfSome result (HasState self.now.sums.entries.items text.now) }
     {
         if self.is_written_at(self.next, text) {
             return Some(self.next);
@@ -106,16 +71,16 @@ impl StateTable {
 
     /// Whether the text is kept for the state at an index.
     fn is_written_at(&self, i: usize, text: &[u8]) -> bool
-        ensures { OnTrue result (HasState self.now.sums.items text.now i) }
+        ensures { OnTrue result (HasState self.now.sums.entries.items text.now i) }
     {
         self.has_text(i, text)
     }
 
     /// Whether the text is among those that are kept for the state at an index.
     fn has_text(&self, i: usize, text: &[u8]) -> bool
-        ensures { result ≡ has_text self.now.sums.items i text.now }
+        ensures { result ≡ has_text self.now.sums.entries.items i text.now }
     {
-        match self.sums.get(i) {
+        match self.sums.entries.get(i) {
             Some((state, sum)) => sum.spelling.has(state.as_slice(), text),
             None => false,
         }
@@ -123,9 +88,9 @@ impl StateTable {
 
     /// The mark and count of the state at an index; plain and 0 if there is none.
     pub(crate) fn sum_at(&self, i: usize) -> (Mark, u64)
-        ensures { result ≡ sum_in self.now.sums.items i }
+        ensures { result ≡ sum_in self.now.sums.entries.items i }
     {
-        match self.sums.get(i) {
+        match self.sums.entries.get(i) {
             Some((_, sum)) => (sum.mark, sum.count),
             None => (Mark::Plain, 0),
         }
@@ -133,35 +98,39 @@ impl StateTable {
 
     /// Adds a count to the state at an index; the sum stops at 2^64-1.
     pub(crate) fn add(&mut self, i: usize, count: u64)
-        ensures { SeenMore self.old.sums.items self.new.sums.items i count }
+        ensures { SeenMore self.old.sums.entries.items self.new.sums.entries.items i count }
     {
         self.next = self.index_after(i);
-        if i >= self.sums.len() {
+        if i >= self.sums.entries.len() {
             return;
         }
-        let sum = &mut self.sums[i].1;
+        let sum = &mut self.sums.entries[i].1;
         sum.count = sum.count.saturating_add(count);
     }
 
     /// Keeps a text that writes the state at an index, unless it is kept already, or the state has one besides the first.
     pub(crate) fn keep_text(&mut self, alloc: Global, i: usize, text: &[u8]) -> Result<(), NoMemory>
-        requires { HasState self.old.sums.items text.now i }
-        ensures states { states_view self.new.sums.items ≡ states_view self.old.sums.items }
-        ensures same { (j : ℕ) → state_at self.new.sums.items j ≡ state_at self.old.sums.items j }
+        requires { HasState self.old.sums.entries.items text.now i }
+        ensures states { states_view self.new.sums.entries.items ≡ states_view self.old.sums.entries.items }
+        ensures same { (j : ℕ) → state_at self.new.sums.entries.items j ≡ state_at self.old.sums.entries.items j }
     {
-        if i >= self.sums.len() {
+        if i >= self.sums.entries.len() {
             return Ok(());
         }
         if self.is_written_at(i, text) {
             return Ok(());
         }
-        self.sums[i].1.spelling.keep(alloc, text)
+        self.sums.entries[i].1.spelling.keep(alloc, text)
     }
 
     /// The index after this one, or 0 if there is none.
     fn index_after(&self, i: usize) -> usize {
         let next = i.saturating_add(1);
-        if next < self.sums.len() { next } else { 0 }
+        if next < self.sums.entries.len() {
+            next
+        } else {
+            0
+        }
     }
 
     /// The index of the state with this printed form, which a log wrote by `text`. A new state goes last, with this mark and
@@ -174,18 +143,10 @@ impl StateTable {
         mark: Mark,
     ) -> Result<usize, NoMemory>
         requires { form_read text.now ≡ Ok form.now }
-        ensures index { IfOk result (λ i. state_at self.new.sums.items i ≡ Some form.now) }
-        ensures states { OnOk result (states_view self.new.sums.items ≡ and_state self.old.sums.items form.now mark) }
+        ensures index { IfOk result (λ i. state_at self.new.sums.entries.items i ≡ Some form.now) }
+        ensures states { OnOk result (states_view self.new.sums.entries.items ≡ and_state self.old.sums.entries.items form.now mark) }
     {
-        let last = self.sums.len();
-        let key = Vec::from_slice(alloc, form)?;
-        let state = new_state(alloc, form, text, mark)?;
-        self.sums.reserve(1)?;
-        let i = index_or_last(&mut self.places, key, form, last)?;
-        if i < last {
-            return Ok(i);
-        }
-        self.sums.push_reserved(state);
-        Ok(i)
+        let sum = new_sum(alloc, form, text, mark)?;
+        self.sums.index_or_put(alloc, form, sum)
     }
 }

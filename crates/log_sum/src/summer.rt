@@ -1,11 +1,11 @@
 ghost use Rattle.std.specs.Prelude.{◌≡◌, ℕ, List, [], ◌++◌, true, Some, None, IfOk, IfErr, OnOk};
 ghost use Rattle.diy_io.specs.{Page.{Sends}, Wrote.{Wrote}};
 ghost use Rattle.log_sum.specs.LogReading.{LogSeen, line_judged, rest_judged};
-ghost use Rattle.log_sum.specs.Representing.{Kept, Represents, IsBetweenLogs, FedTo, EndedTo, IsKeptRefusal, GivenAgain, kept_text, running_line};
+ghost use Rattle.log_sum.specs.Representing.{Kept, Represents, IsBetweenLogs, FedTo, EndedTo, IsKeptRefusal, GivenAgain, kept_table, kept_text, running_line};
 ghost use Rattle.log_sum.specs.Feeding.{IsFed, FollowsSeen, JudgedTo, PieceTo, EndTo, sum_refusal};
 
 use crate::errors::{Fault, LogError, LogKind, SumError};
-use crate::print::print_sum;
+use crate::print;
 use crate::reading::Reading;
 use diy_io::{Failed, NoMemory, Page, Sink};
 use std::alloc::Global;
@@ -97,6 +97,20 @@ impl Summer {
         page.flush(out)
     }
 
+    /// Appends the table of what is kept: for each test a line with its name, `Sometimes`, `Always` or `Never`, and the sums of
+    /// the counts of both marks, with tabs between, as the line of its observation in the sum has them. If the sink fails, it
+    /// has taken a prefix of the table.
+    ///
+    /// To be called as `write_sum` is.
+    pub fn write_table<O: Sink>(&self, out: &mut O) -> Result<(), Failed>
+        requires { IsBetweenLogs self.now }
+        ensures { Wrote (O.seen out.old) (O.seen out.new) (kept_table self.now) result }
+    {
+        let mut page = Page::new();
+        self.print_lines(&mut page, out)?;
+        page.flush(out)
+    }
+
     /// The number of the running line in the running log, from 1; it stops at 2^64-1. The contract says nothing for
     /// a finished summer.
     pub fn line(&self) -> u64
@@ -109,10 +123,14 @@ impl Summer {
     fn print_sums<O: Sink>(&self, page: &mut Page, out: &mut O) -> Result<(), Failed>
         ensures { Sends (O.seen out.old) page.old (O.seen out.new) page.new (kept_text self.now) result }
     {
-        for (name, test) in &self.reading.table.tests {
-            print_sum(name.as_slice(), test, page, out)?;
-        }
-        Ok(())
+        print::print_sums(self.reading.table.tests.entries.as_slice(), page, out)
+    }
+
+    /// Sends the lines of the tests in the table, through the output buffer `page`.
+    fn print_lines<O: Sink>(&self, page: &mut Page, out: &mut O) -> Result<(), Failed>
+        ensures { Sends (O.seen out.old) page.old (O.seen out.new) page.new (kept_table self.now) result }
+    {
+        print::print_lines(self.reading.table.tests.entries.as_slice(), page, out)
     }
 
     /// `Ok` if the summer isn't finished, otherwise what it returns.

@@ -155,7 +155,7 @@ impl TestSum {
 
     /// Adds a count to the state at an index, which must have this mark.
     fn add(&mut self, i: usize, mark: Mark, count: u64) -> Result<(), Fault>
-        ensures { ForStateAt self.old.states.sums.items i (λ state. TestTold self.old self.new (a_row (row_with state mark count)) result) }
+        ensures { ForStateAt self.old.states.sums.entries.items i (λ state. TestTold self.old self.new (a_row (row_with state mark count)) result) }
     {
         let sum = self.sum_of_mark(mark);
         let (known, _) = self.states.sum_at(i);

@@ -1,5 +1,5 @@
 -- The laws tried on logs.
-use Rattle.log_sum_laws.proofs.Vocabulary.{◌≡◌, ℕ, List, [], ◌∷◌, ◌++◌, refl, arith, digits, Entry, a_kind, a_row, a_condition, a_hash, row_with, marked_sum, state_sum, states_of, mark_in, fact_fault, IsSum, codes, Result, Ok, Err, HashDiffers, LogError, leading_run, after_run, before_blanks, words, cut_at, without_return, whole_lines, unended, count_read, log_texts, summed, logs_text, form_read, with_pieces, state_read, state_form, test_line, histogram_line, log_row, condition_line, hash_line, state_line, head_text, sum_verdict_text, condition_text, claim_text, hash_text, observation_text, summed_text, sum_text}
+use Rattle.log_sum_laws.proofs.Vocabulary.{◌≡◌, ℕ, List, [], ◌∷◌, ◌++◌, refl, arith, digits, Entry, a_kind, a_row, a_condition, a_hash, row_with, marked_sum, state_sum, states_of, mark_in, fact_fault, IsSum, codes, Result, Ok, Err, HashDiffers, LogError, leading_run, after_run, before_blanks, words, cut_at, without_return, whole_lines, unended, count_read, log_texts, summed, logs_text, logs_table, table_line, table_text, form_read, with_pieces, state_read, state_form, test_line, histogram_line, log_row, condition_line, hash_line, state_line, head_text, sum_verdict_text, condition_text, claim_text, hash_text, observation_text, summed_text, sum_text}
 use Rattle.log_sum_laws.proofs.{Cases.Forbidden, Cases.Plain, Cases.NotValidated, Blocks.entry}
 
 abbrev nl : List ℕ → List ℕ
@@ -36,6 +36,11 @@ log_reading = tt
 together : logs_text (one_log ∷ other_log ∷ []) ≡ Ok all
 unfolding log_reading
 together = refl
+
+-- their table
+table_together : logs_table (one_log ∷ other_log ∷ []) ≡ Ok (nl (codes "T" ++ 9 ∷ codes "Never" ++ 9 ∷ codes "0" ++ 9 ∷ codes "12"))
+unfolding log_reading logs_table table_line table_text
+table_together = refl
 
 by_sums : logs_text (or_nothing (logs_text (one_log ∷ [])) ∷ or_nothing (logs_text (other_log ∷ [])) ∷ []) ≡ Ok all
 unfolding log_reading

@@ -22,7 +22,7 @@ pub use Rattle.log_sum.specs.LineReading.{Said, a_state, after_state, begins, co
 pub use Rattle.log_sum.specs.LogLines.{mark_read, quantifier, row_counted, row_marked, row_of, verdict_cut}
 pub use Rattle.log_sum.specs.LogReading.{LogSeen, at_next_line, end_judged, fact_put, files_judged, is_too_long, lines_judged, next_line, nothing_seen, said_to}
 pub use Rattle.log_sum.specs.LogStates.{and_then, has_left, is_bracketed, is_side, later_forms, later_unblanked, left_kept, or_bad, sides_read, with_equality}
-pub use Rattle.log_sum.specs.Representing.{Kept, Represents, kept_text}
+pub use Rattle.log_sum.specs.Representing.{Kept, Represents, kept_table, kept_text}
 pub use Rattle.log_sum.specs.SumText.{filling, how_often, mark_sign, sum_kind_word, verdict_end, verdict_word}
 pub use Rattle.log_sum.specs.Summed.{StateSummed, Summed, is_validated, some_or, state_by, validated_by}
 pub use Rattle.log_sum.specs.{Texts.before_end, Texts.begins_with, Texts.ends_with, Texts.joined_words, Texts.later_words, declared.errors.LogError.LogError}
@@ -32,8 +32,8 @@ unfoldable pub use Rattle.log_sum.specs.{Counts.count_read, Facts.fact_fault, Fa
 unfoldable pub use Rattle.log_sum.specs.{LineReading.fact_said, LineReading.log_line_said, LineReading.place_after, LogGrammar.log_texts}
 unfoldable pub use Rattle.log_sum.specs.LogLines.{condition_line, hash_line, histogram_line, log_row, test_line}
 unfoldable pub use Rattle.log_sum.specs.LogReading.{file_judged, last_judged, line_judged, text_judged}
-unfoldable pub use Rattle.log_sum.specs.{LogStates.form_read, LogStates.state_form, LogStates.state_read, LogStates.with_pieces, Representing.logs_text}
-unfoldable pub use Rattle.log_sum.specs.SumText.{claim_text, condition_text, hash_text, head_text, observation_text, state_line, sum_text, sum_verdict_text, summed_text}
+unfoldable pub use Rattle.log_sum.specs.{LogStates.form_read, LogStates.state_form, LogStates.state_read, LogStates.with_pieces, Representing.logs_text, Representing.logs_table}
+unfoldable pub use Rattle.log_sum.specs.SumText.{claim_text, condition_text, hash_text, head_text, observation_text, state_line, sum_text, sum_verdict_text, summed_text, table_line, table_text}
 unfoldable pub use Rattle.log_sum.specs.Summed.{summed}
 pub use Rattle.log_sum_laws.specs.Laws.{IsSum, KeepsSumLimits, NoFault, Represent, SumOfSums, SumsAreLogs, a_log, a_sum, none}
 pub use Rattle.text_parts.proofs.BlankLaws.{before_twice, end_stays, ink_stays, trimmed_class, unblanked_spaces}

@@ -3,7 +3,7 @@ use Rattle.std.proofs.Common.{◌≡◌, ◌+◌, ℕ, List, [], ◌∷◌, ◌+
 use Rattle.std.proofs.lemmas.List.Elements.{All-append}
 use Rattle.std.specs.Prelude.{Option, Ok, Err, All, slice_get, zero, suc}
 use Rattle.diy_io.specs.{Count.Rose, Shelf.{Files, ShelfSeen, Opened}, Wrote.SinkSeen, Opened.IsFile}
-use Rattle.log_sum.specs.Representing.{logs_text}
+use Rattle.msum7_files.specs.{declared.sum_form.SumForm.SumForm, SumForms.{form_text}}
 use Rattle.msum7_files.specs.{declared.feeding.Feeding.Feeding, declared.feeding.LogFault.LogFault}
 use Rattle.msum7_files.specs.{declared.feeding.LogFault.TheVariants.{Wrong, TooMuch, NoMemory}, declared.feeding.ReadFault.ReadFault}
 use Rattle.msum7_files.specs.{declared.feeding.ReadFault.TheVariants.{Log, Device}, declared.files.FileFault.FileFault}
@@ -117,10 +117,10 @@ files_stopped old mid new feeding words first place name fault s files word f = 
 }
 
 -- a file isn't summed
-pub files_refused : (old mid new : ShelfSeen) (a : SinkSeen) (feeding after : Feeding) (words : List (List ℕ)) (first place : ℕ) (name : List ℕ) (fault : FileFault)
+pub files_refused : (form : SumForm) (old mid new : ShelfSeen) (a : SinkSeen) (feeding after : Feeding) (words : List (List ℕ)) (first place : ℕ) (name : List ℕ) (fault : FileFault)
     → (s : FilesSoFar old mid feeding words first place) → mid.files ≡ old.files → slice_get words place ≡ Some name
-    → LogFileTo mid new after s.logs name (Err fault) → FilesSummed old new words first a a (log_file_end place fault)
-files_refused old mid new a feeding after words first place name Missing s files word f = (
+    → LogFileTo mid new after s.logs name (Err fault) → FilesSummed form old new words first a a (log_file_end place fault)
+files_refused form old mid new a feeding after words first place name Missing s files word f = (
   record {
     before = s.logs;
     name = name;
@@ -132,7 +132,7 @@ files_refused old mid new a feeding after words first place name Missing s files
   },
   refl,
 )
-files_refused old mid new a feeding after words first place name (Read Device) s files word f = (
+files_refused form old mid new a feeding after words first place name (Read Device) s files word f = (
   record {
     fault = subst (λ m. Rose m new.faults) s.no_fault f.fault;
     place = place;
@@ -147,16 +147,16 @@ files_refused old mid new a feeding after words first place name (Read Device) s
   },
   refl,
 )
-files_refused old mid new a feeding after words first place name (Read (Log (Wrong error))) s files word f =
+files_refused form old mid new a feeding after words first place name (Read (Log (Wrong error))) s files word f =
     (files_stopped old mid new feeding words first place name (Wrong error) s files word f, refl)
-files_refused old mid new a feeding after words first place name (Read (Log (TooMuch line))) s files word f =
+files_refused form old mid new a feeding after words first place name (Read (Log (TooMuch line))) s files word f =
     (files_stopped old mid new feeding words first place name (TooMuch line) s files word f, refl)
-files_refused old mid new a feeding after words first place name (Read (Log NoMemory)) s files word f = refl
+files_refused form old mid new a feeding after words first place name (Read (Log NoMemory)) s files word f = refl
 
 -- this was done with the sum of the files
-pub files_said : (old new : ShelfSeen) (done : List ℕ → Type 0) (feeding : Feeding) (words : List (List ℕ)) (first place : ℕ)
-    → (s : FilesSoFar old new feeding words first place) → place ≡ length words → (sum : List ℕ) → logs_text s.logs ≡ Ok sum → done sum → LogFilesSaid old new words first done
-files_said old new done feeding words first place s all sum is wrote = record {
+pub files_said : (form : SumForm) (old new : ShelfSeen) (done : List ℕ → Type 0) (feeding : Feeding) (words : List (List ℕ)) (first place : ℕ)
+    → (s : FilesSoFar old new feeding words first place) → place ≡ length words → (sum : List ℕ) → form_text form s.logs ≡ Ok sum → done sum → LogFilesSaid form old new words first done
+files_said form old new done feeding words first place s all sum is wrote = record {
   sum = sum;
   read = record { logs = s.logs; all = sym s.count ∙ all; are = s.are; no_fault = s.no_fault; took = s.took; is = is };
   wrote = wrote;

@@ -3,6 +3,7 @@
 use Rattle.std.specs.{Prelude.{◌≡◌, ◌⊎◌, ℕ, List, [], ◌∷◌, ◌++◌, length, Result, Ok, Err}, Io.KnownBytes.{Consumes, IsAtEnd}}
 use Rattle.diy_io.specs.{Taken.SourceSeen, Wrote.{SinkSeen, Wrote}, declared.errors.Failed.Failed}
 use Rattle.log_sum.specs.Representing.{Represents, logs_text}
+use Rattle.msum7_files.specs.{declared.sum_form.SumForm.SumForm, SumForms.{form_text}}
 use Rattle.msum7_files.specs.{declared.feeding.Feeding.Feeding, declared.feeding.LogFault.LogFault}
 use Rattle.msum7_files.specs.{declared.feeding.LogFault.TheVariants.{Wrong, TooMuch, NoMemory}, declared.feeding.ReadFault.ReadFault}
 use Rattle.msum7_files.specs.declared.feeding.ReadFault.TheVariants.{Log, Device}
@@ -113,8 +114,8 @@ ClosedTo old new feeding before (Ok x) = LogSummed old new feeding before
 ClosedTo old new feeding before (Err (Log fault)) = LogFaulty old new before fault
 ClosedTo old new feeding before (Err Device) = LogFailed old new feeding before
 
--- the sum of whole logs was written, or a prefix of it
-pub record SumWrote (logs : List (List ℕ)) (out_old out_new : SinkSeen) (result : Result (Unit {0}) Failed) : Type 0 where
+-- the sum of whole logs was written in a form, or a prefix of it
+pub record SumWrote (form : SumForm) (logs : List (List ℕ)) (out_old out_new : SinkSeen) (result : Result (Unit {0}) Failed) : Type 0 where
   pub sum : List ℕ
-  pub is : logs_text logs ≡ Ok sum
+  pub is : form_text form logs ≡ Ok sum
   pub wrote : Wrote out_old out_new sum result

@@ -3,24 +3,25 @@
 use Rattle.std.specs.Prelude.{◌≡◌, ◌⊎◌, ◌+◌, ℕ, List, [], ◌∷◌, ◌++◌, length, slice_get, Option, None, Some, IfSome, MatchOption, All, Ok}
 use Rattle.std.specs.Io.KnownBytes.{IsAtEnd}
 use Rattle.diy_io.specs.{Count.Rose, Shelf.{Files, ShelfSeen}, Taken.SourceSeen, Wrote.{SinkSeen, WroteAll, WrotePart}, Opened.{IsFile, TookFiles}}
-use Rattle.log_sum.specs.{declared.errors.LogError.LogError, declared.errors.LogKind.LogKind, Representing.{ShowsNone, logs_text}}
+use Rattle.log_sum.specs.{declared.errors.LogError.LogError, declared.errors.LogKind.LogKind, Representing.{ShowsNone}}
 use Rattle.msum7_files.specs.{declared.sum_end.SumEnd.SumEnd, Logs.{IsText, IsShort, TookCount, AreWholeLogs, IsWrongLog, IsTooMuch, ReadFailed}}
+use Rattle.msum7_files.specs.{declared.sum_form.SumForm.SumForm, SumForms.{form_text}}
 use Rattle.msum7_files.specs.declared.sum_end.SumEnd.TheVariants as ends
 
--- the input is a log of at most 2^40 bytes without an error, which was read to its end, and this is its sum
-pub record InputRead (old new : SourceSeen) (sum : List ℕ) : Type 0 where
+-- the input is a log of at most 2^40 bytes without an error, which was read to its end, and this is its sum in a form
+pub record InputRead (form : SumForm) (old new : SourceSeen) (sum : List ℕ) : Type 0 where
   pub log : List ℕ
   pub text : IsText old.left log
   pub at_end : IsAtEnd new.left
   pub short : IsShort log
   pub taken : TookCount old new (length log)
   pub no_fault : new.faults ≡ old.faults
-  pub is : logs_text (log ∷ []) ≡ Ok sum
+  pub is : form_text form (log ∷ []) ≡ Ok sum
 
 -- the input was read in this way, and this was done with its sum
-pub record InputSaid (old new : SourceSeen) (done : List ℕ → Type 0) : Type 0 where
+pub record InputSaid (form : SumForm) (old new : SourceSeen) (done : List ℕ → Type 0) : Type 0 where
   pub sum : List ℕ
-  pub read : InputRead old new sum
+  pub read : InputRead form old new sum
   pub wrote : done sum
 
 -- the input is a log of which these bytes were taken and no more, this holds of both, and the input hasn't failed
@@ -44,37 +45,37 @@ InputTooMuch old new line = InputStopped old new (λ log bytes. IsTooMuch [] log
 abbrev pub log_error_at : ℕ → LogKind → LogError
 log_error_at line kind = record { line = line; kind = kind }
 
--- how the summing of an input ended
-abbrev pub InputSummed : SourceSeen → SourceSeen → SinkSeen → SinkSeen → SumEnd → Type 0
-InputSummed old new out_old out_new ends.Done = InputSaid old new (WroteAll out_old out_new)
-InputSummed old new out_old out_new ends.OutFault = InputSaid old new (WrotePart out_old out_new)
-InputSummed old new out_old out_new (ends.Wrong None line kind) = InputWrong old new (log_error_at line kind) × (out_new ≡ out_old)
-InputSummed old new out_old out_new (ends.TooMuch None line) = InputTooMuch old new line × (out_new ≡ out_old)
-InputSummed old new out_old out_new ends.InputFault = ReadFailed old new [] × (out_new ≡ out_old)
-InputSummed old new out_old out_new ends.NoMemory = out_new ≡ out_old
-InputSummed old new out_old out_new (ends.Wrong (Some file) line kind) = ⊥
-InputSummed old new out_old out_new (ends.TooMuch (Some file) line) = ⊥
-InputSummed old new out_old out_new (ends.NoFile word) = ⊥
-InputSummed old new out_old out_new ends.ShelfFault = ⊥
+-- how the summing of an input ended, of which this form was asked for
+abbrev pub InputSummed : SumForm → SourceSeen → SourceSeen → SinkSeen → SinkSeen → SumEnd → Type 0
+InputSummed form old new out_old out_new ends.Done = InputSaid form old new (WroteAll out_old out_new)
+InputSummed form old new out_old out_new ends.OutFault = InputSaid form old new (WrotePart out_old out_new)
+InputSummed form old new out_old out_new (ends.Wrong None line kind) = InputWrong old new (log_error_at line kind) × (out_new ≡ out_old)
+InputSummed form old new out_old out_new (ends.TooMuch None line) = InputTooMuch old new line × (out_new ≡ out_old)
+InputSummed form old new out_old out_new ends.InputFault = ReadFailed old new [] × (out_new ≡ out_old)
+InputSummed form old new out_old out_new ends.NoMemory = out_new ≡ out_old
+InputSummed form old new out_old out_new (ends.Wrong (Some file) line kind) = ⊥
+InputSummed form old new out_old out_new (ends.TooMuch (Some file) line) = ⊥
+InputSummed form old new out_old out_new (ends.NoFile word) = ⊥
+InputSummed form old new out_old out_new ends.ShelfFault = ⊥
 
 -- these are the logs that the arguments from an index on name, as far as there are logs, each of at most 2^40 bytes
 pub record AreLogs (files : Option Files) (words : List (List ℕ)) (first : ℕ) (logs : List (List ℕ)) : Type 0 where
   pub named : (k : ℕ) (name log : List ℕ) → slice_get words (first + k) ≡ Some name → slice_get logs k ≡ Some log → IsFile files name log
   pub short : All IsShort logs
 
--- the arguments name files that are logs without an error, each read to its end once, and this is their sum
-pub record FilesRead (old new : ShelfSeen) (words : List (List ℕ)) (first : ℕ) (sum : List ℕ) : Type 0 where
+-- the arguments name files that are logs without an error, each read to its end once, and this is their sum in a form
+pub record FilesRead (form : SumForm) (old new : ShelfSeen) (words : List (List ℕ)) (first : ℕ) (sum : List ℕ) : Type 0 where
   pub logs : List (List ℕ)
   pub all : first + length logs ≡ length words
   pub are : AreLogs old.files words first logs
   pub no_fault : new.faults ≡ old.faults
   pub took : TookFiles old new logs
-  pub is : logs_text logs ≡ Ok sum
+  pub is : form_text form logs ≡ Ok sum
 
 -- the files were read in this way, and this was done with their sum
-pub record LogFilesSaid (old new : ShelfSeen) (words : List (List ℕ)) (first : ℕ) (done : List ℕ → Type 0) : Type 0 where
+pub record LogFilesSaid (form : SumForm) (old new : ShelfSeen) (words : List (List ℕ)) (first : ℕ) (done : List ℕ → Type 0) : Type 0 where
   pub sum : List ℕ
-  pub read : FilesRead old new words first sum
+  pub read : FilesRead form old new words first sum
   pub wrote : done sum
 
 -- the argument at an index is this name, and the arguments before it name these logs
@@ -133,16 +134,16 @@ pub record SumShelfFailed (old new : ShelfSeen) (words : List (List ℕ)) (first
   pub right_before : AreWholeLogs before
   pub took : TookFiles old new before ⊎ ((bytes : List ℕ) × IsBegun old.files before name bytes × TookFiles old new (before ++ bytes ∷ []))
 
--- how the summing of files ended
-abbrev pub FilesSummed : ShelfSeen → ShelfSeen → List (List ℕ) → ℕ → SinkSeen → SinkSeen → SumEnd → Type 0
-FilesSummed old new words first out_old out_new ends.Done = LogFilesSaid old new words first (WroteAll out_old out_new)
-FilesSummed old new words first out_old out_new ends.OutFault = LogFilesSaid old new words first (WrotePart out_old out_new)
-FilesSummed old new words first out_old out_new (ends.Wrong (Some file) line kind) =
+-- how the summing of files ended, of which this form was asked for
+abbrev pub FilesSummed : SumForm → ShelfSeen → ShelfSeen → List (List ℕ) → ℕ → SinkSeen → SinkSeen → SumEnd → Type 0
+FilesSummed form old new words first out_old out_new ends.Done = LogFilesSaid form old new words first (WroteAll out_old out_new)
+FilesSummed form old new words first out_old out_new ends.OutFault = LogFilesSaid form old new words first (WrotePart out_old out_new)
+FilesSummed form old new words first out_old out_new (ends.Wrong (Some file) line kind) =
     LogFileWrong old new words first file (log_error_at line kind) × (out_new ≡ out_old)
-FilesSummed old new words first out_old out_new (ends.TooMuch (Some file) line) = FileTooMuch old new words first file line × (out_new ≡ out_old)
-FilesSummed old new words first out_old out_new (ends.NoFile word) = LogFileMissing old new words first word × (out_new ≡ out_old)
-FilesSummed old new words first out_old out_new ends.ShelfFault = SumShelfFailed old new words first × (out_new ≡ out_old)
-FilesSummed old new words first out_old out_new ends.NoMemory = out_new ≡ out_old
-FilesSummed old new words first out_old out_new (ends.Wrong None line kind) = ⊥
-FilesSummed old new words first out_old out_new (ends.TooMuch None line) = ⊥
-FilesSummed old new words first out_old out_new ends.InputFault = ⊥
+FilesSummed form old new words first out_old out_new (ends.TooMuch (Some file) line) = FileTooMuch old new words first file line × (out_new ≡ out_old)
+FilesSummed form old new words first out_old out_new (ends.NoFile word) = LogFileMissing old new words first word × (out_new ≡ out_old)
+FilesSummed form old new words first out_old out_new ends.ShelfFault = SumShelfFailed old new words first × (out_new ≡ out_old)
+FilesSummed form old new words first out_old out_new ends.NoMemory = out_new ≡ out_old
+FilesSummed form old new words first out_old out_new (ends.Wrong None line kind) = ⊥
+FilesSummed form old new words first out_old out_new (ends.TooMuch None line) = ⊥
+FilesSummed form old new words first out_old out_new ends.InputFault = ⊥

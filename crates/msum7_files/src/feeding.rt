@@ -3,6 +3,7 @@ ghost use Rattle.log_sum.specs.Representing.{IsBetweenLogs};
 ghost use Rattle.msum7_files.specs.{FileFaults.{sum_fault, sum_end_at}, declared.feeding.ReadFault.TheVariants.{Log, Device}};
 
 use crate::sum_end::SumEnd;
+use crate::sum_form::SumForm;
 use diy_io::{Failed, MAX_INPUT, NoMemory, Sink};
 use log_sum::{LogError, SumError, Summer};
 use std::alloc::Global;
@@ -115,11 +116,14 @@ impl Feeding {
         }
     }
 
-    /// Writes the sum of the logs that have ended.
-    pub(crate) fn write_sum<O: Sink>(&self, out: &mut O) -> Result<(), Failed>
+    /// Writes the sum of the logs that have ended, in a form.
+    pub(crate) fn write_sum<O: Sink>(&self, form: SumForm, out: &mut O) -> Result<(), Failed>
         requires { IsBetweenLogs self.now.summer }
-        ensures { (logs : List (List ℕ)) → ReadsLogs self.now logs [] → SumWrote logs (O.seen out.old) (O.seen out.new) result }
+        ensures { (logs : List (List ℕ)) → ReadsLogs self.now logs [] → SumWrote form logs (O.seen out.old) (O.seen out.new) result }
     {
-        self.summer.write_sum(out)
+        match form {
+            SumForm::Log => self.summer.write_sum(out),
+            SumForm::Table => self.summer.write_table(out),
+        }
     }
 }

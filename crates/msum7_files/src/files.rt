@@ -5,6 +5,7 @@ ghost use Rattle.msum7_files.specs.{LogFiles.{log_seen, ModeAfter, LogFileTo, lo
 
 use crate::feeding::{Feeding, PIECE, ReadFault};
 use crate::sum_end::SumEnd;
+use crate::sum_form::SumForm;
 use diy_io::{Failed, OpenError, Shelf, Sink, Words};
 use std::alloc::Global;
 
@@ -113,10 +114,11 @@ fn sum_file<H: Shelf>(
     }
 }
 
-/// Sums the files that the arguments from index `first` on name, in order, and writes the sum to `out`. At least one
-/// argument must name a file, and the shelf must have no open file; it has none afterwards.
+/// Sums the files that the arguments from index `first` on name, in order, and writes the sum to `out`, in a form. At
+/// least one argument must name a file, and the shelf must have no open file; it has none afterwards.
 pub fn sum_files<H: Shelf, O: Sink>(
     alloc: Global,
+    form: SumForm,
     words: &Words,
     first: usize,
     shelf: &mut H,
@@ -124,7 +126,7 @@ pub fn sum_files<H: Shelf, O: Sink>(
 ) -> SumEnd
     requires idle { (H.seen shelf.old).mode ≡ Idle }
     requires some { first < length words.now }
-    ensures summed { FilesSummed (H.seen shelf.old) (H.seen shelf.new) words.now first (O.seen out.old) (O.seen out.new) result }
+    ensures summed { FilesSummed form (H.seen shelf.old) (H.seen shelf.new) words.now first (O.seen out.old) (O.seen out.new) result }
     ensures mode { (H.seen shelf.new).mode ≡ Idle }
     ensures files { (H.seen shelf.new).files ≡ (H.seen shelf.old).files }
 {
@@ -137,7 +139,7 @@ pub fn sum_files<H: Shelf, O: Sink>(
             return fault.end_at(word);
         }
     }
-    match feeding.write_sum(out) {
+    match feeding.write_sum(form, out) {
         Ok(()) => SumEnd::Done,
         Err(Failed) => SumEnd::OutFault,
     }

@@ -3,6 +3,7 @@ ghost use Rattle.msum7_files.specs.{Logs.{max_piece}, FileFeeding.{ReadsLogs, Su
 
 use crate::feeding::{Feeding, PIECE, ReadFault};
 use crate::sum_end::SumEnd;
+use crate::sum_form::SumForm;
 use diy_io::{Failed, Sink, Source};
 use std::alloc::Global;
 
@@ -26,16 +27,21 @@ fn sum_source<I: Source>(
     }
 }
 
-/// Sums the input, which is one log, and writes the sum to `out`.
-pub fn sum_input<I: Source, O: Sink>(alloc: Global, input: &mut I, out: &mut O) -> SumEnd
-    ensures { InputSummed (I.seen input.old) (I.seen input.new) (O.seen out.old) (O.seen out.new) result }
+/// Sums the input, which is one log, and writes the sum to `out`, in a form.
+pub fn sum_input<I: Source, O: Sink>(
+    alloc: Global,
+    form: SumForm,
+    input: &mut I,
+    out: &mut O,
+) -> SumEnd
+    ensures { InputSummed form (I.seen input.old) (I.seen input.new) (O.seen out.old) (O.seen out.new) result }
 {
     let mut buf = [0; PIECE];
     let Ok(mut feeding) = Feeding::new(alloc) else {
         return SumEnd::NoMemory;
     };
     match sum_source(&mut feeding, input, &mut buf) {
-        Ok(()) => match feeding.write_sum(out) {
+        Ok(()) => match feeding.write_sum(form, out) {
             Ok(()) => SumEnd::Done,
             Err(Failed) => SumEnd::OutFault,
         },

@@ -1,10 +1,10 @@
 -- The names of locations, as a report finds them, and the line of words where none shows the error.
 use Rattle.std.proofs.Common.{◌≡◌, ℕ, ◌+◌, ◌<◌, ◌≤◌, List, [], ◌++◌, ◌∙◌, ap, arith, length, get_or, append-nil, inl, inr, subst}
 use Rattle.std.proofs.{lemmas.Option.slice_get_past, lemmas.List.FromFn.{get_or-map-range_with_len, length-map-range_with_len}}
-use Rattle.std.specs.{Prelude.{codes, slice_get, None, Result, Ok, Err}, Result.IsErrAnd}
+use Rattle.std.specs.{Prelude.{codes, slice_get, None, Result, Ok, Err}, Option.option_map, Result.IsErrAnd}
 use Rattle.arch_trait.specs.PlaceNames.{letters, location_name}
 use Rattle.diy_words.specs.declared.usage.UsageKind.{UsageKind}
-use Rattle.run_status.specs.{declared.status.Status.TheVariants.Usage, Report.{TakesLine, status_line, usage_line, usage_text, shown_word}}
+use Rattle.run_status.specs.{declared.status.Status.TheVariants.Usage, Report.{TakesLine, status_line, usage_line, usage_text, fault_part, shown_word}}
 use Rattle.diy_io.specs.{declared.errors.Failed.Failed, Page.{SentAll, Sends}, PageLaws.{sent_wrote, unsent_wrote}, Wrote.{SinkSeen, Wrote}}
 
 -- the last of some letters is the name of its location
@@ -22,7 +22,7 @@ no_word words word h = slice_get_past words word h
 pub bare_line : (words : List (List ℕ)) (word : ℕ) (kind : UsageKind) → length words ≤ word
     → status_line words (Usage word kind) ≡ codes "diy: usage " ++ usage_text kind ++ codes "\n"
 bare_line words word kind h =
-    ap (λ found. usage_line (usage_text kind) (shown_word found)) (no_word words word h)
+    ap (λ found. usage_line (usage_text kind) (shown_word (option_map (fault_part kind) found))) (no_word words word h)
     ∙ ap (λ text. text ++ codes "\n") (append-nil (codes "diy: usage " ++ usage_text kind))
 
 abbrev Answer : Type 0

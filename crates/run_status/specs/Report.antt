@@ -1,6 +1,6 @@
 -- The exit status of each status, and its line on standard error.
 -- Source: own.
-use Rattle.std.specs.{Prelude.{ℕ, ⊤, ◌⊎◌, List, [], ◌++◌, codes, slice_get, unwrap_or, Option, Some, None}, Fmt.decimal}
+use Rattle.std.specs.{Prelude.{ℕ, ⊤, ◌⊎◌, List, [], ◌++◌, codes, slice_get, take, drop, unwrap_or, Option, Some, None}, Option.option_map, Fmt.decimal}
 use Rattle.arch_trait.specs.PlaceNames.{location_name}
 use Rattle.diy_io.specs.Wrote.{SinkSeen, WroteAll, WrotePart}
 use Rattle.cycles_from_lines.specs.declared.errors.LineKind.{LineKind}
@@ -71,6 +71,7 @@ usage_text usages.MissingNumber = codes "MissingNumber"
 usage_text usages.MissingFile = codes "MissingFile"
 usage_text usages.MissingWhy = codes "MissingWhy"
 usage_text usages.TooManyChoices = codes "TooManyChoices"
+usage_text (usages.IdleRelax _ _) = codes "IdleRelax"
 
 -- the name of what is wrong with a line of cycles
 abbrev pub line_text : LineKind → List ℕ
@@ -120,6 +121,9 @@ exec_text executions.TooLarge = codes "TooLarge"
 -- the name of what is wrong with a text or one of its lines
 abbrev pub kind_text : TextKind → List ℕ
 kind_text (texts.Line kind) = line_text kind
+kind_text (texts.Refused refusal) = refusal_text refusal
+kind_text texts.BadName = codes "BadName"
+kind_text texts.NameTaken = codes "NameTaken"
 kind_text (texts.Log kind) = log_text kind
 kind_text (texts.Test kind) = test_kind_text kind
 kind_text (texts.Exec kind) = exec_text kind
@@ -127,7 +131,12 @@ kind_text texts.WrongArch = codes "WrongArch"
 kind_text texts.NoCycle = codes "NoCycle"
 kind_text texts.TooMuch = codes "TooMuch"
 
--- the argument at fault as it is shown, if there is one
+-- what is shown of the argument at fault: of an idle relaxation its own bytes, otherwise the whole argument
+abbrev pub fault_part : UsageKind → List ℕ → List ℕ
+fault_part (usages.IdleRelax start len) word = take len (drop start word)
+fault_part _ word = word
+
+-- what is shown of the argument at fault, if there is one
 abbrev pub shown_word : Option (List ℕ) → List ℕ
 shown_word (Some word) = codes ": " ++ word
 shown_word None = []
@@ -151,11 +160,19 @@ file_text words (Some word) = word_at words word
 abbrev pub refusal_line : List ℕ → List ℕ
 refusal_line text = codes "diy: refused " ++ text ++ codes "\n"
 
+-- the head of the line of an error in a text, with the name of the text and the number of its line
+abbrev pub text_head : List ℕ → ℕ → List ℕ
+text_head file line = codes "diy: " ++ file ++ codes ":" ++ decimal line ++ codes ": "
+
+-- a text and the end of its line
+abbrev pub line_end : List ℕ → List ℕ
+line_end text = text ++ codes "\n"
+
 -- the line of an error in a text, with the name of the text, the number of its line, and the name of the error
 abbrev pub text_line : List ℕ → ℕ → List ℕ → List ℕ
-text_line file line kind = codes "diy: " ++ file ++ codes ":" ++ decimal line ++ codes ": " ++ kind ++ codes "\n"
+text_line file line kind = text_head file line ++ kind ++ codes "\n"
 
--- the line of a usage error: its name, and the argument at fault as it is shown
+-- the line of a usage error: its name, and what is shown of the argument at fault
 abbrev pub usage_line : List ℕ → List ℕ → List ℕ
 usage_line name shown = codes "diy: usage " ++ name ++ shown ++ codes "\n"
 
@@ -164,7 +181,7 @@ abbrev pub status_line : List (List ℕ) → Status → List ℕ
 status_line words statuses.Done = []
 status_line words (statuses.Refused refusal) = refusal_line (refusal_text refusal)
 status_line words (statuses.Usage word kind) =
-    usage_line (usage_text kind) (shown_word (slice_get words word))
+    usage_line (usage_text kind) (shown_word (option_map (fault_part kind) (slice_get words word)))
 status_line words (statuses.BadText file line kind) =
     text_line (file_text words file) line (kind_text kind)
 status_line words (statuses.NoFile word) = codes "diy: no file: " ++ word_at words word ++ codes "\n"
@@ -176,7 +193,13 @@ status_line words statuses.NoMemory = codes "diy: no memory\n"
 abbrev pub TakesLine : List ℕ → SinkSeen → SinkSeen → Type 0
 TakesLine line old new = (WroteAll old new line) ⊎ (WrotePart old new line)
 
+-- an error of a text names no location, or one that a test can have
+abbrev pub KindNamesLocation : TextKind → Type 0
+KindNamesLocation (texts.Refused refusal) = NamesLocation refusal
+KindNamesLocation _ = ⊤
+
 -- a status names no location, or one that a test can have
 abbrev pub StatusNamesLocation : Status → Type 0
 StatusNamesLocation (statuses.Refused refusal) = NamesLocation refusal
+StatusNamesLocation (statuses.BadText file line kind) = KindNamesLocation kind
 StatusNamesLocation _ = ⊤

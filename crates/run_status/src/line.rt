@@ -1,9 +1,9 @@
-ghost use Rattle.std.specs.{Prelude.{◌≡◌, ◌<◌, ◌++◌, codes, slice_get}, Fmt.{decimal}};
+ghost use Rattle.std.specs.{Prelude.{◌≡◌, ◌<◌, ◌++◌, codes, drop, slice_get, take}, Option.{option_map}, Fmt.{decimal}};
 ghost use Rattle.relax_edges.specs.declared.TheConstants.{MAX_EDGES};
 ghost use Rattle.diy_io.specs.{Page.{Sends}, Wrote.{Wrote}};
 ghost use Rattle.test_maker.specs.declared.refusal.Refusal.TheVariants as refusals;
 ghost use Rattle.test_maker.specs.Made.{NamesLocation};
-ghost use Rattle.run_status.specs.Report.{status_line, refusal_line, refusal_text, usage_line, usage_text, line_text, log_text, test_kind_text, exec_text, kind_text, word_at, file_text, shown_word, device_text, StatusNamesLocation, text_line};
+ghost use Rattle.run_status.specs.Report.{status_line, refusal_line, refusal_text, usage_line, usage_text, line_text, log_text, test_kind_text, exec_text, kind_text, word_at, file_text, fault_part, shown_word, device_text, StatusNamesLocation, text_line, KindNamesLocation, line_end, text_head};
 
 use crate::status::{Device, Status, TextKind};
 use arch_trait::Places;
@@ -42,10 +42,10 @@ fn send_line<E: Sink>(
 {
     match status {
         Status::Done => Ok(()),
-        Status::Refused(refusal) => send_refusal(refusal, page, err),
+        Status::Refused(refusal) => send_refused(refusal, page, err),
         Status::Usage { word, kind } => send_usage(word, kind, words, page, err),
         Status::BadText { file, line, kind } => {
-            send_text(file_name(file, words), line, kind_name(kind), page, err)
+            send_text(file_name(file, words), line, kind, page, err)
         }
         Status::NoFile { word } => {
             page.send_pieces(&[b"diy: no file: ", word_at(word, words), b"\n"], err)
@@ -68,17 +68,40 @@ fn send_usage<E: Sink>(
     page: &mut Page,
     err: &mut E,
 ) -> Result<(), Failed>
-    ensures { Sends (E.seen err.old) page.old (E.seen err.new) page.new (usage_line (usage_text kind) (shown_word (slice_get words.now word))) result }
+    ensures { Sends (E.seen err.old) page.old (E.seen err.new) page.new (usage_line (usage_text kind) (shown_word (option_map (fault_part kind) (slice_get words.now word)))) result }
 {
     let name = usage_name(kind);
     if word < words.len() {
-        send_word(name, words.get(word).as_bytes(), page, err)
+        send_word(
+            name,
+            fault_part(kind, words.get(word).as_bytes()),
+            page,
+            err,
+        )
     } else {
         page.send_pieces(&[b"diy: usage ", name, b"\n"], err)
     }
 }
 
-/// Sends the line of a usage error at an argument.
+/// What is shown of the argument at fault.
+fn fault_part(kind: UsageKind, word: &[u8]) -> &[u8]
+    ensures { result.now ≡ fault_part kind word.now }
+{
+    match kind {
+        UsageKind::IdleRelax { start, len } => part(word, start, len),
+        _ => word,
+    }
+}
+
+/// The bytes of a text from an index on, at most so many.
+fn part(text: &[u8], start: usize, len: usize) -> &[u8]
+    ensures { result.now ≡ take len (drop start text.now) }
+{
+    let rest = &text[start.min(text.len())..];
+    &rest[..len.min(rest.len())]
+}
+
+/// Sends the line of a usage error of which this part of an argument is shown.
 fn send_word<E: Sink>(name: &[u8], word: &[u8], page: &mut Page, err: &mut E) -> Result<(), Failed>
     ensures { Sends (E.seen err.old) page.old (E.seen err.new) page.new (usage_line name.now (codes ": " ++ word.now)) result }
 {
@@ -122,6 +145,7 @@ fn usage_name(kind: UsageKind) -> &'static [u8]
         UsageKind::MissingFile => b"MissingFile",
         UsageKind::MissingWhy => b"MissingWhy",
         UsageKind::TooManyChoices => b"TooManyChoices",
+        UsageKind::IdleRelax { .. } => b"IdleRelax",
     }
 }
 
@@ -186,18 +210,30 @@ fn exec_name(kind: ExecKind) -> &'static [u8]
     }
 }
 
-fn kind_name(kind: TextKind) -> &'static [u8]
-    ensures { result.now ≡ kind_text kind }
+/// Sends what is wrong with a text, and the end of the line.
+fn send_kind<E: Sink>(kind: TextKind, page: &mut Page, err: &mut E) -> Result<(), Failed>
+    requires { KindNamesLocation kind }
+    ensures { Sends (E.seen err.old) page.old (E.seen err.new) page.new (line_end (kind_text kind)) result }
 {
     match kind {
-        TextKind::Line(kind) => line_name(kind),
-        TextKind::Log(kind) => log_name(kind),
-        TextKind::Test(kind) => test_name(kind),
-        TextKind::Exec(kind) => exec_name(kind),
-        TextKind::WrongArch => b"WrongArch",
-        TextKind::NoCycle => b"NoCycle",
-        TextKind::TooMuch => b"TooMuch",
+        TextKind::Line(kind) => send_name(line_name(kind), page, err),
+        TextKind::Refused(refusal) => send_refusal(refusal, page, err),
+        TextKind::BadName => send_name(b"BadName", page, err),
+        TextKind::NameTaken => send_name(b"NameTaken", page, err),
+        TextKind::Log(kind) => send_name(log_name(kind), page, err),
+        TextKind::Test(kind) => send_name(test_name(kind), page, err),
+        TextKind::Exec(kind) => send_name(exec_name(kind), page, err),
+        TextKind::WrongArch => send_name(b"WrongArch", page, err),
+        TextKind::NoCycle => send_name(b"NoCycle", page, err),
+        TextKind::TooMuch => send_name(b"TooMuch", page, err),
     }
+}
+
+/// Sends the name of what is wrong, and the end of the line.
+fn send_name<E: Sink>(name: &[u8], page: &mut Page, err: &mut E) -> Result<(), Failed>
+    ensures { Sends (E.seen err.old) page.old (E.seen err.new) page.new (line_end name.now) result }
+{
+    page.send_pieces(&[name, b"\n"], err)
 }
 
 /// The argument at an index, or the empty text if there is none.
@@ -225,76 +261,85 @@ fn file_name(file: Option<usize>, words: &Words) -> &[u8]
 fn send_text<E: Sink>(
     file: &[u8],
     line: u64,
-    kind: &[u8],
+    kind: TextKind,
     page: &mut Page,
     err: &mut E,
 ) -> Result<(), Failed>
-    ensures { Sends (E.seen err.old) page.old (E.seen err.new) page.new (text_line file.now line kind.now) result }
+    requires { KindNamesLocation kind }
+    ensures { Sends (E.seen err.old) page.old (E.seen err.new) page.new (text_line file.now line (kind_text kind)) result }
+{
+    send_head(file, line, page, err)?;
+    send_kind(kind, page, err)
+}
+
+/// Sends the head of the line of an error in a text.
+fn send_head<E: Sink>(file: &[u8], line: u64, page: &mut Page, err: &mut E) -> Result<(), Failed>
+    ensures { Sends (E.seen err.old) page.old (E.seen err.new) page.new (text_head file.now line) result }
 {
     let mut digits = Buffer::new();
     let digits = digits.format(line).as_bytes();
-    page.send_pieces(&[b"diy: ", file, b":", digits, b": ", kind, b"\n"], err)
+    page.send_pieces(&[b"diy: ", file, b":", digits, b": "], err)
 }
 
-fn send_refusal<E: Sink>(refusal: Refusal, page: &mut Page, err: &mut E) -> Result<(), Failed>
+/// Sends the line of a refusal.
+fn send_refused<E: Sink>(refusal: Refusal, page: &mut Page, err: &mut E) -> Result<(), Failed>
     requires { NamesLocation refusal }
     ensures { Sends (E.seen err.old) page.old (E.seen err.new) page.new (refusal_line (refusal_text refusal)) result }
 {
+    page.send(b"diy: refused ", err)?;
+    send_refusal(refusal, page, err)
+}
+
+/// Sends a refusal, and the end of the line.
+fn send_refusal<E: Sink>(refusal: Refusal, page: &mut Page, err: &mut E) -> Result<(), Failed>
+    requires { NamesLocation refusal }
+    ensures { Sends (E.seen err.old) page.old (E.seen err.new) page.new (line_end (refusal_text refusal)) result }
+{
     match refusal {
-        Refusal::Empty => refuse(b"Empty", page, err),
-        Refusal::TooLong => refuse(b"TooLong", page, err),
-        Refusal::NotOfArch { at } => refuse_at(b"NotOfArch ", at, page, err),
-        Refusal::DoesNotCompose { at } => refuse_at(b"DoesNotCompose ", at, page, err),
-        Refusal::TooFewThreads => refuse(b"TooFewThreads", page, err),
-        Refusal::CoherenceOnly => refuse(b"CoherenceOnly", page, err),
-        Refusal::NeedsObserver { location, event } => refuse_unobserved(location, event, page, err),
-        Refusal::TooManyRegisters { thread } => refuse_at(b"TooManyRegisters ", thread, page, err),
-        Refusal::NothingToShow => refuse(b"NothingToShow", page, err),
-        Refusal::NotCoherence => refuse(b"NotCoherence", page, err),
-        Refusal::ManyWrites => refuse(b"ManyWrites", page, err),
+        Refusal::Empty => send_name(b"Empty", page, err),
+        Refusal::TooLong => send_name(b"TooLong", page, err),
+        Refusal::NotOfArch { at } => send_numbered(b"NotOfArch ", at, page, err),
+        Refusal::DoesNotCompose { at } => send_numbered(b"DoesNotCompose ", at, page, err),
+        Refusal::TooFewThreads => send_name(b"TooFewThreads", page, err),
+        Refusal::CoherenceOnly => send_name(b"CoherenceOnly", page, err),
+        Refusal::NeedsObserver { location, event } => send_unobserved(location, event, page, err),
+        Refusal::TooManyRegisters { thread } => {
+            send_numbered(b"TooManyRegisters ", thread, page, err)
+        }
+        Refusal::NothingToShow => send_name(b"NothingToShow", page, err),
+        Refusal::NotCoherence => send_name(b"NotCoherence", page, err),
+        Refusal::ManyWrites => send_name(b"ManyWrites", page, err),
     }
 }
 
-/// Sends the line of a refusal with this name.
-fn refuse<E: Sink>(name: &[u8], page: &mut Page, err: &mut E) -> Result<(), Failed>
-    ensures { Sends (E.seen err.old) page.old (E.seen err.new) page.new (refusal_line name.now) result }
-{
-    page.send_pieces(&[b"diy: refused ", name, b"\n"], err)
-}
-
-/// Sends the line of a refusal whose name is followed by a number.
-fn refuse_at<E: Sink>(name: &[u8], number: u8, page: &mut Page, err: &mut E) -> Result<(), Failed>
-    ensures { Sends (E.seen err.old) page.old (E.seen err.new) page.new (refusal_line (name.now ++ decimal number)) result }
+/// Sends the name of what is wrong, a number, and the end of the line.
+fn send_numbered<E: Sink>(
+    name: &[u8],
+    number: u8,
+    page: &mut Page,
+    err: &mut E,
+) -> Result<(), Failed>
+    ensures { Sends (E.seen err.old) page.old (E.seen err.new) page.new (line_end (name.now ++ decimal number)) result }
 {
     let mut digits = Buffer::new();
     let digits = digits.format(number).as_bytes();
-    page.send_pieces(&[b"diy: refused ", name, digits, b"\n"], err)
+    page.send_pieces(&[name, digits, b"\n"], err)
 }
 
-/// Sends the line of the refusal that a write needs an observer.
+/// Sends the refusal that a write needs an observer, and the end of the line.
 #[tactic(auto, using(crate::proofs::Reported::letter_at, crate::proofs::Reported::letters_long))]
-fn refuse_unobserved<E: Sink>(
+fn send_unobserved<E: Sink>(
     location: u8,
     event: u8,
     page: &mut Page,
     err: &mut E,
 ) -> Result<(), Failed>
     requires { location < MAX_EDGES }
-    ensures { Sends (E.seen err.old) page.old (E.seen err.new) page.new (refusal_line (refusal_text (refusals.NeedsObserver location event))) result }
+    ensures { Sends (E.seen err.old) page.old (E.seen err.new) page.new (line_end (refusal_text (refusals.NeedsObserver location event))) result }
 {
     let places = Places::letters(location + 1);
     let name = places.get(location).as_str().as_bytes();
     let mut digits = Buffer::new();
     let digits = digits.format(event).as_bytes();
-    page.send_pieces(
-        &[
-            b"diy: refused ",
-            b"NeedsObserver ",
-            name,
-            b" ",
-            digits,
-            b"\n",
-        ],
-        err,
-    )
+    page.send_pieces(&[b"NeedsObserver ", name, b" ", digits, b"\n"], err)
 }

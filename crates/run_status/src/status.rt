@@ -61,6 +61,12 @@ pub enum Device {
 pub enum TextKind {
     /// An error in a line of cycles.
     Line(LineKind),
+    /// The cycle of a line has no test of the kind that was asked for.
+    Refused(Refusal),
+    /// The label of a line of cycles is no name of a test.
+    BadName,
+    /// The test of a line before has the name of the test of this line.
+    NameTaken,
     /// An error in a line of a log.
     Log(LogKind),
     /// An error in a line of a test.

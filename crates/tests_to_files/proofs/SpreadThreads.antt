@@ -1,14 +1,13 @@
 -- A cycle that isn't coherence only has edges of two threads to another location, as a walk reads it from its first edge on.
-use Rattle.std.proofs.Common.{◌≡◌, ℕ, zero, suc, ◌+◌, ◌<◌, ◌≤◌, ◌==◌, ◌&&◌, Bool, true, false, cond, List, [], ◌∷◌, ◌++◌, length, take, drop, refl, sym, ◌∙◌, ap, arith, add-one, append_assoc, length-append, eq-eqb}
+use Rattle.std.proofs.Common.{◌≡◌, ℕ, zero, suc, ◌+◌, ◌<◌, ◌≤◌, ◌==◌, ◌&&◌, true, false, cond, List, [], ◌∷◌, ◌++◌, length, take, refl, sym, ◌∙◌, ap, arith, add-one, append_assoc, length-append, eq-eqb}
 use Rattle.std.specs.Prelude.{⊤}
-use Rattle.std.proofs.{lemmas.Bool.and_from, lemmas.List.{take_more, take-append-drop}, lemmas.List.Sums.sum_by-cons, Math.Seq.{take-append_seam, get_or-append_seam}}
+use Rattle.std.proofs.{lemmas.List.{take_more}, lemmas.List.Sums.sum_by-cons, Math.Seq.{take-append_seam, get_or-append_seam}}
 use Rattle.relax_edges.specs.{declared.kinds.Reach.TheVariants.Internal, declared.kinds.Com.TheVariants.Rf, declared.edge.Edge.Edge, EdgeTable.{is_diff, is_external}}
 use Rattle.relax_edges.specs.declared.edge.Edge.TheVariants as edges
-use Rattle.edge_algebra_laws.specs.{Rotation.IsRotation, Rotation.rotated}
+use Rattle.edge_algebra_laws.specs.{Rotation.IsRotation}
 use Rattle.edge_algebra_laws.proofs.Laws.{same_cycle_is_equivalence, rotations_are_places}
-use Rattle.list_laws.specs.Numbers.{upto}
 use Rattle.list_laws.proofs.{Cases.{by_test, by_less}, Counts.count_upto_same, Finds.any_upto, Prefixes.count_all}
-use Rattle.cycle_events.specs.Resolution.{external_count, move_count, edge_at, ends_outside, turned, thread_of, moves_in, is_coherence_only}
+use Rattle.cycle_events.specs.Resolution.{external_count, move_count, edge_at, turned, thread_of, moves_in, is_coherence_only}
 use Rattle.cycle_events.proofs.{Locations.external_keeps, Rotations.coherence_alike, Threads.{thread_end, thread_in, thread_out}, Turning.{outside_at_end, turn_of}}
 use Rattle.cycle_enum.specs.{declared.spread.Spread.Spread, Spreads.{is_spread, is_two, spread_after, spread_kept, spread_left, spread_moved, spread_next}}
 use Rattle.cycle_enum.specs.declared.spread.Spread.TheVariants.{Bare, Moved, Neither, Running, First, Ends, Between, Two}

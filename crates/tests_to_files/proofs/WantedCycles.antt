@@ -5,7 +5,7 @@ use Rattle.std.specs.{Prelude.{◌↔◌, is_none}, List.list_all}
 use Rattle.relax_edges.specs.{declared.edge.Edge.Edge, declared.kinds.ArchName.ArchName, declared.kinds.ObsMode.ObsMode, EdgeTable.{is_of_arch, is_external}}
 use Rattle.edge_algebra_laws.specs.Composable.{IsCycle}
 use Rattle.list_laws.proofs.Cases.{by_less, by_test}
-use Rattle.cycle_enum.specs.Spreads.{is_spread}
+use Rattle.cycle_enum.specs.Spreads.{is_spread, IsSpreadOver}
 use Rattle.cycle_enum_laws.specs.Listing.{IsAnswer, IsListed}
 use Rattle.cycle_events.specs.Resolution.{external_count, is_coherence_only, resolution_of, turned}
 use Rattle.arch_trait.specs.Threads.{Puts}
@@ -102,19 +102,20 @@ pub refused_leads_none : (arch : ArchName) (threads : ℕ) (accesses : Option �
 refused_leads_none arch threads accesses u r none h =
     let yes : may_lead arch threads u ≡ true = prefix_leads arch threads accesses u r (sought_parts arch threads accesses (u ++ r) h) in cc
 
--- each such cycle has edges of two threads to another location
-pub sought_spread : (arch : ArchName) (threads : ℕ) (accesses : Option ℕ) (u : List Edge) → is_sought arch threads accesses u ≡ true → is_spread u ≡ true
-sought_spread arch threads accesses u h = (sought_parts arch threads accesses u h).spread
-
--- and no more edges to another thread than are allowed
-pub sought_few : (arch : ArchName) (threads : ℕ) (accesses : Option ℕ) (u : List Edge) → is_sought arch threads accesses u ≡ true → external_count u ≤ threads
-sought_few arch threads accesses u h = leb-true (external_count u) threads (sought_parts arch threads accesses u h).few_threads
+-- each such cycle has edges of two threads to another location, and no more edges to another thread than are allowed
+pub sought_over : (arch : ArchName) (threads : ℕ) (accesses : Option ℕ) (u : List Edge) → is_sought arch threads accesses u ≡ true → IsSpreadOver threads u
+sought_over arch threads accesses u h =
+    let p = sought_parts arch threads accesses u h in
+    record { spread = p.spread; few = leb-true (external_count u) threads p.few_threads }
 
 -- nor with edges that have a long run
 pub long_run_leads_none : (arch : ArchName) (threads : ℕ) (accesses : Option ℕ) (u r : List Edge) → HasLongRun accesses u → is_sought arch threads accesses (u ++ r) ≡ true → ⊥
 long_run_leads_none arch threads accesses u r run h =
     let p = sought_parts arch threads accesses (u ++ r) h in
     long_run_crowds accesses u r (two_are_some (external_count (u ++ r)) p.two) run p.few_accesses
+
+-- what makes the pruners of a listing and what its walk relies on right
+pub ruleset pruning = (refused_leads_none, long_run_leads_none, sought_over)
 
 -- a cycle that is wanted is one of those, and has a test
 sought_if_wanted : (puts : Puts) (mode : ObsMode) (threads : ℕ) (accesses : Option ℕ) (u : List Edge) → is_wanted puts mode threads accesses u ≡ true → is_sought puts.name threads accesses u ≡ true

@@ -9,7 +9,7 @@ use Rattle.cycle_names.specs.CycleNames.{name_of}
 use Rattle.cycle_events.specs.Resolution.{external_count, turned, events_in}
 use Rattle.arch_trait.specs.{Threads.Puts, Writing.Writing}
 use Rattle.test_maker.specs.{Refusals.refusal_of, CycleText.cycle_text}
-use Rattle.cycle_enum.specs.{declared.limits.Limits.Limits, Spreads.is_spread, Walking.Walking}
+use Rattle.cycle_enum.specs.{declared.limits.Limits.Limits, declared.taken.Taken.TheVariants.SpreadOver, Spreads.is_spread, Walking.Walking}
 use Rattle.tests_to_files.specs.{ListedFiles.{path_of, file_of, test_files}, declared.listing.Listing.Listing, declared.wanted.Wanted.Wanted}
 
 -- a cycle has at most this many threads, observers not counted: at most this many of its edges lead to another thread
@@ -97,6 +97,18 @@ wanted_in listing = record { threads = listing.threads; accesses = listing.acces
 -- the plan of a listing, from its request
 abbrev pub plan_in : Puts → Writing → Listing → Plan
 plan_in puts writing listing = plan_of puts writing (wanted_in listing) listing.relaxes listing.limits
+
+-- the walk of a listing, from its request, by two pruners and a test, with the last cycle
+abbrev pub walk_of : {K J P : Type 0} → Listing → K → J → P → Option (List Edge) → Walking K J P
+walk_of listing keep fit take last = record {
+  relaxes = listing.relaxes;
+  limits = listing.limits;
+  taken = SpreadOver listing.threads;
+  keep = keep;
+  fit = fit;
+  take = take;
+  last = last;
+}
 
 -- the plan of a listing, from what it requires and its walk
 abbrev pub walk_plan : {K J P : Type 0} → Puts → Writing → Wanted → Walking K J P → Plan

@@ -11,20 +11,22 @@ const MAX_NAMED: usize = 200;
 /// The most bytes of the ending of a file's name: 7.
 pub const MAX_ENDING: usize = 7;
 
-/// The most bytes of a file's name, with its ending and without its folder.
-pub(crate) const MAX_FILE: usize = 207;
+/// The most bytes of a file's name, with its ending and without its folder: 207.
+pub const MAX_FILE: usize = 207;
 
 /// The most bytes of a file's name with its folder: 1,232.
 pub const MAX_PATH: usize = 1_232;
 
-pub(crate) type FileName = ArrayString<MAX_FILE>;
+/// The name of a file with its ending and without its folder.
+pub type FileName = ArrayString<MAX_FILE>;
 
 /// The name of a file with its folder.
 pub type Path = ArrayString<MAX_PATH>;
 
-/// The name of the file of a test, by the number and the name of the test.
+/// The name of the file of a test, by the number and the name of the test. The number counts only if the name has more than
+/// 200 bytes.
 #[tactic(auto, unfolding(crate::specs::ListedFiles::file_named))]
-pub(crate) fn file_named(number: u128, name: &str) -> FileName
+pub fn file_named(number: u128, name: &str) -> FileName
     ensures { result.bytes ≡ file_named number name.now }
 {
     file_ending(number, name, ".litmus")
@@ -69,8 +71,9 @@ pub(crate) fn path_of(folder: Option<&str>, file: &str) -> Path
     path
 }
 
-/// Sets `path` to that of a file, in a folder if one is given.
-pub(crate) fn set_path(folder: Option<&str>, file: &str, path: &mut Path)
+/// Sets `path` to that of a file, in a folder of at most `MAX_FOLDER` bytes if one is given. The file's name has at most
+/// `MAX_FILE` bytes. What `path` held doesn't matter.
+pub fn set_path(folder: Option<&str>, file: &str, path: &mut Path)
     requires folder { ForSome folder (λ folder. length folder.now ≤ MAX_FOLDER) }
     requires file { length file.now ≤ MAX_FILE }
     ensures { path.new.bytes ≡ path_of (option_map (λ folder. folder.now) folder.entry) file.now }

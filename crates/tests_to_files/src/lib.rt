@@ -13,8 +13,8 @@ mod runs;
 mod wanted;
 
 pub use ending::ListingEnd;
-pub use files::{MAX_ENDING, MAX_PATH, Path, test_path};
+pub use files::{FileName, MAX_ENDING, MAX_FILE, MAX_PATH, Path, file_named, set_path, test_path};
 pub use given::put_cycles;
 pub use lines::write_listed;
-pub use listing::{Listing, list_tests};
-pub use putting::{File, put_files};
+pub use listing::{Listing, list_tests, write_count};
+pub use putting::{File, put_file, put_files, put_text};

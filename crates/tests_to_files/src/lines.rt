@@ -21,7 +21,7 @@ use relax_edges::Edge;
 ///
 /// The listed cycles are those for which `list_tests` writes a file. No test is made, and the folder
 /// doesn't matter. If the sink fails, it has taken a prefix of the lines.
-#[tactic(auto, using(crate::proofs::WantedCycles::refused_leads_none, crate::proofs::WantedCycles::long_run_leads_none, crate::proofs::WantedCycles::sought_spread, crate::proofs::WantedCycles::sought_few))]
+#[tactic(auto, using(crate::proofs::WantedCycles::pruning))]
 pub fn write_listed<A: Arch, O: Sink>(listing: Listing, out: &mut O) -> Result<(), Failed>
     requires size { listing.limits.size ≤ MAX_EDGES }
     ensures { EndsLines (plan_in A.puts A.writing listing.entry) listing.entry.after (O.seen out.old) (O.seen out.new) result }
@@ -45,7 +45,7 @@ fn write_lines<
     J: Fn(&[Edge]) -> bool,
     P: Fn(&Cycle) -> bool,
 >(wanted: &Wanted, walk: &mut Walk<K, J, P>, out: &mut O) -> Result<(), Failed>
-    requires knows { KnowsOf K.pre K.Fn.post J.pre J.Fn.post P.pre P.Fn.post walk.old.threads walk.old.keep walk.old.fit walk.old.take }
+    requires knows { KnowsOf K.pre K.Fn.post J.pre J.Fn.post P.pre P.Fn.post walk.old.taken walk.old.keep walk.old.fit walk.old.take }
     requires sought { (cycle : List EdgeValue) → IsCycle cycle → Says P.Fn.post walk.old.take cycle true ↔ Seeks A.puts wanted.now cycle }
     ensures ok { OnOk result (WritesLines (IsPlanned (walk_plan A.puts A.writing wanted.now walk.old)) walk.old.last (O.seen out.old) (O.seen out.new)) }
     ensures failed { OnErr result (StopsAtLine (IsPlanned (walk_plan A.puts A.writing wanted.now walk.old)) walk.old.last (O.seen out.old) (O.seen out.new)) }

@@ -1,11 +1,11 @@
 ghost use Rattle.std.specs.{Prelude.{◌≡◌, ◌≤◌, ◌↔◌, true, Some, None, length, List, [], ◌∷◌, OnOk, OnErr, IfOk, IfSome}, Option.{ForSome}};
 ghost use Rattle.relax_edges.specs.{declared.TheConstants.{MAX_EDGES}, declared.edge.Edge.{Edge as EdgeValue}};
 ghost use Rattle.edge_algebra_laws.specs.Composable.{IsCycle};
-ghost use Rattle.cycle_enum.specs.Walking.{KnowsOf, Lists, Says};
+ghost use Rattle.cycle_enum.specs.{declared.taken.Taken.TheVariants.{SpreadOver}, Walking.{KnowsOf, Lists, Says}};
 ghost use Rattle.diy_io.specs.{Shelf.{Idle}, Wrote.{Wrote}};
 ghost use Rattle.test_maker.specs.Refusals.{refusal_of};
 ghost use Rattle.tests_to_files.specs.{ListingEnds.{BeginsAfter, EndsAfter, EndsListing}, ListedFiles.{count_line, file_of}, Arrives.{ArrivesOrEnds}};
-ghost use Rattle.tests_to_files.specs.{Keeping.{PutsAll, StopsPutting}, Plans.{HaveTests, is_sought, Seeks, plan_in, test_file_of, walk_plan, wanted_in}};
+ghost use Rattle.tests_to_files.specs.{Keeping.{PutsAll, StopsPutting}, Plans.{HaveTests, is_sought, Seeks, plan_in, test_file_of, walk_of, walk_plan, wanted_in}};
 ghost use Rattle.tests_to_files.specs.{Putting.{PutFiles, FailsAt}, Ready.{IsReady}};
 
 use crate::ending::ListingEnd;
@@ -16,7 +16,7 @@ use crate::putting::put_text;
 use crate::wanted::Wanted;
 use arch_trait::{Arch, Places, ThreadCodes};
 use arrayvec::{ArrayString, ArrayVec};
-use cycle_enum::{Limits, Walk};
+use cycle_enum::{Limits, Taken, Walk};
 use cycle_names::name_of;
 use diy_io::{Failed, MAX_FOLDER, Page, Shelf, Sink};
 use edge_algebra::Cycle;
@@ -69,11 +69,12 @@ impl<'a> Listing<'a> {
         take: P,
     ) -> Walk<K, J, P>
         requires size { self.limits.size ≤ MAX_EDGES }
-        requires knows { KnowsOf K.pre K.Fn.post J.pre J.Fn.post P.pre P.Fn.post self.threads keep fit take }
+        requires knows { KnowsOf K.pre K.Fn.post J.pre J.Fn.post P.pre P.Fn.post (SpreadOver self.threads) keep fit take }
         ensures begins { BeginsAfter self.entry.after result.last }
-        ensures walk { result ≡ record { relaxes = self.entry.relaxes; limits = self.entry.limits; threads = self.entry.threads; keep = keep; fit = fit; take = take; last = result.last } }
+        ensures walk { result ≡ walk_of self.entry keep fit take result.last }
     {
-        let mut walk = Walk::new(self.relaxes, self.limits, self.threads, keep, fit, take);
+        let taken = Taken::SpreadOver(self.threads);
+        let mut walk = Walk::new(self.relaxes, self.limits, taken, keep, fit, take);
         begin_after(&mut walk, &self.after);
         walk
     }
@@ -116,7 +117,7 @@ pub fn list_tests<A: Arch, H: Shelf, O: Sink>(
 
 /// Writes the files of a listing and the line on their number, as `list_tests` does. Each test is made in `test`.
 #[inline(never)]
-#[tactic(auto, using(crate::proofs::WantedCycles::refused_leads_none, crate::proofs::WantedCycles::long_run_leads_none, crate::proofs::WantedCycles::sought_spread, crate::proofs::WantedCycles::sought_few))]
+#[tactic(auto, using(crate::proofs::WantedCycles::pruning))]
 fn list_with<A: Arch, H: Shelf, O: Sink>(
     listing: Listing,
     test: &mut Test,
@@ -170,7 +171,7 @@ fn list_walk<
     shelf: &mut H,
     out: &mut O,
 ) -> ListingEnd
-    requires knows { KnowsOf K.pre K.Fn.post J.pre J.Fn.post P.pre P.Fn.post walk.old.threads walk.old.keep walk.old.fit walk.old.take }
+    requires knows { KnowsOf K.pre K.Fn.post J.pre J.Fn.post P.pre P.Fn.post walk.old.taken walk.old.keep walk.old.fit walk.old.take }
     requires sought { (cycle : List EdgeValue) → IsCycle cycle → Says P.Fn.post walk.old.take cycle true ↔ Seeks A.puts wanted.now cycle }
     requires folder { ForSome wanted.now.folder (λ folder. length folder.now ≤ MAX_FOLDER) }
     requires idle { (H.seen shelf.old).mode ≡ Idle }
@@ -206,7 +207,7 @@ fn put_tests<
     names: &mut Names,
     shelf: &mut H,
 ) -> Result<u128, Failed>
-    requires knows { KnowsOf K.pre K.Fn.post J.pre J.Fn.post P.pre P.Fn.post walk.old.threads walk.old.keep walk.old.fit walk.old.take }
+    requires knows { KnowsOf K.pre K.Fn.post J.pre J.Fn.post P.pre P.Fn.post walk.old.taken walk.old.keep walk.old.fit walk.old.take }
     requires folder { ForSome wanted.now.folder (λ folder. length folder.now ≤ MAX_FOLDER) }
     requires idle { (H.seen shelf.old).mode ≡ Idle }
     requires no_lines { names.old.lines.items ≡ [] }
@@ -237,7 +238,7 @@ fn next_made<A: Arch, K: Fn(&[Edge]) -> bool, J: Fn(&[Edge]) -> bool, P: Fn(&Cyc
     test: &mut Test,
     table: &mut KeptTable,
 ) -> Option<Cycle>
-    requires knows { KnowsOf K.pre K.Fn.post J.pre J.Fn.post P.pre P.Fn.post walk.old.threads walk.old.keep walk.old.fit walk.old.take }
+    requires knows { KnowsOf K.pre K.Fn.post J.pre J.Fn.post P.pre P.Fn.post walk.old.taken walk.old.keep walk.old.fit walk.old.take }
     ensures next { ArrivesOrEnds (HaveTests A.puts mode (Lists P.Fn.post walk.old)) walk.old walk.new result }
     ensures ready { IfSome result (λ cycle. IsReady A.NAME A.REGISTERS A.puts A.writing mode cycle test.new table.new) }
 {
@@ -302,8 +303,8 @@ fn put_made<A: Arch, H: Shelf>(
     Ok(file)
 }
 
-/// Writes the line on how many tests there are.
-pub(crate) fn write_count<O: Sink>(count: u128, out: &mut O) -> Result<(), Failed>
+/// Writes the line on how many tests there are. If the sink fails, it has taken a prefix of the line.
+pub fn write_count<O: Sink>(count: u128, out: &mut O) -> Result<(), Failed>
     ensures { Wrote (O.seen out.old) (O.seen out.new) (count_line count) result }
 {
     let mut line: ArrayString<MAX_COUNT_LINE> = ArrayString::new();

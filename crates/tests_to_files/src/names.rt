@@ -102,7 +102,7 @@ pub(crate) fn put_names<
     walk: &mut Walk<K, J, P>,
     shelf: &mut H,
 ) -> Result<(), Failed>
-    requires knows { KnowsOf K.pre K.Fn.post J.pre J.Fn.post P.pre P.Fn.post walk.old.threads walk.old.keep walk.old.fit walk.old.take }
+    requires knows { KnowsOf K.pre K.Fn.post J.pre J.Fn.post P.pre P.Fn.post walk.old.taken walk.old.keep walk.old.fit walk.old.take }
     requires idle { (H.seen shelf.old).mode ≡ Idle }
     requires folder { ForSome folder (λ folder. length folder.now ≤ MAX_FOLDER) }
     requires normal { ForSome names.old.closed (λ closed. IsNormal closed.cycle) }
@@ -139,7 +139,7 @@ fn append_after<
     walk: &mut Walk<K, J, P>,
     shelf: &mut H,
 ) -> Result<(), Failed>
-    requires knows { KnowsOf K.pre K.Fn.post J.pre J.Fn.post P.pre P.Fn.post walk.old.threads walk.old.keep walk.old.fit walk.old.take }
+    requires knows { KnowsOf K.pre K.Fn.post J.pre J.Fn.post P.pre P.Fn.post walk.old.taken walk.old.keep walk.old.fit walk.old.take }
     requires idle { (H.seen shelf.old).mode ≡ Idle }
     requires normal { IsNormal closed.now.cycle }
     ensures ok { OnOk result (NamesRest A.puts mode (Lists P.Fn.post walk.old) path.now lines.old.items closed.now (H.seen shelf.old) (H.seen shelf.new)) }
@@ -167,7 +167,7 @@ pub(crate) fn next_accepted<
     J: Fn(&[Edge]) -> bool,
     P: Fn(&Cycle) -> bool,
 >(walk: &mut Walk<K, J, P>, mode: ObsMode) -> Option<Cycle>
-    requires knows { KnowsOf K.pre K.Fn.post J.pre J.Fn.post P.pre P.Fn.post walk.old.threads walk.old.keep walk.old.fit walk.old.take }
+    requires knows { KnowsOf K.pre K.Fn.post J.pre J.Fn.post P.pre P.Fn.post walk.old.taken walk.old.keep walk.old.fit walk.old.take }
     ensures { ArrivesOrEnds (HaveTests A.puts mode (Lists P.Fn.post walk.old)) walk.old walk.new result }
 {
     while let Some(cycle) = walk.next() {

@@ -31,7 +31,7 @@ pub fn put_files<H: Shelf>(files: &[File], shelf: &mut H) -> Result<(), Failed>
 }
 
 /// Writes a file on the shelf. If the shelf fails, the file is as it was, or has a prefix of the bytes.
-pub(crate) fn put_file<H: Shelf>(path: &str, bytes: &[u8], shelf: &mut H) -> Result<(), Failed>
+pub fn put_file<H: Shelf>(path: &str, bytes: &[u8], shelf: &mut H) -> Result<(), Failed>
     requires { (H.seen shelf.old).mode ≡ Idle }
     ensures ok { OnOk result (PutFiles (H.seen shelf.old) (H.seen shelf.new) ((path.now, bytes.now) ∷ [])) }
     ensures failed { OnErr result (PutPart (H.seen shelf.old) (H.seen shelf.new) [] path.now bytes.now) }
@@ -43,7 +43,7 @@ pub(crate) fn put_file<H: Shelf>(path: &str, bytes: &[u8], shelf: &mut H) -> Res
 
 /// Writes a file on the shelf that has the text of a test under a name, by way of a page. What the page held doesn't matter.
 /// If the shelf fails, the file is as it was, or has a prefix of the text.
-pub(crate) fn put_text<A: Arch, H: Shelf>(
+pub fn put_text<A: Arch, H: Shelf>(
     path: &str,
     name: &str,
     test: &Test,

@@ -3,7 +3,7 @@ use Rattle.std.proofs.Common.{subst, Ok}
 use Rattle.diy_words.specs.{declared.request.Request.Request, Given.GivesTask, Requests.asked_of}
 use Rattle.diy_tools.specs.{KeptRequests.{edges_kept, folder_kept, named_kept, refused_why}, ArchMachines.machine_of}
 use Rattle.diy_tools.proofs.{Coherent.coherence_answered, ExecutionAnswers.{execution_answered, loop_answered}, NeedsAnswers.needs_answered, RunAnswers.{check_answered, name_answered}}
-use Rattle.diy_tools.proofs.WhyAnswers.{runs_idle}
+use Rattle.diy_tools.proofs.{WhyAnswers.runs_idle, LineTestAnswers.line_tests_answered}
 use Rattle.diy_tools.proofs.tools.answer.Goals as goal
 
 pub returns-in-Ok-Name-clause-answers : goal.returns-in-Ok-Name-clause-answers
@@ -28,6 +28,16 @@ returns-in-Ok-Check-clause-answers g c =
     (g.H.Shelf.seen c.check.new.shelf)
     (g.O.Sink.seen c.args.out.now) (g.O.Sink.seen c.check.new.out)
     (subst (λ (r : Request). GivesTask (Ok r) (asked_of c.args.words.now)) c.in-Ok-Check.field-0-is c.in-Ok-Check.ensures.given) c.check.ensures.answers
+
+pub returns-in-Ok-LineTests-clause-answers : goal.returns-in-Ok-LineTests-clause-answers
+returns-in-Ok-LineTests-clause-answers g c =
+    line_tests_answered c.args.words.now c.in-Ok-LineTests.request c.line_tests.result
+    (g.I.Source.seen c.args.input.now)
+    (g.I.Source.seen c.line_tests.new.input)
+    (g.O.Sink.seen c.args.out.now) (g.O.Sink.seen c.line_tests.new.out)
+    (g.H.Shelf.seen c.args.shelf.now)
+    (g.H.Shelf.seen c.line_tests.new.shelf)
+    (subst (λ (r : Request). GivesTask (Ok r) (asked_of c.args.words.now)) c.in-Ok-LineTests.field-0-is c.in-Ok-LineTests.ensures.given) c.line_tests.ensures.answers
 
 pub returns-in-Ok-Why-clause-idle : goal.returns-in-Ok-Why-clause-idle
 returns-in-Ok-Why-clause-idle g c =

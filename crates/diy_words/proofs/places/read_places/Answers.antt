@@ -1,6 +1,7 @@
 -- That `read_places` reads the lists of relaxations that words spell.
-use Rattle.std.proofs.Common.{arith, ◌∙◌, sym, subst}
-use Rattle.diy_words.proofs.PlaceLaws.{PlacesRead, places_begun, place_first, place_read, option_first, option_read, places_ended}
+use Rattle.std.proofs.Common.{arith, ◌∙◌, sym, ap, subst}
+use Rattle.diy_words.specs.Sayings.{begins_option}
+use Rattle.diy_words.proofs.PlaceLaws.{PlacesRead, places_begun, place_first, place_read, strict_read, option_first, option_read, places_ended}
 use Rattle.diy_words.proofs.places.read_places.Goals as goal
 
 pub loop-at-init : goal.loop-at-init
@@ -15,14 +16,21 @@ pub loop-at-preserved-in-Some : goal.loop-at-preserved-in-Some
 loop-at-preserved-in-Some c =
     option_read c.args.words.now c.loop-at.at c.get-word.result.now c.in-Some.field-0 c.loop-at.places.items (omega arith) c.get-word.ensures (sym c.option_named.ensures ∙ c.in-Some.is) c.loop-at.invariant
 
+pub loop-at-preserved-then-begins_option : goal.loop-at-preserved-then-begins_option
+loop-at-preserved-then-begins_option c =
+    strict_read c.args.words.now c.loop-at.at c.get-word.result.now c.loop-at.places.items c.get-word.ensures (sym c.option_named.ensures ∙ c.in-None.is)
+    (ap begins_option (sym c.as_bytes.ensures.value) ∙ sym c.begins_option.ensures ∙ c.if-begins_option.true) c.loop-at.invariant
+
 pub read_place-requires : goal.read_place-requires
 read_place-requires c =
-    (place_first c.args.words.now c.loop-at.at c.get-word.result.now c.get-word.ensures (sym c.option_named.ensures ∙ c.in-None.is) c.loop-at.invariant.faultless).read
+    (place_first c.args.words.now c.loop-at.at c.get-word.result.now c.get-word.ensures (sym c.option_named.ensures ∙ c.in-None.is)
+    (ap begins_option (sym c.as_bytes.ensures.value) ∙ sym c.begins_option.ensures ∙ c.if-begins_option.false) c.loop-at.invariant.faultless).read
 
 pub loop-at-preserved : goal.loop-at-preserved
 loop-at-preserved c =
-    subst (PlacesRead c.args.words.now _) (sym c.in_ok-push-in-None.ensures.items)
-    (place_read c.args.words.now c.loop-at.at c.get-word.result.now c.loop-at.places.items c.read_place.result c.get-word.ensures (sym c.option_named.ensures ∙ c.in-None.is) c.loop-at.invariant c.read_place.ensures)
+    subst (PlacesRead c.args.words.now _) (sym c.in_ok-push-in-None-2.ensures.items)
+    (place_read c.args.words.now c.loop-at.at c.get-word.result.now c.loop-at.places.items c.read_place.result c.get-word.ensures (sym c.option_named.ensures ∙ c.in-None.is)
+    (ap begins_option (sym c.as_bytes.ensures.value) ∙ sym c.begins_option.ensures ∙ c.if-begins_option.false) c.loop-at.invariant c.read_place.ensures)
 
 pub returns : goal.returns
 returns c = places_ended c.args.words.now c.loop-at.at c.loop-at.places.items (omega arith) c.loop-at.invariant

@@ -1,8 +1,8 @@
--- That `finish_diyone` gives what is asked for of the chosen edges.
-use Rattle.diy_words.specs.CodeNotes.{code_notes}
-use Rattle.diy_words.proofs.ChosenEdges.{chosen_gives}
+-- That `finish_diyone` gives what is asked for with `-lines`, or without it.
 use Rattle.diy_words.proofs.read.finish_diyone.Goals as goal
 
-pub returns-in-Ok : goal.returns-in-Ok
-returns-in-Ok c =
-    chosen_gives c.args.count (code_notes c.args.notes) (code_notes c.choose_edges.new.self) c.finish_chosen.result c.in-Ok.ensures c.finish_chosen.ensures
+pub returns-then-notes : goal.returns-then-notes
+returns-then-notes c = λ edges places files e f. rw c.if-notes.true (c.finish_line_tests.ensures edges places files e f)
+
+pub returns-else-notes : goal.returns-else-notes
+returns-else-notes c = λ edges places files e f. rw c.if-notes.false (c.finish_cycle.ensures edges places files e f)

@@ -1,15 +1,10 @@
--- That `read_words` gives the request that the notes after all words make, or the first error.
-use Rattle.std.proofs.{Common.◌∙◌, Common.arith, Common.subst, lemmas.Result.err_from_is_err_and}
-use Rattle.diy_words.specs.CodeNotes.{GivesAtEnd, code_notes}
-use Rattle.diy_words.proofs.Judged.{gives_finished, gives_fault}
+-- That `read_words` gives the error that there is without `-strict`.
+use Rattle.std.proofs.Common.{drop, length}
+use Rattle.diy_words.specs.{Parts.parts_of, Requests.loosely_asked}
+use Rattle.diy_words.proofs.StrictLaws.{fault_strictly}
 use Rattle.diy_words.proofs.read.read_words.Goals as goal
 
-pub returns : goal.returns
-returns c =
-    gives_finished c.args.tool c.args.words.now c.loop-at.at (code_notes c.loop-at.notes) c.finish.result (omega arith) c.loop-at.invariant
-    (subst (λ count. GivesAtEnd c.args.tool count (code_notes c.loop-at.notes) c.finish.result) c.len-2.ensures c.finish.ensures)
-
-pub returns-in_err-at : goal.returns-in_err-at
-returns-in_err-at c =
-    let p = err_from_is_err_and c.from_residual.result c.from_residual.ensures.1 in
-    rw (p.1, p.2) (gives_fault c.args.tool c.args.words.now _ (c.in_err-at.ensures ∙ c.loop-at.invariant))
+pub returns-in-Err : goal.returns-in-Err
+returns-in-Err c =
+    fault_strictly (parts_of c.args.tool 1 (drop 1 c.args.words.now)) c.in-Err.usage
+    (loosely_asked c.args.tool (length c.args.words.now) (drop 1 c.args.words.now)) c.in-Err.ensures

@@ -33,12 +33,12 @@ pub returns-in-Ok-write_shown-clause-checked : goal.returns-in-Ok-write_shown-cl
 returns-in-Ok-write_shown-clause-checked g c =
     execution_shown c.args.shown g.A.Arch.NAME g.A.Arch.writing (g.H.Shelf.seen c.args.shelf.now) (g.H.Shelf.seen c.test_in_file.new.shelf)
     (g.H.Shelf.seen c.execution_in_file.new.shelf) c.args.words.now c.args.files.test c.args.files.exec c.in-Ok.read c.in-Ok-execution_in_file.judged
-    (WroteAll (g.O.Sink.seen c.args.out.now) (g.O.Sink.seen c.write_shown.new.out)) _
-    c.in-Ok.ensures.file c.test_in_file.ensures.files c.in-Ok-execution_in_file.ensures.file c.in-Ok-graph_shown.ensures c.in-Ok-write_shown.ensures.ok
+    (WroteAll (g.O.Sink.seen c.args.out.now) (g.O.Sink.seen c.write_shown.new.out))
+    c.in-Ok.ensures.file c.test_in_file.ensures.files c.in-Ok-execution_in_file.ensures.file c.in-Ok-write_shown.ensures
 
 pub returns-clause-checked : goal.returns-clause-checked
 returns-clause-checked g c =
     execution_shown c.args.shown g.A.Arch.NAME g.A.Arch.writing (g.H.Shelf.seen c.args.shelf.now) (g.H.Shelf.seen c.test_in_file.new.shelf)
     (g.H.Shelf.seen c.execution_in_file.new.shelf) c.args.words.now c.args.files.test c.args.files.exec c.in-Ok.read c.in-Ok-execution_in_file.judged
-    (WrotePart (g.O.Sink.seen c.args.out.now) (g.O.Sink.seen c.write_shown.new.out)) _
-    c.in-Ok.ensures.file c.test_in_file.ensures.files c.in-Ok-execution_in_file.ensures.file c.in-Ok-graph_shown.ensures c.in-Err-write_shown.ensures.failed
+    (WrotePart (g.O.Sink.seen c.args.out.now) (g.O.Sink.seen c.write_shown.new.out))
+    c.in-Ok.ensures.file c.test_in_file.ensures.files c.in-Ok-execution_in_file.ensures.file (rw c.in-Err-OutFault.field-0-is at c.in-Err-OutFault.ensures)

@@ -21,13 +21,13 @@ loop-form-init g c = record {
   sent = sent_nothing _ _;
   covers =
       let states = c.args.test.now.states in
-      let e : c.into_iter-form-iterator.result ≡ states.places.entries = c.into_iter-form-iterator.ensures.into_iter_gives.0 in
-      ap (map (kept states.sums.items)) e ∙ placed_entries states.sums.items states.places.entries states.are_placed c.into_iter-form-iterator.ensures.into_iter_gives.5;
+      let e : c.into_iter-form-iterator.result ≡ states.sums.places.entries = c.into_iter-form-iterator.ensures.into_iter_gives.0 in
+      ap (map (kept states.sums.entries.items)) e ∙ placed_entries states.sums.entries.items states.sums.places.entries states.sums.are_placed c.into_iter-form-iterator.ensures.into_iter_gives.5;
 }
 
 pub loop-form-preserved : goal.loop-form-preserved
 loop-form-preserved g c =
-    let states = c.args.test.now.states.sums.items in
+    let states = c.args.test.now.states.sums.entries.items in
     record {
       sent = lines_go (shown states) state_line _ _ _ _ _ _ c.loop-form.yielded (c.in-Some.form, c.in-Some.i) _ c.loop-form.invariant.sent c.in_ok-print_state.ensures.ok
           (line_as _ _ _ _ c.as_slice.ensures.value c.sum_at-mark.ensures);
@@ -37,7 +37,7 @@ loop-form-preserved g c =
 
 pub returns-in_err-print_state : goal.returns-in_err-print_state
 returns-in_err-print_state g c =
-    let states = c.args.test.now.states.sums.items in
+    let states = c.args.test.now.states.sums.entries.items in
     lines_stop _ (shown states) state_line _ _ _ _ _ _ c.loop-form.yielded (c.in-Some.form, c.in-Some.i) (map (kept states) c.next.new.self)
     (states_view states) _ c.from_residual.result c.loop-form.invariant.sent c.in_err-print_state.ensures.failed
     (line_as _ _ _ _ c.as_slice.ensures.value c.sum_at-mark.ensures)

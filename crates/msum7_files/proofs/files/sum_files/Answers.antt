@@ -9,9 +9,9 @@ pub returns-in-Err-clause-summed : goal.returns-in-Err-clause-summed
 returns-in-Err-clause-summed g c =
     let out : SinkSeen = g.O.Sink.seen c.args.out.now in
     let P : SumEnd → Type 0 = λ end.
-    FilesSummed (g.H.Shelf.seen c.args.shelf.now) (g.H.Shelf.seen c.sum_file.new.shelf) c.args.words.now c.args.first out out end in
+    FilesSummed c.args.form (g.H.Shelf.seen c.args.shelf.now) (g.H.Shelf.seen c.sum_file.new.shelf) c.args.words.now c.args.first out out end in
     subst P (sym c.end_at.ensures)
-    (files_refused (g.H.Shelf.seen c.args.shelf.now) (g.H.Shelf.seen c.loop-word.shelf) (g.H.Shelf.seen c.sum_file.new.shelf) out
+    (files_refused c.args.form (g.H.Shelf.seen c.args.shelf.now) (g.H.Shelf.seen c.loop-word.shelf) (g.H.Shelf.seen c.sum_file.new.shelf) out
     c.loop-word.feeding c.sum_file.new.feeding c.args.words.now c.args.first c.loop-word.word c.get.result.now c.in-Err.fault
     c.loop-word.invariant.so_far c.loop-word.invariant.files c.get.ensures
     (c.in-Err.ensures.summed c.loop-word.invariant.so_far.logs c.loop-word.invariant.so_far.reads))
@@ -33,11 +33,11 @@ write_sum-requires g c = record { files = c.loop-word.invariant.so_far.logs; rep
 pub returns-in-Ok-write_sum-clause-summed : goal.returns-in-Ok-write_sum-clause-summed
 returns-in-Ok-write_sum-clause-summed g c =
     let w = c.in-Ok-write_sum.ensures _ c.loop-word.invariant.so_far.reads in
-    files_said (g.H.Shelf.seen c.args.shelf.now) (g.H.Shelf.seen c.loop-word.shelf) _ c.loop-word.feeding c.args.words.now c.args.first c.loop-word.word
+    files_said c.args.form (g.H.Shelf.seen c.args.shelf.now) (g.H.Shelf.seen c.loop-word.shelf) _ c.loop-word.feeding c.args.words.now c.args.first c.loop-word.word
     c.loop-word.invariant.so_far (omega arith) w.sum w.is w.wrote.ok
 
 pub returns-clause-summed : goal.returns-clause-summed
 returns-clause-summed g c =
     let w = c.in-Err-write_sum.ensures _ c.loop-word.invariant.so_far.reads in
-    files_said (g.H.Shelf.seen c.args.shelf.now) (g.H.Shelf.seen c.loop-word.shelf) _ c.loop-word.feeding c.args.words.now c.args.first c.loop-word.word
+    files_said c.args.form (g.H.Shelf.seen c.args.shelf.now) (g.H.Shelf.seen c.loop-word.shelf) _ c.loop-word.feeding c.args.words.now c.args.first c.loop-word.word
     c.loop-word.invariant.so_far (omega arith) w.sum w.is w.wrote.failed

@@ -1,20 +1,36 @@
 -- `Table::put_condition` adds a condition to the facts of the running test, or answers its error.
-use Rattle.std.proofs.{Common.refl, Common.sym, lemmas.Result.err_from_is_err_and}
+use Rattle.std.proofs.{Common.{◌<◌, length, refl, arith}, lemmas.Result.err_from_is_err_and}
 use Rattle.log_sum.specs.Facts.{a_condition}
-use Rattle.log_sum.proofs.TableLaws.{none_there, fact_refused, fact_written}
+use Rattle.log_sum.proofs.{TableLaws.{fact_refused, fact_written}, TextPlaceLaws.{written_is, written_apart, written_placed, value_there}}
 use Rattle.log_sum.proofs.table.Table.put_condition.Goals as goal
 
+pub invariant_of-self : goal.invariant_of-self
+invariant_of-self c =
+    let tests = c.args.self.now.tests in
+    let within : c.args.self.now.running < length tests.entries.items = omega (arith, c.len.ensures, c.if-self-len.false, tests.entries.ok.0) in
+    record {
+      are_apart = written_apart tests.entries.items c.args.self.now.running _ c.index_mut.result.now c.put_condition.new.self within c.index_mut.ensures.value tests.are_apart;
+      are_placed =
+          written_placed tests.entries.items tests.places.entries c.args.self.now.running _ c.index_mut.result.now c.put_condition.new.self within c.index_mut.ensures.value
+          tests.are_placed;
+    }
+
 pub returns-in_err-put_condition : goal.returns-in_err-put_condition
-returns-in_err-put_condition c = λ entries name table at marked.
+returns-in_err-put_condition c = λ entries name table at_index marked.
     let p = err_from_is_err_and c.from_residual.result c.from_residual.ensures.1 in
-    rw (p.1, p.2) (fact_refused entries c.args.self.now.tests.entries c.args.self.now.running name c.in-Some.test.now (a_condition c.args.text.items c.args.verdict) _
-    (record { table = table; name_is = at; test_is = sym c.in-Some.ensures.value; marked = marked }) c.in_err-put_condition.ensures)
+    let entries_now = c.args.self.now.tests.entries in
+    let entry = c.index_mut.result.now in
+    let within : c.args.self.now.running < length entries_now.items = omega (arith, c.len.ensures, c.if-self-len.false, entries_now.ok.0) in
+    let there = value_there entries_now.items c.args.self.now.running _ entry within c.index_mut.ensures.value in
+    rw (p.1, p.2) (fact_refused entries entries_now.items c.args.self.now.running name entry.1 (a_condition c.args.text.items c.args.verdict) _
+    (record { table = table; name_is = at_index; test_is = there; marked = marked }) c.in_err-put_condition.ensures)
 
-pub returns-in_ok-put_condition : goal.returns-in_ok-put_condition
-returns-in_ok-put_condition c = λ entries name table at marked.
-    fact_written entries c.args.self.now.tests.entries c.args.self.now.running name c.in-Some.test.now c.put_condition.new.self (a_condition c.args.text.items c.args.verdict) _
-    (record { table = table; name_is = at; test_is = sym c.in-Some.ensures.value; marked = marked }) c.in_ok-put_condition.ensures refl refl
-
-pub returns-in_default : goal.returns-in_default
-returns-in_default c = λ entries name table at marked.
-    absurd (none_there c.args.self.now.tests.entries c.args.self.now.running name at (sym c.in_default.ensures.value))
+pub returns : goal.returns
+returns c = λ entries name table at_index marked.
+    let entries_now = c.args.self.now.tests.entries in
+    let entry = c.index_mut.result.now in
+    let within : c.args.self.now.running < length entries_now.items = omega (arith, c.len.ensures, c.if-self-len.false, entries_now.ok.0) in
+    let there = value_there entries_now.items c.args.self.now.running _ entry within c.index_mut.ensures.value in
+    fact_written entries entries_now.items c.args.self.now.running name entry.1 c.put_condition.new.self (a_condition c.args.text.items c.args.verdict) _
+    (record { table = table; name_is = at_index; test_is = there; marked = marked }) c.in_ok-put_condition.ensures
+    (written_is entries_now.items c.args.self.now.running _ entry c.put_condition.new.self within c.index_mut.ensures.value) refl

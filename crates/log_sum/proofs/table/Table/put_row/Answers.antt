@@ -1,14 +1,26 @@
 -- `Table::put_row` adds a row to the facts of the running test, or answers its error.
-use Rattle.std.proofs.Common.{refl, sym}
+use Rattle.std.proofs.Common.{◌<◌, length, refl, arith}
 use Rattle.log_sum.specs.SumViews.{row_code_said}
-use Rattle.log_sum.proofs.TableLaws.{none_there, row_answered}
+use Rattle.log_sum.proofs.{TableLaws.row_answered, TextPlaceLaws.{written_is, written_apart, written_placed, value_there}}
 use Rattle.log_sum.proofs.table.Table.put_row.Goals as goal
 
-pub returns-in-Some : goal.returns-in-Some
-returns-in-Some c = λ entries name table at_index marked.
-    row_answered entries c.args.self.now.tests.entries c.args.self.now.running name c.in-Some.test.now c.put_row.new.self _
-    (record { table = table; name_is = at_index; test_is = sym c.in-Some.ensures.value; marked = marked }) refl refl (row_code_said c.args.row) c.put_row.result c.put_row.ensures
+pub invariant_of-self : goal.invariant_of-self
+invariant_of-self c =
+    let tests = c.args.self.now.tests in
+    let within : c.args.self.now.running < length tests.entries.items = omega (arith, c.len.ensures, c.if-self-len.false, tests.entries.ok.0) in
+    record {
+      are_apart = written_apart tests.entries.items c.args.self.now.running _ c.index_mut.result.now c.put_row.new.self within c.index_mut.ensures.value tests.are_apart;
+      are_placed =
+          written_placed tests.entries.items tests.places.entries c.args.self.now.running _ c.index_mut.result.now c.put_row.new.self within c.index_mut.ensures.value
+          tests.are_placed;
+    }
 
-pub returns-in-None : goal.returns-in-None
-returns-in-None c = λ entries name table at_index marked.
-    absurd (none_there c.args.self.now.tests.entries c.args.self.now.running name at_index (sym c.in-None.ensures.value))
+pub returns : goal.returns
+returns c = λ entries name table at_index marked.
+    let entries_now = c.args.self.now.tests.entries in
+    let entry = c.index_mut.result.now in
+    let within : c.args.self.now.running < length entries_now.items = omega (arith, c.len.ensures, c.if-self-len.false, entries_now.ok.0) in
+    let there = value_there entries_now.items c.args.self.now.running _ entry within c.index_mut.ensures.value in
+    row_answered entries entries_now.items c.args.self.now.running name entry.1 c.put_row.new.self _
+    (record { table = table; name_is = at_index; test_is = there; marked = marked }) (written_is entries_now.items c.args.self.now.running _ entry c.put_row.new.self within c.index_mut.ensures.value)
+    refl (row_code_said c.args.row) c.put_row.result c.put_row.ensures

@@ -10,13 +10,13 @@ pub returns-then-not-same_mark : goal.returns-then-not-same_mark
 returns-then-not-same_mark c = λ state test_at.
     let states = c.args.self.now.states in
     row_other (test_view c.args.self.now) (row_with state c.args.mark c.args.count) (Some c.sum_at-known.result)
-    (ap (λ x. Some x) c.sum_at-known.ensures ∙ sym (sum_known states.sums.items c.args.i state states.are_apart test_at)) (ap not (sym c.same_mark.ensures ∙ c.if-not-same_mark.true))
+    (ap (λ x. Some x) c.sum_at-known.ensures ∙ sym (sum_known states.sums.entries.items c.args.i state states.sums.are_apart test_at)) (ap not (sym c.same_mark.ensures ∙ c.if-not-same_mark.true))
 
 pub returns-then-count-sum : goal.returns-then-count-sum
 returns-then-count-sum c = λ state test_at.
     let states = c.args.self.now.states in
     row_large (test_view c.args.self.now) (row_with state c.args.mark c.args.count) (Some c.sum_at-known.result)
-    (ap (λ x. Some x) c.sum_at-known.ensures ∙ sym (sum_known states.sums.items c.args.i state states.are_apart test_at)) (ap not (sym c.same_mark.ensures ∙ c.if-not-same_mark.false))
+    (ap (λ x. Some x) c.sum_at-known.ensures ∙ sym (sum_known states.sums.entries.items c.args.i state states.sums.are_apart test_at)) (ap not (sym c.same_mark.ensures ∙ c.if-not-same_mark.false))
     (ap (λ s. nat_lt last_count (s + c.args.count)) (sym c.sum_of_mark-sum.ensures) ∙ too_large c.sum_of_mark-sum.result c.args.count c.if-count-sum.true)
 
 pub returns : goal.returns
@@ -26,7 +26,7 @@ returns c = λ state test_at.
     let row = row_with state c.args.mark c.args.count in
     let known : Mark × ℕ = c.sum_at-known.result in
     let small : c.sum_of_mark-sum.result ≤ last_count = omega arith in
-    let is = sum_known states.sums.items c.args.i state states.are_apart test_at ∙ ap (λ x. Some x) (sym c.sum_at-known.ensures) in
+    let is = sum_known states.sums.entries.items c.args.i state states.sums.are_apart test_at ∙ ap (λ x. Some x) (sym c.sum_at-known.ensures) in
     row_put test row (Some known) (sym is) (ap not (sym c.same_mark.ensures ∙ c.if-not-same_mark.false))
     (ap (λ s. nat_lt last_count (s + c.args.count)) (sym c.sum_of_mark-sum.ensures) ∙ not_large c.sum_of_mark-sum.result c.args.count small c.if-count-sum.false)
     ∙ ap Ok (sym (c.set_marked.ensures ∙ row_kept test row _ (known.0, min (known.1 + c.args.count) last_count) c.sum_of_mark-sum.result (c.add.ensures state known test_at is)

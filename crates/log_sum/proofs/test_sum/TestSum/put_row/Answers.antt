@@ -1,6 +1,6 @@
 -- `TestSum::put_row` adds a row to the state that it writes, which is put to the others first if it is new.
-use Rattle.std.proofs.Common.{◌≡◌, List, refl, sym, ap, ◌∙◌, Ok, subst}
-use Rattle.log_sum.specs.{Facts.row_with, SumViews.{GivesOr, test_view}, Summed.{StateSummed, Summed}, SummingSteps.row_to, LogLines.row_of}
+use Rattle.std.proofs.Common.{refl, sym, ap, ◌∙◌, Ok, subst}
+use Rattle.log_sum.specs.{Facts.row_with, SumViews.{GivesOr, test_view}, SummingSteps.row_to, LogLines.row_of}
 use Rattle.log_sum.proofs.TestLaws.{placed_fact}
 use Rattle.log_sum.proofs.test_sum.TestSum.put_row.Goals as goal
 

@@ -1,0 +1,74 @@
+-- What writing the tests of lines leaves, as the answers see it.
+use Rattle.std.proofs.Common.{◌≡◌, ℕ, List, refl, ap, ◌∙◌, sym, subst, inl, inr, Ok}
+use Rattle.std.specs.Prelude.{◌⊎◌, Result}
+use Rattle.relax_edges.specs.declared.kinds.ArchName.{ArchName}
+use Rattle.diy_io.specs.{Count.Rose, Shelf.{ShelfSeen, Idle}, Taken.SourceSeen, Wrote.SinkSeen}
+use Rattle.diy_words.specs.{declared.request.LineTests.LineTests, declared.usage.Usage.Usage, Given.GivesTask, Requests.{Task, LineTestsTask, AsksLineTests, asked_of}}
+use Rattle.diy_words.specs.declared.request.Request.TheVariants as requests
+use Rattle.tests_to_files.specs.GivenCycles.{PutUpTo}
+use Rattle.lines_to_files.specs.{LineTestEnds.{EndsLineTests, StopsAtFile}, TestFiles.{Making, making_in}}
+use Rattle.lines_to_files.specs.declared.{ending.LineTestsEnd.LineTestsEnd, form.TestForm.TestForm}
+use Rattle.lines_to_files.specs.declared.ending.LineTestsEnd.TheVariants.{Done, Wrong, TooMuch, InputFault, ShelfFault, OutFault, NoMemory}
+use Rattle.run_status.specs.declared.status.Status.{Status}
+use Rattle.diy_tools.specs.{Answers.{Answers, AnswersAsked}, ArchMachines.machine_of, Devices.devices, KeptRequests.{AnswersLined, EndsLinedFor, line_tests_kept}}
+use Rattle.diy_tools.specs.LineTestAnswers.{AnswersLineTests, test_form}
+
+-- what is left on an architecture is left on the one with its name
+pub lined_on : (arch named : ArchName) (request : LineTests) (form : TestForm) (end : LineTestsEnd) (old new : SourceSeen) (shelf shelf' : ShelfSeen) (out out' : SinkSeen)
+    → request.arch ≡ named → form ≡ test_form request.form
+    → EndsLineTests (making_in (machine_of named).puts (machine_of named).writing form request.folder) end old new shelf shelf' out out'
+    → EndsLinedFor request end old new shelf shelf' out out'
+lined_on arch named request form end old new shelf shelf' out out' same made h =
+    subst (λ (a : ArchName). EndsLineTests (making_in (machine_of a).puts (machine_of a).writing (test_form request.form) request.folder) end old new shelf shelf' out out') (sym same)
+    (subst (λ (f : TestForm). EndsLineTests (making_in (machine_of named).puts (machine_of named).writing f request.folder) end old new shelf shelf' out out') made h)
+
+module _ (making : Making) (old new : SourceSeen) (shelf shelf' : ShelfSeen) where
+  -- the shelf failed where the files were written
+  pub lined_failed : StopsAtFile making old new shelf shelf' → Rose shelf.faults shelf'.faults
+  lined_failed h = of_part h.part
+    where
+      of_part : {later : Type 0} {files all : List (List ℕ × List ℕ)} → PutUpTo shelf shelf' files ⊎ (later × PutUpTo shelf shelf' all) → Rose shelf.faults shelf'.faults
+      of_part (inl part) = part.part.faulted.fault
+      of_part (inr part) = part.1.part.faulted.fault
+
+  file_idle : {later : Type 0} {files all : List (List ℕ × List ℕ)} → PutUpTo shelf shelf' files ⊎ (later × PutUpTo shelf shelf' all) → shelf'.mode ≡ Idle
+  file_idle (inl part) = part.part.mode
+  file_idle (inr part) = part.1.part.mode
+
+  file_opens : {later : Type 0} {files all : List (List ℕ × List ℕ)} → PutUpTo shelf shelf' files ⊎ (later × PutUpTo shelf shelf' all) → shelf'.opened ≡ shelf.opened
+  file_opens (inl part) = part.part.counts.opened
+  file_opens (inr part) = part.1.part.counts.opened
+
+  module _ (out out' : SinkSeen) where
+    -- then no file is open
+    pub lined_idle : (end : LineTestsEnd) → shelf.mode ≡ Idle → EndsLineTests making end old new shelf shelf' out out' → shelf'.mode ≡ Idle
+    lined_idle Done idle h = h.files.mode
+    lined_idle OutFault idle h = h.files.mode
+    lined_idle (Wrong line kind) idle h = h.0.files.mode
+    lined_idle (TooMuch line) idle h = h.0.files.mode
+    lined_idle InputFault idle h = h.0.files.mode
+    lined_idle ShelfFault idle h = file_idle h.0.part
+    lined_idle NoMemory idle h = ap (λ (s : ShelfSeen). s.mode) h.0 ∙ idle
+
+    -- and none was opened to be read
+    pub lined_opens : (end : LineTestsEnd) → EndsLineTests making end old new shelf shelf' out out' → shelf'.opened ≡ shelf.opened
+    lined_opens Done h = h.files.counts.opened
+    lined_opens OutFault h = h.files.counts.opened
+    lined_opens (Wrong line kind) h = h.0.files.counts.opened
+    lined_opens (TooMuch line) h = h.0.files.counts.opened
+    lined_opens InputFault h = h.0.files.counts.opened
+    lined_opens ShelfFault h = file_opens h.0.part
+    lined_opens NoMemory h = ap (λ (s : ShelfSeen). s.opened) h.0
+
+-- what is answered of a request for the tests of lines
+pub line_tests_answered : (words : List (List ℕ)) (request : LineTests) (status : Status) (old new : SourceSeen) (before after : SinkSeen) (shelf shelf' : ShelfSeen)
+    → GivesTask (Ok (requests.LineTests request)) (asked_of words)
+    → AnswersLined request status (old, before, shelf) (new, after, shelf') → Answers words status (old, before, shelf) (new, after, shelf')
+line_tests_answered words request status old new before after shelf shelf' given h = of_asked (asked_of words) given
+  where
+    of_asked : (asked : Result Task Usage) → GivesTask (Ok (requests.LineTests request)) asked
+        → AnswersAsked words asked status (devices (old, before, shelf)) (devices (new, after, shelf'))
+    of_asked (Ok (AsksLineTests asked)) g =
+        let same : line_tests_kept request ≡ asked = rw (g.0, g.1, g.2) refl in
+        subst (λ (a : LineTestsTask). AnswersLineTests a status (devices (old, before, shelf)) (devices (new, after, shelf'))) same h
+    of_asked asked g = absurd g

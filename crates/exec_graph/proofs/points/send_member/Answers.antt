@@ -1,0 +1,13 @@
+-- The pieces are the member.
+use Rattle.std.proofs.Common.{◌≡◌, arith}
+use Rattle.std.specs.Fmt.{decimal}
+use Rattle.diy_io.specs.PageLaws.{sends_same}
+use Rattle.exec_graph.proofs.SentLines.{member_is}
+use Rattle.exec_graph.proofs.points.send_member.Goals as goal
+
+pub returns : goal.returns
+returns g c =
+    let seen = c.args.seen.now in
+    let thread : c.digits-thread.result.now ≡ decimal seen.thread = grind (arith, c.digits-thread.ensures, c.from.ensures) in
+    let number : c.digits-number.result.now ≡ decimal seen.number = grind (arith, c.digits-number.ensures) in
+    sends_same _ _ _ _ _ _ c.send_pieces.result c.send_pieces.ensures (member_is seen _ _ thread number)

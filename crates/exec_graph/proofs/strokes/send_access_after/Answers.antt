@@ -1,0 +1,12 @@
+-- The pieces are the text and the name.
+use Rattle.std.proofs.Common.{◌≡◌, arith}
+use Rattle.std.specs.Fmt.{decimal}
+use Rattle.diy_io.specs.PageLaws.{sends_same}
+use Rattle.exec_graph.proofs.SentLines.{name_after_is}
+use Rattle.exec_graph.proofs.strokes.send_access_after.Goals as goal
+
+pub returns : goal.returns
+returns g c =
+    let thread : c.digits-thread.result.now ≡ decimal c.args.thread = grind (arith, c.digits-thread.ensures, c.from.ensures) in
+    let number : c.digits-number.result.now ≡ decimal c.args.number = grind (arith, c.digits-number.ensures) in
+    sends_same _ _ _ _ _ _ c.send_pieces.result c.send_pieces.ensures (name_after_is c.args.before.now c.args.thread c.args.number _ _ thread number)

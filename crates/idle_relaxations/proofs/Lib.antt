@@ -1,0 +1,4 @@
+pub mod Standing
+pub mod Scanning
+pub mod ItemLengths
+pub mod FoundItems

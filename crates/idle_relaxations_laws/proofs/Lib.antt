@@ -1,0 +1,4 @@
+pub mod NoCycles
+pub mod ItemTexts
+pub mod DistinctPaths
+pub mod ItemRelaxations

@@ -1,0 +1,2 @@
+pub mod NoCycles
+pub mod ItemRelaxations

@@ -1,0 +1,12 @@
+-- `print_line` sends the line of a test in the table.
+use Rattle.std.proofs.Common.{◌∙◌}
+use Rattle.diy_io.specs.PageLaws.{sends_same}
+use Rattle.log_sum.specs.SumViews.{test_view}
+use Rattle.log_sum.proofs.PrintLaws.{table_line_is}
+use Rattle.log_sum.proofs.print.print_line.Goals as goal
+
+pub returns : goal.returns
+returns g c =
+    sends_same _ _ _ _ _ _ c.send_pieces.result c.send_pieces.ensures
+    (table_line_is c.args.name.now c.how_often-often.result.now c.as_bytes-starred.result.now c.as_bytes-plain.result.now (test_view c.args.test.now)
+    c.how_often-often.ensures (c.as_bytes-starred.ensures.value ∙ c.format.ensures.text) (c.as_bytes-plain.ensures.value ∙ c.format-2.ensures.text))

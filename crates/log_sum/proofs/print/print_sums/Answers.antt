@@ -1,0 +1,32 @@
+-- `print_sums` sends the texts of all tests.
+use Rattle.std.proofs.Common.{ℕ, List, suc, ap, map, drop, arith}
+use Rattle.std.specs.Prelude.{take}
+use Rattle.diy_io.specs.PageLaws.{sent_nothing}
+use Rattle.log_sum.specs.{SumViews.{named_view, test_view}, Summed.Summed, SumText.summed_text}
+use Rattle.log_sum.proofs.PrintLaws.{taken_go, taken_end, lines_stop, covers_at}
+use Rattle.log_sum.proofs.print.print_sums.Goals as goal
+
+abbrev text_of : List ℕ × Summed → List ℕ
+text_of test = summed_text test.0 test.1
+
+pub loop-test-init : goal.loop-test-init
+loop-test-init g c = sent_nothing _ _
+
+pub loop-test-preserved : goal.loop-test-preserved
+loop-test-preserved g c =
+    let test = c.test-item.result in
+    taken_go named_view text_of _ _ _ _ _ _ c.args.tests.now c.loop-test.test-index test _ (omega arith) c.test-item.is c.loop-test.invariant c.in_ok-print_sum.ensures.ok
+    (ap (λ name. summed_text name (test_view test.1)) c.as_slice.ensures.value)
+
+pub returns-in_err-print_sum : goal.returns-in_err-print_sum
+returns-in_err-print_sum g c =
+    let tests = c.args.tests.now in
+    let test = c.test-item.result in
+    lines_stop _ named_view text_of _ _ _ _ _ _ (take c.loop-test.test-index tests) test (map named_view (drop (suc c.loop-test.test-index) tests))
+    (map named_view tests) _ c.from_residual.result c.loop-test.invariant c.in_err-print_sum.ensures.failed
+    (ap (λ name. summed_text name (test_view test.1)) c.as_slice.ensures.value)
+    (covers_at named_view tests c.loop-test.test-index test test (omega arith) c.test-item.is)
+    c.from_residual.ensures.1
+
+pub returns : goal.returns
+returns g c = taken_end named_view text_of _ _ _ _ c.args.tests.now c.loop-test.test-index (omega arith) c.loop-test.invariant

@@ -1,0 +1,10 @@
+-- `print_sums`: the texts of the tests so far are sent.
+use Rattle.std.proofs.Common.{map}
+use Rattle.std.specs.Prelude.{take}
+use Rattle.diy_io.specs.Page.{SentAll}
+use Rattle.log_sum.specs.{SumViews.named_view, SumText.sums_text}
+use Rattle.log_sum.proofs.print.print_sums.Given as goal
+
+-- the texts of the tests so far are sent
+abbrev pub invariant-loop-test : goal.invariant-loop-test
+invariant-loop-test g l = SentAll (g.O.Sink.seen l.fn.out) l.fn.page (g.O.Sink.seen l.out) l.page (sums_text (map named_view (take l.test-index l.tests)))

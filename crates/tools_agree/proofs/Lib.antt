@@ -1,0 +1,11 @@
+pub mod SpelledWords
+pub mod OwnLines
+pub mod CyclesOfLines
+pub mod LinesAgain
+pub mod SaidTests
+pub mod SaidCycles
+pub mod ClassifiedFiles
+pub mod Unresolved
+pub mod YesVerdicts
+pub mod ShownExecutions
+pub mod CheckedFiles

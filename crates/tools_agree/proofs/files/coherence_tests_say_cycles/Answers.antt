@@ -1,0 +1,6 @@
+-- The law is its lemma.
+use Rattle.tools_agree.proofs.SaidCycles as lemmas
+use Rattle.tools_agree.proofs.files.coherence_tests_say_cycles.Goals as goal
+
+pub returns : goal.returns
+returns g c = lemmas.coherence_tests_say_cycles g.A.Arch.puts g.A.Arch.writing g.met.A.Arch.laws g.met.A.Arch.reads_back g.met.A.Arch.writes_cells g.met.A.Arch.makes_one_access

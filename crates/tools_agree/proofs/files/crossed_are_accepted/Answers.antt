@@ -1,0 +1,6 @@
+-- The law is its lemma.
+use Rattle.tools_agree.proofs.SaidCycles as lemmas
+use Rattle.tools_agree.proofs.files.crossed_are_accepted.Goals as goal
+
+pub returns : goal.returns
+returns c = lemmas.crossed_are_accepted

@@ -1,0 +1,4 @@
+pub mod SpelledWords
+pub mod OwnLines
+pub mod SaidCycles
+pub mod YesVerdicts
