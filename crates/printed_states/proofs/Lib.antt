@@ -1,2 +1,5 @@
 pub mod Starred
 pub mod Interleaved
+pub mod ArchitecturesKeepLoads
+pub mod KeptLoads
+pub mod Fixed

@@ -1,1 +1,3 @@
 pub mod PrintedStates
+pub mod KeptLoads
+pub mod FixedStates

@@ -1,3 +1,4 @@
+ghost use Rattle.printed_states.specs.{FixedStates.PrintedStatesAreFixed, KeptLoads.ArchitecturesKeepLoads};
 ghost use Rattle.printed_states.specs.PrintedStates.{InterleavedIsSequential, InterleavedStaysSequential, StarredIsIncoherent, StarredIsRelaxed};
 
 use arch_trait::Arch;
@@ -23,4 +24,17 @@ pub fn interleaved_is_sequential()
 /// nothing is said.
 pub fn interleaved_stays_sequential<A: Arch>()
     ensures { InterleavedStaysSequential A.puts A.NAME A.writing }
+{}
+
+/// The code of the five architectures keeps what its loads read: each branch leads to the label right after it, and
+/// nothing writes the register of a load after it.
+#[tactic(auto, using(crate::proofs::ArchitecturesKeepLoads::architectures_keep_loads))]
+pub fn architectures_keep_loads()
+    ensures { ArchitecturesKeepLoads }
+{}
+
+/// On such an architecture, a state of the printed text of a cycle's test fixes one execution, if it has all left
+/// sides of the condition, no location has more than two writes, and none with two has an observer.
+pub fn printed_states_are_fixed<A: Arch>()
+    ensures { PrintedStatesAreFixed A.puts A.NAME A.writing }
 {}

@@ -1,9 +1,10 @@
-//! The verdicts of states of printed tests: of the state that has the star, and of the states that interleavings give.
+//! The verdicts of states of printed tests: of the state that has the star, and of the states that interleavings give; and
+//! which states fix one execution.
 #![tactic(auto)]
 
 mod law;
 
 pub use law::{
-    interleaved_is_sequential, interleaved_stays_sequential, starred_is_incoherent,
-    starred_is_relaxed,
+    architectures_keep_loads, interleaved_is_sequential, interleaved_stays_sequential,
+    printed_states_are_fixed, starred_is_incoherent, starred_is_relaxed,
 };

@@ -8,6 +8,7 @@ use Rattle.program_meaning.proofs.Names.{GotFrom}
 use Rattle.accesses_force_cycles.specs.Joining.{EndsAsAsked, IsOutcome, MakesAccesses, ReadsAsAsked, accesses_filled, values_read}
 use Rattle.accesses_force_cycles.proofs.{ResolvedFacts.resolves, Laws.all_edges_stand_law, Laws.an_outcome_law, Resolves.{Resolves}}
 use Rattle.accesses_force_cycles.proofs.{Numbering.{Numbers, location_of_number, numbering_onto}, WriteEvents.{WriteEvent, write_event, rank_below}}
+use Rattle.sc_and_interleavings.specs.CoherenceLaws.{WritesWithin}
 use Rattle.sc_and_interleavings.proofs.{InterleavingLaws.standing_is_not_sequential, SequentialMade.{Filled, filled_from, writes_to_own}}
 use Rattle.states_fix_executions.specs.CycleStates.{CyclesAreDecided, CyclesAreRebuilt, SettlesCycle, StarredIsRelaxed, asked_end, starred}
 use Rattle.states_fix_executions.proofs.{Endings.accesses_same, Rebuilding.only_the_rebuilt, VerdictLaws.looking_decides}
@@ -112,12 +113,16 @@ starred_is_relaxed es mode number p resolved served n test = (
     asked : IsOutcome es mode number p (intended es mode number)
     asked = an_outcome_law es mode number p resolved n test.intended_makes test.intended_ends
 
+-- an execution has a list of reads for each thread
+abbrev pub HasLists : Program → Execution → Type 0
+HasLists p x = length x.reads ≡ length (accesses_in p x)
+
 -- a write of a program that makes the accesses of a cycle's test is the write that was planned
 write_planned : (es : List Edge) (mode : ObsMode) (number : ℕ → ℕ) (p : Program) (x : Execution) (w : WriteAt) (place value : ℕ)
     → MakesAccesses es mode number p x
-    → IsCandidate p x → at_name (accesses_in p x) w ≡ Some (write place value)
+    → HasLists p x → at_name (accesses_in p x) w ≡ Some (write place value)
     → at_name (cycle_accesses es mode number) w ≡ Some (write place value)
-write_planned es mode number p x w place value makes candidate h =
+write_planned es mode number p x w place value makes lists h =
     ap (λ o. got_from o w.access) t.got ∙ plan.got ∙ ap Some same
   where
     g : GotFrom (slice_get (accesses_in p x) w.thread) w.access (write place value)
@@ -130,7 +135,7 @@ write_planned es mode number p x w place value makes candidate h =
     t = got_below (cycle_accesses es mode number) w.thread (omega (arith, below, accesses-count p x, makes.threads))
 
     r : Got x.reads w.thread
-    r = got_below x.reads w.thread (omega (arith, below, candidate.execution.read_lists))
+    r = got_below x.reads w.thread (omega (arith, below, lists))
 
     made : g.list ≡ accesses_filled t.element (values_read r.element)
     made = let s : Some g.list ≡ Some (accesses_filled t.element (values_read r.element)) = sym g.list_is ∙ makes.accesses w.thread t.element r.element t.got r.got in cc
@@ -143,9 +148,9 @@ write_planned es mode number p x w place value makes candidate h =
 
 -- so it is an event that writes
 event_of : (es : List Edge) (mode : ObsMode) (number : ℕ → ℕ) (p : Program) (x : Execution) (w : WriteAt) (place value : ℕ) → Resolves es
-    → MakesAccesses es mode number p x → IsCandidate p x → at_name (accesses_in p x) w ≡ Some (write place value)
+    → MakesAccesses es mode number p x → HasLists p x → at_name (accesses_in p x) w ≡ Some (write place value)
     → WriteEvent es number w place value
-event_of es mode number p x w place value r makes candidate h = write_event es mode number w place value r (write_planned es mode number p x w place value makes candidate h)
+event_of es mode number p x w place value r makes lists h = write_event es mode number w place value r (write_planned es mode number p x w place value makes lists h)
 
 -- writes of one location with the same number are one
 same_event : (es : List Edge) (number : ℕ → ℕ) (w v : WriteAt) (place m n : ℕ) → Resolves es → IsNumbering es number
@@ -158,13 +163,13 @@ same_event es number w v place m n r numbering a b k =
     sym a.name_is ∙ ap (event_name es) f ∙ b.name_is
 
 -- the writes of a cycle's test have their own values
-own_values : (es : List Edge) (mode : ObsMode) (number : ℕ → ℕ) (p : Program) (x : Execution) → Resolves es → IsNumbering es number
-    → MakesAccesses es mode number p x → IsCandidate p x → HaveOwnValues (accesses_in p x)
-own_values es mode number p x r n makes candidate = record {
-  above = λ w place value h. let e = event_of es mode number p x w place value r makes candidate h in omega (arith, e.value_is);
+pub own_values : (es : List Edge) (mode : ObsMode) (number : ℕ → ℕ) (p : Program) (x : Execution) → Resolves es → IsNumbering es number
+    → MakesAccesses es mode number p x → HasLists p x → HaveOwnValues (accesses_in p x)
+own_values es mode number p x r n makes lists = record {
+  above = λ w place value h. let e = event_of es mode number p x w place value r makes lists h in omega (arith, e.value_is);
   once = λ w v place value h k.
-      let e = event_of es mode number p x w place value r makes candidate h in
-      let f = event_of es mode number p x v place value r makes candidate k in
+      let e = event_of es mode number p x w place value r makes lists h in
+      let f = event_of es mode number p x v place value r makes lists k in
       same_event es number w v place value value r n e f (omega (arith, e.value_is, f.value_is));
 }
 
@@ -177,12 +182,19 @@ two_of_three (suc a) zero zero l m n = inr (inl refl)
 two_of_three (suc a) zero (suc c) l m n = inr (inr (omega (arith, l, n)))
 two_of_three (suc a) (suc b) c l m n = inl (omega (arith, l, m))
 
+-- and are to its locations
+pub writes_inside : (es : List Edge) (mode : ObsMode) (number : ℕ → ℕ) (p : Program) (x : Execution) → Resolves es → IsNumbering es number
+    → MakesAccesses es mode number p x → HasLists p x → WritesWithin (accesses_in p x) p.places
+writes_inside es mode number p x r n makes lists place w h =
+    let e = event_of es mode number p x w place h.0 r makes lists h.1 in
+    omega (arith, n.below e.spot e.below, e.place_is, makes.places)
+
 -- a state that gives the final values of the locations with two writes settles the order of each
-settled : (es : List Edge) (mode : ObsMode) (number : ℕ → ℕ) (p : Program) (s : FinalState) (x : Execution) (place : ℕ) → Resolves es
+pub settled : (es : List Edge) (mode : ObsMode) (number : ℕ → ℕ) (p : Program) (s : FinalState) (x : Execution) (place : ℕ) → Resolves es
     → IsNumbering es number
-    → MakesAccesses es mode number p x → IsCandidate p x → SettlesCycle es number s → place < p.places
+    → MakesAccesses es mode number p x → HasLists p x → SettlesCycle es number s → place < p.places
     → IsSettled (accesses_in p x) place (s.ends place)
-settled es mode number p s x place r n makes candidate settles l =
+settled es mode number p s x place r n makes lists settles l =
     by_less (write_count es m.spot) 2
     (λ few. inl (λ w v a b.
     let e = event w a in
@@ -201,7 +213,7 @@ settled es mode number p s x place r n makes candidate settles l =
     most = settles.few m.spot m.below
 
     event : (w : WriteAt) → (a : IsWriteTo (accesses_in p x) place w) → WriteEvent es number w place a.0
-    event w a = event_of es mode number p x w place a.0 r makes candidate a.1
+    event w a = event_of es mode number p x w place a.0 r makes lists a.1
 
     rank : (w : WriteAt) → (a : IsWriteTo (accesses_in p x) place w) → (event w a).rank < write_count es m.spot
     rank w a =
@@ -223,8 +235,8 @@ cycles_are_rebuilt es mode number p s x resolved n test settles candidate ends =
     let same = accesses_same p s x ends in
     only_the_rebuilt p s x
     (record {
-      values = subst HaveOwnValues same (own_values es mode number p x r n makes candidate);
-      settled = λ place l. subst (λ t. IsSettled t place (s.ends place)) same (settled es mode number p s x place r n makes candidate settles l);
+      values = subst HaveOwnValues same (own_values es mode number p x r n makes candidate.execution.read_lists);
+      settled = λ place l. subst (λ t. IsSettled t place (s.ends place)) same (settled es mode number p s x place r n makes candidate.execution.read_lists settles l);
     })
     candidate ends
 
