@@ -73,8 +73,8 @@ impl<K: Fn(&[Edge]) -> bool, J: Fn(&[Edge]) -> bool, P: Fn(&Cycle) -> bool> Walk
     /// rely on of the cycles on which it says yes: by it the walk drops lists that no such cycle begins with.
     ///
     /// The conditions: the size is at most `MAX_EDGES`; `keep` and `fit` may be called on every list of
-    /// 1 to `MAX_EDGES` edges; `take` may be called on every cycle on all of whose prefixes, from one
-    /// edge to the whole, both pruners say yes, and the walk knows of no other cycle on which it may be
+    /// 1 to `MAX_EDGES` edges; `take` may be called on every cycle in normal form on all of whose prefixes, from
+    /// one edge to the whole, both pruners say yes, and the walk knows of no other cycle on which it may be
     /// called; each closure has one answer for one list or cycle; if a pruner says no on a list,
     /// `take` doesn't say yes on any cycle that begins with it; and what `taken` says is true of each cycle on which
     /// `take` says yes.

@@ -1,7 +1,7 @@
 -- What a walk over cycles knows of its two pruners and of its test.
 use Rattle.std.specs.Prelude.{◌≡◌, ◌<◌, ◌≤◌, ℕ, Bool, true, false, List, ◌++◌, length, take}
 use Rattle.relax_edges.specs.declared.{TheConstants.MAX_EDGES, edge.Edge.Edge}
-use Rattle.edge_algebra_laws.specs.Composable.{IsCycle}
+use Rattle.edge_algebra_laws.specs.{Composable.IsCycle, CycleOrder.IsNormal}
 
 -- a walk keeps each prefix of a list that has at least one edge and fewer than n
 abbrev pub KeptBelow : (List Edge → Type 0) → ℕ → List Edge → Type 0
@@ -18,10 +18,10 @@ pub record KnowsPruner (may_ask : List Edge → Type 0) (says takes : List Edge 
   pub one_answer : (u : List Edge) (a b : Bool) → 0 < length u → length u ≤ MAX_EDGES → says u a → says u b → a ≡ b
   pub refused : (u r : List Edge) → 0 < length u → says u false → IsCycle (u ++ r) → takes (u ++ r) true → ⊥
 
--- what a walk knows of its test: it may be called on every cycle of which the walk keeps all prefixes, and has one answer for
--- one cycle
+-- what a walk knows of its test: it may be called on every cycle in normal form of which the walk keeps all prefixes, and has one answer
+-- for one cycle
 pub record KnowsTest (keeps may_ask : List Edge → Type 0) (takes : List Edge → Bool → Type 0) : Type 0 where
-  pub asked : (u : List Edge) → IsCycle u → KeptWhole keeps u → may_ask u
+  pub asked : (u : List Edge) → IsCycle u → IsNormal u → KeptWhole keeps u → may_ask u
   pub one_answer : (u : List Edge) (a b : Bool) → IsCycle u → takes u a → takes u b → a ≡ b
 
 -- both pruners say yes on a list, so that the walk keeps it

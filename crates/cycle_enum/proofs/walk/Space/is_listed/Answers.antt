@@ -4,7 +4,7 @@ use Rattle.cycle_enum.specs.Walking.{Says}
 use Rattle.cycle_enum.proofs.walk.Space.is_listed.Goals as goal
 
 pub call-requires : goal.call-requires
-call-requires g c = rw (← c.self.view_is) at (c.requires.knows.asks.take.asked c.args.cycle.now c.edges-edges.ensures.composable c.requires.kept c.args.cycle refl)
+call-requires g c = rw (← c.self.view_is) at (c.requires.knows.asks.take.asked c.args.cycle.now c.edges-edges.ensures.composable c.requires.normal c.requires.kept c.args.cycle refl)
 
 pub returns-else-call-clause-other : goal.returns-else-call-clause-other
 returns-else-call-clause-other g c _ l =
