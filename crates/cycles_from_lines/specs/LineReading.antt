@@ -1,7 +1,7 @@
 -- What was read of a source, line by line.
 use Rattle.std.specs.{Prelude.{◌≡◌, ◌≤◌, ◌<◌, ◌⊎◌, ℕ, ◌+◌, true, false, List, [], ◌++◌, length, take, unwrap_or}, List.take_while}
 use Rattle.std.specs.Io.KnownBytes.{IsAtEnd, Keeps}
-use Rattle.diy_io.specs.{declared.source.TheConstants.MAX_INPUT, Count.Rose, Sink.line_feed_count, Taken.{SourceSeen, Took}}
+use Rattle.diy_io.specs.{declared.source.TheConstants.MAX_INPUT, Count.Rose, Sink.line_feed_count, Taken.{SourceSeen, Took, EndedOnce, NotEnded, EndedAtMostOnce}}
 use Rattle.relax_edges.specs.declared.edge.Edge.{Edge}
 use Rattle.cycles_from_lines.specs.declared.line.LineForm.{LineForm}
 use Rattle.cycles_from_lines.specs.{declared.errors.LineKind.LineKind, declared.errors.LinesError.LinesError}
@@ -23,11 +23,12 @@ pub record Untouched (old new : SourceSeen) (bytes : List ℕ) : Type 0 where
 abbrev pub TookUpTo : SourceSeen → SourceSeen → List ℕ → Type 0
 TookUpTo old new bytes = Took old new bytes ⊎ Untouched old new bytes
 
--- a source was read to its end without an error, within the limit; no line has an error, and these are the cycles of its lines
+-- a source was read to its end, which was seen once, without an error, within the limit; no line has an error, and these are the cycles of its lines
 pub record ReadAll (form : LineForm) (old new : SourceSeen) (cycles : List (List Edge)) : Type 0 where
   pub text : List ℕ
   pub took : Took old new text
   pub at_end : IsAtEnd new.left
+  pub once : EndedOnce old new
   pub few : length text ≤ MAX_INPUT
   pub no_fault : new.faults ≡ old.faults
   pub sound : are_sound form (lines_of text) ≡ true
@@ -38,6 +39,7 @@ pub record ReadToFault (form : LineForm) (old new : SourceSeen) (cycles : List (
   pub text : List ℕ
   pub before : List (List ℕ)
   pub took : Took old new text
+  pub ends : EndedAtMostOnce old new
   pub few : length text ≤ MAX_INPUT
   pub no_fault : new.faults ≡ old.faults
   pub first : FirstFault form (lines_of (whole_of text new)) before line kind
@@ -48,6 +50,7 @@ pub record ReadToFault (form : LineForm) (old new : SourceSeen) (cycles : List (
 pub record ReadToLimit (form : LineForm) (old new : SourceSeen) (cycles : List (List Edge)) (line : ℕ) : Type 0 where
   pub text : List ℕ
   pub took : Took old new text
+  pub no_end : NotEnded old new
   pub many : MAX_INPUT < length text
   pub no_fault : new.faults ≡ old.faults
   pub sound : are_sound form (ended_lines (take MAX_INPUT text)) ≡ true
@@ -60,6 +63,7 @@ pub record ReadToLimit (form : LineForm) (old new : SourceSeen) (cycles : List (
 pub record ReadToStop (form : LineForm) (old new : SourceSeen) (cycles : List (List Edge)) : Type 0 where
   pub text : List ℕ
   pub took : TookUpTo old new text
+  pub no_end : NotEnded old new
   pub few : length text ≤ MAX_INPUT
   pub fault : Rose old.faults new.faults
   pub never_falls : old.faults ≤ new.faults
@@ -76,6 +80,7 @@ ReadUpTo form old new cycles InputFault = ReadToStop form old new cycles
 -- this text was read from a source, within the limit and without an error of the source
 pub record ReadSome (old new : SourceSeen) (text : List ℕ) : Type 0 where
   pub took : Took old new text
+  pub ends : EndedAtMostOnce old new
   pub few : length text ≤ MAX_INPUT
   pub no_fault : new.faults ≡ old.faults
 

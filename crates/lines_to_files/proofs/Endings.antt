@@ -2,7 +2,7 @@
 use Rattle.std.proofs.Common.{◌≡◌, ◌≤◌, inl, inr, ℕ, ◌+◌, true, false, List, [], ◌∷◌, ◌++◌, length, take, Option, Some, None, refl, sym, ◌∙◌, ap, subst, arith, append-nil, append_assoc, length-append}
 use Rattle.list_laws.proofs.Cases.{by_test}
 use Rattle.std.specs.{Prelude.{codes, unwrap_or, if◌then◌else◌}, Fmt.decimal, Io.KnownBytes.IsAtEnd}
-use Rattle.diy_io.specs.{declared.source.TheConstants.MAX_INPUT, Sink.line_feed_count, Shelf.ShelfSeen, Taken.{SourceSeen}, Wrote.{SinkSeen}}
+use Rattle.diy_io.specs.{declared.source.TheConstants.MAX_INPUT, Sink.line_feed_count, Shelf.ShelfSeen, Taken.{SourceSeen, EndedAtMostOnce}, Wrote.{SinkSeen}}
 use Rattle.text_parts.specs.Lines.{without_return, ended_lines, unended, lines_of}
 use Rattle.cycles_from_lines.specs.{Cycles.{line_said, is_long_line}, LineReading.{TookUpTo, whole_of}, declared.line.LineForm.TheVariants.Edges}
 use Rattle.cycles_from_lines.specs.declared.errors.LineKind.TheVariants.{LineTooLong}
@@ -33,6 +33,7 @@ pub record Shown (old new : SourceSeen) (text : List ℕ) (end : SourceEnd) : Ty
   pub taken : List ℕ
   pub more : List (List ℕ)
   pub took : TookUpTo old new taken
+  pub ends : EndedAtMostOnce old new
   pub few : length taken ≤ MAX_INPUT + 1
   pub lines : lines_of (whole_of taken new) ≡ lines_by (last_line_of end) text ++ more
 
@@ -52,6 +53,7 @@ module _ (old new : SourceSeen) (text : List ℕ) where
     taken = text;
     more = [];
     took = inl r.took;
+    ends = inr (r.once, r.at_end);
     few = within (length text) r.few;
     lines = ap (λ left. lines_of (text ++ left)) (no_left new.left r.at_end) ∙ ap lines_of (append-nil text) ∙ sym (append-nil (lines_of text));
   }
@@ -59,6 +61,7 @@ module _ (old new : SourceSeen) (text : List ℕ) where
     taken = text ++ r.byte ∷ [];
     more = lines_of (unended text ++ (r.byte ∷ unwrap_or new.left []));
     took = inl r.took;
+    ends = inl r.no_end;
     few = subst (λ n. n ≤ MAX_INPUT + 1) (sym (length-append text (r.byte ∷ []))) (one_more (length text) MAX_INPUT r.full);
     lines =
         ap lines_of (append_assoc text (r.byte ∷ []) (unwrap_or new.left []))
@@ -68,6 +71,7 @@ module _ (old new : SourceSeen) (text : List ℕ) where
     taken = text;
     more = lines_of (unended text ++ unwrap_or new.left []);
     took = r.took;
+    ends = inl r.no_end;
     few = within (length text) r.few;
     lines = lines_grow text (unwrap_or new.left []) (unended_without text);
   }
@@ -113,6 +117,7 @@ module _ (making : Making) (old new : SourceSeen) (text : List ℕ) (end : Sourc
         text = s.taken;
         before = j.before;
         took = s.took;
+        ends = s.ends;
         few = s.few;
         first = record {
           line = w.line;
@@ -140,6 +145,7 @@ module _ (making : Making) (old new : SourceSeen) (text : List ℕ) (end : Sourc
         text = s.taken;
         before = j.before;
         took = s.took;
+        ends = s.ends;
         few = s.few;
         first = record {
           line = l.line;
@@ -162,6 +168,7 @@ module _ (making : Making) (old new : SourceSeen) (text : List ℕ) (end : Sourc
       record {
         text = s.taken;
         took = s.took;
+        ends = s.ends;
         few = s.few;
         before = j.before;
         later = j.later ++ s.more;
@@ -184,6 +191,7 @@ module _ (making : Making) (old new : SourceSeen) (text : List ℕ) (judged : Ju
       record {
         text = text ++ r.byte ∷ [];
         took = r.took;
+        no_end = r.no_end;
         many = omega (arith, size, r.full);
         no_fault = r.no_fault;
         right = subst (λ t. AreRightLines making (ended_lines t)) (sym cut) (all_right making (ended_lines text) judged j none);
@@ -200,6 +208,7 @@ module _ (making : Making) (old new : SourceSeen) (text : List ℕ) (judged : Ju
   stops_fault r j short put = record {
     text = text;
     took = r.took;
+    no_end = r.no_end;
     few = r.few;
     fault = r.fault;
     never_falls = r.never_falls;
@@ -225,6 +234,7 @@ module _ (making : Making) (old new : SourceSeen) (text : List ℕ) (judged : Ju
         text = text;
         took = r.took;
         at_end = r.at_end;
+        once = r.once;
         few = r.few;
         no_fault = r.no_fault;
         right = all_right making (lines_of text) judged j none;
@@ -248,6 +258,7 @@ module _ (making : Making) (old new : SourceSeen) (text : List ℕ) (judged : Ju
       record {
         text = text;
         took = inl r.took;
+        ends = inr (r.once, r.at_end);
         few = within (length text) r.few;
         before = lines_of text;
         later = [];
