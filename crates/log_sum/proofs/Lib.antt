@@ -21,3 +21,4 @@ pub mod PieceLaws
 pub mod LineLaws
 pub mod Grammar
 pub mod CarryLaws
+pub mod KeptLaws

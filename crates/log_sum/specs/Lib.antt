@@ -12,6 +12,7 @@ pub mod LogReading
 pub mod JudgedLaws
 pub mod Summed
 pub mod Representing
+pub mod KeptStates
 pub mod Feeding
 pub mod StateSpelling
 pub mod StateEntries
