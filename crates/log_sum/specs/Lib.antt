@@ -19,3 +19,4 @@ pub mod TextPlaces
 pub mod SummingSteps
 pub mod SumText
 pub mod SumPieces
+pub mod Skipping

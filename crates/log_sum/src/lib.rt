@@ -19,5 +19,5 @@ mod test_sum;
 
 pub use errors::{LogError, LogKind, SumError};
 pub use kinds::{Kind, Mark, Place, Verdict};
-pub use law::{same_answers, sum_or_fault, table_is_observed};
+pub use law::{same_answers, skipping_laws, sum_or_fault, table_is_observed};
 pub use summer::{MAX_LOG_LINE, Summer};
