@@ -9,3 +9,4 @@ mod conditions;
 mod devices;
 #[cfg(test)]
 mod runs;
+mod states;

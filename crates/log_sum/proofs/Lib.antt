@@ -1,4 +1,5 @@
 mod ReadingRows
+mod SkippingRows
 pub mod TextLaws
 pub mod CountLaws
 pub mod StateLaws
@@ -21,3 +22,6 @@ pub mod PieceLaws
 pub mod LineLaws
 pub mod Grammar
 pub mod CarryLaws
+pub mod KeptLaws
+pub mod SiftLaws
+pub mod AloneLaws

@@ -1,6 +1,7 @@
 //! The sum of the logs of litmus tests: the counts of equal states, added over all logs.
 #![tactic(auto)]
 
+mod counted;
 mod counts;
 mod errors;
 mod first_seen;
@@ -17,7 +18,8 @@ mod summer;
 mod table;
 mod test_sum;
 
+pub use counted::CountedState;
 pub use errors::{LogError, LogKind, SumError};
 pub use kinds::{Kind, Mark, Place, Verdict};
-pub use law::{same_answers, sum_or_fault, table_is_observed};
+pub use law::{same_answers, skipping_laws, sum_or_fault, table_is_observed};
 pub use summer::{MAX_LOG_LINE, Summer};

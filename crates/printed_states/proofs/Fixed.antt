@@ -7,7 +7,7 @@ use Rattle.relax_edges.specs.{declared.kinds.ArchName.ArchName, declared.kinds.O
 use Rattle.list_laws.specs.Numbers.{upto}
 use Rattle.list_laws.proofs.{Cases.by_test, Elements.all_parts, Ranks.rank_upto, Numbers.{length-map-upto, slice_get-upto}}
 use Rattle.cycle_events.specs.{Resolution.move_count, Values.{is_observed, write_count}}
-use Rattle.final_cond.specs.Conditions.{AtPlace, CondSeen, InRegister, LeftSeen, TermSeen}
+use Rattle.final_cond.specs.Conditions.{AtPlace, CondSeen, InRegister, TermSeen}
 use Rattle.arch_trait.specs.{Cells.WritesCells, Cells.MakesOneAccess, declared.step.Step.Step, Codes.AllBelow, Laws.IsArch, PlaceNames.{letters, location_name, number_in}, PlaceRenumbering.step_at, SeenTests.TestSeen, Threads.{FitSteps, Puts, compiled, loads_in, setting_out}, Writing.{Writing, WritesBack, name_in}}
 use Rattle.arch_trait.proofs.Tables.{length-letters}
 use Rattle.program_meaning.specs.{declared.WriteAt.WriteAt, Accesses.Access, Executions.Execution, Intended.IsNumbering, Interleavings.accesses_on, Programs.{Program, accesses_in}}
@@ -15,20 +15,19 @@ use Rattle.program_meaning.proofs.Runs.{accesses-count}
 use Rattle.accesses_force_cycles.specs.Joining.{MakesAccesses, accesses_filled, values_read}
 use Rattle.accesses_force_cycles.proofs.{ResolvedFacts.resolves, Lists.{got_below, got_map, image_of}, Resolves.Resolves}
 use Rattle.sc_and_interleavings.specs.CoherenceLaws.{WritesWithin}
-use Rattle.litmus_text.specs.{TestReadsBack.TestReadsBack, Reread.{reread, thread_reread}, TestReading.{TestRead, ThreadRead}}
-use Rattle.tests_force_cycles.specs.{CycleSteps.{cycle_steps, numbers_read}, TestPrograms.{test_program, thread_from}, TestHeadline.{FindsRegisters, HasCode, HasTest, IsRenumbered}}
+use Rattle.litmus_text.specs.{TestReadsBack.TestReadsBack, Reread.{reread, thread_reread}, TestReading.{TestRead}}
+use Rattle.tests_force_cycles.specs.{CycleSteps.{cycle_steps, numbers_read}, TestPrograms.{thread_from}, TestHeadline.{FindsRegisters, HasCode, IsRenumbered}}
 use Rattle.tests_force_cycles.specs.TestOf.{is_named_location, last_term, last_terms, load_term, load_terms, plain, test_of, thread_terms}
 use Rattle.tests_force_cycles.proofs.{ListElements.{all_from, all_gets}, AccessesMade.{makes_enough, planned_at}, Visits.step_access, PlaceNames.{AreNamed, place_found}, RegisterNames.registers_found, Terms.{loads-count, reads-count}, StepsFit.steps_fit, ThreadRuns.AreEnough}
 use Rattle.tests_force_cycles.proofs.{TestCodes.{are_codes, cycle_codes, cycle_program, loads_below, numbers_kept, origin_of, steps_numbered}, Headline.{renumbered_names, renumbered_numbers, renumbered_program}}
-use Rattle.bytes_force_cycles.specs.{Links.IsPrintedTest, Readings.program_read}
+use Rattle.bytes_force_cycles.specs.{Readings.program_read}
 use Rattle.bytes_force_cycles.proofs.{BackLaws.reads_back, PrintedSc.same_test, Readable.readable}
 use Rattle.bytes_force_cycles.proofs.RereadTests.{reread_test, reread_renumbered, by_table, threads_numbered}
-use Rattle.states_fix_executions.specs.{States.{EndsIn, FinalState}, CycleStates.SettlesCycle}
+use Rattle.states_fix_executions.specs.{States.{FinalState}, CycleStates.SettlesCycle}
 use Rattle.states_fix_executions.proofs.{Cycles.{HasLists, own_values, settled, writes_inside}, Endings.accesses_same}
 use Rattle.test_states.specs.LoggedStates.{HasFewWrites}
 use Rattle.rebuilt_executions.specs.Settled.{AreSettled, end_at, given}
 use Rattle.state_verdicts.specs.StateParts.{FixesExecution, end_given, ends_given, is_number, known_registers, loads_from, place_named, register_named, with_loads, with_register}
-use Rattle.state_verdicts.specs.StateParts as state_parts
 use Rattle.rebuilt_executions.specs.LoadValues.{known_value}
 use Rattle.printed_states.specs.{FixedStates.{GivesValue, HasLeftSides, PrintedStatesAreFixed}, KeptLoads.KeepsLoads}
 use Rattle.printed_states.proofs.KeptLoads.{IsKnown, read_values, value_of}
