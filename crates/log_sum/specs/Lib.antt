@@ -20,3 +20,5 @@ pub mod SummingSteps
 pub mod SumText
 pub mod SumPieces
 pub mod Skipping
+pub mod Undoing
+pub mod Sieving

@@ -1,6 +1,6 @@
 -- States with their sums, as a table keeps them.
 -- Source: own.
-use Rattle.std.specs.Prelude.{◌≡◌, ◌+◌, ℕ, Bool, false, cond, min, List, [], ◌∷◌, Option, Some, None, map, option_map, slice_get, is_some, Ok}
+use Rattle.std.specs.Prelude.{◌≡◌, ◌+◌, ℕ, zero, suc, Bool, false, cond, min, List, [], ◌∷◌, Option, Some, None, map, option_map, slice_get, is_some, Ok}
 use Rattle.std.specs.{Ordering.nat_cmp, Cmp.Lexicographic.slice_cmp, BTreeMap.insert_entry}
 use Rattle.std.specs.{declared.vec.Vec.Vec, declared.alloc.Global.Global}
 use Rattle.log_sum.specs.{declared.kinds.Mark.Mark, declared.kinds.Mark.TheVariants.Plain, declared.state_table.StateSum.StateSum, LogStates.form_read, StateSpelling.{IsSpelled, is_spelled}}
@@ -82,3 +82,9 @@ pub record HasState (entries : List (Vec ℕ Global × StateSum)) (text : List �
   pub state : List ℕ
   pub state_is : state_at entries i ≡ Some state
   pub read : form_read text ≡ Ok state
+
+-- states, of which the one at an index has this count
+abbrev pub with_count : List StateSummed → ℕ → ℕ → List StateSummed
+with_count [] i count = []
+with_count (state ∷ states) zero count = (state.0, (state.1.0, count)) ∷ states
+with_count (state ∷ states) (suc i) count = state ∷ with_count states i count

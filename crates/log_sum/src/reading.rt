@@ -1,5 +1,7 @@
-ghost use Rattle.std.specs.Prelude.{◌≡◌};
-ghost use Rattle.log_sum.specs.{SumViews.{said_read, row_code_said, progress_view}, LogReading.{LogSeen, nothing_seen, text_judged, end_judged}};
+ghost use Rattle.std.specs.Prelude.{◌≡◌, true, false, Some};
+ghost use Rattle.log_sum.specs.{Undoing.{TableUndoneStays, UnlessNoMemory, tests_undone}, Skipping.{is_opening}, Sieving.{is_outside}};
+ghost use Rattle.log_sum.specs.declared.kinds.Place.TheVariants.{Outside};
+ghost use Rattle.log_sum.specs.{SumViews.{said_read, row_code_said, progress_view, tests_view}, LogReading.{next_line, LogSeen, nothing_seen, text_judged, end_judged}};
 ghost use Rattle.log_sum.specs.Feeding.{RowPut, FollowsSeen, JudgedTo, SaidTo, ForRunningTest};
 
 use crate::errors::{Fault, LogKind};
@@ -38,12 +40,49 @@ impl Reading {
 
     /// Reads a line, which is given without its end.
     pub(crate) fn judge(&mut self, text: &[u8]) -> Result<(), Fault>
-        ensures { (seen : LogSeen) → FollowsSeen (progress_view self.old) seen → JudgedTo (progress_view self.new) (text_judged seen text.now) result }
+        ensures judged { (seen : LogSeen) → FollowsSeen (progress_view self.old) seen → JudgedTo (progress_view self.new) (text_judged seen text.now) result }
+        ensures undone { is_opening (Some text.now) ≡ false → TableUndoneStays self.old.table self.new.table result }
+        ensures begun { is_opening (Some text.now) ≡ true → self.old.place ≡ Outside → UnlessNoMemory result (tests_undone self.new.table ≡ tests_view self.old.table) }
     {
         let said = read_line(self.alloc, self.place, text)?;
         self.put(said)?;
         self.line = self.line.saturating_add(1);
         Ok(())
+    }
+
+    /// Passes over a line, whatever it says.
+    pub(crate) fn pass_line(&mut self)
+        ensures line { progress_view self.new ≡ record (progress_view self.old) { line = next_line self.old.line } }
+        ensures undone { tests_undone self.new.table ≡ tests_undone self.old.table }
+    {
+        self.line = self.line.saturating_add(1);
+    }
+
+    /// Whether the reading is outside the blocks.
+    pub(crate) fn is_outside(&self) -> bool
+        ensures { result ≡ is_outside self.now.place }
+    {
+        matches!(self.place, Place::Outside)
+    }
+
+    /// Takes the running block out; the reading is outside the blocks then.
+    pub(crate) fn leave_block_out(&mut self)
+        ensures tests { (progress_view self.new).tests ≡ tests_undone self.old.table }
+        ensures undone { tests_undone self.new.table ≡ tests_undone self.old.table }
+        ensures place { self.new.place ≡ Outside }
+        ensures line { self.new.line ≡ self.old.line }
+    {
+        self.table.undo_block();
+        self.place = Place::Outside;
+    }
+
+    /// Ends a log outside the blocks.
+    pub(crate) fn end_outside(&mut self)
+        ensures line { progress_view self.new ≡ record (progress_view self.old) { line = 1 } }
+        ensures undone { tests_undone self.new.table ≡ tests_view self.old.table }
+    {
+        self.table.end_block();
+        self.line = 1;
     }
 
     /// Ends a log. `Truncated` inside a block.

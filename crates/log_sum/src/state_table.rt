@@ -1,6 +1,6 @@
-ghost use Rattle.std.specs.{Prelude.{◌≡◌, ℕ, [], Some, None, Ok, OnOk, IfOk, IfSome}, Bool.{OnTrue}};
+ghost use Rattle.std.specs.{Prelude.{◌≡◌, ℕ, [], map, take, length, Some, None, Ok, OnOk, IfOk, IfSome}, Bool.{OnTrue}};
 ghost use Rattle.log_sum.specs.{LogStates.{form_read}, StateSpelling.{IsSpelled}};
-ghost use Rattle.log_sum.specs.StateEntries.{EntriesAreWritten, ForStateAt, HasState, SeenMore, and_state, has_text, known_in, state_at, states_view, sum_in};
+ghost use Rattle.log_sum.specs.StateEntries.{EntriesAreWritten, ForStateAt, HasState, SeenMore, and_state, has_text, known_in, state_at, state_view, states_view, sum_in, with_count};
 
 use crate::first_seen::FirstSeen;
 use crate::kinds::Mark;
@@ -148,5 +148,30 @@ impl StateTable {
     {
         let sum = new_sum(alloc, form, text, mark)?;
         self.sums.index_or_put(alloc, form, sum)
+    }
+
+    /// How many states there are.
+    pub(crate) fn count(&self) -> usize
+        ensures { result ≡ length self.now.sums.entries.items }
+    {
+        self.sums.entries.len()
+    }
+
+    /// Sets the count of the state at an index back.
+    pub(crate) fn set_count(&mut self, i: usize, count: u64)
+        ensures { map state_view self.new.sums.entries.items ≡ with_count (map state_view self.old.sums.entries.items) i count }
+    {
+        if i >= self.sums.entries.len() {
+            return;
+        }
+        self.sums.entries[i].1.count = count;
+    }
+
+    /// Takes out the states from an index on.
+    pub(crate) fn forget_from(&mut self, len: usize)
+        ensures { map state_view self.new.sums.entries.items ≡ take len (map state_view self.old.sums.entries.items) }
+    {
+        self.sums.forget_from(len);
+        self.next = 0;
     }
 }

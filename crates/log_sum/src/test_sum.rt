@@ -1,13 +1,15 @@
-ghost use Rattle.std.specs.Prelude.{◌≡◌};
+ghost use Rattle.std.specs.Prelude.{◌≡◌, [], map};
 ghost use Rattle.log_sum.specs.SumViews.{GivesParsed, GivesOr, TestTold, row_code_said, test_view};
 ghost use Rattle.log_sum.specs.{Facts.{same_kind, same_state_mark, a_kind, a_condition, a_hash, a_row, row_with}};
-ghost use Rattle.log_sum.specs.{StateEntries.{ForStateAt}, SummingSteps.{fact_to, of_kind, row_to, with_verdict, marked, with_marked}};
+ghost use Rattle.log_sum.specs.Undoing.{IsBefore, UndoneStays, counts_back, test_undone};
+ghost use Rattle.log_sum.specs.{StateEntries.{ForStateAt, state_view, states_view}, SummingSteps.{fact_to, of_kind, row_to, with_verdict, marked, with_marked}};
 
 use crate::errors::{Fault, LogKind};
 use crate::kinds::{Kind, Mark, Verdict};
 use crate::lines::Row;
 use crate::state_table::StateTable;
 use crate::states::StateReader;
+use crate::undo::{TestBefore, Undo};
 use std::alloc::Global;
 
 /// What the logs so far say about a test.
@@ -139,18 +141,82 @@ impl TestSum {
         alloc: Global,
         reader: &mut StateReader,
         row: Row<'_>,
+        undo: &mut Undo,
     ) -> Result<(), Fault>
-        ensures { GivesOr (λ _. test_view self.new) result (row_to (test_view self.old) (row_code_said row.entry)) }
+        ensures put { GivesOr (λ _. test_view self.new) result (row_to (test_view self.old) (row_code_said row.entry)) }
+        ensures undone { UndoneStays self.old self.new undo.old.counts.items undo.new.counts.items result }
+        ensures before { undo.new.before ≡ undo.old.before }
     {
         if let Some(i) = self.states.written_index(row.text) {
-            return self.add(i, row.mark, row.count);
+            return self.add_noted(i, row.mark, row.count, undo);
         }
         reader.read(row.text)?;
         let i = self
             .states
             .index_or_new(alloc, reader.form(), row.text, row.mark)?;
         self.states.keep_text(alloc, i, row.text)?;
-        self.add(i, row.mark, row.count)
+        self.add_noted(i, row.mark, row.count, undo)
+    }
+
+    /// Adds a count to the state at an index, which must have this mark, and notes the count before.
+    fn add_noted(
+        &mut self,
+        i: usize,
+        mark: Mark,
+        count: u64,
+        undo: &mut Undo,
+    ) -> Result<(), Fault>
+        ensures put { ForStateAt self.old.states.sums.entries.items i (λ state. TestTold self.old self.new (a_row (row_with state mark count)) result) }
+        ensures undone { UndoneStays self.old self.new undo.old.counts.items undo.new.counts.items result }
+        ensures before { undo.new.before ≡ undo.old.before }
+    {
+        let (_, known) = self.states.sum_at(i);
+        undo.note(i, known)?;
+        self.add(i, mark, count)
+    }
+
+    /// What the test is before a block.
+    pub(crate) fn before(&self) -> TestBefore
+        ensures before { IsBefore result self.now }
+        ensures undone { test_undone result [] self.now ≡ test_view self.now }
+    {
+        TestBefore {
+            had_condition: self.condition.is_some(),
+            had_hash: self.hash.is_some(),
+            once_validated: self.once_validated,
+            always_validated: self.always_validated,
+            starred: self.starred,
+            plain: self.plain,
+            states: self.states.count(),
+        }
+    }
+
+    /// Takes the running block out, before which this was.
+    pub(crate) fn undo(&mut self, before: TestBefore, counts: &mut Vec<(usize, u64)>)
+        ensures { test_view self.new ≡ test_undone before counts.old.items self.old }
+    {
+        self.set_counts_back(counts);
+        self.states.forget_from(before.states);
+        if !before.had_condition {
+            self.condition = None;
+        }
+        if !before.had_hash {
+            self.hash = None;
+        }
+        self.once_validated = before.once_validated;
+        self.always_validated = before.always_validated;
+        self.starred = before.starred;
+        self.plain = before.plain;
+    }
+
+    /// Sets the counts of states back, the last that was noted first.
+    fn set_counts_back(&mut self, counts: &mut Vec<(usize, u64)>)
+        ensures states { map state_view self.new.states.sums.entries.items ≡ counts_back (map state_view self.old.states.sums.entries.items) counts.old.items }
+        ensures test { test_view self.new ≡ record (test_view self.old) { states = states_view self.new.states.sums.entries.items } }
+    {
+        while let Some((i, count)) = counts.pop() {
+            self.states.set_count(i, count);
+        }
     }
 
     /// Adds a count to the state at an index, which must have this mark.

@@ -4,3 +4,4 @@ pub mod FileFaults
 pub mod LogFiles
 pub mod SumForms
 pub mod SumEnds
+pub mod SkipEnds

@@ -1,0 +1,67 @@
+ghost use Rattle.std.specs.Prelude.{◌≡◌, ◌++◌, ◌∷◌, [], OnOk};
+ghost use Rattle.log_sum.specs.declared.undo.TableBefore.TheVariants.{NoBlock};
+
+use diy_io::NoMemory;
+use std::alloc::Global;
+
+/// What a test was before its running block: which facts it had, and how many states.
+#[derive(Clone, Copy)]
+pub(crate) struct TestBefore {
+    pub(crate) had_condition: bool,
+    pub(crate) had_hash: bool,
+    pub(crate) once_validated: bool,
+    pub(crate) always_validated: bool,
+    pub(crate) starred: u64,
+    pub(crate) plain: u64,
+    pub(crate) states: usize,
+}
+
+/// What a table was before its running block.
+#[derive(Clone, Copy)]
+pub(crate) enum TableBefore {
+    /// No block is running.
+    NoBlock,
+    /// The running test wasn't there.
+    NewTest,
+    /// The running test was there so.
+    Known(TestBefore),
+}
+
+/// What takes the running block out of a table.
+#[derive(Drop)]
+pub(crate) struct Undo {
+    pub(crate) before: TableBefore,
+    /// The states to whose counts the block added, by their indices, each with its count before that; the oldest first.
+    pub(crate) counts: Vec<(usize, u64)>,
+}
+
+impl Undo {
+    /// No block is running.
+    pub(crate) fn new(alloc: Global) -> Undo
+        ensures before { result.before ≡ NoBlock }
+        ensures counts { result.counts.items ≡ [] }
+    {
+        Undo {
+            before: TableBefore::NoBlock,
+            counts: Vec::new(alloc),
+        }
+    }
+
+    /// Begins a block of which this was before.
+    pub(crate) fn begin(&mut self, before: TableBefore)
+        ensures before { self.new.before ≡ before }
+        ensures counts { self.new.counts.items ≡ [] }
+    {
+        self.before = before;
+        self.counts.clear();
+    }
+
+    /// Notes the count that the state at an index has before the block adds to it.
+    pub(crate) fn note(&mut self, i: usize, count: u64) -> Result<(), NoMemory>
+        ensures ok { OnOk result (self.new.counts.items ≡ self.old.counts.items ++ (i, count) ∷ []) }
+        ensures before { self.new.before ≡ self.old.before }
+    {
+        self.counts.push((i, count))?;
+        Ok(())
+    }
+}
