@@ -20,7 +20,11 @@ call_tool() {
     status=$?
     exec 9>&-
     said=${said%.}
-    [ -z "$said" ] || printf %s "${said%?}" | show >&2
+    case $status in
+        # (a line for each block that was left out)
+        5) printf %s "$said" | while IFS= read -r line; do printf %s "$line" | show; done >&2 ;;
+        *) [ -z "$said" ] || printf %s "${said%?}" | show >&2 ;;
+    esac
     case $status:$1 in
         0:msum7) shift && note_logs "$@" ;;
         0:*) ;;
@@ -69,6 +73,7 @@ write_hint() {
     line=${line%?}
     name_places "$@"
     case $tool:$status:$line in
+        msum7:5:*) kind=skipped ;;
         diyone7:1:'refused '* | norm7:1:'refused '*)
             shift
             edges=$(edges_among "$@")
@@ -86,6 +91,7 @@ write_hint() {
             case $1 in TooFewThreads | CoherenceOnly | NeedsObserver | NotCoherence | ManyWrites | TooManyRegisters) kind="refused $1" ;; esac
             ;;
         *:1:'no file: '*) kind='no file' ;;
+        *:1:'no block: '*) kind='no block' ;;
         *:1:*) kind="text ${line##*: }" ;;
         *:2:*) kind=${line%%:*} ;;
         *:3:*) kind="${line%: *} ${line##*: }" ;;
@@ -145,7 +151,7 @@ edges_among() {
 
 # Says which of the logs that msum7 has read have no test: no line that begins one (docs/LOGS.md). What is no file can't be read again.
 note_logs() {
-    [ "${1-}" != -table ] || shift
+    while [ "${1-}" = -skip ] || [ "${1-}" = -table ]; do shift; done
     [ $# -gt 0 ] || set -- /dev/stdin
     count=$#
     for log in "$@"; do

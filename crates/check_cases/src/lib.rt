@@ -9,3 +9,5 @@ mod conditions;
 mod devices;
 #[cfg(test)]
 mod runs;
+#[cfg(test)]
+mod states;

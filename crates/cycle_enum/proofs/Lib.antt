@@ -5,5 +5,9 @@ pub mod EdgesPassedOver
 pub mod Ranking
 pub mod Repeating
 pub mod Ending
+pub mod Crossings
 pub mod SpreadLaws
 pub mod PassedOver
+pub mod SetPlaces
+pub mod SetReading
+pub mod Turning

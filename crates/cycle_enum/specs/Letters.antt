@@ -4,7 +4,8 @@ use Rattle.std.specs.{Prelude.{◌≡◌, ◌<◌, ◌&&◌, ◌≤◌, ◌+◌,
 use Rattle.relax_edges.specs.{declared.order.TheConstants.EDGES, declared.edge.Edge.Edge, declared.kinds.Dir.Dir, declared.kinds.Mark.Mark}
 use Rattle.relax_edges.specs.{EdgeTable.{same_dir, same_mark, source_of, source_mark}, Order.rank_of}
 use Rattle.cycle_enum_laws.specs.Search.{OccursIn, IsSingle}
-use Rattle.cycle_enum.specs.{LetterMarks.MarksExactly, Endings.HasRows, declared.letter.Letter.Letter, declared.endings.Endings.Endings}
+use Rattle.cycle_enum.specs.{LetterMarks.MarksExactly, Endings.HasRows, RelaxSets.ArePlaces}
+use Rattle.cycle_enum.specs.declared.{letter.Letter.Letter, endings.Endings.Endings, places.Places.Places}
 
 -- no letter has rank `from` or more, and below `to`
 abbrev pub NoLetter : (Edge → Type 0) → ℕ → ℕ → Type 0
@@ -39,11 +40,12 @@ pub record HasLettersFrom (is_letter : Edge → Type 0) (rank : ℕ) (table : Li
   pub each : (from : ℕ) → rank ≤ from → from ≤ EDGES → IsLetterFrom is_letter from (get_or table from None)
 
 -- what a walk knows of its relaxations: which edges occur in them, the first of these from each rank on, how few edges to another thread
--- end a cycle, and, if `all_single` says so, that each relaxation has one edge
-pub record IsAlphabet (relaxes : List (List Edge)) (marks : List Bool) (letters : List (Option Letter)) (endings : Endings) (all_single : Bool) : Type 0 where
+-- end a cycle, where edges stand in them, and, if `all_single` says so, that each relaxation has one edge
+pub record IsAlphabet (relaxes : List (List Edge)) (marks : List Bool) (letters : List (Option Letter)) (endings : Endings) (places : Places) (all_single : Bool) : Type 0 where
   pub marked : MarksExactly (OccursIn relaxes) marks
   pub has : HasLettersFrom (OccursIn relaxes) 0 letters
   pub ends : HasRows relaxes endings
+  pub placed : ArePlaces relaxes places
   pub single : all_single ≡ true → AllByRecursion IsSingle relaxes
 
 -- the least rank of the edges of a normal form that begins with a list: that of its first edge

@@ -4,4 +4,6 @@ pub mod LetterMarks
 pub mod Walking
 pub mod Repeats
 pub mod Spreads
+pub mod Crossings
 pub mod Endings
+pub mod RelaxSets

@@ -7,8 +7,10 @@ ghost use Rattle.cycle_enum.specs.{Endings.{EndsWithin}, Letters.{IsLetter, IsLe
 use crate::endings::Endings;
 use crate::letter::Letter;
 use crate::letters::{Letters, Marks, are_marked, first_letters, marks_of};
+use crate::places::{Places, places_of};
 use crate::prefix::Prefix;
-use crate::relaxed::{is_made, may_occur};
+use crate::progress::may_occur;
+use crate::relaxed::is_made;
 use crate::taken::Taken;
 use edge_algebra::Cycle;
 use edges_from_text::{Relax, Relaxes};
@@ -24,6 +26,7 @@ pub(crate) struct Alphabet {
     marks: Marks,
     letters: Letters,
     endings: Endings,
+    places: Places,
     /// Whether each relaxation has one edge, so that all lists of edges that occur are concatenations.
     all_single: bool,
 }
@@ -37,7 +40,7 @@ impl Model for Alphabet {
 
     ghost view = { λ a. a.relaxes };
 
-    ghost invariant = { λ a. IsAlphabet a.relaxes a.marks a.letters a.endings a.all_single };
+    ghost invariant = { λ a. IsAlphabet a.relaxes a.marks a.letters a.endings a.places a.all_single };
 }
 
 impl Alphabet {
@@ -46,15 +49,19 @@ impl Alphabet {
         requires { size ≤ MAX_EDGES }
         ensures { result ≡ relaxes }
     {
+        // Brings the invariant of `Relaxes` into the proof.
+        let _few = relaxes.len();
         let marks = marks_of(relaxes.as_slice());
         let letters = first_letters(&marks);
         let endings = Endings::of(relaxes.as_slice(), size, taken);
+        let places = places_of(relaxes.as_slice());
         let all_single = are_single(relaxes.as_slice());
         Alphabet {
             relaxes,
             marks,
             letters,
             endings,
+            places,
             all_single,
         }
     }
@@ -129,20 +136,19 @@ impl Alphabet {
     }
 
     /// Whether a list may be part of a concatenation of relaxations, if its edges occur in them.
-    pub(crate) fn may_occur(&self, list: &[Edge]) -> bool
-        requires { length list.now ≤ MAX_EDGES }
+    pub(crate) fn may_occur(&self, list: &Prefix) -> bool
         ensures { IsFalse result → LeadsNowhere (IsMadeOf self.now) list.now }
     {
-        self.all_single || may_occur(self.relaxes.as_slice(), list)
+        self.all_single || may_occur(&self.places, list.ranks())
     }
 
     /// Whether a cycle may begin with a list and have `left` edges more, if these occur in the relaxations, two threads have
     /// edges to another location, and at most `threads` edges lead to another thread.
-    pub(crate) fn may_end(&self, list: &[Edge], left: usize, threads: u8) -> bool
-        requires { length list.now ≤ MAX_EDGES }
+    pub(crate) fn may_end(&self, list: &Prefix, left: usize, threads: u8) -> bool
         ensures { IsFalse result → LeadsNowhere (EndsWithin self.now threads (length list.now + left)) list.now }
     {
-        self.endings.may_end(list, left, threads)
+        self.endings
+            .may_end(list.edges(), list.crossing(), left, threads)
     }
 
     /// Whether some rotation of a cycle, whose edges have these ranks, is a concatenation of relaxations.
@@ -153,7 +159,7 @@ impl Alphabet {
         if self.all_single {
             are_marked(&self.marks, ranks)
         } else {
-            is_made(self.relaxes.as_slice(), cycle)
+            is_made(&self.places, cycle, ranks)
         }
     }
 }

@@ -1,10 +1,11 @@
 ghost use Rattle.std.specs.Prelude.{◌≡◌, ◌↔◌, ◌<◌, ◌≤◌, ◌+◌, ◌∷◌, List, Option, Some, None, ℕ, IsTrue, IsFalse, length, true};
 ghost use Rattle.relax_edges.specs.{declared.TheConstants.{MAX_EDGES}, declared.edge.Edge.{Edge as EdgeValue}};
 ghost use Rattle.cycle_enum_laws.specs.Search.{IsIn, OccursIn};
-ghost use Rattle.cycle_enum.specs.{declared.spread.Spread.{Spread as SpreadValue}, Spreads.{outside_count, spread_moved}};
+ghost use Rattle.cycle_enum.specs.{declared.spread.Spread.{Spread as SpreadValue}, Crossings.{IsCrossing}, Spreads.{spread_moved}};
 ghost use Rattle.cycle_enum.specs.Endings.{access_of, access_entered, access_left, bound_in, bounds_at, rows_to, AreRows, HasRows, IsRow};
 ghost use Rattle.cycle_enum.specs.Endings.{AreBefore, AreBelow, AreBeforeLeaving, BoundsWith, EndsNowhere, IsBelow, IsOneMore, IsRowBelow, NoneEnds};
 
+use crate::crossing::Crossing;
 use crate::spread::Spread;
 use crate::taken::Taken;
 use arrayvec::ArrayVec;
@@ -212,19 +213,18 @@ impl Row {
     }
 
     /// Whether a spread cycle with at most `threads` edges to another thread may begin with a list, if this row is the one for its end.
-    fn may_end(&self, list: &[Edge], threads: u8) -> bool
+    fn may_end(&self, list: &[Edge], crossing: Crossing, threads: u8) -> bool
         requires some { 0 < length list.now }
-        requires few { length list.now ≤ MAX_EDGES }
+        requires crossing { IsCrossing list.now crossing }
         ensures { IsFalse result → NoneEnds threads list.now self.now }
     {
         match list {
             [] => true,
             [.., last] => {
-                match self
-                    .at(Access::entered_by(*last))
-                    .at(Spread::Bare.after(list))
-                {
-                    Some(least) => usize::from(least) + outside_count(list) <= usize::from(threads),
+                match self.at(Access::entered_by(*last)).at(crossing.spread) {
+                    Some(least) => {
+                        usize::from(least) + usize::from(crossing.outside) <= usize::from(threads)
+                    }
                     None => false,
                 }
             }
@@ -301,15 +301,6 @@ fn one_more(bound: Option<u8>) -> Option<u8>
         Some(least) => Some(least.saturating_add(1)),
         None => None,
     }
-}
-
-/// How many edges of a list lead to another thread.
-fn outside_count(edges: &[Edge]) -> usize
-    requires { length edges.now ≤ MAX_EDGES }
-    ensures value { result ≡ outside_count edges.now }
-    ensures few { result ≤ MAX_EDGES }
-{
-    edges.iter().filter(|edge| edge.is_external()).count()
 }
 
 /// The smaller of two bounds.
@@ -402,8 +393,14 @@ impl Endings {
     }
 
     /// Whether a spread cycle with at most `threads` edges to another thread may begin with a list and have `left` edges more.
-    pub(crate) fn may_end(&self, list: &[Edge], left: usize, threads: u8) -> bool
-        requires { length list.now ≤ MAX_EDGES }
+    pub(crate) fn may_end(
+        &self,
+        list: &[Edge],
+        crossing: Crossing,
+        left: usize,
+        threads: u8,
+    ) -> bool
+        requires { IsCrossing list.now crossing }
         ensures { IsFalse result → (relaxes : List (List EdgeValue)) → HasRows relaxes self.now → EndsNowhere relaxes threads left list.now }
     {
         match list {
@@ -413,7 +410,7 @@ impl Endings {
                 if left >= rows.len() {
                     return true;
                 }
-                rows[left].may_end(list, threads)
+                rows[left].may_end(list, crossing, threads)
             }
         }
     }

@@ -2,11 +2,15 @@
 #![tactic(auto)]
 
 mod alphabet;
+mod crossing;
 mod endings;
 mod letter;
 mod letters;
 mod limits;
+mod places;
 mod prefix;
+mod progress;
+mod relax_set;
 mod relaxed;
 mod spread;
 mod taken;

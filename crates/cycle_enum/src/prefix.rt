@@ -2,8 +2,9 @@ ghost use Rattle.std.specs.Prelude.{◌≡◌, ◌<◌, ◌≤◌, ◌+◌, ◌�
 ghost use Rattle.relax_edges.specs.{Order.{rank_of}, JoinedEdges.{is_joined}, declared.edge.Edge.{Edge as EdgeValue}};
 ghost use Rattle.edge_algebra_laws.specs.{Composable.{last_joins}, CycleOrder.{IsNormal}};
 ghost use Rattle.cycle_enum_laws.specs.Search.{LeadsNowhere};
-ghost use Rattle.cycle_enum.specs.{Letters.{IsLetter}, Repeats.{NoneLess, IsRepeat}, declared.prefix.Repeat.TheVariants.{First, Less}};
+ghost use Rattle.cycle_enum.specs.{Crossings.{IsCrossing, crossing_after, crossing_none}, Letters.{IsLetter}, Repeats.{NoneLess, IsRepeat}, declared.prefix.Repeat.TheVariants.{First, Less}};
 
+use crate::crossing::Crossing;
 use crate::letter::Letter;
 use arrayvec::ArrayVec;
 use edge_algebra::is_normal;
@@ -39,8 +40,9 @@ fn repeat_after(many: u8, next: u16, rank: u16) -> Repeat
 }
 
 /// The first edges of the cycles that a walk looks for. Each edge joins the next one. With each edge its rank is kept,
-/// so that the rank is found once, when the edge is appended, however often prefixes are compared; and how the
-/// list up to that edge repeats its beginning, so that one comparison tells this for a list with one more edge.
+/// so that the rank is found once, when the edge is appended, however often prefixes are compared; how the
+/// list up to that edge repeats its beginning, so that one comparison tells this for a list with one more edge; and how
+/// the edges up to it lead to other threads and locations.
 ///
 /// Contracts see the edges.
 #[derive(Drop)]
@@ -48,18 +50,19 @@ pub(crate) struct Prefix {
     edges: ArrayVec<Edge, MAX_EDGES>,
     ranks: ArrayVec<u16, MAX_EDGES>,
     repeats: ArrayVec<Repeat, MAX_EDGES>,
+    crossings: ArrayVec<Crossing, MAX_EDGES>,
 }
 
 impl Model for Prefix {
     ghost use Rattle.std.specs.Prelude.{◌≡◌, List, map, true};
     ghost use Rattle.relax_edges.specs.{declared.edge.Edge.{Edge as EdgeValue}, Order.{rank_of}, JoinedEdges.{is_joined}};
-    ghost use Rattle.cycle_enum.specs.Repeats.{HasRepeats};
+    ghost use Rattle.cycle_enum.specs.{Crossings.{crossing_none, crossings_after}, Repeats.{HasRepeats}};
 
     ghost Value = { List EdgeValue };
 
     ghost view = { λ p. p.edges.items };
 
-    ghost invariant = { λ p. (p.ranks.items ≡ map rank_of p.edges.items) × (is_joined p.edges.items ≡ true) × HasRepeats p.edges.items p.repeats.items };
+    ghost invariant = { λ p. (p.ranks.items ≡ map rank_of p.edges.items) × (is_joined p.edges.items ≡ true) × HasRepeats p.edges.items p.repeats.items × (p.crossings.items ≡ crossings_after crossing_none p.edges.items) };
 }
 
 /// The last edge of a prefix and its rank.
@@ -78,6 +81,7 @@ impl Prefix {
             edges: ArrayVec::new(),
             ranks: ArrayVec::new(),
             repeats: ArrayVec::new(),
+            crossings: ArrayVec::new(),
         }
     }
 
@@ -108,6 +112,17 @@ impl Prefix {
         self.ranks.as_slice()
     }
 
+    /// How its edges lead to other threads and locations.
+    pub(crate) fn crossing(&self) -> Crossing
+        ensures value { result ≡ crossing_after crossing_none self.now }
+        ensures is { IsCrossing self.now result }
+    {
+        match self.crossings.as_slice() {
+            [] => Crossing::none(),
+            [.., last] => *last,
+        }
+    }
+
     /// Appends an edge that the last one joins.
     pub(crate) fn push(&mut self, letter: &Letter)
         requires room { length self.old < MAX_EDGES }
@@ -116,9 +131,11 @@ impl Prefix {
         ensures { self.new ≡ self.old ++ letter.now.edge ∷ [] }
     {
         let repeat = self.repeat_with(letter.rank);
+        let crossing = self.crossing().after(letter.edge);
         self.edges.push(letter.edge);
         self.ranks.push(letter.rank);
         self.repeats.push(repeat);
+        self.crossings.push(crossing);
     }
 
     /// How its end repeats its beginning after one more edge, of this rank.
@@ -193,6 +210,7 @@ impl Prefix {
         let edge = self.edges.pop()?;
         let rank = self.ranks.pop()?;
         self.repeats.pop()?;
+        self.crossings.pop()?;
         Some(Last { edge, rank })
     }
 }

@@ -5,9 +5,10 @@ use relax_edges::Edge;
 
 /// In which threads a list of edges, read from its first edge on, leads to another location. The edges before the first one that
 /// leads to another thread and those after the last one are of one thread, where the list is a cycle: its outer thread.
-#[derive(Clone, Copy)]
+#[derive(Clone, Copy, Default)]
 pub enum Spread {
     /// No edge leads to another thread or location.
+    #[default]
     Bare,
     /// No edge leads to another thread, and some to another location.
     Moved,

@@ -307,18 +307,18 @@ impl<K: Fn(&[Edge]) -> bool, J: Fn(&[Edge]) -> bool, P: Fn(&Cycle) -> bool> Spac
         if !list.may_begin() {
             return false;
         }
-        if !self.may_end(list.edges(), len) {
+        if !self.may_end(list, len) {
             return false;
         }
         if !self.is_kept(list.edges()) {
             return false;
         }
-        self.relaxes.may_occur(list.edges())
+        self.relaxes.may_occur(list)
     }
 
     /// Whether the list may be the beginning of a listed cycle of `len` edges, by how few edges to another thread can
     /// still follow, if the walk may rely on anything of these.
-    fn may_end(&self, list: &[Edge], len: u8) -> bool
+    fn may_end(&self, list: &Prefix, len: u8) -> bool
         requires knows { KnowsOf K.pre K.Fn.post J.pre J.Fn.post P.pre P.Fn.post self.now.taken self.now.keep self.now.fit self.now.take }
         requires few { length list.now ≤ len }
         requires most { len ≤ MAX_EDGES }

@@ -4,14 +4,14 @@ use Rattle.std.proofs.{lemmas.List.{drop-drop, length-drop, length-take-le}, lem
 use Rattle.std.proofs.{lemmas.Grind.flat_map-append, Math.Seq.take-add}
 use Rattle.std.specs.{Prelude.{unwrap_or, MatchOption}, Result.result_err, List.take_while, Io.KnownBytes.{Consumes, IsAtEnd, Keeps}}
 use Rattle.list_laws.proofs.Cases.{by_test}
-use Rattle.diy_io.specs.{declared.source.TheConstants.MAX_INPUT, Count.{Rose, count_of, last_count}, Sink.line_feed_count, Taken.{SourceSeen, Took}}
+use Rattle.diy_io.specs.{declared.source.TheConstants.MAX_INPUT, Count.{Rose, count_of, last_count, next_count}, Sink.line_feed_count, Taken.{SourceSeen, Took, EndedOnce, NotEnded, EndedAtMostOnce}}
 use Rattle.relax_edges.specs.declared.edge.Edge.{Edge}
 use Rattle.cycles_from_lines.specs.declared.line.LineForm.{LineForm}
 use Rattle.cycles_from_lines.specs.{declared.errors.LineKind.LineKind, declared.errors.LineKind.TheVariants.LineTooLong, declared.errors.LinesError.LinesError}
 use Rattle.cycles_from_lines.specs.{declared.reader.Found.Found, declared.reader.Found.TheVariants.{Next, Last}, declared.reader.Line.Line}
 use Rattle.cycles_from_lines.specs.Cycles.{line_said, line_fault, is_sound, are_sound, cycle_said, cycles_of, is_long_line}
-use Rattle.cycles_from_lines.specs.LineReading.{TookUpTo, Untouched, ReadAll, ReadToFault, ReadToLimit, ReadToStop, ReadSome, whole_of, cycles_before}
-use Rattle.cycles_from_lines.specs.LineSteps.{Without, CutsAtSign, ReaderSeen, HasRead, GivesLine, GivesNext, line_said_by, Fills, FillsBuffer, Ended, Stops, Ends, LessToDo, Continues, last_cycle}
+use Rattle.cycles_from_lines.specs.LineReading.{TookUpTo, Untouched, ReadAll, ReadToFault, ReadToLimit, ReadToStop, ReadSome, IsSeenIn, whole_of, cycles_before}
+use Rattle.cycles_from_lines.specs.LineSteps.{Without, CutsAtSign, ReaderSeen, HasRead, HasReadAll, but_for_ends, Refilled, GivesLine, GivesNext, line_said_by, Fills, FillsBuffer, Ended, Stops, Ends, LessToDo, Continues, last_cycle}
 use Rattle.text_parts.specs.Lines.{without_return, ended_lines, unended, last_line, lines_of}
 use Rattle.cycles_from_lines.proofs.LineLaws.{ended_after, unended_after, lines_after, ended_none, unended_all, ended_nil, unended_nil, short_pending, long_first, ended_count}
 use Rattle.text_parts.proofs.LineLaws.{ended_cut, unended_cut, lines_cut}
@@ -81,11 +81,16 @@ took_counted a b x (inl h) counted = h
 took_counted a b x (inr h) counted =
     subst (Took a b) (sym h.none) (record { consumed = kept_consumes a.left b.left h.kept; counted = let e = h.taken_is in omega arith })
 
+-- the count of ends isn't part of what was taken
+took_again : (a b : SourceSeen) (x : List ℕ) → Took a (but_for_ends a b) x → Took a b x
+took_again a b x h = record { consumed = h.consumed; counted = h.counted }
+
 -- a reader that has read nothing
 pub nothing_read : (form : LineForm) (s : SourceSeen) → HasRead form s s (record { pending = []; line = 1; taken = 0 }) []
 nothing_read form s = record {
   given = [];
   took = inr (record { none = refl; kept = kept_same s.left; taken_is = refl });
+  no_end = refl;
   no_fault = refl;
   ended = unended_nil;
   sound = ap (are_sound form) ended_nil;
@@ -129,6 +134,7 @@ line_given form s t r q cycles said h g =
     record {
       given = h.given ++ (g.bytes ++ 10 ∷ []);
       took = subst (TookUpTo s t) bytes_are h.took;
+      no_end = h.no_end;
       no_fault = h.no_fault;
       ended = unended_after h.given (g.bytes ++ 10 ∷ []) h.ended ∙ unended_cut g.bytes [] g.cut.without ∙ unended_nil;
       sound = ap (are_sound form) ended_is ∙ sound_both form (ended_lines h.given) (line ∷ []) h.sound (one_sound form line said g.says);
@@ -145,11 +151,13 @@ took_pending form s t r cycles h some = took_some s t (h.given ++ r.pending) h.t
 
 -- lines before an error
 fault_first : (form : LineForm) (s t : SourceSeen) (r : ReaderSeen) (cycles : List (List Edge)) (line : List ℕ) (later : List (List ℕ)) (kind : LineKind) (h : HasRead form s t r cycles) →
-    Took s t (h.given ++ r.pending) → lines_of (r.pending ++ unwrap_or t.left []) ≡ line ∷ later → line_fault form line ≡ Some kind → ReadToFault form s t cycles r.line kind
-fault_first form s t r cycles line later kind h took e f = record {
+    Took s t (h.given ++ r.pending) → lines_of (r.pending ++ unwrap_or t.left []) ≡ line ∷ later → line_fault form line ≡ Some kind
+    → IsSeenIn (whole_of (h.given ++ r.pending) t) (h.given ++ r.pending) r.line → ReadToFault form s t cycles r.line kind
+fault_first form s t r cycles line later kind h took e f seen = record {
   text = h.given ++ r.pending;
   before = ended_lines h.given;
   took = took;
+  ends = inl h.no_end;
   few = subst (λ n. n ≤ MAX_INPUT) h.taken_is h.few;
   no_fault = h.no_fault;
   first = record {
@@ -162,8 +170,18 @@ fault_first form s t r cycles line later kind h took e f = record {
     fault = f;
     number_is = h.line_is;
   };
+  seen = seen;
   cycles_are = h.cycles_are;
 }
+
+-- a line that ended in what was taken is one of its lines
+ended_there : (given bytes rest : List ℕ) (line : ℕ) → unended given ≡ [] → Without 10 bytes → line ≡ length (ended_lines given) + 1
+    → line ≤ line_feed_count (given ++ (bytes ++ 10 ∷ rest))
+ended_there given bytes rest line ended without e =
+    let parts = ap length (ended_after given (bytes ++ 10 ∷ rest) ended) in
+    let both = length-append (ended_lines given) (ended_lines (bytes ++ 10 ∷ rest)) in
+    let cut = ap length (ended_cut bytes rest without) in
+    omega (arith, e, parts, both, cut, ended_count (given ++ (bytes ++ 10 ∷ rest)))
 
 -- a line that was given has an error
 pub fault_given : (form : LineForm) (s t : SourceSeen) (r q : ReaderSeen) (cycles : List (List Edge)) (line : ℕ) (kind : LineKind) →
@@ -175,7 +193,9 @@ fault_given form s t r q cycles line kind h g e =
     (fault_first form s t r cycles (without_return g.bytes) (lines_of (q.pending ++ unwrap_or t.left [])) kind h (took_pending form s t r cycles h some)
     (ap (λ b. lines_of (b ++ unwrap_or t.left [])) g.cut.parts ∙ ap lines_of (append_assoc g.bytes (10 ∷ q.pending) (unwrap_or t.left []))
     ∙ lines_cut g.bytes (q.pending ++ unwrap_or t.left []) g.cut.without)
-    (one_fault form (without_return g.bytes) kind g.says))
+    (one_fault form (without_return g.bytes) kind g.says)
+    (inl (subst (λ b. r.line ≤ line_feed_count (h.given ++ b)) (sym g.cut.parts)
+    (ended_there h.given g.bytes q.pending r.line h.ended g.cut.without h.line_is))))
 
 long_fault : (form : LineForm) (line : List ℕ) → is_long_line line ≡ true → line_fault form line ≡ Some LineTooLong
 unfolding line_said
@@ -192,6 +212,7 @@ pub long_given : (form : LineForm) (s t : SourceSeen) (r : ReaderSeen) (cycles :
 long_given form s t r cycles h one long =
     let first = long_first r.pending (unwrap_or t.left []) one long in
     fault_first form s t r cycles first.line first.later LineTooLong h (took_pending form s t r cycles h (some_long r.pending long)) first.is (long_fault form first.line first.long)
+    (inr (inl (ap (λ b. is_long_line (without_return b)) (unended_after h.given r.pending h.ended ∙ unended_all r.pending one) ∙ long)))
 
 -- how many bytes of a buffer are pending, where they are a line that isn't too long
 pub short_count : (buffer pending : List ℕ) (start end : ℕ) → take (end - start) (drop start buffer) ≡ pending → start ≤ end → end ≤ length buffer →
@@ -212,12 +233,68 @@ fills_after s t r q buffer middle room count f inside limit prefix pending line 
       took = f.took;
       count_is = sym size;
       at_end = f.at_end;
+      once = f.once;
+      no_end = f.no_end;
       no_fault = f.no_fault;
       pending = pending ∙ take-add middle count buffer ∙ ap (λ b. b ++ take count (drop middle buffer)) prefix;
       line_is = line;
       taken_is = taken ∙ ap (λ n. r.taken + n) (sym size);
       few = omega (arith, taken, f.within, limit);
     }
+
+-- a piece that was read after the pending bytes, or the end
+took_part : (a b : SourceSeen) (x : List ℕ) → Took a b x → Took a (but_for_ends a b) x
+took_part a b x h = record { consumed = h.consumed; counted = h.counted }
+
+took_on : (s t u : SourceSeen) (x y : List ℕ) → TookUpTo s t x → Took t u y → TookUpTo s (but_for_ends s u) (x ++ y)
+took_on s t u x y h k = let both = took_then s t u x y h k in inl (took_part s u (x ++ y) both)
+
+read_on : (form : LineForm) (s t u v : SourceSeen) (r q : ReaderSeen) (cycles : List (List Edge)) (count : ℕ) → (h : HasRead form s t r cycles) → (f : Fills t u r q count) →
+    TookUpTo s v ((h.given ++ r.pending) ++ f.bytes) → NotEnded s v → v.faults ≡ u.faults → HasRead form s v q cycles
+read_on form s t u v r q cycles count h f took no_end no_fault =
+    let bytes_are : (h.given ++ r.pending) ++ f.bytes ≡ h.given ++ q.pending = append_assoc h.given r.pending f.bytes ∙ ap (λ b. h.given ++ b) (sym f.pending) in
+    record {
+      given = h.given;
+      took = subst (TookUpTo s v) bytes_are took;
+      no_end = no_end;
+      no_fault = no_fault ∙ f.no_fault ∙ h.no_fault;
+      ended = h.ended;
+      sound = h.sound;
+      cycles_are = h.cycles_are;
+      line_is = f.line_is ∙ h.line_is;
+      taken_is = f.taken_is ∙ ap (λ n. n + length f.bytes) h.taken_is ∙ sym (length-append (h.given ++ r.pending) f.bytes) ∙ ap length bytes_are;
+      few = f.few;
+    }
+
+pub filled : (form : LineForm) (s t u : SourceSeen) (r q : ReaderSeen) (cycles : List (List Edge)) (count : ℕ) → HasRead form s t r cycles → Fills t u r q count →
+    Refilled form s u q cycles (Ok count)
+filled form s t u r q cycles count h f = (
+  λ some. read_on form s t u u r q cycles count h f (inl (took_then s t u (h.given ++ r.pending) f.bytes h.took f.took)) (f.no_end some ∙ h.no_end) refl,
+  λ none. record {
+    read = read_on form s t u (but_for_ends s u) r q cycles count h f (took_on s t u (h.given ++ r.pending) f.bytes h.took f.took) refl refl;
+    ended = f.at_end none;
+    once = f.once none ∙ ap (λ n. next_count n) h.no_end;
+  },
+)
+
+-- the end of a source of as many bytes as are read at most
+pub ends_there : (form : LineForm) (s t u : SourceSeen) (r : ReaderSeen) (cycles : List (List Edge)) (buffer : List ℕ) (count : ℕ) → HasRead form s t r cycles →
+    FillsBuffer t u buffer 0 1 count → count ≡ 0 → Refilled form s u r cycles (Ok 0)
+ends_there form s t u r cycles buffer count h f none =
+    let nothing : take count (drop 0 buffer) ≡ [] = ap (λ n. take n (drop 0 buffer)) none in
+    filled form s t u r r cycles 0 h (record {
+      bytes = [];
+      took = subst (Took t u) nothing f.took;
+      count_is = refl;
+      at_end = λ zero. f.at_end none;
+      once = λ zero. f.once none;
+      no_end = λ some. absurd (omega arith);
+      no_fault = f.no_fault;
+      pending = sym (append-nil r.pending);
+      line_is = refl;
+      taken_is = omega arith;
+      few = h.few;
+    })
 
 -- what has ended is what was given where no line feed is pending
 ended_given : (form : LineForm) (s t : SourceSeen) (r : ReaderSeen) (cycles : List (List Edge)) (h : HasRead form s t r cycles) →
@@ -237,6 +314,7 @@ stopped_there form s t u r cycles h one short stop =
     record {
       text = h.given ++ r.pending;
       took = took_stays s t u (h.given ++ r.pending) h.took stop.took;
+      no_end = stop.no_end ∙ h.no_end;
       few = subst (λ n. n ≤ MAX_INPUT) h.taken_is h.few;
       fault = subst (λ n. Rose n u.faults) h.no_fault stop.fault;
       never_falls = subst (λ n. n ≤ u.faults) h.no_fault stop.never_falls;
@@ -252,8 +330,8 @@ take_prefix (x ∷ xs) ys = ap (λ t. x ∷ t) (take_prefix xs ys)
 -- one byte more than is read
 pub past_limit : (form : LineForm) (s t u : SourceSeen) (r : ReaderSeen) (cycles : List (List Edge)) (bytes : List ℕ) →
     HasRead form s t r cycles → Without 10 r.pending → is_long_line (without_return r.pending) ≡ false → r.taken ≡ MAX_INPUT →
-    Took t u bytes → 0 < length bytes → u.faults ≡ t.faults → ReadToLimit form s u cycles r.line
-past_limit form s t u r cycles bytes h one short full took some no_fault =
+    Took t u bytes → 0 < length bytes → NotEnded t u → u.faults ≡ t.faults → ReadToLimit form s u cycles r.line
+past_limit form s t u r cycles bytes h one short full took some no_end no_fault =
     let text = h.given ++ r.pending in
     let size : length text ≡ MAX_INPUT = sym h.taken_is ∙ full in
     let prefix : take MAX_INPUT (text ++ bytes) ≡ text = ap (λ n. take n (text ++ bytes)) (sym size) ∙ take_prefix text bytes in
@@ -261,6 +339,7 @@ past_limit form s t u r cycles bytes h one short full took some no_fault =
     record {
       text = text ++ bytes;
       took = took_then s t u text bytes h.took took;
+      no_end = no_end ∙ h.no_end;
       many = omega (arith, size, some, length-append text bytes);
       no_fault = no_fault ∙ h.no_fault;
       sound = ap (λ b. are_sound form (ended_lines b)) prefix ∙ ap (are_sound form) ended ∙ h.sound;
@@ -276,14 +355,16 @@ lines_at_end form s t r cycles h one =
     lines_after h.given r.pending h.ended ∙ ap (λ ls. ended_lines h.given ++ ls) (ap (λ ls. ls ++ last_line (unended r.pending)) (ended_none r.pending one) ∙ ap last_line (unended_all r.pending one))
 
 all_read : (form : LineForm) (s t : SourceSeen) (r : ReaderSeen) (cycles more : List (List Edge)) →
-    HasRead form s t r cycles → Without 10 r.pending → Ended t → are_sound form (last_line r.pending) ≡ true → more ≡ cycles_of form (last_line r.pending) →
+    HasReadAll form s t r cycles → Without 10 r.pending → are_sound form (last_line r.pending) ≡ true → more ≡ cycles_of form (last_line r.pending) →
     ReadAll form s t (cycles ++ more)
-all_read form s t r cycles more h one at_end sound e =
-    let lines = lines_at_end form s t r cycles h one in
+all_read form s t r cycles more all one sound e =
+    let h = all.read in
+    let lines = lines_at_end form s (but_for_ends s t) r cycles h one in
     record {
       text = h.given ++ r.pending;
-      took = took_counted s t (h.given ++ r.pending) h.took at_end.counted;
-      at_end = at_end.at_end;
+      took = took_again s t (h.given ++ r.pending) (took_counted s (but_for_ends s t) (h.given ++ r.pending) h.took all.ended.counted);
+      at_end = all.ended.at_end;
+      once = all.once;
       few = subst (λ n. n ≤ MAX_INPUT) h.taken_is h.few;
       no_fault = h.no_fault;
       sound = ap (are_sound form) lines ∙ sound_both form (ended_lines h.given) (last_line r.pending) h.sound sound;
@@ -298,10 +379,10 @@ some_last (b ∷ text) h = refl
 
 -- with one that says a cycle, or nothing
 pub said_last : (form : LineForm) (s t : SourceSeen) (r : ReaderSeen) (cycles : List (List Edge)) (said : Option (List Edge)) →
-    HasRead form s t r cycles → 0 < length r.pending → Ended t → Without 10 r.pending → Ok said ≡ line_said form r.pending → ReadAll form s t (cycles ++ last_cycle said)
-said_last form s t r cycles said h some at_end one e =
+    HasReadAll form s t r cycles → 0 < length r.pending → Without 10 r.pending → Ok said ≡ line_said form r.pending → ReadAll form s t (cycles ++ last_cycle said)
+said_last form s t r cycles said all some one e =
     let line = some_last r.pending some in
-    all_read form s t r cycles (last_cycle said) h one at_end
+    all_read form s t r cycles (last_cycle said) all one
     (ap (are_sound form) line ∙ one_sound form r.pending said e)
     (sym (ap (cycles_of form) line ∙ one_cycle form r.pending said e))
 
@@ -309,15 +390,33 @@ none_left : (left : Option (List ℕ)) → IsAtEnd left → unwrap_or left [] �
 none_left None h = refl
 none_left (Some xs) h = h
 
+-- an error that is found once the end was seen
+fault_ended : (form : LineForm) (s t : SourceSeen) (cycles : List (List Edge)) (line : ℕ) (kind : LineKind) → EndedOnce s t → IsAtEnd t.left →
+    ReadToFault form s (but_for_ends s t) cycles line kind → ReadToFault form s t cycles line kind
+fault_ended form s t cycles line kind once at_end h = record {
+  text = h.text;
+  before = h.before;
+  took = took_again s t h.text h.took;
+  ends = inr (once, at_end);
+  few = h.few;
+  no_fault = h.no_fault;
+  first = h.first;
+  seen = h.seen;
+  cycles_are = h.cycles_are;
+}
+
 -- with one that has an error
 pub fault_last : (form : LineForm) (s t : SourceSeen) (r : ReaderSeen) (cycles : List (List Edge)) (kind : LineKind) →
-    HasRead form s t r cycles → 0 < length r.pending → Ended t → Without 10 r.pending → Err kind ≡ line_said form r.pending → ReadToFault form s t cycles r.line kind
-fault_last form s t r cycles kind h some at_end one e =
-    fault_first form s t r cycles r.pending [] kind h
-    (took_pending form s t r cycles h some)
-    (ap (λ b. lines_of (r.pending ++ b)) (none_left t.left at_end.at_end) ∙ ap lines_of (append-nil r.pending)
+    HasReadAll form s t r cycles → 0 < length r.pending → Without 10 r.pending → Err kind ≡ line_said form r.pending → ReadToFault form s t cycles r.line kind
+fault_last form s t r cycles kind all some one e =
+    let h = all.read in
+    fault_ended form s t cycles r.line kind all.once all.ended.at_end
+    (fault_first form s (but_for_ends s t) r cycles r.pending [] kind h
+    (took_pending form s (but_for_ends s t) r cycles h some)
+    (ap (λ b. lines_of (r.pending ++ b)) (none_left t.left all.ended.at_end) ∙ ap lines_of (append-nil r.pending)
     ∙ ap (λ ls. ls ++ last_line (unended r.pending)) (ended_none r.pending one) ∙ ap last_line (unended_all r.pending one) ∙ some_last r.pending some)
     (one_fault form r.pending kind e)
+    (inr (inr (sym (ap (λ b. (h.given ++ r.pending) ++ b) (none_left t.left all.ended.at_end) ∙ append-nil (h.given ++ r.pending))))))
 
 -- sound lines come before the first line that has an error
 sound_prefix : (form : LineForm) (xs ys : List (List ℕ)) → are_sound form xs ≡ true → take_while (is_sound form) (xs ++ ys) ≡ xs ++ take_while (is_sound form) ys
@@ -353,7 +452,7 @@ given_before form s t r cycles h some =
     let later = lines_of (r.pending ++ unwrap_or t.left []) in
     record {
       text = h.given ++ r.pending;
-      read = record { took = took_cycle form s t r cycles h some; few = subst (λ n. n ≤ MAX_INPUT) h.taken_is h.few; no_fault = h.no_fault };
+      read = record { took = took_cycle form s t r cycles h some; ends = inl h.no_end; few = subst (λ n. n ≤ MAX_INPUT) h.taken_is h.few; no_fault = h.no_fault };
       more = cycles_of form (take_while (is_sound form) later);
       before =
           ap (λ b. cycles_before form b) (append_assoc h.given r.pending (unwrap_or t.left []))
@@ -367,7 +466,7 @@ given_before form s t r cycles h some =
 pub all_before : (form : LineForm) (s t : SourceSeen) (cycles : List (List Edge)) → ReadAll form s t cycles → Before form s t cycles
 all_before form s t cycles h = record {
   text = h.text;
-  read = record { took = h.took; few = h.few; no_fault = h.no_fault };
+  read = record { took = h.took; ends = inr (h.once, h.at_end); few = h.few; no_fault = h.no_fault };
   more = [];
   before =
       ap (λ b. cycles_before form (h.text ++ b)) (none_left t.left h.at_end) ∙ ap (cycles_before form) (append-nil h.text)

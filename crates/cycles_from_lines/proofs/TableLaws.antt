@@ -1,5 +1,5 @@
 -- The names of cycles by their families, as they are kept and written.
-use Rattle.std.proofs.Common.{◌≡◌, ◌≤◌, ◌<◌, ◌+◌, ℕ, zero, suc, List, [], ◌∷◌, ◌++◌, length, take, get_or, Option, None, Ok, Err, true, false, refl, sym, ap, inl, ◌∙◌, subst, arith, append-nil, append_assoc}
+use Rattle.std.proofs.Common.{inr, ◌≡◌, ◌≤◌, ◌<◌, ◌+◌, ℕ, zero, suc, List, [], ◌∷◌, ◌++◌, length, take, get_or, Option, None, Ok, Err, true, false, refl, sym, ap, inl, ◌∙◌, subst, arith, append-nil, append_assoc}
 use Rattle.std.proofs.{lemmas.List.Elements.filter-append, lemmas.List.Sums.fold-append, lemmas.List.Folds.flat_map-map, lemmas.Grind.flat_map-append}
 use Rattle.std.proofs.lemmas.List.{length-map, length_push, map_push, take_more}
 use Rattle.std.specs.{Prelude.{cond, map, filter, fold, codes, Result, OnOk, String, IsTrue, ◌↔◌, slice_set}, List.flat_map, Result.IsErrAnd}
@@ -214,11 +214,11 @@ none_held table other e f n = map_push family_view table other ∙ rw (e, f, n) 
 
 -- a source was read up to where there is no memory
 pub part_read : (arch : ArchName) (s t : SourceSeen) (r : ReaderSeen) (cycles : List (List Edge)) → HasRead (Edges arch) s t r cycles → ReadsPart s t
-part_read arch s t r cycles h = record { text = h.given ++ r.pending; took = h.took; few = subst (λ n. n ≤ MAX_INPUT) h.taken_is h.few; no_fault = h.no_fault }
+part_read arch s t r cycles h = record { text = h.given ++ r.pending; took = h.took; ends = inl h.no_end; few = subst (λ n. n ≤ MAX_INPUT) h.taken_is h.few; no_fault = h.no_fault }
 
 -- a source that was read to its end was read without an error
 pub whole_read : (arch : ArchName) (s t : SourceSeen) (cycles : List (List Edge)) → ReadAll (Edges arch) s t cycles → ReadsPart s t
-whole_read arch s t cycles h = record { text = h.text; took = inl h.took; few = h.few; no_fault = h.no_fault }
+whole_read arch s t cycles h = record { text = h.text; took = inl h.took; ends = inr (h.once, h.at_end); few = h.few; no_fault = h.no_fault }
 
 -- the names of the cycles that were given are kept
 pub record Gathering (arch : ArchName) (first now : SourceSeen) (reader : ReaderSeen) (table : List FamilyEntry) : Type 0 where

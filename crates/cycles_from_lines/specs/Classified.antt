@@ -2,7 +2,7 @@
 -- Source: own; the lines are those of classify7 of the herdtools suite.
 use Rattle.std.specs.{Prelude.{◌≡◌, ◌≤◌, ℕ, Bool, List, [], ◌∷◌, ◌++◌, codes, length, map, filter, fold, Result, Ok, Err}, List.flat_map, Ordering.nat_cmp}
 use Rattle.std.specs.{Cmp.Lexicographic.slice_cmp, BTreeSet.insert_key, Str.bytes_eq}
-use Rattle.diy_io.specs.{declared.source.TheConstants.MAX_INPUT, Taken.SourceSeen, Wrote.{SinkSeen, WroteAll, WrotePart}}
+use Rattle.diy_io.specs.{declared.source.TheConstants.MAX_INPUT, Taken.{SourceSeen, EndedAtMostOnce}, Wrote.{SinkSeen, WroteAll, WrotePart}}
 use Rattle.relax_edges.specs.{declared.kinds.ArchName.ArchName, declared.edge.Edge.Edge}
 use Rattle.cycle_names.specs.{declared.family.Family.Family, declared.family.Family.TheVariants.Other, Families.{all_families, family_word}, CycleNames.name_of}
 use Rattle.cycle_names.specs.Rotations.{family_of}
@@ -60,6 +60,7 @@ pub record ReadsUpTo (arch : ArchName) (old new : SourceSeen) (error : LinesErro
 pub record ReadsPart (old new : SourceSeen) : Type 0 where
   pub text : List ℕ
   pub took : TookUpTo old new text
+  pub ends : EndedAtMostOnce old new
   pub few : length text ≤ MAX_INPUT
   pub no_fault : new.faults ≡ old.faults
 

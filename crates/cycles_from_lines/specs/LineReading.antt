@@ -1,7 +1,7 @@
 -- What was read of a source, line by line.
 use Rattle.std.specs.{Prelude.{◌≡◌, ◌≤◌, ◌<◌, ◌⊎◌, ℕ, ◌+◌, true, false, List, [], ◌++◌, length, take, unwrap_or}, List.take_while}
 use Rattle.std.specs.Io.KnownBytes.{IsAtEnd, Keeps}
-use Rattle.diy_io.specs.{declared.source.TheConstants.MAX_INPUT, Count.Rose, Sink.line_feed_count, Taken.{SourceSeen, Took}}
+use Rattle.diy_io.specs.{declared.source.TheConstants.MAX_INPUT, Count.Rose, Sink.line_feed_count, Taken.{SourceSeen, Took, EndedOnce, NotEnded, EndedAtMostOnce}}
 use Rattle.relax_edges.specs.declared.edge.Edge.{Edge}
 use Rattle.cycles_from_lines.specs.declared.line.LineForm.{LineForm}
 use Rattle.cycles_from_lines.specs.{declared.errors.LineKind.LineKind, declared.errors.LinesError.LinesError}
@@ -23,24 +23,33 @@ pub record Untouched (old new : SourceSeen) (bytes : List ℕ) : Type 0 where
 abbrev pub TookUpTo : SourceSeen → SourceSeen → List ℕ → Type 0
 TookUpTo old new bytes = Took old new bytes ⊎ Untouched old new bytes
 
--- a source was read to its end without an error, within the limit; no line has an error, and these are the cycles of its lines
+-- a source was read to its end, which was seen once, without an error, within the limit; no line has an error, and these are the cycles of its lines
 pub record ReadAll (form : LineForm) (old new : SourceSeen) (cycles : List (List Edge)) : Type 0 where
   pub text : List ℕ
   pub took : Took old new text
   pub at_end : IsAtEnd new.left
+  pub once : EndedOnce old new
   pub few : length text ≤ MAX_INPUT
   pub no_fault : new.faults ≡ old.faults
   pub sound : are_sound form (lines_of text) ≡ true
   pub cycles_are : cycles ≡ cycles_of form (lines_of text)
 
--- this line is the first with an error, of all that the source had as far as that is shown, and these are the cycles of the lines before
+-- of a source that has this text, the error of the line with this number is seen in these first bytes: the line ended there, or it is too
+-- long there already, or they are all
+abbrev pub IsSeenIn : List ℕ → List ℕ → ℕ → Type 0
+IsSeenIn whole bytes line = (line ≤ line_feed_count bytes) ⊎ ((is_long_line (without_return (unended bytes)) ≡ true) ⊎ (bytes ≡ whole))
+
+-- this line is the first with an error, of all that the source had as far as that is shown, and these are the cycles of the lines before;
+-- what was taken, within the limit, shows the error
 pub record ReadToFault (form : LineForm) (old new : SourceSeen) (cycles : List (List Edge)) (line : ℕ) (kind : LineKind) : Type 0 where
   pub text : List ℕ
   pub before : List (List ℕ)
   pub took : Took old new text
+  pub ends : EndedAtMostOnce old new
   pub few : length text ≤ MAX_INPUT
   pub no_fault : new.faults ≡ old.faults
   pub first : FirstFault form (lines_of (whole_of text new)) before line kind
+  pub seen : IsSeenIn (whole_of text new) text line
   pub cycles_are : cycles ≡ cycles_of form before
 
 -- a source has more bytes than the limit, no line that ends within the limit has an error, nor is what comes after them too long so
@@ -48,6 +57,7 @@ pub record ReadToFault (form : LineForm) (old new : SourceSeen) (cycles : List (
 pub record ReadToLimit (form : LineForm) (old new : SourceSeen) (cycles : List (List Edge)) (line : ℕ) : Type 0 where
   pub text : List ℕ
   pub took : Took old new text
+  pub no_end : NotEnded old new
   pub many : MAX_INPUT < length text
   pub no_fault : new.faults ≡ old.faults
   pub sound : are_sound form (ended_lines (take MAX_INPUT text)) ≡ true
@@ -60,6 +70,7 @@ pub record ReadToLimit (form : LineForm) (old new : SourceSeen) (cycles : List (
 pub record ReadToStop (form : LineForm) (old new : SourceSeen) (cycles : List (List Edge)) : Type 0 where
   pub text : List ℕ
   pub took : TookUpTo old new text
+  pub no_end : NotEnded old new
   pub few : length text ≤ MAX_INPUT
   pub fault : Rose old.faults new.faults
   pub never_falls : old.faults ≤ new.faults
@@ -76,6 +87,7 @@ ReadUpTo form old new cycles InputFault = ReadToStop form old new cycles
 -- this text was read from a source, within the limit and without an error of the source
 pub record ReadSome (old new : SourceSeen) (text : List ℕ) : Type 0 where
   pub took : Took old new text
+  pub ends : EndedAtMostOnce old new
   pub few : length text ≤ MAX_INPUT
   pub no_fault : new.faults ≡ old.faults
 

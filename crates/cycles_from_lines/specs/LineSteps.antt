@@ -1,7 +1,7 @@
 -- What a reader of lines represents, and how it goes on.
 use Rattle.std.specs.Prelude.{◌≡◌, ◌≤◌, ◌<◌, ◌==◌, ℕ, ◌+◌, ◌-◌, ◌*◌, true, false, List, [], ◌∷◌, ◌++◌, length, take, drop, Option, Some, None, Result, Ok, Err, All, MatchOption}
 use Rattle.std.specs.Io.KnownBytes.{IsAtEnd}
-use Rattle.diy_io.specs.{declared.source.TheConstants.MAX_INPUT, Count.{Rose, last_count}, Taken.{SourceSeen, Took}}
+use Rattle.diy_io.specs.{declared.source.TheConstants.MAX_INPUT, Count.{Rose, last_count}, Taken.{SourceSeen, Took, EndedOnce, NotEnded}}
 use Rattle.relax_edges.specs.declared.edge.Edge.{Edge}
 use Rattle.cycles_from_lines.specs.declared.line.LineForm.{LineForm}
 use Rattle.cycles_from_lines.specs.{declared.errors.LineKind.LineKind, declared.errors.LinesError.LinesError, declared.reader.Line.Line}
@@ -29,10 +29,12 @@ pub record ReaderSeen : Type 0 where
 abbrev pub work : ReaderSeen → ℕ
 work reader = 2 * (MAX_INPUT - reader.taken) + length reader.pending
 
--- a reader took bytes from a source: lines without an error that were given, whose cycles are these, and then the pending bytes
+-- a reader took bytes from a source: lines without an error that were given, whose cycles are these, and then the pending bytes; it
+-- didn't see the end
 pub record HasRead (form : LineForm) (old new : SourceSeen) (reader : ReaderSeen) (cycles : List (List Edge)) : Type 0 where
   pub given : List ℕ
   pub took : TookUpTo old new (given ++ reader.pending)
+  pub no_end : NotEnded old new
   pub no_fault : new.faults ≡ old.faults
   pub ended : unended given ≡ []
   pub sound : are_sound form (ended_lines given) ≡ true
@@ -64,12 +66,24 @@ pub record Ended (seen : SourceSeen) : Type 0 where
   pub at_end : IsAtEnd seen.left
   pub counted : seen.taken ≤ last_count
 
+-- what a source shows now, but for its count of ends, which is as it was
+abbrev pub but_for_ends : SourceSeen → SourceSeen → SourceSeen
+but_for_ends old new = record new { ends = old.ends }
+
+-- a reader took bytes from a source in this way, and then saw the end, once
+pub record HasReadAll (form : LineForm) (old new : SourceSeen) (reader : ReaderSeen) (cycles : List (List Edge)) : Type 0 where
+  pub read : HasRead form old (but_for_ends old new) reader cycles
+  pub ended : Ended new
+  pub once : EndedOnce old new
+
 -- this many bytes were taken from a source, and are pending after those before; none only at its end
 pub record Fills (old new : SourceSeen) (before after : ReaderSeen) (count : ℕ) : Type 0 where
   pub bytes : List ℕ
   pub took : Took old new bytes
   pub count_is : count ≡ length bytes
   pub at_end : count ≡ 0 → Ended new
+  pub once : count ≡ 0 → EndedOnce old new
+  pub no_end : 0 < count → NotEnded old new
   pub no_fault : new.faults ≡ old.faults
   pub pending : after.pending ≡ before.pending ++ bytes
   pub line_is : after.line ≡ before.line
@@ -81,11 +95,14 @@ pub record FillsBuffer (old new : SourceSeen) (buffer : List ℕ) (start room co
   pub took : Took old new (take count (drop start buffer))
   pub within : count ≤ room
   pub at_end : count ≡ 0 → Ended new
+  pub once : count ≡ 0 → EndedOnce old new
+  pub no_end : 0 < count → NotEnded old new
   pub no_fault : new.faults ≡ old.faults
 
 -- a source failed, and nothing was taken from it
 pub record Stops (old new : SourceSeen) : Type 0 where
   pub took : Untouched old new []
+  pub no_end : NotEnded old new
   pub fault : Rose old.faults new.faults
   pub never_falls : old.faults ≤ new.faults
 
@@ -111,15 +128,15 @@ abbrev pub ReadToEnd : LineForm → SourceSeen → SourceSeen → List (List Edg
 ReadToEnd form old new cycles cycle (Ok _) = ReadAll form old new (cycles ++ last_cycle cycle)
 ReadToEnd form old new cycles cycle (Err error) = ReadUpTo form old new cycles error
 
--- if the source is at its end, a call reads the last line, whatever was read before
+-- if the end of the source was seen, a call reads the last line, whatever was read before
 abbrev pub ReadsLast : LineForm → ReaderSeen → Option (List Edge) → Result (Unit {0}) LinesError → Type 0
 ReadsLast form reader cycle result =
-    (first last : SourceSeen) (cycles : List (List Edge)) → HasRead form first last reader cycles → Ended last → ReadToEnd form first last cycles cycle result
+    (first last : SourceSeen) (cycles : List (List Edge)) → HasReadAll form first last reader cycles → ReadToEnd form first last cycles cycle result
 
 -- the same, for a call that returns what it found
 abbrev pub FindsLast : LineForm → ReaderSeen → Option (List Edge) → Result Found LinesError → Type 0
 FindsLast form reader cycle result =
-    (first last : SourceSeen) (cycles : List (List Edge)) → HasRead form first last reader cycles → Ended last → Continues form first last reader cycles cycle result
+    (first last : SourceSeen) (cycles : List (List Edge)) → HasReadAll form first last reader cycles → Continues form first last reader cycles cycle result
 
 -- the result isn't a line that more may follow
 abbrev pub Ends : Result Found LinesError → Type 0
@@ -127,9 +144,9 @@ Ends (Ok Next) = ⊥
 Ends (Ok Last) = Unit {0}
 Ends (Err error) = Unit {0}
 
--- this many more bytes are pending, none only at the end of the source; or the source can't be read on, for this reason
+-- this many more bytes are pending, none only once the end of the source was seen; or the source can't be read on, for this reason
 abbrev pub Refilled : LineForm → SourceSeen → SourceSeen → ReaderSeen → List (List Edge) → Result ℕ LinesError → Type 0
-Refilled form old new reader cycles (Ok count) = HasRead form old new reader cycles × (count ≡ 0 → Ended new)
+Refilled form old new reader cycles (Ok count) = (0 < count → HasRead form old new reader cycles) × (count ≡ 0 → HasReadAll form old new reader cycles)
 Refilled form old new reader cycles (Err error) = ReadUpTo form old new cycles error
 
 -- a call refills a reader, or returns why it can't, whatever was read before

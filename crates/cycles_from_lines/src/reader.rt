@@ -278,6 +278,7 @@ fn move_to_start(buffer: &mut [u8], start: usize, end: usize) -> usize
 }
 
 /// Reads at most `room` bytes into a buffer, from `start` on.
+#[tactic(auto, using(diy_io::proofs::EndLaws::end_counted, diy_io::proofs::EndLaws::no_end_counted))]
 fn read_part<I: Source>(
     input: &mut I,
     buffer: &mut [u8],

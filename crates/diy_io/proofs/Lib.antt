@@ -5,3 +5,4 @@ pub mod OpenedLaws
 pub mod FileNameLaws
 pub mod FileFaultLaws
 pub mod ConsumedLaws
+pub mod EndLaws

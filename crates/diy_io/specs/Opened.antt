@@ -1,6 +1,6 @@
 -- Files of a shelf that are opened one after another, as far as the shelf shows and counts them.
 -- Source: own.
-use Rattle.std.specs.Prelude.{◌≡◌, ◌+◌, ℕ, List, [], ◌∷◌, length, slice_index_or, Option, Some, None, IfSome, MatchOption}
+use Rattle.std.specs.Prelude.{◌≡◌, ◌⊎◌, ◌+◌, ℕ, List, [], ◌∷◌, length, slice_index_or, Option, Some, None, IfSome, MatchOption}
 use Rattle.diy_io.specs.{Count.Rose, Count.count_of, Shelf.Files, Shelf.ShelfSeen}
 
 -- the argument at a position, which names a file
@@ -22,9 +22,18 @@ pub record TookFiles (old new : ShelfSeen) (taken : List (List ℕ)) : Type 0 wh
   pub opened : count_of new.opened ≡ count_of (old.opened + length taken)
   pub last : count_of new.taken ≡ count_of (last_taken old.taken taken)
 
+-- this many ends of files were seen, as far as they are counted
+abbrev pub EndsSeen : ShelfSeen → ShelfSeen → ℕ → Type 0
+EndsSeen old new count = count_of new.ends ≡ count_of (old.ends + count)
+
+-- this many ends of files were seen, or one more
+abbrev pub EndsSeenOrOneMore : ShelfSeen → ShelfSeen → ℕ → Type 0
+EndsSeenOrOneMore old new count = EndsSeen old new count ⊎ EndsSeen old new (count + 1)
+
 -- a file doesn't exist, and none was opened or read: if the files are shown, none has this name, and there was no error; otherwise the
 -- error count rose
 pub record FileAbsent (old new : ShelfSeen) (name : List ℕ) : Type 0 where
   pub absent : MatchOption old.files (Rose old.faults new.faults) (λ there. there name ≡ None)
   pub no_fault : IfSome old.files (λ there. new.faults ≡ old.faults)
   pub took : TookFiles old new []
+  pub ends : EndsSeen old new 0

@@ -1,7 +1,7 @@
 -- Files by their names, what a shelf shows of them, and how its calls change that.
 use Rattle.std.specs.Prelude.{◌≡◌, ◌≤◌, ◌<◌, ◌⊎◌, ℕ, ◌+◌, List, [], ◌++◌, length, Option, Some, None, IfSome, IsSome, MatchOption, unwrap_or, option_and_then, if◌then◌else◌}
 use Rattle.std.specs.{Option.option_map, Str.bytes_eq, Io.KnownBytes.Consumes, Io.KnownBytes.IsAtEnd}
-use Rattle.diy_io.specs.Count.{count_of, next_count, Rose}
+use Rattle.diy_io.specs.Count.{count_of, next_count, ends_after, Rose}
 
 -- the bytes of each file that exists, by its name
 abbrev pub Files : Type 0
@@ -14,13 +14,16 @@ pub data Mode : Type 0 where
   Writing : (name : List ℕ) → Mode
 
 -- what a shelf shows: its files, if it shows them; its mode; its error count; how many bytes were taken from the file that was
--- opened last; and how many files were opened to be read
+-- opened last; how many files were opened to be read; how often the end of a file was seen, by a read of nothing though there was space;
+-- and what the error count was when a file was opened last
 pub record ShelfSeen : Type 0 where
   pub files : Option Files
   pub mode : Mode
   pub faults : ℕ
   pub taken : ℕ
   pub opened : ℕ
+  pub ends : ℕ
+  pub faults_at_open : ℕ
 
 -- the files once one has these bytes, whether or not it existed
 abbrev pub with_file : List ℕ → List ℕ → Files → Files
@@ -64,17 +67,20 @@ abbrev pub IsBusy : Mode → Type 0
 IsBusy Idle = ⊥
 IsBusy _ = Unit {0}
 
--- the counts of bytes taken and of files opened stay
+-- the counts of bytes taken, of files opened and of ends stay, and so does the error count of the last opening
 pub record CountsStay (old new : ShelfSeen) : Type 0 where
   pub taken : new.taken ≡ old.taken
   pub opened : new.opened ≡ old.opened
+  pub ends : new.ends ≡ old.ends
+  pub at_open : new.faults_at_open ≡ old.faults_at_open
 
 -- the error count rises, or is at its maximum
 pub record Faulted (old new : ShelfSeen) : Type 0 where
   pub fault : Rose old.faults new.faults
   pub never_falls : old.faults ≤ new.faults
 
--- a file was opened: it exists, if the files are shown, and all of it is left to read; it is counted, and no byte of it was taken yet
+-- a file was opened: it exists, if the files are shown, and all of it is left to read; it is counted, and no byte of it was taken yet;
+-- the error count is kept as that of the last opening
 pub record Opened (old new : ShelfSeen) (name : List ℕ) : Type 0 where
   pub there : IfSome old.files (λ files. IsSome (files name))
   pub mode : new.mode ≡ Reading name (option_and_then (λ files. files name) old.files)
@@ -82,6 +88,8 @@ pub record Opened (old new : ShelfSeen) (name : List ℕ) : Type 0 where
   pub no_fault : new.faults ≡ old.faults
   pub taken : new.taken ≡ 0
   pub opened : new.opened ≡ next_count old.opened
+  pub ends : new.ends ≡ old.ends
+  pub at_open : new.faults_at_open ≡ old.faults
 
 -- a file doesn't exist: if the files are shown, none has this name, and that is no error; otherwise it counts as an error
 pub record NotThere (old new : ShelfSeen) (name : List ℕ) : Type 0 where
@@ -100,7 +108,7 @@ pub record Stopped (old new : ShelfSeen) : Type 0 where
   pub faulted : Faulted old new
 
 -- a call with space for this many bytes gave these bytes of the file that is read: they are the first that were left, if that is
--- shown, and there are none only at the end or if there was no space; they are counted
+-- shown, and there are none only at the end or if there was no space; they are counted, and so is an end that is seen
 pub record Gave (old new : ShelfSeen) (bytes : List ℕ) (room : ℕ) : Type 0 where
   pub mode : new.mode ≡ Reading (name_read old.mode) (left_to_read new.mode)
   pub consumed : Consumes (left_to_read old.mode) (left_to_read new.mode) bytes
@@ -109,6 +117,8 @@ pub record Gave (old new : ShelfSeen) (bytes : List ℕ) (room : ℕ) : Type 0 w
   pub no_fault : new.faults ≡ old.faults
   pub taken : new.taken ≡ count_of (old.taken + length bytes)
   pub opened : new.opened ≡ old.opened
+  pub ends : new.ends ≡ ends_after old.ends room (length bytes)
+  pub at_open : new.faults_at_open ≡ old.faults_at_open
 
 -- a file was begun: it has no bytes, whatever it had, and is being written
 pub record Created (old new : ShelfSeen) (name : List ℕ) : Type 0 where

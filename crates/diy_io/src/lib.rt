@@ -14,6 +14,6 @@ pub use errors::{Failed, NoMemory};
 pub use page::{LINE_ROOM, PAGE_ROOM, Page, SPILL};
 pub use shelf::{MAX_FOLDER, OpenError, Shelf};
 pub use sink::Sink;
-pub use source::{MAX_INPUT, Source};
+pub use source::{MAX_INPUT, Source, ends_after};
 pub use tally_sink::TallySink;
 pub use words::Words;

@@ -19,8 +19,9 @@ pub enum OpenError {
 /// Where files are kept by their names: a folder, memory.
 ///
 /// One file at a time is read or written. A shelf may show its files. It counts its failed calls, the
-/// bytes that were taken from the file that it opened last, and the files that it opened to be read,
-/// each up to the maximum of 64 bits. After each failure no file is open.
+/// bytes that were taken from the file that it opened last, the files that it opened to be read, and the
+/// ends of files that were seen, each up to the maximum of 64 bits, and keeps what the count of failed
+/// calls was when it opened a file last. After each failure no file is open.
 pub trait Shelf {
     // What the shelf shows of its files, its mode, and its counts.
     ghost seen: { Self → ShelfSeen };
@@ -36,7 +37,7 @@ pub trait Shelf {
         ensures failed { result ≡ Err open_errors.Failed → Stopped (seen self.old) (seen self.new) };
 
     /// Reads bytes of the file that was opened into the start of `buf`, and returns how many. If `buf`
-    /// is not empty, 0 means the end of the file.
+    /// is not empty, 0 means the end of the file, which is counted as an end that was seen.
     fn read(&mut self, buf: &mut [u8]) -> Result<usize, Failed>
         requires { IsReading (seen self.old).mode }
         ensures bound { IfOk result (λ n. n ≤ length buf.new) }

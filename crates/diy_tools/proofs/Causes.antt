@@ -18,7 +18,7 @@ use Rattle.diy_io.specs.{Count.{Rose, count_of}, Shelf.ShelfSeen, Taken.SourceSe
 use Rattle.diy_words.specs.{declared.usage.Usage.Usage, declared.usage.UsageKind.TheVariants.UnknownName, declared.request.Demo.Demo}
 use Rattle.diy_words.specs.declared.request.Check.{Check}
 use Rattle.diy_words.specs.declared.request.ExecutionForm.{ExecutionForm}
-use Rattle.diy_words.specs.Requests.{Task, TestTask, WhyTask, ListTask, Sought, asked_of, AsksTest, AsksWhy, AsksCoherence, CoherenceTask, AsksName, AsksList, AsksFamilies, AsksSum, AsksCross, AsksDemo, AsksCheck, AsksExecution, AsksCoherenceExecution, AsksNeeds, AsksLines, AsksLineTests, LineTestsTask, OfEdges, OfName, OfLines, OfNames, CrossTask}
+use Rattle.diy_words.specs.Requests.{Task, TestTask, WhyTask, ListTask, Sought, asked_of, AsksTest, AsksWhy, AsksCoherence, CoherenceTask, AsksName, AsksList, AsksFamilies, AsksSum, AsksCross, AsksDemo, AsksCheck, AsksExecution, AsksCoherenceExecution, AsksNeeds, AsksLines, AsksLineTests, AsksStates, LineTestsTask, OfEdges, OfName, OfLines, OfNames, CrossTask}
 use Rattle.tests_to_files.specs.{declared.ending.ListingEnd.ListingEnd, ListingEnds.{StopsAtTest, StopsAtAll}, Plans.{IsPlanned, planned_text}}
 use Rattle.tests_to_files.specs.declared.ending.ListingEnd.TheVariants as listings
 use Rattle.msum7_files.specs.declared.sum_form.SumForm.{SumForm}
@@ -41,9 +41,22 @@ use Rattle.lines_to_files.specs.declared.ending.LineTestsEnd.{LineTestsEnd}
 use Rattle.lines_to_files.specs.declared.ending.LineTestsEnd.TheVariants as tests
 use Rattle.lines_to_files.specs.declared.form.WrongTest.TheVariants as wrong
 use Rattle.test_maker.specs.declared.refusal.Refusal.{Refusal}
+use Rattle.diy_words.specs.declared.request.{States.States, WrongBlocks.TheVariants.{End, LeaveOut}}
+use Rattle.states_of_logs.specs.declared.states_end.StatesEnd.{StatesEnd}
+use Rattle.states_of_logs.specs.declared.states_end.StatesEnd.TheVariants as judging
+use Rattle.states_of_logs.specs.declared.states_end.StatesKind.TheVariants as judged
+use Rattle.log_sum.specs.declared.skipping.SkippedBlock.{SkippedBlock}
+use Rattle.std.specs.{declared.vec.Vec.Vec, declared.alloc.Global.Global}
+use Rattle.msum7_files.specs.{SumEnds.SumShelfFailed}
+use Rattle.tests_from_files.specs.FilesRead.{FileFailed}
+use Rattle.states_of_logs.specs.StatesEnds.{AfterTest}
+use Rattle.diy_io.specs.Opened.{name_at}
+use Rattle.diy_tools.specs.SkipAnswers.{EndsKept, EndsKeptAmong, EndsKeptInput, SkipEnd, first_kept, keep_logs, kept_status, skip_status}
+use Rattle.diy_tools.specs.StatesAnswers.{EndsJudged, EndsJudgedAmong, EndsJudgedInput, judge_logs, states_status}
+use Rattle.diy_tools.proofs.StatesCounts.{rose_after}
 use Rattle.run_status.specs.declared.status.Status.TheVariants as statuses
 use Rattle.run_status.specs.declared.status.TextKind.TheVariants as texts
-use Rattle.diy_tools.proofs.{CountedLogs.{file_opened, file_far, input_far}, LineTestAnswers.lined_failed}
+use Rattle.diy_tools.proofs.{CountedLogs.{file_opened, file_far, input_far, input_over, overfull_taken, stopped_opened, stopped_far}, LineTestAnswers.lined_failed}
 
 -- devices that are the same one by one are the same
 same_devices : (old new : Devices) → new.input ≡ old.input → new.out ≡ old.out → new.shelf ≡ old.shelf → new ≡ old
@@ -240,9 +253,9 @@ module _ (old new : Devices) where
       of_status words (Ok (AsksLineTests asked)) status (statuses.BadText None line texts.NameTaken) e (refl, h)
   lined_caused words asked (tests.TooMuch line) status e h =
       of_status words (Ok (AsksLineTests asked)) status (statuses.BadText None line texts.TooMuch) e
-      (rose_far old.input.taken new.input.taken (length h.0.text) h.0.took.counted h.0.many, inr (inr h))
+      (rose_far old.input.taken new.input.taken (length h.0.text) h.0.took.counted h.0.many, inr (inr (inl h)))
   lined_caused words asked tests.InputFault status e h =
-      of_status words (Ok (AsksLineTests asked)) status (statuses.ReadFault Input) e (h.0.fault, inr (inr h))
+      of_status words (Ok (AsksLineTests asked)) status (statuses.ReadFault Input) e (h.0.fault, inr (inr (inl h)))
   lined_caused words asked tests.NoMemory status e h =
       of_status words (Ok (AsksLineTests asked)) status statuses.NoMemory e (tt, record { out = h.1; files = ap (λ (s : ShelfSeen). s.files) h.0 })
 
@@ -327,75 +340,234 @@ module _ (old new : Devices) where
       of_status words (Ok (AsksCheck asked)) status (statuses.WriteFault Out) e (h.both.checked.wrote.fault, h)
   check_caused words asked (checking.Wrong at line (checked.Test kind)) status e h =
       of_status words (Ok (AsksCheck asked)) status (statuses.BadText (Some at) line (texts.Test kind)) e
-      (inr (h, record { out = h.both.checked.1; files = h.both.stay }))
+      (inr (inl (h, record { out = h.both.checked.1; files = h.both.stay })))
   check_caused words asked (checking.Wrong at line checked.WrongArch) status e h =
       of_status words (Ok (AsksCheck asked)) status (statuses.BadText (Some at) line texts.WrongArch) e
-      (inr (h, record { out = h.both.checked.1; files = h.both.stay }))
+      (inr (inl (h, record { out = h.both.checked.1; files = h.both.stay })))
   check_caused words asked (checking.Wrong at line (checked.Exec kind)) status e h =
       of_status words (Ok (AsksCheck asked)) status (statuses.BadText (Some at) line (texts.Exec kind)) e
       (h, record { out = h.both.checked.1; files = h.both.stay })
   check_caused words asked (checking.NoFile word) status e h =
       of_status words (Ok (AsksCheck asked)) status (statuses.NoFile word) e
-      (inr (inr (h, record { out = h.both.checked.1; files = h.both.stay })))
+      (inr (inr (inl (h, record { out = h.both.checked.1; files = h.both.stay }))))
   check_caused words asked checking.ShelfFault status e h =
       of_status words (Ok (AsksCheck asked)) status (statuses.ReadFault Shelf) e
-      (h.both.checked.0.fault, inr (inr (h, record { out = h.both.checked.1; files = h.both.stay })))
+      (h.both.checked.0.fault, inr (inr (inl (h, record { out = h.both.checked.1; files = h.both.stay }))))
   check_caused words asked checking.NoMemory status e h =
       of_status words (Ok (AsksCheck asked)) status statuses.NoMemory e (tt, record { out = h.both.checked; files = h.both.stay })
 
   files_caused : (form : SumForm) (words : List (List ℕ)) (end : SumEnd) (status : Status) → status ≡ sum_status end
       → (EndsAmong true form words end old new → EndsSum form words end old new) → EndsAmong true form words end old new
-      → CausesAsked words (Ok (AsksSum form)) status old new
-  files_caused form words sums.Done status e ends h = of_status words (Ok (AsksSum form)) status statuses.Done e (ends h)
+      → CausesAsked words (Ok (AsksSum form End)) status old new
+  files_caused form words sums.Done status e ends h = of_status words (Ok (AsksSum form End)) status statuses.Done e (ends h)
   files_caused form words sums.OutFault status e ends h =
-      of_status words (Ok (AsksSum form)) status (statuses.WriteFault Out) e (h.both.summed.wrote.fault, ends h)
+      of_status words (Ok (AsksSum form End)) status (statuses.WriteFault Out) e (h.both.summed.wrote.fault, ends h)
   files_caused form words (sums.Wrong None line kind) status e ends h = absurd h.both.summed
   files_caused form words (sums.Wrong (Some file) line kind) status e ends h =
-      of_status words (Ok (AsksSum form)) status (statuses.BadText (Some file) line (texts.Log kind)) e
-      (ends h, record { out = h.both.summed.1; files = h.both.files })
+      of_status words (Ok (AsksSum form End)) status (statuses.BadText (Some file) line (texts.Log kind)) e
+      (inl (ends h, record { out = h.both.summed.1; files = h.both.files }))
   files_caused form words (sums.TooMuch None line) status e ends h = absurd h.both.summed
   files_caused form words (sums.TooMuch (Some file) line) status e ends h =
-      of_status words (Ok (AsksSum form)) status (statuses.BadText (Some file) line texts.TooMuch) e
-      (file_opened old.shelf new.shelf words (first_log form) file line h.both.summed.0, file_far old.shelf new.shelf words (first_log form) file line h.both.summed.0, (ends h, record { out = h.both.summed.1; files = h.both.files }))
+      of_status words (Ok (AsksSum form End)) status (statuses.BadText (Some file) line texts.TooMuch) e
+      (file_opened old.shelf new.shelf words (first_log form) file line h.both.summed.0, file_far old.shelf new.shelf words (first_log form) file line h.both.summed.0, inl (ends h, record { out = h.both.summed.1; files = h.both.files }))
   files_caused form words (sums.NoFile word) status e ends h =
-      of_status words (Ok (AsksSum form)) status (statuses.NoFile word) e
+      of_status words (Ok (AsksSum form End)) status (statuses.NoFile word) e
       (inl (h.both.summed.0, (ends h, record { out = h.both.summed.1; files = h.both.files })))
   files_caused form words sums.InputFault status e ends h = absurd h.both.summed
   files_caused form words sums.ShelfFault status e ends h =
-      of_status words (Ok (AsksSum form)) status (statuses.ReadFault Shelf) e
+      of_status words (Ok (AsksSum form End)) status (statuses.ReadFault Shelf) e
       (h.both.summed.0.fault, inl (ends h, record { out = h.both.summed.1; files = h.both.files }))
   files_caused form words sums.NoMemory status e ends h =
-      of_status words (Ok (AsksSum form)) status statuses.NoMemory e (tt, record { out = h.both.summed; files = h.both.files })
+      of_status words (Ok (AsksSum form End)) status statuses.NoMemory e (tt, record { out = h.both.summed; files = h.both.files })
 
   input_caused : (form : SumForm) (words : List (List ℕ)) (end : SumEnd) (status : Status) → status ≡ sum_status end
-      → (EndsInput form end old new → EndsSum form words end old new) → EndsInput form end old new → CausesAsked words (Ok (AsksSum form)) status old new
-  input_caused form words sums.Done status e ends h = of_status words (Ok (AsksSum form)) status statuses.Done e (ends h)
-  input_caused form words sums.OutFault status e ends h = of_status words (Ok (AsksSum form)) status (statuses.WriteFault Out) e (h.both.wrote.fault, ends h)
+      → (EndsInput form end old new → EndsSum form words end old new) → EndsInput form end old new → CausesAsked words (Ok (AsksSum form End)) status old new
+  input_caused form words sums.Done status e ends h = of_status words (Ok (AsksSum form End)) status statuses.Done e (ends h)
+  input_caused form words sums.OutFault status e ends h = of_status words (Ok (AsksSum form End)) status (statuses.WriteFault Out) e (h.both.wrote.fault, ends h)
   input_caused form words (sums.Wrong None line kind) status e ends h =
-      of_status words (Ok (AsksSum form)) status (statuses.BadText None line (texts.Log kind)) e
-      (ends h, record { out = h.both.1; files = ap (λ (s : ShelfSeen). s.files) h.shelf })
+      of_status words (Ok (AsksSum form End)) status (statuses.BadText None line (texts.Log kind)) e
+      (inl (ends h, record { out = h.both.1; files = ap (λ (s : ShelfSeen). s.files) h.shelf }))
   input_caused form words (sums.Wrong (Some file) line kind) status e ends h = absurd h.both
   input_caused form words (sums.TooMuch None line) status e ends h =
-      of_status words (Ok (AsksSum form)) status (statuses.BadText None line texts.TooMuch) e (
+      of_status words (Ok (AsksSum form End)) status (statuses.BadText None line texts.TooMuch) e (
         input_far old.input new.input [] h.both.0.log h.both.0.bytes line h.both.0.taken h.both.0.is,
         inr (inl (ends h, record { out = h.both.1; files = ap (λ (s : ShelfSeen). s.files) h.shelf })),
       )
   input_caused form words (sums.TooMuch (Some file) line) status e ends h = absurd h.both
   input_caused form words (sums.NoFile word) status e ends h = absurd h.both
   input_caused form words sums.InputFault status e ends h =
-      of_status words (Ok (AsksSum form)) status (statuses.ReadFault Input) e
+      of_status words (Ok (AsksSum form End)) status (statuses.ReadFault Input) e
       (h.both.0.fault, inr (inl (ends h, record { out = h.both.1; files = ap (λ (s : ShelfSeen). s.files) h.shelf })))
   input_caused form words sums.ShelfFault status e ends h = absurd h.both
   input_caused form words sums.NoMemory status e ends h =
-      of_status words (Ok (AsksSum form)) status statuses.NoMemory e (tt, record { out = h.both; files = ap (λ (s : ShelfSeen). s.files) h.shelf })
+      of_status words (Ok (AsksSum form End)) status statuses.NoMemory e (tt, record { out = h.both; files = ap (λ (s : ShelfSeen). s.files) h.shelf })
 
   sum_caused : (form : SumForm) (words : List (List ℕ)) (end : SumEnd) (status : Status) → status ≡ sum_status end → EndsSum form words end old new
-      → CausesAsked words (Ok (AsksSum form)) status old new
+      → CausesAsked words (Ok (AsksSum form End)) status old new
   sum_caused form words end status e h = among (name_logs form words) refl h
     where
-      among : (b : Bool) → name_logs form words ≡ b → EndsAmong b form words end old new → CausesAsked words (Ok (AsksSum form)) status old new
+      among : (b : Bool) → name_logs form words ≡ b → EndsAmong b form words end old new → CausesAsked words (Ok (AsksSum form End)) status old new
       among true q i = files_caused form words end status e (λ ends. subst (λ b. EndsAmong b form words end old new) (sym q) ends) i
       among false q i = input_caused form words end status e (λ ends. subst (λ b. EndsAmong b form words end old new) (sym q) ends) i
+
+  -- msum7 -skip
+  kept_written : (form : SumForm) (words : List (List ℕ)) (blocks : Vec SkippedBlock Global) (status : Status) → status ≡ kept_status blocks.items
+      → EndsKept form words (Ok blocks) old new → CausesAsked words (Ok (AsksSum form LeaveOut)) status old new
+  kept_written form words blocks status e h = of_items blocks.items refl e
+    where
+      of_items : (items : List SkippedBlock) → blocks.items ≡ items → status ≡ kept_status items
+          → CausesAsked words (Ok (AsksSum form LeaveOut)) status old new
+      of_items [] f e = of_status words (Ok (AsksSum form LeaveOut)) status statuses.Done e (record { blocks = blocks; ends = h; are = f })
+      of_items (block ∷ rest) f e =
+          of_status words (Ok (AsksSum form LeaveOut)) status statuses.Skipped e
+          (record { blocks = blocks; ends = h; are = subst (λ (list : List SkippedBlock). 0 < length list) (sym f) (omega arith) })
+
+  kept_files_caused : (form : SumForm) (words : List (List ℕ)) (end : SkipEnd) (status : Status) → status ≡ skip_status end
+      → (EndsKeptAmong true form words end old new → EndsKept form words end old new) → EndsKeptAmong true form words end old new
+      → CausesAsked words (Ok (AsksSum form LeaveOut)) status old new
+  kept_files_caused form words (Ok blocks) status e ends h = kept_written form words blocks status e (ends h)
+  kept_files_caused form words (Err sums.OutFault) status e ends h =
+      of_status words (Ok (AsksSum form LeaveOut)) status (statuses.WriteFault Out) e (h.both.kept.1.wrote.fault, ends h)
+  kept_files_caused form words (Err (sums.TooMuch (Some file) line)) status e ends h =
+      let long : 2 ^ 40 < length h.both.kept.0.bytes = overfull_taken h.both.kept.0.log h.both.kept.0.bytes line h.both.kept.0.is in
+      of_status words (Ok (AsksSum form LeaveOut)) status (statuses.BadText (Some file) line texts.TooMuch) e (
+        stopped_opened old.shelf new.shelf words (first_kept form) file _ h.both.kept.0,
+        stopped_far old.shelf new.shelf words (first_kept form) file _ h.both.kept.0 long,
+        inl (ends h, record { out = h.both.kept.1; files = h.both.files }),
+      )
+  kept_files_caused form words (Err (sums.NoFile word)) status e ends h =
+      of_status words (Ok (AsksSum form LeaveOut)) status (statuses.NoFile word) e
+      (inl (h.both.kept.0, (ends h, record { out = h.both.kept.1; files = h.both.files })))
+  kept_files_caused form words (Err sums.ShelfFault) status e ends h =
+      of_status words (Ok (AsksSum form LeaveOut)) status (statuses.ReadFault Shelf) e
+      (h.both.kept.0.fault, inl (ends h, record { out = h.both.kept.1; files = h.both.files }))
+  kept_files_caused form words (Err sums.NoMemory) status e ends h =
+      of_status words (Ok (AsksSum form LeaveOut)) status statuses.NoMemory e (tt, record { out = h.both.kept; files = h.both.files })
+  kept_files_caused form words (Err sums.Done) status e ends h = absurd h.both.kept
+  kept_files_caused form words (Err (sums.Wrong file line kind)) status e ends h = absurd h.both.kept
+  kept_files_caused form words (Err (sums.TooMuch None line)) status e ends h = absurd h.both.kept
+  kept_files_caused form words (Err sums.InputFault) status e ends h = absurd h.both.kept
+
+  kept_input_caused : (form : SumForm) (words : List (List ℕ)) (end : SkipEnd) (status : Status) → status ≡ skip_status end
+      → (EndsKeptInput form end old new → EndsKept form words end old new) → EndsKeptInput form end old new
+      → CausesAsked words (Ok (AsksSum form LeaveOut)) status old new
+  kept_input_caused form words (Ok blocks) status e ends h = kept_written form words blocks status e (ends h)
+  kept_input_caused form words (Err sums.OutFault) status e ends h =
+      of_status words (Ok (AsksSum form LeaveOut)) status (statuses.WriteFault Out) e (h.both.1.wrote.fault, ends h)
+  kept_input_caused form words (Err (sums.TooMuch None line)) status e ends h =
+      of_status words (Ok (AsksSum form LeaveOut)) status (statuses.BadText None line texts.TooMuch) e (
+        input_over old.input new.input h.both.0.log h.both.0.bytes line h.both.0.taken h.both.0.is,
+        inr (inl (ends h, record { out = h.both.1; files = ap (λ (s : ShelfSeen). s.files) h.shelf })),
+      )
+  kept_input_caused form words (Err sums.InputFault) status e ends h =
+      of_status words (Ok (AsksSum form LeaveOut)) status (statuses.ReadFault Input) e
+      (h.both.0.fault, inr (inl (ends h, record { out = h.both.1; files = ap (λ (s : ShelfSeen). s.files) h.shelf })))
+  kept_input_caused form words (Err sums.NoMemory) status e ends h =
+      of_status words (Ok (AsksSum form LeaveOut)) status statuses.NoMemory e (tt, record { out = h.both; files = ap (λ (s : ShelfSeen). s.files) h.shelf })
+  kept_input_caused form words (Err sums.Done) status e ends h = absurd h.both
+  kept_input_caused form words (Err (sums.Wrong file line kind)) status e ends h = absurd h.both
+  kept_input_caused form words (Err (sums.TooMuch (Some file) line)) status e ends h = absurd h.both
+  kept_input_caused form words (Err (sums.NoFile word)) status e ends h = absurd h.both
+  kept_input_caused form words (Err sums.ShelfFault) status e ends h = absurd h.both
+
+  kept_caused : (form : SumForm) (words : List (List ℕ)) (end : SkipEnd) (status : Status) → status ≡ skip_status end → EndsKept form words end old new
+      → CausesAsked words (Ok (AsksSum form LeaveOut)) status old new
+  kept_caused form words end status e h = among (keep_logs form words) refl h
+    where
+      among : (b : Bool) → keep_logs form words ≡ b → EndsKeptAmong b form words end old new → CausesAsked words (Ok (AsksSum form LeaveOut)) status old new
+      among true q i = kept_files_caused form words end status e (λ ends. subst (λ b. EndsKeptAmong b form words end old new) (sym q) ends) i
+      among false q i = kept_input_caused form words end status e (λ ends. subst (λ b. EndsKeptAmong b form words end old new) (sym q) ends) i
+
+  -- mcheck7 -states
+  judged_rose : (words : List (List ℕ)) (asked : States)
+      → (FileFailed old.shelf new.shelf (name_at words asked.test)
+      ⊎ AfterTest asked.arch (machine_of asked.arch).writing old.shelf words asked.test (λ read mid. SumShelfFailed mid new.shelf words (asked.test + 1)))
+      → Rose old.shelf.faults new.shelf.faults
+  judged_rose words asked (inl f) = f.fault
+  judged_rose words asked (inr a) = subst (λ n. Rose n new.shelf.faults) a.is_test.no_fault a.holds.fault
+
+  judged_files_caused : (words : List (List ℕ)) (asked : States) (end : StatesEnd) (status : Status) → status ≡ states_status end
+      → (EndsJudgedAmong true words asked end old new → EndsJudged words asked end old new) → EndsJudgedAmong true words asked end old new
+      → CausesAsked words (Ok (AsksStates asked)) status old new
+  judged_files_caused words asked judging.Done status e ends h = of_status words (Ok (AsksStates asked)) status statuses.Done e (ends h)
+  judged_files_caused words asked judging.OutFault status e ends h =
+      of_status words (Ok (AsksStates asked)) status (statuses.WriteFault Out) e (h.both.judged.holds.holds.wrote.fault, ends h)
+  judged_files_caused words asked (judging.Wrong (Some file) line (judged.Test kind)) status e ends h =
+      of_status words (Ok (AsksStates asked)) status (statuses.BadText (Some file) line (texts.Test kind)) e
+      (inr (inr (ends h, record { out = h.both.judged.1; files = h.both.files })))
+  judged_files_caused words asked (judging.Wrong (Some file) line judged.WrongArch) status e ends h =
+      of_status words (Ok (AsksStates asked)) status (statuses.BadText (Some file) line texts.WrongArch) e
+      (inr (inr (ends h, record { out = h.both.judged.1; files = h.both.files })))
+  judged_files_caused words asked (judging.Wrong (Some file) line (judged.Log kind)) status e ends h =
+      of_status words (Ok (AsksStates asked)) status (statuses.BadText (Some file) line (texts.Log kind)) e
+      (inr (ends h, record { out = h.both.judged.1; files = h.both.files }))
+  judged_files_caused words asked (judging.Wrong None line kind) status e ends h = absurd h.both.judged
+  judged_files_caused words asked (judging.TooMuch (Some file) line) status e ends h =
+      let a = h.both.judged.0 in
+      of_status words (Ok (AsksStates asked)) status (statuses.BadText (Some file) line texts.TooMuch) e (
+        rose_after old.shelf a.mid new.shelf a.is_test.text a.is_test.took (file_opened a.mid new.shelf words (asked.test + 1) file line a.holds),
+        file_far a.mid new.shelf words (asked.test + 1) file line a.holds,
+        inr (ends h, record { out = h.both.judged.1; files = h.both.files }),
+      )
+  judged_files_caused words asked (judging.TooMuch None line) status e ends h = absurd h.both.judged
+  judged_files_caused words asked (judging.NoFile word) status e ends h =
+      of_status words (Ok (AsksStates asked)) status (statuses.NoFile word) e
+      (inr (inr (inr (ends h, record { out = h.both.judged.1; files = h.both.files }))))
+  judged_files_caused words asked judging.ShelfFault status e ends h =
+      of_status words (Ok (AsksStates asked)) status (statuses.ReadFault Shelf) e
+      (judged_rose words asked h.both.judged.0, inr (inr (inr (ends h, record { out = h.both.judged.1; files = h.both.files }))))
+  judged_files_caused words asked (judging.NoBlock word) status e ends h =
+      of_status words (Ok (AsksStates asked)) status (statuses.NoBlock word) e (ends h, record { out = h.both.judged.2; files = h.both.files })
+  judged_files_caused words asked judging.NoMemory status e ends h =
+      of_status words (Ok (AsksStates asked)) status statuses.NoMemory e (tt, record { out = h.both.judged; files = h.both.files })
+  judged_files_caused words asked judging.InputFault status e ends h = absurd h.both.judged
+
+  judged_input_caused : (words : List (List ℕ)) (asked : States) (end : StatesEnd) (status : Status) → status ≡ states_status end
+      → (EndsJudgedInput words asked end old new → EndsJudged words asked end old new) → EndsJudgedInput words asked end old new
+      → CausesAsked words (Ok (AsksStates asked)) status old new
+  judged_input_caused words asked judging.Done status e ends h = of_status words (Ok (AsksStates asked)) status statuses.Done e (ends h)
+  judged_input_caused words asked judging.OutFault status e ends h =
+      of_status words (Ok (AsksStates asked)) status (statuses.WriteFault Out) e (h.judged.holds.holds.wrote.fault, ends h)
+  judged_input_caused words asked (judging.Wrong (Some file) line (judged.Test kind)) status e ends h =
+      of_status words (Ok (AsksStates asked)) status (statuses.BadText (Some file) line (texts.Test kind)) e
+      (inr (inr (ends h, record { out = h.judged.1.1; files = h.files })))
+  judged_input_caused words asked (judging.Wrong (Some file) line judged.WrongArch) status e ends h =
+      of_status words (Ok (AsksStates asked)) status (statuses.BadText (Some file) line texts.WrongArch) e
+      (inr (inr (ends h, record { out = h.judged.1.1; files = h.files })))
+  judged_input_caused words asked (judging.Wrong (Some file) line (judged.Log kind)) status e ends h = absurd h.judged
+  judged_input_caused words asked (judging.Wrong None line (judged.Log kind)) status e ends h =
+      of_status words (Ok (AsksStates asked)) status (statuses.BadText None line (texts.Log kind)) e
+      (inr (ends h, record { out = h.judged.1; files = h.files }))
+  judged_input_caused words asked (judging.Wrong None line (judged.Test kind)) status e ends h = absurd h.judged
+  judged_input_caused words asked (judging.Wrong None line judged.WrongArch) status e ends h = absurd h.judged
+  judged_input_caused words asked (judging.TooMuch None line) status e ends h =
+      let w = h.judged.0.holds in
+      of_status words (Ok (AsksStates asked)) status (statuses.BadText None line texts.TooMuch) e (
+        input_far old.input new.input [] w.log w.bytes line w.taken w.is,
+        inr (inr (inr (ends h, record { out = h.judged.1; files = h.files }))),
+      )
+  judged_input_caused words asked (judging.TooMuch (Some file) line) status e ends h = absurd h.judged
+  judged_input_caused words asked (judging.NoFile word) status e ends h =
+      of_status words (Ok (AsksStates asked)) status (statuses.NoFile word) e
+      (inr (inr (inr (ends h, record { out = h.judged.1.1; files = h.files }))))
+  judged_input_caused words asked judging.ShelfFault status e ends h =
+      of_status words (Ok (AsksStates asked)) status (statuses.ReadFault Shelf) e
+      (h.judged.0.fault, inr (inr (inr (ends h, record { out = h.judged.1.1; files = h.files }))))
+  judged_input_caused words asked judging.InputFault status e ends h =
+      of_status words (Ok (AsksStates asked)) status (statuses.ReadFault Input) e
+      (h.judged.0.holds.fault, inr (inr (inr (ends h, record { out = h.judged.1; files = h.files }))))
+  judged_input_caused words asked (judging.NoBlock word) status e ends h =
+      of_status words (Ok (AsksStates asked)) status (statuses.NoBlock word) e (ends h, record { out = h.judged.2; files = h.files })
+  judged_input_caused words asked judging.NoMemory status e ends h =
+      of_status words (Ok (AsksStates asked)) status statuses.NoMemory e (tt, record { out = h.judged; files = h.files })
+
+  states_caused : (words : List (List ℕ)) (asked : States) (end : StatesEnd) (status : Status) → status ≡ states_status end
+      → EndsJudged words asked end old new → CausesAsked words (Ok (AsksStates asked)) status old new
+  states_caused words asked end status e h = among (judge_logs words asked) refl h
+    where
+      among : (b : Bool) → judge_logs words asked ≡ b → EndsJudgedAmong b words asked end old new → CausesAsked words (Ok (AsksStates asked)) status old new
+      among true q i = judged_files_caused words asked end status e (λ ends. subst (λ b. EndsJudgedAmong b words asked end old new) (sym q) ends) i
+      among false q i = judged_input_caused words asked end status e (λ ends. subst (λ b. EndsJudgedAmong b words asked end old new) (sym q) ends) i
 
   asked_caused : (words : List (List ℕ)) (asked : Result Task Usage) (status : Status)
       → AnswersAsked words asked status old new → CausesAsked words asked status old new
@@ -417,7 +589,9 @@ module _ (old new : Devices) where
   asked_caused words (Ok (AsksCross asked)) status h = cross_caused words asked status h.input h.both
   asked_caused words (Ok (AsksDemo asked)) status h = demo_caused words asked status h.input h.shelf h.out
   asked_caused words (Ok (AsksFamilies asked)) status h = classify_caused words asked.arch asked.files status h
-  asked_caused words (Ok (AsksSum form)) status h = sum_caused form words h.end status h.status_is h.ends
+  asked_caused words (Ok (AsksSum form End)) status h = sum_caused form words h.end status h.status_is h.ends
+  asked_caused words (Ok (AsksSum form LeaveOut)) status h = kept_caused form words h.end status h.status_is h.ends
+  asked_caused words (Ok (AsksStates asked)) status h = states_caused words asked h.end status h.status_is h.ends
   asked_caused words (Ok (AsksCheck asked)) status h = check_caused words asked h.end status h.status_is h.ends
 
 -- what is answered has its cause

@@ -21,7 +21,7 @@ use Rattle.exec_check.specs.{declared.checked_errors.CheckEnd.CheckEnd, FilesChe
 use Rattle.exec_check.specs.declared.checked_errors.CheckEnd.TheVariants as checking
 use Rattle.diy_words.specs.{declared.usage.Usage.Usage, declared.request.Demo.Demo, declared.request.Check.Check}
 use Rattle.diy_words.specs.declared.request.ExecutionForm.{ExecutionForm}
-use Rattle.diy_words.specs.Requests.{Task, ListTask, Sought, asked_of, AsksTest, AsksWhy, AsksCoherence, WhyTask, AsksName, AsksList, AsksFamilies, AsksSum, AsksCross, AsksDemo, AsksCheck, AsksExecution, AsksCoherenceExecution, AsksNeeds, AsksLines, AsksLineTests, LineTestsTask, OfEdges, OfName, OfLines, OfNames, CrossTask}
+use Rattle.diy_words.specs.Requests.{Task, ListTask, Sought, asked_of, AsksTest, AsksWhy, AsksCoherence, WhyTask, AsksName, AsksList, AsksFamilies, AsksSum, AsksCross, AsksDemo, AsksCheck, AsksExecution, AsksCoherenceExecution, AsksNeeds, AsksLines, AsksLineTests, AsksStates, LineTestsTask, OfEdges, OfName, OfLines, OfNames, CrossTask}
 use Rattle.tests_to_files.specs.declared.ending.ListingEnd.{ListingEnd}
 use Rattle.tests_to_files.specs.declared.ending.ListingEnd.TheVariants as listings
 use Rattle.log_sum.specs.{declared.errors.LogError.LogError, Representing.logs_text}
@@ -43,10 +43,22 @@ use Rattle.diy_tools.specs.{NameAnswers.{AnswersName, AnswersSought}, CrossAnswe
 use Rattle.diy_tools.specs.{CheckAnswers.{check_status, shown_of}, SumAnswers.{EndsAmong, EndsInput, first_log, name_logs, sum_status}, Answers.{Answers, AnswersAsked}}
 use Rattle.diy_tools.specs.Complete.{Complete, CanBeDone, CanName, CanSumAmong, CanClassify, AreRightTests, IsSoundText, IsRightText, IsRightLog, AreRightLogs, OfItsText, OfItsFiles, NoFaults, IsDone}
 use Rattle.test_maker.specs.declared.refusal.Refusal.{Refusal}
-use Rattle.diy_tools.proofs.{CountedLogs.long_taken, Causes.{by_print, listing_failed, crossing_failed, of_files}, LineTestAnswers.lined_failed, RightLines.right_lines}
+use Rattle.diy_tools.proofs.{CountedLogs.{long_taken, overfull_taken}, Causes.{by_print, listing_failed, crossing_failed, of_files}, LineTestAnswers.lined_failed, RightLines.right_lines}
 use Rattle.diy_tools.specs.LineTestAnswers.{EndsLined, line_tests_status, making_asked}
 use Rattle.lines_to_files.specs.{TestFiles.Making, LineTestEnds.{StopsAtWrong, StopsAtLimit}, declared.ending.LineTestsEnd.LineTestsEnd, declared.form.WrongTest.WrongTest}
 use Rattle.lines_to_files.specs.declared.ending.LineTestsEnd.TheVariants as tests
+use Rattle.diy_words.specs.declared.request.{States.States, WrongBlocks.TheVariants.{End, LeaveOut}}
+use Rattle.states_of_logs.specs.declared.states_end.StatesEnd.{StatesEnd}
+use Rattle.states_of_logs.specs.declared.states_end.StatesEnd.TheVariants as judging
+use Rattle.states_of_logs.specs.declared.states_end.StatesKind.TheVariants as judged
+use Rattle.states_of_logs.specs.{StatesEnds.{AfterTest, FilesJudged, TestIsAbsent, TestIsWrong}, StatesSummed.states_in_logs}
+use Rattle.tests_from_files.specs.{declared.errors.TestFileError.TestFileError, FilesRead.{FileFailed, FileIs}, TestSaid.test_said}
+use Rattle.log_sum.specs.declared.skipping.SkippedBlock.{SkippedBlock}
+use Rattle.msum7_files.specs.SumEnds.{SumShelfFailed}
+use Rattle.msum7_files.specs.SkipEnds.{FileOverfull, IsOverfull, KeepingMissing}
+use Rattle.diy_tools.specs.SkipAnswers.{EndsKeptAmong, EndsKeptInput, SkipEnd, first_kept, keep_logs, kept_status, skip_status}
+use Rattle.diy_tools.specs.StatesAnswers.{EndsJudgedAmong, EndsJudgedInput, judge_logs, states_status}
+use Rattle.diy_tools.specs.Complete.{AreShortLogs, AreTestAndInput, AreTestAndLogs, CanJudgeAmong, CanKeepAmong, HaveBlock, IsDoneSo, IsTestFile}
 use Rattle.run_status.specs.declared.status.Status.TheVariants as statuses
 
 -- what was taken of a source and what is left of it are a text that it can have
@@ -307,7 +319,7 @@ short_log before log bytes line short h =
     omega (arith, ap length h.up_to.parts, length-append bytes h.up_to.rest)
 
 input_done : (form : SumForm) (status : Status) (old new : Devices) (end : SumEnd) → NoFaults old new → OfItsText old.input.left IsRightLog → status ≡ sum_status end
-    → EndsInput form end old new → IsDone (Ok (AsksSum form)) status
+    → EndsInput form end old new → IsDone (Ok (AsksSum form End)) status
 input_done form status old new sums.Done none right e h = inl e
 input_done form status old new sums.OutFault none right e h = absurd (none.out h.both.wrote.fault)
 input_done form status old new (sums.Wrong None line kind) none right e h = absurd (log_wrong old.input new.input _ right h.both.0)
@@ -334,46 +346,63 @@ splits (b ∷ before) (y ∷ all) x same here =
     let first = same_Some y b (same 0 b refl) in
     (rest.0, ap (λ z. z ∷ all) first ∙ ap (λ zs. b ∷ zs) rest.1)
 
-module _ (form : SumForm) (words : List (List ℕ)) (files : Files) (right : AreRightLogs files words (first_log form)) where
+-- lists of one length are the same where each element of one is that of the other
+same_lists : (xs ys : List (List ℕ)) → length xs ≡ length ys → ((k : ℕ) (x : List ℕ) → slice_get xs k ≡ Some x → slice_get ys k ≡ Some x) → xs ≡ ys
+same_lists [] [] n same = refl
+same_lists [] (y ∷ ys) n same = absurd (omega (arith, n))
+same_lists (x ∷ xs) [] n same = absurd (omega (arith, n))
+same_lists (x ∷ xs) (y ∷ ys) n same =
+    let first = same_Some y x (same 0 x refl) in
+    let rest = same_lists xs ys (omega (arith, n)) (λ k z h. same (suc k) z h) in
+    ap (λ zs. x ∷ zs) rest ∙ ap (λ z. z ∷ ys) (sym first)
+
+-- a log of at most 2^40 bytes has no more
+over_log : (log bytes : List ℕ) (line : ℕ) → IsShort log → IsOverfull log bytes line → ⊥
+over_log log bytes line short h =
+    let len : length log ≤ 2 ^ 40 = short in
+    let more : 2 ^ 40 < length bytes = overfull_taken log bytes line h in
+    omega (arith, ap length h.parts, length-append bytes h.rest)
+
+module _ (words : List (List ℕ)) (files : Files) (first : ℕ) (right : AreShortLogs files words first) where
   -- at each place after the first word there is a log
-  at_word : (k : ℕ) → k < length right.logs → files (get_or words (first_log form + k) []) ≡ Some (get_or right.logs k [])
+  at_word : (k : ℕ) → k < length right.logs → files (get_or words (first + k) []) ≡ Some (get_or right.logs k [])
   at_word k h =
-      right.are.named k (get_or words (first_log form + k) []) (get_or right.logs k [])
-      (slice_get-get_or words (first_log form + k) [] (omega (arith, right.all))) (slice_get-get_or right.logs k [] h)
+      right.are.named k (get_or words (first + k) []) (get_or right.logs k [])
+      (slice_get-get_or words (first + k) [] (omega (arith, right.all))) (slice_get-get_or right.logs k [] h)
 
   -- the logs that a call found are those
-  same_logs : (shown : Option Files) (before : List (List ℕ)) → shown ≡ Some files → AreLogs shown words (first_log form) before → length before ≤ length right.logs
+  same_logs : (shown : Option Files) (before : List (List ℕ)) → shown ≡ Some files → AreLogs shown words (first) before → length before ≤ length right.logs
       → (k : ℕ) (log : List ℕ) → slice_get before k ≡ Some log → slice_get right.logs k ≡ Some log
   same_logs shown before e are few k log h =
       let inside : k < length before = slice_get_within before k log h in
-      let found : files (get_or words (first_log form + k) []) ≡ Some log =
-      shown_file shown files (get_or words (first_log form + k) []) log e
-      (are.named k (get_or words (first_log form + k) []) log (slice_get-get_or words (first_log form + k) [] (omega (arith, right.all))) h) in
-      let here : files (get_or words (first_log form + k) []) ≡ Some (get_or right.logs k []) = at_word k (omega arith) in
+      let found : files (get_or words (first + k) []) ≡ Some log =
+      shown_file shown files (get_or words (first + k) []) log e
+      (are.named k (get_or words (first + k) []) log (slice_get-get_or words (first + k) [] (omega (arith, right.all))) h) in
+      let here : files (get_or words (first + k) []) ≡ Some (get_or right.logs k []) = at_word k (omega arith) in
       slice_get-get_or right.logs k [] (omega arith) ∙ (sym here ∙ found)
 
   -- a place of a word, and the log that its file has
-  word_log : (shown : Option Files) (place : ℕ) (before : List (List ℕ)) (name : List ℕ) → IsAtWord shown words (first_log form) place before name
+  word_log : (shown : Option Files) (place : ℕ) (before : List (List ℕ)) (name : List ℕ) → IsAtWord shown words (first) place before name
       → (length before < length right.logs) × (files name ≡ slice_get right.logs (length before))
   word_log shown place before name h =
       let within : place < length words = slice_get_within words place name h.word in
       let inside : length before < length right.logs = omega (arith, h.count, right.all) in
-      let name_is : get_or words (first_log form + length before) [] ≡ name =
-      get_or_from_slice_get words (first_log form + length before) name [] (subst (λ (p : ℕ). slice_get words p ≡ Some name) h.count h.word) in (
+      let name_is : get_or words (first + length before) [] ≡ name =
+      get_or_from_slice_get words (first + length before) name [] (subst (λ (p : ℕ). slice_get words p ≡ Some name) h.count h.word) in (
         inside,
         subst (λ (n : List ℕ). files n ≡ slice_get right.logs (length before)) name_is
             (at_word (length before) inside ∙ sym (slice_get-get_or right.logs (length before) [] inside)),
       )
 
-  files_wrong : (old new : ShelfSeen) (place : ℕ) (error : LogError) → old.files ≡ Some files → summed.LogFileWrong old new words (first_log form) place error → ⊥
-  files_wrong old new place error e h =
+  files_wrong : (old new : ShelfSeen) (place : ℕ) (error : LogError) → AreWholeLogs right.logs → old.files ≡ Some files → summed.LogFileWrong old new words (first) place error → ⊥
+  files_wrong old new place error whole e h =
       let spot = word_log old.files place h.before h.name h.place_is in
       let parts = splits h.before right.logs h.log
       (same_logs old.files h.before e h.place_is.are (omega (arith, spot.0)))
       (sym spot.1 ∙ shown_file old.files files h.name h.log e h.text) in
-      right_wrong right.logs (h.before ++ h.log ∷ parts.0) error right.right parts.1 (h.is.wrong parts.0)
+      right_wrong right.logs (h.before ++ h.log ∷ parts.0) error whole parts.1 (h.is.wrong parts.0)
 
-  files_long : (old new : ShelfSeen) (place line : ℕ) → old.files ≡ Some files → FileTooMuch old new words (first_log form) place line → ⊥
+  files_long : (old new : ShelfSeen) (place line : ℕ) → old.files ≡ Some files → FileTooMuch old new words (first) place line → ⊥
   files_long old new place line e h =
       let spot = word_log old.files place h.before h.name h.place_is in
       let log_at : slice_get right.logs (length h.before) ≡ Some h.log = sym spot.1 ∙ shown_file old.files files h.name h.log e h.text in
@@ -381,7 +410,7 @@ module _ (form : SumForm) (words : List (List ℕ)) (files : Files) (right : Are
       let short : IsShort (slice_index_or right.logs (length h.before) []) = right.are.short (length h.before) [] spot.0 in
       short_log h.before h.log h.bytes line (subst (λ (l : List ℕ). IsShort l) log_is short) h.is
 
-  file_there : (old new : ShelfSeen) (place : ℕ) → old.files ≡ Some files → LogFileMissing old new words (first_log form) place → ⊥
+  file_there : (old new : ShelfSeen) (place : ℕ) → old.files ≡ Some files → LogFileMissing old new words (first) place → ⊥
   file_there old new place e h =
       let spot = word_log old.files place h.before h.name h.place_is in
       let found : files h.name ≡ Some (get_or right.logs (length h.before) []) = spot.1 ∙ slice_get-get_or right.logs (length h.before) [] spot.0 in
@@ -393,26 +422,203 @@ module _ (form : SumForm) (words : List (List ℕ)) (files : Files) (right : Are
           let here : MatchOption (Some files) (Rose old.faults new.faults) (λ there. there h.name ≡ None) =
           subst (λ (t : Option Files). MatchOption t (Rose old.faults new.faults) (λ there. there h.name ≡ None)) e a in here
 
+  file_over : (old new : ShelfSeen) (place line : ℕ) → old.files ≡ Some files → FileOverfull old new words first place line → ⊥
+  file_over old new place line e h =
+      let spot = word_log old.files place h.before h.name h.place_is in
+      let log_at : slice_get right.logs (length h.before) ≡ Some h.log = sym spot.1 ∙ shown_file old.files files h.name h.log e h.text in
+      let log_is : get_or right.logs (length h.before) [] ≡ h.log = get_or_from_slice_get right.logs (length h.before) h.log [] log_at in
+      let short : IsShort (slice_index_or right.logs (length h.before) []) = right.are.short (length h.before) [] spot.0 in
+      over_log h.log h.bytes line (subst (λ (l : List ℕ). IsShort l) log_is short) h.is
+
+  keeping_there : (old new : ShelfSeen) (place : ℕ) → old.files ≡ Some files → KeepingMissing old new words first place → ⊥
+  keeping_there old new place e h =
+      let spot = word_log old.files place h.before h.name h.place_is in
+      let found : files h.name ≡ Some (get_or right.logs (length h.before) []) = spot.1 ∙ slice_get-get_or right.logs (length h.before) [] spot.0 in
+      let gone : files h.name ≡ None = absent old.files e h.absent in
+      let both : None ≡ Some (get_or right.logs (length h.before) []) = sym gone ∙ found in cc both
+    where
+      absent : (shown : Option Files) → shown ≡ Some files → MatchOption shown (Rose old.faults new.faults) (λ there. there h.name ≡ None) → files h.name ≡ None
+      absent shown e a =
+          let here : MatchOption (Some files) (Rose old.faults new.faults) (λ there. there h.name ≡ None) =
+          subst (λ (t : Option Files). MatchOption t (Rose old.faults new.faults) (λ there. there h.name ≡ None)) e a in here
+
+  -- all logs that a call found are those
+  all_logs : (shown : Option Files) (logs : List (List ℕ)) → shown ≡ Some files → AreLogs shown words first logs → first + length logs ≡ length words
+      → logs ≡ right.logs
+  all_logs shown logs e are all =
+      let same : length logs ≡ length right.logs = omega (arith, all, right.all) in
+      same_lists logs right.logs same (same_logs shown logs e are (omega arith))
+
+-- right logs are short ones
+abbrev short_logs : (files : Files) (words : List (List ℕ)) (first : ℕ) → AreRightLogs files words first → AreShortLogs files words first
+short_logs files words first right = record { logs = right.logs; all = right.all; are = right.are }
+
+module _ (form : SumForm) (words : List (List ℕ)) (files : Files) (right : AreRightLogs files words (first_log form)) where
   files_done : (status : Status) (old new : ShelfSeen) (before after : SinkSeen) (end : SumEnd) → old.files ≡ Some files
       → (Rose old.faults new.faults → ⊥) → (Rose before.faults after.faults → ⊥)
-      → status ≡ sum_status end → FilesSummed form old new words (first_log form) before after end → IsDone (Ok (AsksSum form)) status
+      → status ≡ sum_status end → FilesSummed form old new words (first_log form) before after end → IsDone (Ok (AsksSum form End)) status
   files_done status old new before after sums.Done shown none none_out e h = inl e
   files_done status old new before after sums.OutFault shown none none_out e h = absurd (none_out h.wrote.fault)
   files_done status old new before after (sums.Wrong None line kind) shown none none_out e h = absurd h
-  files_done status old new before after (sums.Wrong (Some file) line kind) shown none none_out e h = absurd (files_wrong old new file _ shown h.0)
+  files_done status old new before after (sums.Wrong (Some file) line kind) shown none none_out e h = absurd (files_wrong words files (first_log form) (short_logs files words (first_log form) right) old new file _ right.right shown h.0)
   files_done status old new before after (sums.TooMuch None line) shown none none_out e h = absurd h
-  files_done status old new before after (sums.TooMuch (Some file) line) shown none none_out e h = absurd (files_long old new file line shown h.0)
-  files_done status old new before after (sums.NoFile word) shown none none_out e h = absurd (file_there old new word shown h.0)
+  files_done status old new before after (sums.TooMuch (Some file) line) shown none none_out e h = absurd (files_long words files (first_log form) (short_logs files words (first_log form) right) old new file line shown h.0)
+  files_done status old new before after (sums.NoFile word) shown none none_out e h = absurd (file_there words files (first_log form) (short_logs files words (first_log form) right) old new word shown h.0)
   files_done status old new before after sums.InputFault shown none none_out e h = absurd h
   files_done status old new before after sums.ShelfFault shown none none_out e h = absurd (none h.0.fault)
   files_done status old new before after sums.NoMemory shown none none_out e h = inr (e, tt)
 
 summed_done : (form : SumForm) (words : List (List ℕ)) (status : Status) (old new : ShelfSeen) (before after : SinkSeen) (end : SumEnd) (shown : Option Files) → old.files ≡ shown
     → OfItsFiles shown (λ files. AreRightLogs files words (first_log form)) → (Rose old.faults new.faults → ⊥) → (Rose before.faults after.faults → ⊥)
-    → status ≡ sum_status end → FilesSummed form old new words (first_log form) before after end → IsDone (Ok (AsksSum form)) status
+    → status ≡ sum_status end → FilesSummed form old new words (first_log form) before after end → IsDone (Ok (AsksSum form End)) status
 summed_done form words status old new before after end None shown right none none_out e h = absurd right
 summed_done form words status old new before after end (Some files) shown right none none_out e h =
     files_done form words files right status old new before after end shown none none_out e h
+
+-- what is kept of logs is summed
+kept_so : (form : SumForm) (blocks : List SkippedBlock) (status : Status) → status ≡ kept_status blocks → IsDoneSo (Ok (AsksSum form LeaveOut)) status
+kept_so form [] status e = inr (inl e)
+kept_so form (block ∷ blocks) status e = inl e
+
+kept_files_done : (form : SumForm) (words : List (List ℕ)) (status : Status) (old new : Devices) (end : SkipEnd) (shown : Option Files) → old.shelf.files ≡ shown
+    → OfItsFiles shown (λ files. AreShortLogs files words (first_kept form)) → NoFaults old new → status ≡ skip_status end
+    → EndsKeptAmong true form words end old new → IsDoneSo (Ok (AsksSum form LeaveOut)) status
+kept_files_done form words status old new end None shown can none e h = absurd can
+kept_files_done form words status old new (Ok blocks) (Some files) shown can none e h = kept_so form blocks.items status e
+kept_files_done form words status old new (Err sums.OutFault) (Some files) shown can none e h = absurd (none.out h.both.kept.1.wrote.fault)
+kept_files_done form words status old new (Err (sums.TooMuch (Some file) line)) (Some files) shown can none e h =
+    absurd (file_over words files (first_kept form) can old.shelf new.shelf file line shown h.both.kept.0)
+kept_files_done form words status old new (Err (sums.NoFile word)) (Some files) shown can none e h =
+    absurd (keeping_there words files (first_kept form) can old.shelf new.shelf word shown h.both.kept.0)
+kept_files_done form words status old new (Err sums.ShelfFault) (Some files) shown can none e h = absurd (none.shelf h.both.kept.0.fault)
+kept_files_done form words status old new (Err sums.NoMemory) (Some files) shown can none e h = inr (inr (e, tt))
+kept_files_done form words status old new (Err sums.Done) (Some files) shown can none e h = absurd h.both.kept
+kept_files_done form words status old new (Err (sums.Wrong file line kind)) (Some files) shown can none e h = absurd h.both.kept
+kept_files_done form words status old new (Err (sums.TooMuch None line)) (Some files) shown can none e h = absurd h.both.kept
+kept_files_done form words status old new (Err sums.InputFault) (Some files) shown can none e h = absurd h.both.kept
+
+kept_input_done : (form : SumForm) (status : Status) (old new : Devices) (end : SkipEnd) → OfItsText old.input.left IsShort → NoFaults old new
+    → status ≡ skip_status end → EndsKeptInput form end old new → IsDoneSo (Ok (AsksSum form LeaveOut)) status
+kept_input_done form status old new (Ok blocks) can none e h = kept_so form blocks.items status e
+kept_input_done form status old new (Err sums.OutFault) can none e h = absurd (none.out h.both.1.wrote.fault)
+kept_input_done form status old new (Err (sums.TooMuch None line)) can none e h =
+    absurd (over_log h.both.0.log h.both.0.bytes line (can h.both.0.log h.both.0.text) h.both.0.is)
+kept_input_done form status old new (Err sums.InputFault) can none e h = absurd (none.input h.both.0.fault)
+kept_input_done form status old new (Err sums.NoMemory) can none e h = inr (inr (e, tt))
+kept_input_done form status old new (Err sums.Done) can none e h = absurd h.both
+kept_input_done form status old new (Err (sums.Wrong file line kind)) can none e h = absurd h.both
+kept_input_done form status old new (Err (sums.TooMuch (Some file) line)) can none e h = absurd h.both
+kept_input_done form status old new (Err (sums.NoFile word)) can none e h = absurd h.both
+kept_input_done form status old new (Err sums.ShelfFault) can none e h = absurd h.both
+
+-- the states of right logs are judged
+module _ (words : List (List ℕ)) (asked : States) (files : Files) (read : TestRead) (test : IsTestFile files words asked read) where
+  test_right : (old new : ShelfSeen) (file : ℕ) (error : TestFileError) → old.files ≡ Some files
+      → TestIsWrong asked.arch (machine_of asked.arch).writing old new words asked.test file error → ⊥
+  test_right old new file error e h =
+      let there : files (name_at words asked.test) ≡ Some h.faulty.text = shown_file old.files files (name_at words asked.test) h.faulty.text e h.faulty.named in
+      let same : test.text ≡ h.faulty.text = same_Some test.text h.faulty.text (sym test.there ∙ there) in
+      let both : Ok read ≡ Err error = sym test.is_test ∙ ap (test_said asked.arch (machine_of asked.arch).writing) same ∙ h.faulty.fault in cc both
+
+  file_of_test : (old new : ShelfSeen) (word : ℕ) → old.files ≡ Some files → TestIsAbsent old new words asked.test word → ⊥
+  file_of_test old new word e h =
+      let gone : files (name_at words asked.test) ≡ None = absent old.files e h.absent.absent in
+      let both : None ≡ Some test.text = sym gone ∙ test.there in cc both
+    where
+      absent : (shown : Option Files) → shown ≡ Some files → MatchOption shown (Rose old.faults new.faults) (λ there. there (name_at words asked.test) ≡ None)
+          → files (name_at words asked.test) ≡ None
+      absent shown e a =
+          let here : MatchOption (Some files) (Rose old.faults new.faults) (λ there. there (name_at words asked.test) ≡ None) =
+          subst (λ (t : Option Files). MatchOption t (Rose old.faults new.faults) (λ there. there (name_at words asked.test) ≡ None)) e a in here
+
+  one_test : (old mid : ShelfSeen) (other : TestRead) → old.files ≡ Some files
+      → FileIs (test_said asked.arch (machine_of asked.arch).writing) old mid (name_at words asked.test) other → other ≡ read
+  one_test old mid other e h =
+      let there : files (name_at words asked.test) ≡ Some h.text = shown_file old.files files (name_at words asked.test) h.text e h.named in
+      let same : h.text ≡ test.text = same_Some h.text test.text (sym there ∙ test.there) in
+      let both : Ok other ≡ Ok read = sym h.is ∙ ap (test_said asked.arch (machine_of asked.arch).writing) same ∙ test.is_test in cc both
+
+  judged_files_done : (logs : AreRightLogs files words (asked.test + 1)) → HaveBlock read logs.logs → (status : Status) (old new : Devices) (end : StatesEnd)
+      → old.shelf.files ≡ Some files → NoFaults old new → status ≡ states_status end → EndsJudgedAmong true words asked end old new
+      → IsDone (Ok (AsksStates asked)) status
+  judged_files_done logs block status old new end shown none e h = of_end end e h.both.judged
+    where
+      short : AreShortLogs files words (asked.test + 1)
+      short = short_logs files words (asked.test + 1) logs
+
+      failed : (FileFailed old.shelf new.shelf (name_at words asked.test)
+          ⊎ AfterTest asked.arch (machine_of asked.arch).writing old.shelf words asked.test (λ read mid. SumShelfFailed mid new.shelf words (asked.test + 1))) → ⊥
+      failed (inl f) = none.shelf f.fault
+      failed (inr a) = none.shelf (subst (λ n. Rose n new.shelf.faults) a.is_test.no_fault a.holds.fault)
+
+      missing : (word : ℕ) → (TestIsAbsent old.shelf new.shelf words asked.test word
+          ⊎ AfterTest asked.arch (machine_of asked.arch).writing old.shelf words asked.test (λ read mid. LogFileMissing mid new.shelf words (asked.test + 1) word)) → ⊥
+      missing word (inl a) = file_of_test old.shelf new.shelf word shown a
+      missing word (inr a) = file_there words files (asked.test + 1) short a.mid new.shelf word (a.files ∙ shown) a.holds
+
+      of_end : (end : StatesEnd) → status ≡ states_status end
+          → FilesJudged asked.arch (machine_of asked.arch).writing old.shelf new.shelf words asked.test (asked.test + 1) old.out new.out end
+          → IsDone (Ok (AsksStates asked)) status
+      of_end judging.Done e a = inl e
+      of_end judging.OutFault e a = absurd (none.out a.holds.holds.wrote.fault)
+      of_end (judging.NoBlock word) e b =
+          let a = b.1 in
+          let same = one_test old.shelf a.mid a.read shown a.is_test in
+          let all = all_logs words files (asked.test + 1) short a.mid.files a.holds.logs (a.files ∙ shown) a.holds.are a.holds.all in
+          absurd (block (subst (λ (t : TestRead). states_in_logs t.name logs.logs ≡ Ok None) same
+          (subst (λ (l : List (List ℕ)). states_in_logs a.read.name l ≡ Ok None) all a.holds.holds)))
+      of_end (judging.Wrong (Some file) line (judged.Test kind)) e a = absurd (test_right old.shelf new.shelf file _ shown a.0)
+      of_end (judging.Wrong (Some file) line judged.WrongArch) e a = absurd (test_right old.shelf new.shelf file _ shown a.0)
+      of_end (judging.Wrong (Some file) line (judged.Log kind)) e a =
+          absurd (files_wrong words files (asked.test + 1) short a.0.mid new.shelf file _ logs.right (a.0.files ∙ shown) a.0.holds)
+      of_end (judging.Wrong None line kind) e a = absurd a
+      of_end (judging.TooMuch (Some file) line) e a =
+          absurd (files_long words files (asked.test + 1) short a.0.mid new.shelf file line (a.0.files ∙ shown) a.0.holds)
+      of_end (judging.TooMuch None line) e a = absurd a
+      of_end (judging.NoFile word) e a = absurd (missing word a.0)
+      of_end judging.ShelfFault e a = absurd (failed a.0)
+      of_end judging.NoMemory e a = inr (e, tt)
+      of_end judging.InputFault e a = absurd a
+
+  judged_input_done : (status : Status) (old new : Devices) (end : StatesEnd) → OfItsText old.input.left IsRightLog
+      → OfItsText old.input.left (λ log. HaveBlock read (log ∷ [])) → old.shelf.files ≡ Some files → NoFaults old new → status ≡ states_status end
+      → EndsJudgedInput words asked end old new → IsDone (Ok (AsksStates asked)) status
+  judged_input_done status old new judging.Done right block shown none e h = inl e
+  judged_input_done status old new judging.OutFault right block shown none e h = absurd (none.out h.judged.holds.holds.wrote.fault)
+  judged_input_done status old new (judging.NoBlock word) right block shown none e h =
+      let a = h.judged.1 in
+      absurd (block a.holds.log a.holds.text
+      (subst (λ (t : TestRead). states_in_logs t.name (a.holds.log ∷ []) ≡ Ok None) (one_test old.shelf new.shelf a.read shown a.is_test) a.holds.holds))
+  judged_input_done status old new (judging.Wrong (Some file) line (judged.Test kind)) right block shown none e h =
+      absurd (test_right old.shelf new.shelf file _ shown h.judged.0)
+  judged_input_done status old new (judging.Wrong (Some file) line judged.WrongArch) right block shown none e h =
+      absurd (test_right old.shelf new.shelf file _ shown h.judged.0)
+  judged_input_done status old new (judging.Wrong (Some file) line (judged.Log kind)) right block shown none e h = absurd h.judged
+  judged_input_done status old new (judging.Wrong None line (judged.Log kind)) right block shown none e h =
+      absurd (log_wrong old.input new.input _ right h.judged.0.holds)
+  judged_input_done status old new (judging.Wrong None line (judged.Test kind)) right block shown none e h = absurd h.judged
+  judged_input_done status old new (judging.Wrong None line judged.WrongArch) right block shown none e h = absurd h.judged
+  judged_input_done status old new (judging.TooMuch None line) right block shown none e h =
+      let w = h.judged.0.holds in absurd (short_log [] w.log w.bytes line (right w.log w.text).short w.is)
+  judged_input_done status old new (judging.TooMuch (Some file) line) right block shown none e h = absurd h.judged
+  judged_input_done status old new (judging.NoFile word) right block shown none e h = absurd (file_of_test old.shelf new.shelf word shown h.judged.0)
+  judged_input_done status old new judging.ShelfFault right block shown none e h = absurd (none.shelf h.judged.0.fault)
+  judged_input_done status old new judging.InputFault right block shown none e h = absurd (none.input h.judged.0.holds.fault)
+  judged_input_done status old new judging.NoMemory right block shown none e h = inr (e, tt)
+
+states_done : (words : List (List ℕ)) (asked : States) (b : Bool) (status : Status) (old new : Devices) (end : StatesEnd) (shown : Option Files)
+    → old.shelf.files ≡ shown → CanJudgeAmong b words asked old → NoFaults old new → status ≡ states_status end → EndsJudgedAmong b words asked end old new
+    → IsDone (Ok (AsksStates asked)) status
+states_done words asked true status old new end None e can none s h =
+    absurd (subst (λ (f : Option Files). OfItsFiles f (λ files. AreTestAndLogs files words asked)) e can)
+states_done words asked true status old new end (Some files) e can none s h =
+    let c : AreTestAndLogs files words asked = subst (λ (f : Option Files). OfItsFiles f (λ files. AreTestAndLogs files words asked)) e can in
+    judged_files_done words asked files c.read c.test c.logs c.block status old new end e none s h
+states_done words asked false status old new end None e can none s h =
+    absurd (subst (λ (f : Option Files). OfItsFiles f (AreTestAndInput words asked old.input.left)) e can)
+states_done words asked false status old new end (Some files) e can none s h =
+    let c : AreTestAndInput words asked old.input.left files = subst (λ (f : Option Files). OfItsFiles f (AreTestAndInput words asked old.input.left)) e can in
+    judged_input_done words asked files c.read c.test status old new end c.log c.block e none s h
 
 -- an execution is printed where the edges aren't refused
 run_done : (asked : Result Task Usage) (form : ExecutionForm) (m : Machine) (refused : Option Refusal) (text : List ℕ) (meant : TestRead → Execution) (status : Status) (old new : SinkSeen)
@@ -430,7 +636,7 @@ listed_done asked (statuses.WriteFault Out) old new none h = absurd (none h.fail
 listed_done asked status old new none h = absurd h
 
 asked_done : (words : List (List ℕ)) (asked : Result Task Usage) (status : Status) (old new : Devices)
-    → AnswersAsked words asked status old new → CanBeDone words asked old → NoFaults old new → IsDone asked status
+    → AnswersAsked words asked status old new → CanBeDone words asked old → NoFaults old new → IsDoneSo asked status
 asked_done words (Err usage) status old new h can none = absurd can
 asked_done words (Ok (AsksWhy asked)) status old new h can none = why_done asked (why_unshown asked) status old new none can h.both
 asked_done words (Ok (AsksExecution form asked)) status old new h can none =
@@ -453,9 +659,16 @@ asked_done words (Ok (AsksDemo asked)) status old new h can none = demo_done ask
 asked_done words (Ok (AsksFamilies asked)) status old new h can none = classify_done words asked.arch asked.files status old new none can h
 asked_done words (Ok (AsksCheck asked)) status old new h can none =
     check_done words asked status old.shelf new.shelf old.out new.out h.end old.shelf.files refl can none.shelf none.out h.status_is h.ends.both.checked
-asked_done words (Ok (AsksSum form)) status old new h can none = among (name_logs form words) can h.ends
+asked_done words (Ok (AsksStates asked)) status old new h can none =
+    states_done words asked (judge_logs words asked) status old new h.end old.shelf.files refl can none h.status_is h.ends
+asked_done words (Ok (AsksSum form LeaveOut)) status old new h can none = among (keep_logs form words) can h.ends
   where
-    among : (b : Bool) → CanSumAmong b form words old → EndsAmong b form words h.end old new → IsDone (Ok (AsksSum form)) status
+    among : (b : Bool) → CanKeepAmong b form words old → EndsKeptAmong b form words h.end old new → IsDoneSo (Ok (AsksSum form LeaveOut)) status
+    among true can ends = kept_files_done form words status old new h.end old.shelf.files refl can none h.status_is ends
+    among false can ends = kept_input_done form status old new h.end can none h.status_is ends
+asked_done words (Ok (AsksSum form End)) status old new h can none = among (name_logs form words) can h.ends
+  where
+    among : (b : Bool) → CanSumAmong b form words old → EndsAmong b form words h.end old new → IsDone (Ok (AsksSum form End)) status
     among true can ends =
         summed_done form words status old.shelf new.shelf old.out new.out h.end old.shelf.files refl can none.shelf none.out h.status_is ends.both.summed
     among false can ends = input_done form status old new h.end none can h.status_is ends

@@ -28,7 +28,7 @@ use Rattle.arch_arm.specs.ReadsBack as arm_back
 use Rattle.litmus_text.specs.Printable.{IsTestName}
 use Rattle.diy_words.specs.{declared.usage.Usage.Usage, TestNames.is_name}
 use Rattle.diy_words.specs.declared.request.ExecutionForm.{ExecutionForm}
-use Rattle.diy_words.specs.Requests.{Task, TestTask, ListTask, AsksTest, AsksWhy, WhyTask, AsksCoherence, CoherenceTask, AsksName, AsksList, AsksFamilies, AsksSum, AsksCross, AsksDemo, AsksCheck, AsksExecution, AsksCoherenceExecution, AsksNeeds, AsksLines, AsksLineTests, LineTestsTask, CrossTask, asked_of}
+use Rattle.diy_words.specs.Requests.{Task, TestTask, ListTask, AsksTest, AsksWhy, WhyTask, AsksCoherence, CoherenceTask, AsksName, AsksList, AsksFamilies, AsksSum, AsksStates, AsksCross, AsksDemo, AsksCheck, AsksExecution, AsksCoherenceExecution, AsksNeeds, AsksLines, AsksLineTests, LineTestsTask, CrossTask, asked_of}
 use Rattle.cycle_names.specs.CycleNames.{name_of}
 use Rattle.diy_words.proofs.RequestForm.{asked_form}
 use Rattle.test_maker.specs.{declared.refusal.Refusal.Refusal, Refusals.{foreign_edge, refusal_of}, CycleText.cycle_text}
@@ -299,7 +299,8 @@ asked_force words status old new h = of_asked (asked_of words) refl h
     of_asked (Ok (AsksCross asked)) e h = of_cross asked h.both
     of_asked (Ok (AsksDemo asked)) e h = tt
     of_asked (Ok (AsksFamilies asked)) e h = tt
-    of_asked (Ok (AsksSum form)) e h = tt
+    of_asked (Ok (AsksSum form wrong)) e h = tt
+    of_asked (Ok (AsksStates asked)) e h = tt
     of_asked (Ok (AsksCheck asked)) e h = tt
     of_asked (Ok (AsksExecution form asked)) e h = of_execution form asked e h.out
     of_asked (Ok (AsksCoherenceExecution form asked)) e h = of_loop form asked e h.out

@@ -7,12 +7,17 @@ mod ForcedTests
 pub mod ListingAnswers
 pub mod CrossAnswers
 pub mod SumAnswers
+pub mod SkipAnswers
+pub mod StatesAnswers
+pub mod StatesCounts
 pub mod FamilyAnswers
 pub mod LineTestAnswers
 pub mod LinesForce
 pub mod RightLines
 pub mod Causes
 pub mod Completeness
+pub mod StayingCounts
 pub mod Limits
+pub mod Ends
 pub mod CountedLogs
 pub mod NeedsAnswers

@@ -2,7 +2,7 @@
 use Rattle.std.proofs.Common.{◌≡◌, ℕ, List, refl, ap, ◌∙◌, sym, subst, inl, inr, Ok}
 use Rattle.std.specs.Prelude.{◌⊎◌, Result}
 use Rattle.relax_edges.specs.declared.kinds.ArchName.{ArchName}
-use Rattle.diy_io.specs.{Count.Rose, Shelf.{ShelfSeen, Idle}, Taken.SourceSeen, Wrote.SinkSeen}
+use Rattle.diy_io.specs.{Count.Rose, Shelf.{CountsStay, ShelfSeen, Idle}, Taken.SourceSeen, Wrote.SinkSeen}
 use Rattle.diy_words.specs.{declared.request.LineTests.LineTests, declared.usage.Usage.Usage, Given.GivesTask, Requests.{Task, LineTestsTask, AsksLineTests, asked_of}}
 use Rattle.diy_words.specs.declared.request.Request.TheVariants as requests
 use Rattle.tests_to_files.specs.GivenCycles.{PutUpTo}
@@ -12,6 +12,7 @@ use Rattle.lines_to_files.specs.declared.ending.LineTestsEnd.TheVariants.{Done, 
 use Rattle.run_status.specs.declared.status.Status.{Status}
 use Rattle.diy_tools.specs.{Answers.{Answers, AnswersAsked}, ArchMachines.machine_of, Devices.devices, KeptRequests.{AnswersLined, EndsLinedFor, line_tests_kept}}
 use Rattle.diy_tools.specs.LineTestAnswers.{AnswersLineTests, test_form}
+use Rattle.diy_tools.proofs.StayingCounts.{same_counts}
 
 -- what is left on an architecture is left on the one with its name
 pub lined_on : (arch named : ArchName) (request : LineTests) (form : TestForm) (end : LineTestsEnd) (old new : SourceSeen) (shelf shelf' : ShelfSeen) (out out' : SinkSeen)
@@ -35,9 +36,9 @@ module _ (making : Making) (old new : SourceSeen) (shelf shelf' : ShelfSeen) whe
   file_idle (inl part) = part.part.mode
   file_idle (inr part) = part.1.part.mode
 
-  file_opens : {later : Type 0} {files all : List (List ℕ × List ℕ)} → PutUpTo shelf shelf' files ⊎ (later × PutUpTo shelf shelf' all) → shelf'.opened ≡ shelf.opened
-  file_opens (inl part) = part.part.counts.opened
-  file_opens (inr part) = part.1.part.counts.opened
+  file_stays : {later : Type 0} {files all : List (List ℕ × List ℕ)} → PutUpTo shelf shelf' files ⊎ (later × PutUpTo shelf shelf' all) → CountsStay shelf shelf'
+  file_stays (inl part) = part.part.counts
+  file_stays (inr part) = part.1.part.counts
 
   module _ (out out' : SinkSeen) where
     -- then no file is open
@@ -50,15 +51,15 @@ module _ (making : Making) (old new : SourceSeen) (shelf shelf' : ShelfSeen) whe
     lined_idle ShelfFault idle h = file_idle h.0.part
     lined_idle NoMemory idle h = ap (λ (s : ShelfSeen). s.mode) h.0 ∙ idle
 
-    -- and none was opened to be read
-    pub lined_opens : (end : LineTestsEnd) → EndsLineTests making end old new shelf shelf' out out' → shelf'.opened ≡ shelf.opened
-    lined_opens Done h = h.files.counts.opened
-    lined_opens OutFault h = h.files.counts.opened
-    lined_opens (Wrong line kind) h = h.0.files.counts.opened
-    lined_opens (TooMuch line) h = h.0.files.counts.opened
-    lined_opens InputFault h = h.0.files.counts.opened
-    lined_opens ShelfFault h = file_opens h.0.part
-    lined_opens NoMemory h = ap (λ (s : ShelfSeen). s.opened) h.0
+    -- and none was opened to be read: the counts stay
+    pub lined_stays : (end : LineTestsEnd) → EndsLineTests making end old new shelf shelf' out out' → CountsStay shelf shelf'
+    lined_stays Done h = h.files.counts
+    lined_stays OutFault h = h.files.counts
+    lined_stays (Wrong line kind) h = h.0.files.counts
+    lined_stays (TooMuch line) h = h.0.files.counts
+    lined_stays InputFault h = h.0.files.counts
+    lined_stays ShelfFault h = file_stays h.0.part
+    lined_stays NoMemory h = same_counts shelf shelf' h.0
 
 -- what is answered of a request for the tests of lines
 pub line_tests_answered : (words : List (List ℕ)) (request : LineTests) (status : Status) (old new : SourceSeen) (before after : SinkSeen) (shelf shelf' : ShelfSeen)

@@ -1,6 +1,6 @@
 -- Why a call ends with its status, and what it leaves on its devices: one cause for each status.
 -- Source: own.
-use Rattle.std.specs.Prelude.{◌≡◌, ◌≤◌, ◌<◌, ◌+◌, ◌^◌, ◌⊎◌, ℕ, List, [], ◌∷◌, Option, Some, None, Result, Ok, Err}
+use Rattle.std.specs.Prelude.{◌≡◌, ◌≤◌, ◌<◌, ◌+◌, ◌^◌, ◌⊎◌, ℕ, List, [], ◌∷◌, length, Option, Some, None, Result, Ok, Err}
 use Rattle.relax_edges.specs.declared.kinds.ArchName.{ArchName}
 use Rattle.cycle_names.specs.Laws.{NamesNone}
 use Rattle.cycles_from_lines.specs.{declared.errors.LinesError.LinesError, Classified.{ClassifiedAll, ClassifiedPart, ReadsUpTo}}
@@ -16,7 +16,13 @@ use Rattle.exec_check.specs.declared.checked_errors.CheckedKind.TheVariants as c
 use Rattle.diy_io.specs.{Count.{Rose, count_of}, Taken.SourceSeen, Wrote.{SinkSeen, WroteAll, WrotePart}}
 use Rattle.diy_words.specs.{declared.usage.Usage.Usage, declared.usage.UsageKind.UsageKind, declared.usage.UsageKind.TheVariants.UnknownName}
 use Rattle.diy_words.specs.declared.request.ExecutionForm.{ExecutionForm}
-use Rattle.diy_words.specs.Requests.{Task, TestTask, CoherenceTask, Sought, WhyTask, AsksTest, AsksWhy, AsksCoherence, AsksName, AsksList, AsksFamilies, AsksSum, AsksCross, AsksDemo, AsksCheck, AsksExecution, AsksCoherenceExecution, AsksNeeds, AsksLines, AsksLineTests, OfEdges, OfName, OfLines, OfNames, asked_of}
+use Rattle.diy_words.specs.Requests.{Task, TestTask, CoherenceTask, Sought, WhyTask, AsksTest, AsksWhy, AsksCoherence, AsksName, AsksList, AsksFamilies, AsksSum, AsksCross, AsksDemo, AsksCheck, AsksExecution, AsksCoherenceExecution, AsksNeeds, AsksLines, AsksLineTests, AsksStates, OfEdges, OfName, OfLines, OfNames, asked_of}
+use Rattle.diy_words.specs.declared.request.WrongBlocks.TheVariants.{End, LeaveOut}
+use Rattle.states_of_logs.specs.declared.states_end.{StatesEnd.StatesEnd}
+use Rattle.states_of_logs.specs.declared.states_end.StatesEnd.TheVariants as judging
+use Rattle.states_of_logs.specs.declared.states_end.StatesKind.TheVariants as judged
+use Rattle.msum7_files.specs.SkipEnds.{KeepingMissing}
+use Rattle.diy_tools.specs.{SkipAnswers.{EndsKept, WritesKept, first_kept}, StatesAnswers.EndsJudged}
 use Rattle.tests_to_files.specs.declared.ending.ListingEnd.TheVariants as listings
 use Rattle.msum7_files.specs.{declared.sum_end.SumEnd.SumEnd, SumEnds.LogFileMissing}
 use Rattle.msum7_files.specs.declared.sum_end.SumEnd.TheVariants as sums
@@ -105,14 +111,22 @@ CheckedStops words asked None line kind old new = ⊥
 
 -- the reading of logs by msum7 ends in this way, and nothing is written
 abbrev pub SumStops : List (List ℕ) → Result Task Usage → SumEnd → Devices → Devices → Type 0
-SumStops words (Ok (AsksSum form)) end old new = EndsSum form words end old new × NothingWritten old new
+SumStops words (Ok (AsksSum form End)) end old new = EndsSum form words end old new × NothingWritten old new
+SumStops words (Ok (AsksSum form LeaveOut)) end old new = EndsKept form words (Err end) old new × NothingWritten old new
 SumStops words _ end old new = ⊥
 
 -- msum7 doesn't find the log that the argument at an index names, and nothing is written
 abbrev pub SumMisses : List (List ℕ) → Result Task Usage → ℕ → Devices → Devices → Type 0
-SumMisses words (Ok (AsksSum form)) word old new =
-    LogFileMissing old.shelf new.shelf words (first_log form) word × SumStops words (Ok (AsksSum form)) (sums.NoFile word) old new
+SumMisses words (Ok (AsksSum form End)) word old new =
+    LogFileMissing old.shelf new.shelf words (first_log form) word × SumStops words (Ok (AsksSum form End)) (sums.NoFile word) old new
+SumMisses words (Ok (AsksSum form LeaveOut)) word old new =
+    KeepingMissing old.shelf new.shelf words (first_kept form) word × SumStops words (Ok (AsksSum form LeaveOut)) (sums.NoFile word) old new
 SumMisses words _ word old new = ⊥
+
+-- the reading of the test and the logs by mcheck7 -states ends in this way, and nothing is written
+abbrev pub StatesStop : List (List ℕ) → Result Task Usage → StatesEnd → Devices → Devices → Type 0
+StatesStop words (Ok (AsksStates asked)) end old new = EndsJudged words asked end old new × NothingWritten old new
+StatesStop words _ end old new = ⊥
 
 -- the writing of the tests of the input's lines by diyone7 -lines ends in this way: the files of the lines before are written
 abbrev pub LineTestsStop : Result Task Usage → LineTestsEnd → Devices → Devices → Type 0
@@ -123,17 +137,18 @@ LineTestsStop _ end old new = ⊥
 abbrev pub LineTestWrong : Result Task Usage → Option ℕ → ℕ → WrongTest → Devices → Devices → Type 0
 LineTestWrong asked file line kind old new = (file ≡ None) × LineTestsStop asked (tests.Wrong line kind) old new
 
--- more than 2^40 bytes were taken: from the input of norm7, classify7, msum7 or diyone7 -lines, or its count is at its maximum; or from a
--- file that is a log of msum7
+-- more than 2^40 bytes were taken: from the input of norm7, classify7, msum7, diyone7 -lines or mcheck7 -states, or its count is at its
+-- maximum; or from a file that is a log of msum7 or mcheck7 -states
 abbrev pub PassesLimit : List (List ℕ) → Result Task Usage → Option ℕ → ℕ → Devices → Devices → Type 0
 PassesLimit words asked None line old new =
     RoseFar old.input.taken new.input.taken
     × (LinesStop asked (lines.TooMuch line) old new
-    ⊎ (SumStops words asked (sums.TooMuch None line) old new ⊎ LineTestsStop asked (tests.TooMuch line) old new))
+    ⊎ (SumStops words asked (sums.TooMuch None line) old new
+    ⊎ (LineTestsStop asked (tests.TooMuch line) old new ⊎ StatesStop words asked (judging.TooMuch None line) old new)))
 PassesLimit words asked (Some file) line old new =
     Rose old.shelf.opened new.shelf.opened
     × (2 ^ 40 < new.shelf.taken)
-    × SumStops words asked (sums.TooMuch (Some file) line) old new
+    × (SumStops words asked (sums.TooMuch (Some file) line) old new ⊎ StatesStop words asked (judging.TooMuch (Some file) line) old new)
 
 -- nothing refuses the request, and diyone7 -why has written the test and two executions, as far as this status says
 abbrev pub WhyStops : WhyTask → Status → Devices → Devices → Type 0
@@ -192,7 +207,9 @@ Finishes words (Ok (AsksList asked)) old new = ShelfAndOut (EndsAsked asked list
 Finishes words (Ok (AsksCross asked)) old new = ShelfAndOut (EndsCrossed asked listings.Done) old new
 Finishes words (Ok (AsksDemo asked)) old new = OutAlone (λ out out'. WroteAll out out' (demo_asked asked)) old new
 Finishes words (Ok (AsksFamilies asked)) old new = FamiliesAll words asked.arch asked.files old new
-Finishes words (Ok (AsksSum form)) old new = EndsSum form words sums.Done old new
+Finishes words (Ok (AsksSum form End)) old new = EndsSum form words sums.Done old new
+Finishes words (Ok (AsksSum form LeaveOut)) old new = WritesKept form words (λ blocks. blocks ≡ []) old new
+Finishes words (Ok (AsksStates asked)) old new = EndsJudged words asked judging.Done old new
 Finishes words (Ok (AsksCheck asked)) old new = EndsCheck words asked checking.Done old new
 Finishes words (Ok (AsksExecution form asked)) old new = ExecutionStops form asked statuses.Done old new
 Finishes words (Ok (AsksCoherenceExecution form asked)) old new = CoherenceExecutionStops form asked statuses.Done old new
@@ -222,7 +239,9 @@ OutStops words (Ok (AsksList asked)) old new = ShelfAndOut (EndsAsked asked list
 OutStops words (Ok (AsksCross asked)) old new = ShelfAndOut (EndsCrossed asked listings.OutFault) old new
 OutStops words (Ok (AsksDemo asked)) old new = OutAlone (λ out out'. WrotePart out out' (demo_asked asked)) old new
 OutStops words (Ok (AsksFamilies asked)) old new = FamiliesPart words asked.arch asked.files old new
-OutStops words (Ok (AsksSum form)) old new = EndsSum form words sums.OutFault old new
+OutStops words (Ok (AsksSum form End)) old new = EndsSum form words sums.OutFault old new
+OutStops words (Ok (AsksSum form LeaveOut)) old new = EndsKept form words (Err sums.OutFault) old new
+OutStops words (Ok (AsksStates asked)) old new = EndsJudged words asked judging.OutFault old new
 OutStops words (Ok (AsksCheck asked)) old new = EndsCheck words asked checking.OutFault old new
 OutStops words (Ok (AsksExecution form asked)) old new = ExecutionStops form asked (statuses.WriteFault Out) old new
 OutStops words (Ok (AsksCoherenceExecution form asked)) old new = CoherenceExecutionStops form asked (statuses.WriteFault Out) old new
@@ -231,10 +250,19 @@ OutStops words (Ok (AsksNeeds asked)) old new =
 OutStops words (Ok (AsksLines asked)) old new = OutAlone (AnswersListed asked (statuses.WriteFault Out)) old new
 OutStops words (Ok (AsksLineTests asked)) old new = EndsLined asked tests.OutFault old new
 
+-- msum7 -skip has written the sum, and left out at least one block
+abbrev pub LeavesSome : List (List ℕ) → Result Task Usage → Devices → Devices → Type 0
+LeavesSome words (Ok (AsksSum form LeaveOut)) old new = WritesKept form words (λ blocks. 0 < length blocks) old new
+LeavesSome words _ old new = ⊥
+
 -- the cause of a status, and what is left on the devices
 abbrev pub CausesAsked : List (List ℕ) → Result Task Usage → Status → Devices → Devices → Type 0
 -- everything is done
 CausesAsked words asked statuses.Done old new = Finishes words asked old new
+-- msum7 -skip left out a block
+CausesAsked words asked statuses.Skipped old new = LeavesSome words asked old new
+-- no log of mcheck7 -states has a block of the test
+CausesAsked words asked (statuses.NoBlock word) old new = StatesStop words asked (judging.NoBlock word) old new
 -- the edges of diyone7 or of norm7 are refused for this reason, the first that holds; no device changed
 CausesAsked words asked (statuses.Refused refusal) old new = (asked_refused asked ≡ Some refusal) × (new ≡ old)
 -- the arguments make no request, or no cycle has the name that norm7 is given; no device changed
@@ -246,34 +274,40 @@ CausesAsked words asked (statuses.BadText file line (texts.Line kind)) old new =
 CausesAsked words asked (statuses.BadText file line (texts.Refused refusal)) old new = LineTestWrong asked file line (wrong.Refused refusal) old new
 CausesAsked words asked (statuses.BadText file line texts.BadName) old new = LineTestWrong asked file line wrong.BadName old new
 CausesAsked words asked (statuses.BadText file line texts.NameTaken) old new = LineTestWrong asked file line wrong.NameTaken old new
--- a log of msum7 has this error, the first such
-CausesAsked words asked (statuses.BadText file line (texts.Log kind)) old new = SumStops words asked (sums.Wrong file line kind) old new
+-- a log of msum7 or mcheck7 -states has this error, the first such
+CausesAsked words asked (statuses.BadText file line (texts.Log kind)) old new =
+    SumStops words asked (sums.Wrong file line kind) old new ⊎ StatesStop words asked (judging.Wrong file line (judged.Log kind)) old new
 -- a file of classify7, or the test of mcheck7, has this error, the first such: it is no test, or is one of another architecture
 CausesAsked words asked (statuses.BadText file line (texts.Test kind)) old new =
-    FileStops words asked file line (kinds.Test kind) old new ⊎ CheckedStops words asked file line (checked.Test kind) old new
+    FileStops words asked file line (kinds.Test kind) old new
+    ⊎ (CheckedStops words asked file line (checked.Test kind) old new ⊎ StatesStop words asked (judging.Wrong file line (judged.Test kind)) old new)
 CausesAsked words asked (statuses.BadText file line texts.WrongArch) old new =
-    FileStops words asked file line kinds.WrongArch old new ⊎ CheckedStops words asked file line checked.WrongArch old new
+    FileStops words asked file line kinds.WrongArch old new
+    ⊎ (CheckedStops words asked file line checked.WrongArch old new ⊎ StatesStop words asked (judging.Wrong file line judged.WrongArch) old new)
 -- a file of classify7 has this error, the first such: it is a test that quotes no cycle of the architecture
 CausesAsked words asked (statuses.BadText file line texts.NoCycle) old new = FileStops words asked file line kinds.NoCycle old new
 -- the file of the execution of mcheck7 has this error, the first such
 CausesAsked words asked (statuses.BadText file line (texts.Exec kind)) old new = CheckedStops words asked file line (checked.Exec kind) old new
--- a text of norm7, classify7, msum7 or diyone7 -lines has more than 2^40 bytes
+-- a text of norm7, classify7, msum7, diyone7 -lines or mcheck7 -states has more than 2^40 bytes
 CausesAsked words asked (statuses.BadText file line texts.TooMuch) old new = PassesLimit words asked file line old new
 -- a file that msum7 is to sum, or classify7 or mcheck7 to read, doesn't exist, and the shelf's error count is what it was; or, if the shelf
 -- doesn't show its files, that count rose or is at its maximum
 CausesAsked words asked (statuses.NoFile word) old new =
     SumMisses words asked word old new
-    ⊎ (FilesStop words asked (classing.NoFile word) old new ⊎ CheckStops words asked (checking.NoFile word) old new)
--- the input of norm7, classify7, msum7 or diyone7 -lines failed: its error count rose or is at its maximum
+    ⊎ (FilesStop words asked (classing.NoFile word) old new
+    ⊎ (CheckStops words asked (checking.NoFile word) old new ⊎ StatesStop words asked (judging.NoFile word) old new))
+-- the input of norm7, classify7, msum7, diyone7 -lines or mcheck7 -states failed: its error count rose or is at its maximum
 CausesAsked words asked (statuses.ReadFault Input) old new =
     Rose old.input.faults new.input.faults
     × (LinesStop asked lines.InputFault old new
-    ⊎ (SumStops words asked sums.InputFault old new ⊎ LineTestsStop asked tests.InputFault old new))
--- the shelf failed while msum7 read a log, or classify7 or mcheck7 a file
+    ⊎ (SumStops words asked sums.InputFault old new
+    ⊎ (LineTestsStop asked tests.InputFault old new ⊎ StatesStop words asked judging.InputFault old new)))
+-- the shelf failed while msum7 or mcheck7 -states read a log, or classify7 or mcheck7 a file
 CausesAsked words asked (statuses.ReadFault Shelf) old new =
     Rose old.shelf.faults new.shelf.faults
     × (SumStops words asked sums.ShelfFault old new
-    ⊎ (FilesStop words asked classing.ShelfFault old new ⊎ CheckStops words asked checking.ShelfFault old new))
+    ⊎ (FilesStop words asked classing.ShelfFault old new
+    ⊎ (CheckStops words asked checking.ShelfFault old new ⊎ StatesStop words asked judging.ShelfFault old new)))
 CausesAsked words asked (statuses.ReadFault Out) old new = ⊥
 -- standard output failed
 CausesAsked words asked (statuses.WriteFault Out) old new = Rose old.out.faults new.out.faults × OutStops words asked old new

@@ -7,15 +7,20 @@ use Rattle.exec_check.specs.FilesChecked.{AreTestAndExecution}
 use Rattle.cycle_names.specs.Laws.{NamesNone}
 use Rattle.cycles_from_lines.specs.{Cycles.are_sound, declared.line.LineForm.LineForm, declared.line.LineForm.TheVariants.{Edges, Names}}
 use Rattle.text_parts.specs.Lines.{lines_of}
-use Rattle.diy_io.specs.{declared.source.TheConstants.MAX_INPUT, Count.Rose, Shelf.Files}
+use Rattle.diy_io.specs.{declared.source.TheConstants.MAX_INPUT, Count.Rose, Shelf.Files, Opened.name_at}
 use Rattle.diy_words.specs.{declared.usage.Usage.Usage, declared.request.Check.Check}
-use Rattle.diy_words.specs.Requests.{Task, Sought, AsksTest, AsksWhy, AsksCoherence, AsksName, AsksList, AsksFamilies, AsksSum, AsksCross, AsksDemo, AsksCheck, AsksExecution, AsksCoherenceExecution, AsksNeeds, AsksLines, AsksLineTests, OfEdges, OfName, OfLines, OfNames, asked_of}
+use Rattle.diy_words.specs.Requests.{Task, Sought, AsksTest, AsksWhy, AsksCoherence, AsksName, AsksList, AsksFamilies, AsksSum, AsksCross, AsksDemo, AsksCheck, AsksExecution, AsksCoherenceExecution, AsksNeeds, AsksLines, AsksLineTests, AsksStates, OfEdges, OfName, OfLines, OfNames, asked_of}
 use Rattle.msum7_files.specs.declared.sum_form.SumForm.{SumForm}
 use Rattle.msum7_files.specs.{Logs.{IsText, IsShort, AreWholeLogs}, SumEnds.AreLogs}
-use Rattle.run_status.specs.{declared.status.Status.Status, declared.status.Status.TheVariants.{Done, NoMemory}}
+use Rattle.litmus_text.specs.TestReading.{TestRead}
+use Rattle.tests_from_files.specs.TestSaid.{test_said}
+use Rattle.states_of_logs.specs.StatesSummed.{states_in_logs}
+use Rattle.diy_words.specs.declared.request.{States.States, WrongBlocks.TheVariants.{End, LeaveOut}}
+use Rattle.run_status.specs.{declared.status.Status.Status, declared.status.Status.TheVariants.{Done, Skipped, NoMemory}}
 use Rattle.diy_tools.specs.{Devices.{Devices, DevicesSeen, devices}}
 use Rattle.diy_tools.specs.{FamilyAnswers.read_on, ArchMachines.machine_of, Memory.MayWantMemory, Refused.refused_list, TestAnswers.test_refused, SumAnswers.{first_log, name_logs}}
 use Rattle.diy_tools.specs.{WhyAnswers.why_unshown, CoherenceAnswers.coherence_refused, LineTestAnswers.making_asked}
+use Rattle.diy_tools.specs.{SkipAnswers.{first_kept, keep_logs}, StatesAnswers.judge_logs}
 use Rattle.lines_to_files.specs.{TestFiles.Making, LineTestEnds.AreRightLines}
 
 -- a text has at most 2^40 bytes, and none of its lines of cycles has an error
@@ -66,6 +71,54 @@ CanSumAmong false form words old = OfItsText old.input.left IsRightLog
 abbrev pub CanSum : SumForm → List (List ℕ) → Devices → Type 0
 CanSum form words old = CanSumAmong (name_logs form words) form words old
 
+-- the arguments from this index on name files that exist, each of at most 2^40 bytes
+pub record AreShortLogs (files : Files) (words : List (List ℕ)) (first : ℕ) : Type 0 where
+  pub logs : List (List ℕ)
+  pub all : first + length logs ≡ length words
+  pub are : AreLogs (Some files) words first logs
+
+-- msum7 can sum what is kept of the logs that the arguments name if they do, or else of the input, whatever errors these have
+abbrev pub CanKeepAmong : Bool → SumForm → List (List ℕ) → Devices → Type 0
+CanKeepAmong true form words old = OfItsFiles old.shelf.files (λ files. AreShortLogs files words (first_kept form))
+CanKeepAmong false form words old = OfItsText old.input.left IsShort
+
+-- so it can for these arguments
+abbrev pub CanKeep : SumForm → List (List ℕ) → Devices → Type 0
+CanKeep form words old = CanKeepAmong (keep_logs form words) form words old
+
+-- the argument of mcheck7 -states names the file of this test
+pub record IsTestFile (files : Files) (words : List (List ℕ)) (asked : States) (read : TestRead) : Type 0 where
+  pub text : List ℕ
+  pub there : files (name_at words asked.test) ≡ Some text
+  pub is_test : test_said asked.arch (machine_of asked.arch).writing text ≡ Ok read
+
+-- these logs have a block of a test
+abbrev pub HaveBlock : TestRead → List (List ℕ) → Type 0
+HaveBlock read logs = states_in_logs read.name logs ≡ Ok None → ⊥
+
+-- the argument names the file of a test, and those after it name logs without an error, which have a block of the test
+pub record AreTestAndLogs (files : Files) (words : List (List ℕ)) (asked : States) : Type 0 where
+  pub read : TestRead
+  pub test : IsTestFile files words asked read
+  pub logs : AreRightLogs files words (asked.test + 1)
+  pub block : HaveBlock read logs.logs
+
+-- the argument names the file of a test, and the input is a log without an error, which has a block of the test
+pub record AreTestAndInput (words : List (List ℕ)) (asked : States) (left : Option (List ℕ)) (files : Files) : Type 0 where
+  pub read : TestRead
+  pub test : IsTestFile files words asked read
+  pub log : OfItsText left IsRightLog
+  pub block : OfItsText left (λ log. HaveBlock read (log ∷ []))
+
+-- mcheck7 -states can judge the states in the logs that the arguments name if they do, or else in the input
+abbrev pub CanJudgeAmong : Bool → List (List ℕ) → States → Devices → Type 0
+CanJudgeAmong true words asked old = OfItsFiles old.shelf.files (λ files. AreTestAndLogs files words asked)
+CanJudgeAmong false words asked old = OfItsFiles old.shelf.files (AreTestAndInput words asked old.input.left)
+
+-- so it can for these arguments
+abbrev pub CanJudge : List (List ℕ) → States → Devices → Type 0
+CanJudge words asked old = CanJudgeAmong (judge_logs words asked) words asked old
+
 -- the arguments at these indices name files, each of which is a test of the architecture that quotes a cycle
 pub record AreRightTests (files : Files) (words : List (List ℕ)) (arch : ArchName) (places : List ℕ) : Type 0 where
   pub texts : List (List ℕ)
@@ -93,7 +146,9 @@ CanBeDone words (Ok (AsksList asked)) old = ⊤
 CanBeDone words (Ok (AsksCross asked)) old = ⊤
 CanBeDone words (Ok (AsksDemo asked)) old = ⊤
 CanBeDone words (Ok (AsksFamilies asked)) old = CanClassify words asked.arch asked.files old
-CanBeDone words (Ok (AsksSum form)) old = CanSum form words old
+CanBeDone words (Ok (AsksSum form End)) old = CanSum form words old
+CanBeDone words (Ok (AsksSum form LeaveOut)) old = CanKeep form words old
+CanBeDone words (Ok (AsksStates asked)) old = CanJudge words asked old
 CanBeDone words (Ok (AsksCheck asked)) old = CanCheck words asked old
 CanBeDone words (Ok (AsksExecution form asked)) old = test_refused asked ≡ None
 CanBeDone words (Ok (AsksCoherenceExecution form asked)) old = coherence_refused asked ≡ None
@@ -111,10 +166,15 @@ pub record NoFaults (old new : Devices) : Type 0 where
 abbrev pub IsDone : Result Task Usage → Status → Type 0
 IsDone asked status = (status ≡ Done) ⊎ ((status ≡ NoMemory) × MayWantMemory asked)
 
+-- the same, where a sum that leaves out blocks with errors can also have left out some
+abbrev pub IsDoneSo : Result Task Usage → Status → Type 0
+IsDoneSo (Ok (AsksSum form LeaveOut)) status = (status ≡ Skipped) ⊎ IsDone (Ok (AsksSum form LeaveOut)) status
+IsDoneSo asked status = IsDone asked status
+
 -- if the arguments make a request that can be done, and no error count rises or is at its maximum, it is done, or there is no memory for a
 -- tool that can run out of it
 abbrev pub CompleteAsked : List (List ℕ) → Result Task Usage → Status → Devices → Devices → Type 0
-CompleteAsked words asked status old new = CanBeDone words asked old → NoFaults old new → IsDone asked status
+CompleteAsked words asked status old new = CanBeDone words asked old → NoFaults old new → IsDoneSo asked status
 
 -- the same for a call with these arguments that ends with this status and takes the devices from old to new
 abbrev pub Complete : List (List ℕ) → Status → DevicesSeen → DevicesSeen → Type 0

@@ -1,5 +1,5 @@
 -- Only for private functions: what is done for requests as they are kept, and the parts of this for a test, a listing, a sum and the rest.
-use Rattle.std.specs.{Prelude.{ℕ, ◌≡◌, ◌⊎◌, List, [], Option, Some, None, Result, Ok, Err}, Borrow.Bor, Option.{option_map, option_or}}
+use Rattle.std.specs.{Prelude.{ℕ, ◌≡◌, ◌⊎◌, map, List, [], Option, Some, None, Result, Ok, Err}, Borrow.Bor, Option.{option_map, option_or}}
 use Rattle.arrayvec.specs.ArrayString.{ArrayString}
 use Rattle.relax_edges.specs.{declared.edge.Edge.Edge, declared.kinds.ArchName.ArchName, declared.kinds.ObsMode.ObsMode}
 use Rattle.edges_from_text.specs.{declared.list.EdgeList.EdgeList, declared.list.EdgeList.TheVariants.{Whole, TooLong}}
@@ -7,7 +7,7 @@ use Rattle.cycles_from_lines.specs.{Normed.name_line, declared.line.LineForm.The
 use Rattle.diy_io.specs.{Shelf.ShelfSeen, Taken.SourceSeen, Wrote.SinkSeen, declared.errors.Failed.Failed}
 use Rattle.diy_words.specs.{declared.request.Sought.Sought, declared.usage.Usage.Usage, declared.request.Check.Check, declared.request.Cross.Cross}
 use Rattle.diy_words.specs.{declared.request.DiyOne.DiyOne, declared.request.Coherence.Coherence, declared.request.Why.Why}
-use Rattle.diy_words.specs.{declared.request.LineTests.LineTests, Requests.{Task, ListTask, LineTestsTask, AsksCross}}
+use Rattle.diy_words.specs.{declared.request.LineTests.LineTests, Requests.{Task, ListTask, LineTestsTask, AsksCross, AsksSum}}
 use Rattle.lines_to_files.specs.{declared.ending.LineTestsEnd.LineTestsEnd, LineTestEnds.EndsLineTests}
 use Rattle.diy_words.specs.declared.request.Sought.TheVariants as sought
 use Rattle.tests_to_files.specs.{declared.ending.ListingEnd.ListingEnd, declared.listing.Listing.Listing, ListedLines.EndsLines, ListingEnds.EndsListing}
@@ -19,7 +19,7 @@ use Rattle.diy_tools.specs.{ExecutionAnswers.{AnswersRun, Shows}, PrintAnswers.{
 use Rattle.run_status.specs.{declared.status.Status.Status}
 use Rattle.diy_tools.specs.{CheckAnswers.{EndsChecked, check_status, shown_of}, CrossAnswers.{AnswersCross, AnswersChoices}}
 use Rattle.diy_tools.specs.{FamilyAnswers.{EndsNamed, files_status}, ArchMachines.{Machine, machine, machine_of}, NameAnswers.{AnswersLines, AnswersName}}
-use Rattle.diy_tools.specs.{TestAnswers.test_name, Devices.{DevicesSeen, devices}, SumAnswers.{sum_status, AnswersSum, first_log}, Refused.refused_list}
+use Rattle.diy_tools.specs.{TestAnswers.test_name, Devices.{Devices, DevicesSeen, devices}, SumAnswers.{sum_status, AnswersSum, first_log}, Refused.refused_list}
 use Rattle.diy_tools.specs.{WhyAnswers.{WritesFiles, AnswersRuns, why_files, why_line}, LineTestAnswers.{AnswersLineTests, making_asked}}
 use Rattle.msum7_files.specs.declared.sum_form.SumForm.{SumForm}
 use Rattle.msum7_files.specs.{declared.sum_end.SumEnd.SumEnd, SumEnds.{InputSummed, FilesSummed}}
@@ -33,6 +33,11 @@ use Rattle.cycle_events.specs.Resolution.{turned}
 use Rattle.diy_words.specs.declared.request.ExecutionForm.{ExecutionForm}
 use Rattle.needed_links.specs.Needs.{needs_text}
 use Rattle.co_tests.specs.CoRefusals.{coherence_refusal_of, coherence_text}
+use Rattle.log_sum.specs.Sieving.{skipped_view}
+use Rattle.run_status.specs.{declared.outcome.Outcome.Outcome}
+use Rattle.diy_words.specs.{Requests.asked_of, declared.request.Request.Request, declared.request.WrongBlocks.TheVariants.LeaveOut}
+use Rattle.diy_words.specs.declared.request.Request.TheVariants as requests
+use Rattle.diy_tools.specs.{Answers.Answers, SkipAnswers.{EndsKept, SkipEnd, first_named, left_out, skip_status, skipped_form}}
 use Rattle.run_status.specs.declared.status.Status.TheVariants as statuses
 
 -- the edges that are kept; none if there are too many
@@ -262,3 +267,30 @@ pub record SumsFiles (form : SumForm) (words : List (List ℕ)) (status : Status
 -- what msum7 does with the logs that the arguments name, or with the input if they name none, by what is seen of the devices
 abbrev pub AnswersSumOf : SumForm → List (List ℕ) → Status → DevicesSeen → DevicesSeen → Type 0
 AnswersSumOf form words status old new = AnswersSum form words status (devices old) (devices new)
+
+-- what msum7 -skip does, its outcome says
+pub record GivesKept (form : SumForm) (words : List (List ℕ)) (outcome : Outcome) (old new : Devices) : Type 0 where
+  pub end : SkipEnd
+  pub ends : EndsKept form words end old new
+  pub status_is : outcome.status ≡ skip_status end
+  pub first_is : outcome.first_log ≡ first_named form words
+  pub blocks_are : map skipped_view outcome.skipped.items ≡ left_out end
+
+-- the form of the sum, if a request is one for a sum without the blocks that have errors
+abbrev pub skipped_request : Request → Option SumForm
+skipped_request (requests.Sum form LeaveOut) = Some form
+skipped_request _ = None
+
+-- the status says what was done, and no block was left out
+pub record GivesWhole (words : List (List ℕ)) (outcome : Outcome) (old new : DevicesSeen) : Type 0 where
+  pub answers : Answers words outcome.status old new
+  pub none : outcome.skipped.items ≡ []
+
+-- an outcome says what was done, given the form of a sum that leaves out blocks if one was asked for
+abbrev pub GivesFor : Option SumForm → List (List ℕ) → Outcome → DevicesSeen → DevicesSeen → Type 0
+GivesFor (Some form) words outcome old new = (asked_of words ≡ Ok (AsksSum form LeaveOut)) × GivesKept form words outcome (devices old) (devices new)
+GivesFor None words outcome old new = GivesWhole words outcome old new
+
+-- an outcome says what a call with these arguments did
+abbrev pub Gives : List (List ℕ) → Outcome → DevicesSeen → DevicesSeen → Type 0
+Gives words outcome old new = GivesFor (skipped_form (asked_of words)) words outcome old new

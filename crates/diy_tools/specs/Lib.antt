@@ -21,5 +21,9 @@ pub mod Memory
 pub mod Complete
 pub mod Causes
 pub mod Limit
+pub mod Ends
 pub mod ExecutionAnswers
 pub mod Headline
+pub mod SkipAnswers
+pub mod StatesAnswers
+pub mod Reported

@@ -2,7 +2,7 @@
 -- Source: own.
 use Rattle.std.specs.Prelude.{ℕ, ◌≡◌, ⊤, List, Result, Ok}
 use Rattle.diy_words.specs.declared.usage.Usage.{Usage}
-use Rattle.diy_words.specs.Requests.{Task, AsksWhy, AsksFamilies, AsksSum, AsksCross, AsksCheck, AsksExecution, AsksCoherenceExecution, AsksLineTests, asked_of}
+use Rattle.diy_words.specs.Requests.{Task, AsksWhy, AsksFamilies, AsksSum, AsksCross, AsksCheck, AsksExecution, AsksCoherenceExecution, AsksLineTests, AsksStates, asked_of}
 use Rattle.run_status.specs.declared.status.{Status.Status, Status.TheVariants.NoMemory}
 
 -- classify7, msum7, diycross7, mcheck7 and diyone7 with -why, -exec, -dot or -lines can run out of memory; no other tool can, nor can a
@@ -10,9 +10,10 @@ use Rattle.run_status.specs.declared.status.{Status.Status, Status.TheVariants.N
 abbrev pub MayWantMemory : Result Task Usage → Type 0
 MayWantMemory (Ok (AsksWhy asked)) = ⊤
 MayWantMemory (Ok (AsksFamilies asked)) = ⊤
-MayWantMemory (Ok (AsksSum form)) = ⊤
+MayWantMemory (Ok (AsksSum form wrong)) = ⊤
 MayWantMemory (Ok (AsksCross asked)) = ⊤
 MayWantMemory (Ok (AsksCheck asked)) = ⊤
+MayWantMemory (Ok (AsksStates asked)) = ⊤
 MayWantMemory (Ok (AsksExecution form asked)) = ⊤
 MayWantMemory (Ok (AsksCoherenceExecution form asked)) = ⊤
 MayWantMemory (Ok (AsksLineTests asked)) = ⊤

@@ -13,6 +13,8 @@ mod listing;
 mod machines;
 mod naming;
 mod needs;
+mod skips;
+mod states;
 mod sums;
 mod testing;
 mod tools;

@@ -32,7 +32,7 @@ pub(crate) fn sum<I: Source, O: Sink, H: Shelf>(
 }
 
 /// The index of the first argument that can name a log.
-fn first_log(form: SumForm) -> usize
+pub(crate) fn first_log(form: SumForm) -> usize
     ensures { result ≡ first_log form }
 {
     match form {
@@ -66,7 +66,7 @@ fn sum_one<I: Source, O: Sink>(alloc: Global, form: SumForm, input: &mut I, out:
     sum_status(sum_input(alloc, form, input, out))
 }
 
-fn sum_status(end: SumEnd) -> Status
+pub(crate) fn sum_status(end: SumEnd) -> Status
     ensures status { result ≡ sum_status end }
     ensures location { StatusNamesLocation result }
 {

@@ -4,7 +4,7 @@ use Rattle.std.specs.{Prelude.{if◌then◌else◌}, List.list_any}
 use Rattle.relax_edges.specs.declared.edge.Edge.{Edge}
 use Rattle.diy_words.specs.{declared.options.Tool.Tool, declared.usage.Usage.Usage, Parts.{Part, parts_of, tool_named}, Sayings.Saying, Strict.is_strict}
 use Rattle.diy_words.specs.{Gathered.{Gathered, gathered_of, all_given}, SaidInOrder.{sayings, said_all}, Notes.{no_notes, said_noted}}
-use Rattle.diy_words.specs.Requests.{Task, form_asked, AsksTest, AsksWhy, AsksCoherence, AsksName, AsksList, AsksFamilies, AsksSum, AsksCross, AsksDemo, AsksCheck, AsksExecution, AsksCoherenceExecution, AsksNeeds, AsksLines, asks, families_with, demo_with, why_asked, coherence_asked, test_asked, test_or_execution, test_or_picture, test_or_needs, coherence_or_execution, coherence_or_picture, one_asked, diyone_with, edges_chosen, with_chosen, diyone_asked, diy_asked, check_asked, norm_asked, cross_asked, tool_asked, said_asked, loosely_asked, idle_error, unless_error, strictly_asked, asked_for, asked_of, AsksLineTests, line_tests_asked, cycle_asked}
+use Rattle.diy_words.specs.Requests.{Task, form_asked, blocks_asked, states_asked, AsksStates, AsksTest, AsksWhy, AsksCoherence, AsksName, AsksList, AsksFamilies, AsksSum, AsksCross, AsksDemo, AsksCheck, AsksExecution, AsksCoherenceExecution, AsksNeeds, AsksLines, asks, families_with, demo_with, why_asked, coherence_asked, test_asked, test_or_execution, test_or_picture, test_or_needs, coherence_or_execution, coherence_or_picture, one_asked, diyone_with, edges_chosen, with_chosen, diyone_asked, diy_asked, check_asked, norm_asked, cross_asked, tool_asked, said_asked, loosely_asked, idle_error, unless_error, strictly_asked, asked_for, asked_of, AsksLineTests, line_tests_asked, cycle_asked}
 use Rattle.diy_words.specs.declared.request.ExecutionForm.TheVariants.{Text, Drawn}
 use Rattle.diy_words.specs.declared.options.Tool.TheVariants as tools
 use Rattle.diy_words.proofs.{NotedLaws.said_so, OperandLaws.{AreFaultless, given_from, all_said}}
@@ -17,7 +17,7 @@ tool_of (AsksCoherence _) = tools.DiyOne
 tool_of (AsksName _) = tools.Norm
 tool_of (AsksList _) = tools.Diy
 tool_of (AsksFamilies _) = tools.Classify
-tool_of (AsksSum _) = tools.Msum
+tool_of (AsksSum _ _) = tools.Msum
 tool_of (AsksCross _) = tools.Cross
 tool_of (AsksDemo _) = tools.Demo
 tool_of (AsksCheck _) = tools.Check
@@ -26,6 +26,7 @@ tool_of (AsksCoherenceExecution _ _) = tools.DiyOne
 tool_of (AsksNeeds _) = tools.DiyOne
 tool_of (AsksLines _) = tools.Diy
 tool_of (AsksLineTests _) = tools.DiyOne
+tool_of (AsksStates _) = tools.Check
 
 asks_tool : {X : Type 0} (tool : Tool) (request : X → Task) (asked : Result X Usage) (task : Task) → ((x : X) → tool_of (request x) ≡ tool) → asks request asked ≡ Ok task → tool_of task ≡ tool
 asks_tool tool request (Ok x) task of_tool e = let same : request x ≡ task = cc e in ap tool_of (sym same) ∙ of_tool x
@@ -81,9 +82,14 @@ asked_tool tools.Diy count given task e = either_tool tools.Diy AsksLines AsksLi
 asked_tool tools.Cross count given task e = asks_tool tools.Cross AsksCross (cross_asked count given) task (λ x. refl) e
 asked_tool tools.Norm count given task e = asks_tool tools.Norm AsksName (norm_asked count given) task (λ x. refl) e
 asked_tool tools.Classify count given task e = asks_tool tools.Classify AsksFamilies (families_with count given.arch given.files) task (λ x. refl) e
-asked_tool tools.Msum count given task e = let same : AsksSum (form_asked given.table) ≡ task = cc e in ap tool_of (sym same)
+asked_tool tools.Msum count given task e = let same : AsksSum (form_asked given.table) (blocks_asked given.skip) ≡ task = cc e in ap tool_of (sym same)
 asked_tool tools.Demo count given task e = asks_tool tools.Demo AsksDemo (demo_with count given.arch given.count) task (λ x. refl) e
-asked_tool tools.Check count given task e = asks_tool tools.Check AsksCheck (check_asked count given) task (λ x. refl) e
+asked_tool tools.Check count given task e = of_states given.states e
+  where
+    of_states : (b : Bool) → (if b then asks AsksStates (states_asked count given) else asks AsksCheck (check_asked count given)) ≡ Ok task
+        → tool_of task ≡ tools.Check
+    of_states true e = asks_tool tools.Check AsksStates (states_asked count given) task (λ x. refl) e
+    of_states false e = asks_tool tools.Check AsksCheck (check_asked count given) task (λ x. refl) e
 
 said_tool : (tool : Tool) (count : ℕ) (said : Result (List Saying) Usage) (task : Task) → said_asked tool count said ≡ Ok task → tool_of task ≡ tool
 said_tool tool count (Err usage) task e = cc e

@@ -22,15 +22,17 @@ IsUncounted tool =
     (a b : Before) (part : Part) → ◌≡◌ {A = Bool × Bool × Bool} (a.why || a.co, a.lines, a.line_tests) (b.why || b.co, b.lines, b.line_tests)
     → said_by tool a part ≡ said_by tool b part
 
--- it is enough that a word says the same that is neither an option with a value nor a value
-pub by_words : (tool : Tool) → ((a b : Before) (at : ℕ) (text : List ℕ) → said_by tool a (Alone at text) ≡ said_by tool b (Alone at text)) → IsUncounted tool
-by_words tool same a b (Alone at text) h = same a b at text
-by_words tool same a b (Valued opts.Name at value) h = ap (λ before. if before.2 then usage_fault at ExcludedOption else name_said (at + 1) value) h
-by_words tool same a b (Valued opts.From at value) h = ap (λ before. if before.2 then usage_fault at ExcludedOption else Ok (SaysFrom (at + 1) value)) h
-by_words tool same a b (Valued opts.Obs at value) h = ap (λ before. if before.0 then usage_fault at ExcludedOption else mode_said (at + 1) (mode_named value)) h
-by_words tool same a b (Valued opts.Folder at value) h = ap (λ before. if before.1 then usage_fault at ExcludedOption else folder_said (at + 1) value) h
-by_words tool same a b (Valued option at value) h = refl
-by_words tool same a b (Unvalued option at) h = refl
+-- it is enough that a word says the same that is neither an option with a value nor a value, and that `-arch` does
+pub by_words : (tool : Tool) → ((a b : Before) (at : ℕ) (text : List ℕ) → said_by tool a (Alone at text) ≡ said_by tool b (Alone at text))
+    → ((a b : Before) (at : ℕ) (value : List ℕ) → said_by tool a (Valued opts.Arch at value) ≡ said_by tool b (Valued opts.Arch at value)) → IsUncounted tool
+by_words tool same arch a b (Alone at text) h = same a b at text
+by_words tool same arch a b (Valued opts.Arch at value) h = arch a b at value
+by_words tool same arch a b (Valued opts.Name at value) h = ap (λ before. if before.2 then usage_fault at ExcludedOption else name_said (at + 1) value) h
+by_words tool same arch a b (Valued opts.From at value) h = ap (λ before. if before.2 then usage_fault at ExcludedOption else Ok (SaysFrom (at + 1) value)) h
+by_words tool same arch a b (Valued opts.Obs at value) h = ap (λ before. if before.0 then usage_fault at ExcludedOption else mode_said (at + 1) (mode_named value)) h
+by_words tool same arch a b (Valued opts.Folder at value) h = ap (λ before. if before.1 then usage_fault at ExcludedOption else folder_said (at + 1) value) h
+by_words tool same arch a b (Valued option at value) h = refl
+by_words tool same arch a b (Unvalued option at) h = refl
 
 or_true : (b : Bool) → b || true ≡ true
 or_true true = refl

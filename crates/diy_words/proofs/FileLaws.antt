@@ -18,7 +18,7 @@ files_from words at = given_from tools.Classify files_of_saying words at
 
 -- no word of classify7 is an operand of a limited number
 same_said : IsUncounted tools.Classify
-same_said = by_words tools.Classify (λ a b at text. refl)
+same_said = by_words tools.Classify (λ a b at text. refl) (λ a b at value. refl)
 
 -- a word that names a file, before others
 pub record FileFirst (words : List (List ℕ)) (at : ℕ) : Type 0 where

@@ -5,8 +5,8 @@ use Rattle.list_laws.proofs.Elements.{option_or-none}
 use Rattle.edges_from_text.specs.{KeptEdges.kept_edges, KeptEdges.edges_added, KeptLaws.added_more, KeptLaws.added_whole}
 use Rattle.diy_words.specs.declared.{options.Tool.Tool, request.TheConstants.MAX_CHOICES, usage.Usage.Usage}
 use Rattle.diy_words.specs.{Parts.Part, Requests.choice_count}
-use Rattle.diy_words.specs.Sayings.{Saying, SaysArch, SaysName, SaysMode, SaysFrom, SaysEdges, SaysRelaxes, SaysSize, SaysExact, SaysWhy, SaysCo, SaysExec, SaysNeeds, SaysLines, SaysGraph, SaysNames, SaysTable, SaysLineTests, SaysThreads, SaysAccesses, SaysAfter, SaysFolder, SaysTest, SaysExecution, SaysPlace, SaysCount, said_by}
-use Rattle.diy_words.specs.Gathered.{arch_of_saying, name_of_saying, mode_of_saying, from_of_saying, operand_of_saying, relaxes_of_saying, size_of_saying, is_exact, is_co, is_exec, is_needs, is_lines, is_graph, is_names, is_table, is_line_tests, threads_of_saying, accesses_of_saying, after_of_saying, folder_of_saying, is_why, count_of_saying, test_of_saying, execution_of_saying, edges_of_saying, places_of_word, files_of_saying, last_given, first_given, all_given, gathered_of}
+use Rattle.diy_words.specs.Sayings.{Saying, SaysArch, SaysName, SaysMode, SaysFrom, SaysEdges, SaysRelaxes, SaysSize, SaysExact, SaysWhy, SaysCo, SaysExec, SaysNeeds, SaysLines, SaysGraph, SaysNames, SaysTable, SaysSkip, SaysStates, SaysLineTests, SaysThreads, SaysAccesses, SaysAfter, SaysFolder, SaysTest, SaysExecution, SaysPlace, SaysCount, said_by}
+use Rattle.diy_words.specs.Gathered.{arch_of_saying, name_of_saying, mode_of_saying, from_of_saying, operand_of_saying, relaxes_of_saying, size_of_saying, is_exact, is_co, is_exec, is_needs, is_lines, is_graph, is_names, is_table, is_line_tests, is_skip, is_states, threads_of_saying, accesses_of_saying, after_of_saying, folder_of_saying, is_why, count_of_saying, test_of_saying, execution_of_saying, edges_of_saying, places_of_word, files_of_saying, last_given, first_given, all_given, gathered_of}
 use Rattle.diy_words.specs.SaidInOrder.{is_limited, before_of, said_in, sayings}
 use Rattle.diy_words.specs.Notes.{Notes, no_notes, with_saying, with_next, notes_with, notes_of, before_noted, said_noted, gathered_noted}
 use Rattle.diy_words.proofs.ChoiceLaws.{choices_after, choices_more, choices_said}
@@ -156,6 +156,14 @@ line_tests_step : (notes : Notes) (saying : Saying) → (with_saying notes sayin
 line_tests_step notes SaysLineTests = refl
 line_tests_step notes saying = refl
 
+skip_step : (notes : Notes) (saying : Saying) → (with_saying notes saying).given.skip ≡ (is_skip saying || notes.given.skip)
+skip_step notes SaysSkip = refl
+skip_step notes saying = refl
+
+states_step : (notes : Notes) (saying : Saying) → (with_saying notes saying).given.states ≡ (is_states saying || notes.given.states)
+states_step notes SaysStates = refl
+states_step notes saying = refl
+
 name_noted : (said : List Saying) → (notes_of said).given.name ≡ last_given name_of_saying said
 name_noted said = last_noted (λ n. n.given.name) name_of_saying refl name_step said
 
@@ -185,6 +193,15 @@ lines_noted said = any_noted (λ n. n.given.lines) is_lines refl lines_step said
 
 line_tests_noted : (said : List Saying) → (notes_of said).given.line_tests ≡ list_any is_line_tests said
 line_tests_noted said = any_noted (λ n. n.given.line_tests) is_line_tests refl line_tests_step said
+
+table_noted : (said : List Saying) → (notes_of said).given.table ≡ list_any is_table said
+table_noted said = any_noted (λ n. n.given.table) is_table refl table_step said
+
+skip_noted : (said : List Saying) → (notes_of said).given.skip ≡ list_any is_skip said
+skip_noted said = any_noted (λ n. n.given.skip) is_skip refl skip_step said
+
+states_noted : (said : List Saying) → (notes_of said).given.states ≡ list_any is_states said
+states_noted said = any_noted (λ n. n.given.states) is_states refl states_step said
 
 folder_noted : (said : List Saying) → (notes_of said).given.folder ≡ last_given folder_of_saying said
 folder_noted said = last_noted (λ n. n.given.folder) folder_of_saying refl folder_step said
@@ -266,8 +283,10 @@ all_noted said =
       lines_noted said,
       graph_noted said,
       any_noted (λ n. n.given.names) is_names refl names_step said,
-      any_noted (λ n. n.given.table) is_table refl table_step said,
+      table_noted said,
       line_tests_noted said,
+      skip_noted said,
+      states_noted said,
     ) refl
 
 -- and what bears on the error of the next word
@@ -286,6 +305,9 @@ before_all said =
       line_tests_noted said,
       folder_noted said,
       lines_noted said,
+      skip_noted said,
+      table_noted said,
+      states_noted said,
     ) refl
 
 notes_more : (notes : Notes) (xs ys : List Saying) → notes_with notes (xs ++ ys) ≡ notes_with (notes_with notes xs) ys

@@ -23,7 +23,7 @@ places_from words at = given_from tools.Cross places_of_word words at
 
 -- no word of diycross7 is an operand of a limited number
 same_said : IsUncounted tools.Cross
-same_said = by_words tools.Cross (λ a b at text. refl)
+same_said = by_words tools.Cross (λ a b at text. refl) (λ a b at value. refl)
 
 -- a word that spells relaxations, before others
 pub record PlaceFirst (words : List (List ℕ)) (at : ℕ) (text : List ℕ) : Type 0 where

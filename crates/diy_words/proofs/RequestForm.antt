@@ -9,16 +9,16 @@ use Rattle.relax_edges.specs.{declared.kinds.ArchName.ArchName, declared.kinds.O
 use Rattle.edges_from_text.specs.Relaxations.{relaxes_of}
 use Rattle.edge_algebra.specs.{declared.errors.CycleError.CycleError, Compose.composed}
 use Rattle.edges_from_text.specs.{declared.read.Separators.TheVariants.BlanksAndCommas, Spelled.{edges_of, text_edges}}
-use Rattle.diy_words.specs.{declared.request.TheConstants.{MAX_CHOICES, MAX_TESTS}, declared.request.Check.Check, declared.request.Demo.Demo}
+use Rattle.diy_words.specs.{declared.request.TheConstants.{MAX_CHOICES, MAX_TESTS}, declared.request.Check.Check, declared.request.Demo.Demo, declared.request.States.States}
 use Rattle.diy_words.specs.{declared.request.CheckForm.CheckForm, declared.request.CheckForm.TheVariants.{Verdict, Graph}, declared.request.Diy.Diy}
 use Rattle.diy_words.specs.{declared.request.Request.Request, declared.usage.Usage.Usage, declared.options.Tool.Tool, declared.options.OptionName.OptionName}
 use Rattle.diy_words.specs.declared.usage.UsageKind.TheVariants.{UnknownOption, BadName, BadFolder, StrayWord, ExcludedOption, TooManyChoices}
 use Rattle.diy_words.specs.{TestNames.is_name, NumberWords.{is_number, number_to}}
 use Rattle.diy_words.specs.Parts.{Part, Alone, Valued, Unvalued, waiting_at, alone_before, parts_from, parts_of, option_named, tool_named, mode_named}
-use Rattle.diy_words.specs.Sayings.{Saying, SaysName, SaysRelaxes, SaysPlace, SaysSize, SaysExact, SaysWhy, SaysCo, SaysExec, SaysNeeds, SaysLines, SaysGraph, SaysNames, SaysTable, SaysStrict, SaysThreads, SaysAccesses, SaysFolder, SaysCount, SaysTest, SaysExecution, Before, usage_fault, why_said, co_said, exec_said, dot_said, needs_said, lines_said, folder_said, dashed_said, operand_said, relaxes_said, number_said, after_said, cycle_word_said, said_by, arch_said, mode_said, edges_said, begins_option, SaysFrom, SaysLineTests, line_tests_said, name_said}
+use Rattle.diy_words.specs.Sayings.{Saying, SaysName, SaysRelaxes, SaysPlace, SaysSize, SaysExact, SaysWhy, SaysCo, SaysExec, SaysNeeds, SaysLines, SaysGraph, SaysNames, SaysTable, SaysSkip, SaysStates, SaysStrict, SaysLog, takes_logs, is_leading, table_said, skip_said, check_dot_said, states_said, arch_option_said, SaysThreads, SaysAccesses, SaysFolder, SaysCount, SaysTest, SaysExecution, Before, usage_fault, why_said, co_said, exec_said, dot_said, needs_said, lines_said, folder_said, dashed_said, operand_said, relaxes_said, number_said, after_said, cycle_word_said, said_by, arch_said, mode_said, edges_said, begins_option, SaysFrom, SaysLineTests, line_tests_said, name_said}
 use Rattle.diy_words.specs.Gathered.{Gathered, gathered_of, last_given, name_of_saying, size_of_saying, folder_of_saying, count_of_saying, test_of_saying, execution_of_saying}
 use Rattle.diy_words.specs.SaidInOrder.{before_of, said_in, sayings, said_first, said_all}
-use Rattle.diy_words.specs.Requests.{Task, AsksTest, AsksWhy, AsksCoherence, AsksName, AsksList, AsksFamilies, AsksCross, AsksDemo, AsksCheck, AsksExecution, AsksCoherenceExecution, AsksNeeds, AsksLines, NameTask, ListTask, FamiliesTask, list_with, families_with, cross_with, demo_with, check_with, choice_count, mode_or_accept, asks, test_with, why_with, coherence_with, why_asked, coherence_asked, test_asked, test_or_execution, test_or_picture, test_or_needs, coherence_or_execution, coherence_or_picture, one_asked, diyone_with, edges_chosen, with_chosen, diyone_asked, diy_asked, asked_for, norm_asked, tool_asked, said_asked, loosely_asked, idle_error, unless_error, strictly_asked, asked_of, AsksLineTests, line_form, line_tests_with, line_tests_asked, cycle_asked}
+use Rattle.diy_words.specs.Requests.{Task, AsksTest, AsksWhy, AsksCoherence, AsksName, AsksList, AsksFamilies, AsksCross, AsksDemo, AsksCheck, AsksExecution, AsksCoherenceExecution, AsksNeeds, AsksLines, AsksStates, states_with, states_asked, check_asked, NameTask, ListTask, FamiliesTask, list_with, families_with, cross_with, demo_with, check_with, choice_count, mode_or_accept, asks, test_with, why_with, coherence_with, why_asked, coherence_asked, test_asked, test_or_execution, test_or_picture, test_or_needs, coherence_or_execution, coherence_or_picture, one_asked, diyone_with, edges_chosen, with_chosen, diyone_asked, diy_asked, asked_for, norm_asked, tool_asked, said_asked, loosely_asked, idle_error, unless_error, strictly_asked, asked_of, AsksLineTests, line_form, line_tests_with, line_tests_asked, cycle_asked}
 use Rattle.diy_words.specs.declared.request.ExecutionForm.TheVariants.{Text, Drawn}
 use Rattle.diy_words.specs.Strict.{is_strict}
 use Rattle.diy_words.specs.declared.request.LineTestForm.{LineTestForm}
@@ -56,14 +56,6 @@ edges_form : (count at : ℕ) (es : Option (List Edge)) → SaysForm count (edge
 edges_form count at (Some es) = tt
 edges_form count at None = tt
 
-dashed_form : (count at : ℕ) (b : Bool) → SaysForm count (if b then Ok SaysGraph else usage_fault at UnknownOption)
-dashed_form count at true = tt
-dashed_form count at false = tt
-
-table_form : (count at : ℕ) (b : Bool) → SaysForm count (if b then Ok SaysTable else usage_fault at UnknownOption)
-table_form count at true = tt
-table_form count at false = tt
-
 names_form : (count at : ℕ) (b : Bool) → SaysForm count (if b then Ok SaysNames else usage_fault at UnknownOption)
 names_form count at true = tt
 names_form count at false = tt
@@ -71,6 +63,17 @@ names_form count at false = tt
 strict_form : (count at : ℕ) (b : Bool) → SaysForm count (if b then Ok SaysStrict else usage_fault at UnknownOption)
 strict_form count at true = tt
 strict_form count at false = tt
+
+-- an option that takes no value, where it may stand
+stands_form : (count at : ℕ) (saying : Saying) (b : Bool) → IsFit count saying → SaysForm count (if b then Ok saying else usage_fault at UnknownOption)
+stands_form count at saying true h = h
+stands_form count at saying false h = tt
+
+summed_form : (count : ℕ) (before : Before) (at : ℕ) (table skip : Bool)
+    → SaysForm count (if table then table_said before at else if skip then skip_said before at else usage_fault at UnknownOption)
+summed_form count before at true skip = stands_form count at SaysTable (is_leading at before.skip) tt
+summed_form count before at false true = stands_form count at SaysSkip (is_leading at before.table) tt
+summed_form count before at false false = tt
 
 -- an option that takes no value, where it isn't excluded
 option_form : (count at : ℕ) (saying : Saying) (b : Bool) → IsFit count saying → SaysForm count (if b then usage_fault at ExcludedOption else Ok saying)
@@ -93,6 +96,12 @@ special_form count before at false false false false false true =
     option_form count at SaysLineTests (before.why || before.exec || before.graph || before.needs || before.from || before.name) tt
 special_form count before at false false false false false false = tt
 
+checking_form : (count : ℕ) (before : Before) (at : ℕ) (dot states : Bool)
+    → SaysForm count (if dot then check_dot_said before at else if states then states_said before at else usage_fault at UnknownOption)
+checking_form count before at true states = option_form count at SaysGraph before.states tt
+checking_form count before at false true = option_form count at SaysStates (before.graph || nat_lt 0 before.taken) tt
+checking_form count before at false false = tt
+
 listing_form : (count : ℕ) (before : Before) (at : ℕ) (exact lines strict : Bool)
     → SaysForm count (if exact then Ok SaysExact else if lines then lines_said before at else if strict then Ok SaysStrict else usage_fault at UnknownOption)
 listing_form count before at true lines strict = tt
@@ -105,10 +114,10 @@ alone_dashed count tools.DiyOne before at text = special_form count before at (b
 alone_dashed count tools.Diy before at text = listing_form count before at (bytes_eq text (codes "-exact")) (bytes_eq text (codes "-list")) (bytes_eq text (codes "-strict"))
 alone_dashed count tools.Norm before at text = names_form count at (bytes_eq text (codes "-names"))
 alone_dashed count tools.Classify before at text = tt
-alone_dashed count tools.Msum before at text = table_form count at (bytes_eq text (codes "-table") && at == 1)
+alone_dashed count tools.Msum before at text = summed_form count before at (bytes_eq text (codes "-table")) (bytes_eq text (codes "-skip"))
 alone_dashed count tools.Cross before at text = strict_form count at (bytes_eq text (codes "-strict"))
 alone_dashed count tools.Demo before at text = tt
-alone_dashed count tools.Check before at text = dashed_form count at (bytes_eq text (codes "-dot"))
+alone_dashed count tools.Check before at text = checking_form count before at (bytes_eq text (codes "-dot")) (bytes_eq text (codes "-states"))
 
 relaxes_form : (count : ℕ) (says : List (List Edge) → Saying) (at : ℕ) (relaxes : Result (List (List Edge)) RelaxError) → ((x : List (List Edge)) → IsFit count (says x))
     → SaysForm count (relaxes_said says at relaxes)
@@ -138,25 +147,27 @@ demo_said : (count at : ℕ) (text : List ℕ) (b : Bool) → SaysForm count (if
 demo_said count at text true = said_number_form count SaysCount at MAX_TESTS text (λ n h. h)
 demo_said count at text false = tt
 
-check_said : (count at : ℕ) (p q : Bool) → at < count → SaysForm count (if p then Ok (SaysTest at) else if q then Ok (SaysExecution at) else usage_fault at StrayWord)
-check_said count at true q h = h
-check_said count at false true h = h
-check_said count at false false h = tt
+check_said : (count at : ℕ) (logs p q : Bool) → at < count
+    → SaysForm count (if logs then Ok SaysLog else if p then Ok (SaysTest at) else if q then Ok (SaysExecution at) else usage_fault at StrayWord)
+check_said count at true p q h = tt
+check_said count at false true q h = h
+check_said count at false false true h = h
+check_said count at false false false h = tt
 
-alone_operand : (count : ℕ) (tool : Tool) (taken at : ℕ) (text : List ℕ) → at < count → SaysForm count (operand_said tool taken at text)
-alone_operand count tools.DiyOne taken at text h = edges_form count at (text_edges text)
-alone_operand count tools.Diy taken at text h = tt
-alone_operand count tools.Cross taken at text h = relaxes_form count SaysPlace at (relaxes_of text) (λ x. tt)
-alone_operand count tools.Norm taken at text h = edges_form count at (text_edges text)
-alone_operand count tools.Classify taken at text h = tt
-alone_operand count tools.Msum taken at text h = tt
-alone_operand count tools.Demo taken at text h = demo_said count at text (taken == 0)
-alone_operand count tools.Check taken at text h = check_said count at (taken == 0) (taken == 1) h
+alone_operand : (count : ℕ) (tool : Tool) (before : Before) (at : ℕ) (text : List ℕ) → at < count → SaysForm count (operand_said tool before at text)
+alone_operand count tools.DiyOne before at text h = edges_form count at (text_edges text)
+alone_operand count tools.Diy before at text h = tt
+alone_operand count tools.Cross before at text h = relaxes_form count SaysPlace at (relaxes_of text) (λ x. tt)
+alone_operand count tools.Norm before at text h = edges_form count at (text_edges text)
+alone_operand count tools.Classify before at text h = tt
+alone_operand count tools.Msum before at text h = tt
+alone_operand count tools.Demo before at text h = demo_said count at text (before.taken == 0)
+alone_operand count tools.Check before at text h = check_said count at (takes_logs before) (before.taken == 0) (before.taken == 1) h
 
 alone_form : (count : ℕ) (tool : Tool) (before : Before) (at : ℕ) (text : List ℕ) (b : Bool) → at < count
-    → SaysForm count (if b then dashed_said tool before at text else operand_said tool before.taken at text)
+    → SaysForm count (if b then dashed_said tool before at text else operand_said tool before at text)
 alone_form count tool before at text true h = alone_dashed count tool before at text
-alone_form count tool before at text false h = alone_operand count tool before.taken at text h
+alone_form count tool before at text false h = alone_operand count tool before at text h
 
 obs_form : (count at : ℕ) (mode : Option ObsMode) (b : Bool) → SaysForm count (if b then usage_fault at ExcludedOption else mode_said (at + 1) mode)
 obs_form count at mode true = tt
@@ -188,6 +199,10 @@ value_form : (count at : ℕ) (said : Result Saying Usage) (b : Bool) → SaysFo
 value_form count at said true h = tt
 value_form count at said false h = h
 
+arch_option_form : (count : ℕ) (tool : Tool) (before : Before) (at : ℕ) (value : List ℕ) → SaysForm count (arch_option_said tool before at value)
+arch_option_form count tools.Check before at value = value_form count at (arch_said (at + 1) (arch_of value)) (takes_logs before) (arch_form count (at + 1) (arch_of value))
+arch_option_form count tool before at value = arch_form count (at + 1) (arch_of value)
+
 -- a word by itself is one of so many
 abbrev IsAmong : ℕ → Part → Type 0
 IsAmong count (Alone at text) = at < count
@@ -208,7 +223,7 @@ parts_among count tool None at (word ∷ words) h =
 
 said_form : (count : ℕ) (tool : Tool) (before : Before) (part : Part) → IsAmong count part → SaysForm count (said_by tool before part)
 said_form count tool before (Alone at text) h = alone_form count tool before at text (begins_option text) h
-said_form count tool before (Valued opts.Arch at value) h = arch_form count _ (arch_of value)
+said_form count tool before (Valued opts.Arch at value) h = arch_option_form count tool before at value
 said_form count tool before (Valued opts.Name at value) h =
     value_form count at (name_said (at + 1) value) before.line_tests (name_form count _ value (is_name value) refl)
 said_form count tool before (Valued opts.Obs at value) h = obs_form count at (mode_named value) (before.why || before.co)
@@ -303,6 +318,7 @@ IsNamedSo count (AsksList asked) = (asked.size ≤ MAX_EDGES) × IfSome asked.fo
 IsNamedSo count (AsksCross asked) = IfSome asked.folder (λ folder. length folder ≤ MAX_FOLDER)
 IsNamedSo count (AsksDemo asked) = (1 ≤ asked.count) × (asked.count ≤ MAX_TESTS)
 IsNamedSo count (AsksCheck asked) = (asked.test < count) × (asked.execution < count)
+IsNamedSo count (AsksStates asked) = asked.test < count
 IsNamedSo count (AsksExecution form asked) = IfSome asked.name (λ name. is_name name ≡ true)
 IsNamedSo count (AsksCoherenceExecution form asked) = IfSome asked.name (λ name. is_name name ≡ true)
 IsNamedSo count (AsksNeeds asked) = IfSome asked.name (λ name. is_name name ≡ true)
@@ -381,6 +397,11 @@ check_form count (Some arch) (Some test) (Some execution) shown h k = (h, k)
 check_form count (Some arch) (Some test) None shown h k = tt
 check_form count (Some arch) None execution shown h k = tt
 
+states_form : (count : ℕ) (arch : Option ArchName) (test : Option ℕ) → IfSome test (λ at. at < count) → IsTaskSo count (asks AsksStates (states_with count arch test))
+states_form count None test h = tt
+states_form count (Some arch) None h = tt
+states_form count (Some arch) (Some test) h = h
+
 chosen_form : (count : ℕ) (given : Gathered) → AreFit count given → IsTaskSo count (diyone_with count given)
 chosen_form count given f = of_why given.why
   where
@@ -435,7 +456,11 @@ tool_form tools.Classify count given f = families_form count (families_with coun
 tool_form tools.Msum count given f = tt
 tool_form tools.Cross count given f = cross_form count given.arch (mode_or_accept given.mode) given.folder given.places f.2
 tool_form tools.Demo count given f = demo_form count given.arch given.count f.3
-tool_form tools.Check count given f = check_form count given.arch given.test given.execution (if given.graph then Graph else Verdict) f.4 f.5
+tool_form tools.Check count given f = of_states given.states
+  where
+    of_states : (b : Bool) → IsTaskSo count (if b then asks AsksStates (states_asked count given) else asks AsksCheck (check_asked count given))
+    of_states true = states_form count given.arch given.test f.4
+    of_states false = check_form count given.arch given.test given.execution (if given.graph then Graph else Verdict) f.4 f.5
 
 words_said_form : (tool : Tool) (count : ℕ) (said : Result (List Saying) Usage) → AllForm count said → IsTaskSo count (said_asked tool count said)
 words_said_form tool count (Err usage) h = tt
@@ -507,7 +532,8 @@ request_form words result h = of_asked result (asked_of words) (words_form words
     of_asked (Ok (requests.Demo request)) (Ok (AsksDemo asked)) e h = subst (λ (d : Demo). (1 ≤ d.count) × (d.count ≤ MAX_TESTS)) (sym h) e
     of_asked (Ok (requests.Name request)) asked e h = tt
     of_asked (Ok (requests.Families arch)) asked e h = tt
-    of_asked (Ok (requests.Sum form)) asked e h = tt
+    of_asked (Ok (requests.Sum form wrong)) asked e h = tt
+    of_asked (Ok (requests.States request)) asked e h = tt
     of_asked (Ok (requests.Check request)) asked e h = tt
     of_asked (Ok (requests.Test request)) asked e h = absurd h
     of_asked (Ok (requests.Execution form request)) asked e h = absurd h
@@ -530,6 +556,8 @@ request_within words result h = of_asked result (asked_of words) (words_form wor
         → IfOk result (WithinWords (length words))
     of_asked (Ok (requests.Check request)) (Ok (AsksCheck asked)) e h =
         subst (λ (a : Check). (a.test < length words) × (a.execution < length words)) (sym h) e
+    of_asked (Ok (requests.States request)) (Ok (AsksStates asked)) e h = subst (λ (a : States). a.test < length words) (sym h) e
     of_asked (Ok (requests.Check request)) asked e h = absurd h
+    of_asked (Ok (requests.States request)) asked e h = absurd h
     of_asked (Ok request) asked e h = tt
     of_asked (Err usage) asked e h = tt

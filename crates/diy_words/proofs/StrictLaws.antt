@@ -8,7 +8,7 @@ use Rattle.edges_from_text.specs.Relaxations.{relaxes_of}
 use Rattle.idle_relaxations.specs.Idle.{first_of, last_of}
 use Rattle.diy_words.specs.declared.{options.Tool.Tool, options.OptionName.OptionName, request.Request.Request, usage.Usage.Usage}
 use Rattle.diy_words.specs.{Parts.{Part, Alone, Valued, Unvalued, parts_from, parts_of, option_named}, Sayings.begins_option, Given.{GivesTask, HoldsTask}}
-use Rattle.diy_words.specs.Requests.{Task, ListTask, AsksTest, AsksWhy, AsksCoherence, AsksName, AsksList, AsksFamilies, AsksSum, AsksCross, AsksDemo, AsksCheck, AsksExecution, AsksCoherenceExecution, AsksNeeds, AsksLines, AsksLineTests, idle_error, strictly_asked}
+use Rattle.diy_words.specs.Requests.{Task, ListTask, AsksTest, AsksWhy, AsksCoherence, AsksName, AsksList, AsksFamilies, AsksSum, AsksCross, AsksDemo, AsksCheck, AsksExecution, AsksCoherenceExecution, AsksNeeds, AsksLines, AsksLineTests, AsksStates, idle_error, strictly_asked}
 use Rattle.diy_words.specs.{Strict.{is_strict, lists_in, relaxes_read, idle_at, idle_from, idle_in_listing, idle_in_positions}, StrictSteps.{list_at, is_edges, lists_from, IsNextList, NextList, idle_of}}
 use Rattle.diy_words.specs.declared.request.Request.TheVariants as requests
 use Rattle.diy_words.specs.declared.options.OptionName.TheVariants as opts
@@ -203,8 +203,10 @@ idle_held parts (requests.Execution form request) (AsksExecution other asked) h 
 idle_held parts (requests.Execution form request) asked h = absurd h
 idle_held parts (requests.CoherenceExecution form request) (AsksCoherenceExecution other asked) h = refl
 idle_held parts (requests.CoherenceExecution form request) asked h = absurd h
-idle_held parts (requests.Sum form) (AsksSum other) h = refl
-idle_held parts (requests.Sum form) asked h = absurd h
+idle_held parts (requests.Sum form wrong) (AsksSum asked_form asked_wrong) h = refl
+idle_held parts (requests.Sum form wrong) asked h = absurd h
+idle_held parts (requests.States request) (AsksStates asked) h = refl
+idle_held parts (requests.States request) asked h = absurd h
 idle_held parts (requests.LineTests request) (AsksLineTests asked) h = refl
 idle_held parts (requests.LineTests request) asked h = absurd h
 idle_held parts (requests.List request) (AsksList asked) h = ap (λ (a : ListTask). idle_in_listing a.arch a.relaxes (lists_in parts)) h

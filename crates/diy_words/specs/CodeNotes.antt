@@ -40,6 +40,8 @@ code_notes notes = record {
     names = notes.names;
     table = notes.table;
     line_tests = notes.line_tests;
+    skip = notes.skip;
+    states = notes.states;
   };
   edges = notes.edges;
   choices = notes.choices;

@@ -2,7 +2,7 @@
 -- positions or files.
 use Rattle.std.specs.{Prelude.{ℕ, Bool, true, false, List, [], ◌∷◌, ◌++◌, Option, Some, None}, List.list_any, Option.{option_or, unwrap_or}}
 use Rattle.relax_edges.specs.{declared.kinds.ArchName.ArchName, declared.kinds.ObsMode.ObsMode, declared.edge.Edge.Edge}
-use Rattle.diy_words.specs.Sayings.{Saying, SaysArch, SaysName, SaysMode, SaysFrom, SaysEdges, SaysRelaxes, SaysSize, SaysExact, SaysWhy, SaysCo, SaysExec, SaysNeeds, SaysLines, SaysGraph, SaysNames, SaysTable, SaysLineTests, SaysThreads, SaysAccesses, SaysAfter, SaysFolder, SaysFile, SaysTest, SaysExecution, SaysPlace, SaysCount}
+use Rattle.diy_words.specs.Sayings.{Saying, SaysArch, SaysName, SaysMode, SaysFrom, SaysEdges, SaysRelaxes, SaysSize, SaysExact, SaysWhy, SaysCo, SaysExec, SaysNeeds, SaysLines, SaysGraph, SaysNames, SaysTable, SaysSkip, SaysStates, SaysLineTests, SaysThreads, SaysAccesses, SaysAfter, SaysFolder, SaysFile, SaysTest, SaysExecution, SaysPlace, SaysCount}
 
 -- the value of `-arch`
 abbrev pub arch_of_saying : Saying → Option ArchName
@@ -109,6 +109,16 @@ abbrev pub is_line_tests : Saying → Bool
 is_line_tests SaysLineTests = true
 is_line_tests _ = false
 
+-- that `-skip` is given
+abbrev pub is_skip : Saying → Bool
+is_skip SaysSkip = true
+is_skip _ = false
+
+-- that `-states` is given
+abbrev pub is_states : Saying → Bool
+is_states SaysStates = true
+is_states _ = false
+
 -- how many tests demo makes
 abbrev pub count_of_saying : Saying → Option ℕ
 count_of_saying (SaysCount count) = Some count
@@ -183,6 +193,8 @@ pub record Gathered : Type 0 where
   pub names : Bool
   pub table : Bool
   pub line_tests : Bool
+  pub skip : Bool
+  pub states : Bool
 
 -- what is gathered from all that the arguments say: the last of each thing, but for `operand` the index of the first operand of edges, and
 -- all edges, positions and files; by default the size of a listing is 6, and its cycles have at most 4 threads
@@ -215,4 +227,6 @@ gathered_of said = record {
   names = list_any is_names said;
   table = list_any is_table said;
   line_tests = list_any is_line_tests said;
+  skip = list_any is_skip said;
+  states = list_any is_states said;
 }

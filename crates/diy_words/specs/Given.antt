@@ -4,7 +4,7 @@ use Rattle.relax_edges.specs.declared.TheConstants.{MAX_EDGES}
 use Rattle.edges_from_text.specs.KeptEdges.{kept_edges}
 use Rattle.diy_words.specs.{declared.request.Diy.Diy, declared.request.TheConstants.MAX_TESTS, declared.request.Request.Request, declared.request.Sought.Sought}
 use Rattle.diy_words.specs.{declared.usage.Usage.Usage, declared.request.DiyOne.DiyOne, declared.request.Coherence.Coherence, TestNames.is_name}
-use Rattle.diy_words.specs.Requests.{Task, AsksTest, AsksWhy, AsksCoherence, AsksName, AsksList, AsksFamilies, AsksSum, AsksCross, AsksDemo, AsksCheck, AsksExecution, AsksCoherenceExecution, AsksNeeds, AsksLines, AsksLineTests, TestTask, CoherenceTask, ListTask, OfEdges, OfName, OfLines, OfNames}
+use Rattle.diy_words.specs.Requests.{Task, AsksTest, AsksWhy, AsksCoherence, AsksName, AsksList, AsksFamilies, AsksSum, AsksCross, AsksDemo, AsksCheck, AsksExecution, AsksCoherenceExecution, AsksNeeds, AsksLines, AsksLineTests, AsksStates, TestTask, CoherenceTask, ListTask, OfEdges, OfName, OfLines, OfNames}
 use Rattle.diy_io.specs.declared.shelf.TheConstants.{MAX_FOLDER}
 use Rattle.diy_words.specs.declared.request.Request.TheVariants as requests
 use Rattle.diy_words.specs.declared.request.Sought.TheVariants as sought
@@ -58,11 +58,12 @@ HoldsTask (requests.Lines request) (AsksLines asked) = list_kept request ≡ ask
 HoldsTask (requests.LineTests request) (AsksLineTests asked) =
     (request.arch ≡ asked.arch) × (request.form ≡ asked.form) × (option_map (λ folder. folder.now) request.folder ≡ asked.folder)
 HoldsTask (requests.Families arch) (AsksFamilies asked) = arch ≡ asked.arch
-HoldsTask (requests.Sum form) (AsksSum asked) = form ≡ asked
+HoldsTask (requests.Sum form wrong) (AsksSum asked_form asked_wrong) = (form ≡ asked_form) × (wrong ≡ asked_wrong)
 HoldsTask (requests.Cross request) (AsksCross asked) =
     (request.arch ≡ asked.arch) × (request.mode ≡ asked.mode) × (option_map (λ folder. folder.now) request.folder ≡ asked.folder)
 HoldsTask (requests.Demo request) (AsksDemo asked) = request ≡ asked
 HoldsTask (requests.Check request) (AsksCheck asked) = request ≡ asked
+HoldsTask (requests.States request) (AsksStates asked) = request ≡ asked
 HoldsTask _ _ = ⊥
 
 -- a call gives the request that the arguments make, or their first error
@@ -92,4 +93,5 @@ HasForm _ = Unit {0}
 -- the indices of the files of mcheck7 are below `count`
 abbrev pub WithinWords : ℕ → Request → Type 0
 WithinWords count (requests.Check request) = (request.test < count) × (request.execution < count)
+WithinWords count (requests.States request) = request.test < count
 WithinWords count _ = Unit {0}

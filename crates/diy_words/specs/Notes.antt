@@ -5,7 +5,7 @@ use Rattle.relax_edges.specs.declared.edge.Edge.{Edge}
 use Rattle.edges_from_text.specs.{declared.list.EdgeList.EdgeList, KeptEdges.{kept_edges, edges_added}}
 use Rattle.diy_words.specs.{declared.options.Tool.Tool, declared.request.TheConstants.MAX_CHOICES, declared.usage.Usage.Usage, Parts.Part}
 use Rattle.diy_words.specs.Gathered.{Gathered, gathered_of}
-use Rattle.diy_words.specs.Sayings.{Saying, SaysArch, SaysName, SaysMode, SaysFrom, SaysEdges, SaysRelaxes, SaysSize, SaysExact, SaysWhy, SaysCo, SaysExec, SaysNeeds, SaysLines, SaysGraph, SaysNames, SaysTable, SaysStrict, SaysThreads, SaysAccesses, SaysAfter, SaysFolder, SaysLog, SaysFile, SaysTest, SaysExecution, SaysPlace, SaysCount, Before, said_by, SaysLineTests}
+use Rattle.diy_words.specs.Sayings.{Saying, SaysArch, SaysName, SaysMode, SaysFrom, SaysEdges, SaysRelaxes, SaysSize, SaysExact, SaysWhy, SaysCo, SaysExec, SaysNeeds, SaysLines, SaysGraph, SaysNames, SaysTable, SaysSkip, SaysStates, SaysStrict, SaysThreads, SaysAccesses, SaysAfter, SaysFolder, SaysLog, SaysFile, SaysTest, SaysExecution, SaysPlace, SaysCount, Before, said_by, SaysLineTests}
 
 -- what is gathered so far, except for edges, positions and files, of which nothing is gathered here; the edges, as many as a list holds;
 -- in how many ways a relaxation can be chosen for each position, up to one more than allowed; and how many operands were taken of those
@@ -45,6 +45,8 @@ with_saying notes SaysGraph = record notes { given = record notes.given { graph 
 with_saying notes SaysNames = record notes { given = record notes.given { names = true } }
 with_saying notes SaysTable = record notes { given = record notes.given { table = true } }
 with_saying notes SaysLineTests = record notes { given = record notes.given { line_tests = true } }
+with_saying notes SaysSkip = record notes { given = record notes.given { skip = true } }
+with_saying notes SaysStates = record notes { given = record notes.given { states = true } }
 with_saying notes (SaysThreads threads) = record notes { given = record notes.given { threads = threads } }
 with_saying notes (SaysAccesses accesses) = record notes { given = record notes.given { accesses = Some accesses } }
 with_saying notes (SaysAfter cycle) = record notes { given = record notes.given { after = Some cycle } }
@@ -86,6 +88,9 @@ before_noted notes = record {
   line_tests = notes.given.line_tests;
   folder = is_some notes.given.folder;
   lines = notes.given.lines;
+  skip = notes.given.skip;
+  table = notes.given.table;
+  states = notes.given.states;
 }
 
 -- what the parts of the arguments say, one after another, after those that left these notes

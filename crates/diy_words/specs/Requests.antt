@@ -8,6 +8,8 @@ use Rattle.msum7_files.specs.{declared.sum_form.SumForm.SumForm, declared.sum_fo
 use Rattle.diy_words.specs.{declared.request.CheckForm.CheckForm, declared.request.CheckForm.TheVariants.{Verdict, Graph}, declared.usage.Usage.Usage}
 use Rattle.diy_words.specs.{declared.request.ExecutionForm.ExecutionForm, declared.request.ExecutionForm.TheVariants.{Text, Drawn}}
 use Rattle.diy_words.specs.{declared.request.LineTestForm.LineTestForm, declared.request.LineTestForm.TheVariants.{Observed, Coherence}}
+use Rattle.diy_words.specs.{declared.request.WrongBlocks.WrongBlocks, declared.request.WrongBlocks.TheVariants.{End, LeaveOut}}
+use Rattle.diy_words.specs.declared.request.States.{States}
 use Rattle.diy_words.specs.{declared.request.Check.Check, declared.request.Demo.Demo, declared.request.TheConstants.MAX_CHOICES, declared.options.Tool.Tool}
 use Rattle.diy_words.specs.declared.usage.UsageKind.TheVariants.{UnknownTool, UnknownName, StrayWord, MissingArch, MissingEdges, MissingNumber, MissingFile, MissingWhy, TooManyChoices}
 use Rattle.diy_words.specs.{Parts.{Part, parts_of, tool_named}, Strict.{is_strict, lists_in, idle_in_listing, idle_in_positions}, Sayings.Saying, Gathered.{Gathered, gathered_of}, SaidInOrder.{sayings, said_all}}
@@ -83,10 +85,11 @@ pub record FamiliesTask : Type 0 where
   pub files : List ℕ
 
 -- what the arguments ask for: a test; why a cycle needs an observer; a coherence test; the names of cycles; the tests of a listing; the
--- names of cycles by their families; the sum of the logs that the arguments after the first name, or of the input if there are none; the
+-- names of cycles by their families; the sum of the logs that the arguments after its options name, or of the input if there are none; the
 -- tests of the choices of relaxations; a number of tests; what holds of an execution of a test; instead of a test or a coherence test, the
 -- execution that it asks for; instead of a test, what suffices against its outcome; instead of the tests of a listing, the lines of its
--- cycles; the tests of the input's lines of cycles. For demo and mcheck7 the request itself has the same type
+-- cycles; the tests of the input's lines of cycles; the states of a test in the logs that the arguments after that of the test name, or in
+-- the input if there are none. For demo and mcheck7 the request itself has the same type
 pub data Task : Type 0 where
   AsksTest : TestTask → Task
   AsksWhy : WhyTask → Task
@@ -94,7 +97,7 @@ pub data Task : Type 0 where
   AsksName : NameTask → Task
   AsksList : ListTask → Task
   AsksFamilies : FamiliesTask → Task
-  AsksSum : SumForm → Task
+  AsksSum : SumForm → WrongBlocks → Task
   AsksCross : CrossTask → Task
   AsksDemo : Demo → Task
   AsksCheck : Check → Task
@@ -103,6 +106,7 @@ pub data Task : Type 0 where
   AsksNeeds : TestTask → Task
   AsksLines : ListTask → Task
   AsksLineTests : LineTestsTask → Task
+  AsksStates : States → Task
 
 -- in how many ways a relaxation can be chosen for each position; if there is no position, in one way
 abbrev pub choice_count : List (List (List Edge)) → ℕ
@@ -184,6 +188,12 @@ check_with count (Some arch) (Some test) (Some execution) form =
     Ok (record { arch = arch; test = test; execution = execution; form = form })
 check_with count (Some arch) (Some test) None form = Err (record { word = count; kind = MissingFile })
 check_with count (Some arch) None execution form = Err (record { word = count; kind = MissingFile })
+
+-- the request of mcheck7 with `-states` from what was given: the file of the test is needed
+abbrev pub states_with : ℕ → Option ArchName → Option ℕ → Result States Usage
+states_with count None test = Err (record { word = count; kind = MissingArch })
+states_with count (Some arch) None = Err (record { word = count; kind = MissingFile })
+states_with count (Some arch) (Some test) = Ok (record { arch = arch; test = test })
 
 -- the request of one of the tools as a task, or its error
 abbrev pub asks : {X : Type 0} → (X → Task) → Result X Usage → Result Task Usage
@@ -287,13 +297,25 @@ diy_asked count given =
 abbrev pub list_or_lines : ℕ → Gathered → Result Task Usage
 list_or_lines count given = if given.lines then asks AsksLines (diy_asked count given) else asks AsksList (diy_asked count given)
 
--- the request of mcheck7
+-- the request of mcheck7 without `-states`
 abbrev pub check_asked : ℕ → Gathered → Result Check Usage
 check_asked count given = check_with count given.arch given.test given.execution (if given.graph then Graph else Verdict)
+
+-- the request of mcheck7 with `-states`
+abbrev pub states_asked : ℕ → Gathered → Result States Usage
+states_asked count given = states_with count given.arch given.test
+
+-- the request of mcheck7
+abbrev pub check_or_states : ℕ → Gathered → Result Task Usage
+check_or_states count given = if given.states then asks AsksStates (states_asked count given) else asks AsksCheck (check_asked count given)
 
 -- the form in which msum7 is asked to print a sum, whether `-table` is given or not
 abbrev pub form_asked : Bool → SumForm
 form_asked table = if table then Table else Log
+
+-- what becomes of blocks with an error, whether `-skip` is given or not
+abbrev pub blocks_asked : Bool → WrongBlocks
+blocks_asked skip = if skip then LeaveOut else End
 
 -- the request of diycross7
 abbrev pub cross_asked : ℕ → Gathered → Result CrossTask Usage
@@ -305,10 +327,10 @@ tool_asked tools.DiyOne count given = diyone_asked count given
 tool_asked tools.Diy count given = list_or_lines count given
 tool_asked tools.Norm count given = asks AsksName (norm_asked count given)
 tool_asked tools.Classify count given = asks AsksFamilies (families_with count given.arch given.files)
-tool_asked tools.Msum count given = Ok (AsksSum (form_asked given.table))
+tool_asked tools.Msum count given = Ok (AsksSum (form_asked given.table) (blocks_asked given.skip))
 tool_asked tools.Cross count given = asks AsksCross (cross_asked count given)
 tool_asked tools.Demo count given = asks AsksDemo (demo_with count given.arch given.count)
-tool_asked tools.Check count given = asks AsksCheck (check_asked count given)
+tool_asked tools.Check count given = check_or_states count given
 
 -- the request of a tool from what its arguments say, or their first error
 abbrev pub said_asked : Tool → ℕ → Result (List Saying) Usage → Result Task Usage

@@ -2,7 +2,7 @@
 use Rattle.std.specs.{Prelude.{Bool, true, false, List, [], ◌∷◌, ◌++◌, length, filter, is_some, Result, Ok, Err}, List.list_any}
 use Rattle.diy_words.specs.{declared.usage.Usage.Usage, declared.options.Tool.Tool, Parts.Part}
 use Rattle.diy_words.specs.Sayings.{Saying, SaysCount, SaysTest, SaysExecution, Before, said_by}
-use Rattle.diy_words.specs.Gathered.{name_of_saying, from_of_saying, mode_of_saying, folder_of_saying, is_why, is_co, is_exec, is_graph, is_needs, is_lines, is_line_tests, last_given}
+use Rattle.diy_words.specs.Gathered.{name_of_saying, from_of_saying, mode_of_saying, folder_of_saying, is_why, is_co, is_exec, is_graph, is_needs, is_lines, is_line_tests, is_skip, is_table, is_states, last_given}
 
 -- one of the operands whose number is limited: the number of demo and the files of mcheck7
 abbrev pub is_limited : Saying → Bool
@@ -26,6 +26,9 @@ before_of said = record {
   line_tests = list_any is_line_tests said;
   folder = is_some (last_given folder_of_saying said);
   lines = list_any is_lines said;
+  skip = list_any is_skip said;
+  table = list_any is_table said;
+  states = list_any is_states said;
 }
 
 -- what a part adds to what is said: an invalid one says nothing

@@ -37,6 +37,8 @@ pub data Saying : Type 0 where
   SaysGraph : Saying
   SaysNames : Saying
   SaysTable : Saying
+  SaysSkip : Saying
+  SaysStates : Saying
   SaysStrict : Saying
   SaysLineTests : Saying
   SaysThreads : ℕ → Saying
@@ -51,7 +53,8 @@ pub data Saying : Type 0 where
   SaysCount : ℕ → Saying
 
 -- what was said before an argument that decides whether it is an error: how many operands were taken of those whose number is limited,
--- and whether each of `-name`, `-from`, `-obs`, `-why`, `-co`, `-exec`, `-needs`, `-dot`, `-lines`, `-o` and `-list` was given
+-- and whether each of `-name`, `-from`, `-obs`, `-why`, `-co`, `-exec`, `-needs`, `-dot`, `-lines`, `-o`, `-list`, `-skip`, `-table` and
+-- `-states` was given
 pub record Before : Type 0 where
   pub taken : ℕ
   pub name : Bool
@@ -65,6 +68,9 @@ pub record Before : Type 0 where
   pub line_tests : Bool
   pub folder : Bool
   pub lines : Bool
+  pub skip : Bool
+  pub table : Bool
+  pub states : Bool
 
 -- an error at the argument with this index
 abbrev pub usage_fault : ℕ → UsageKind → Result Saying Usage
@@ -74,6 +80,15 @@ usage_fault word kind = Err (record { word = word; kind = kind })
 abbrev pub arch_said : ℕ → Option ArchName → Result Saying Usage
 arch_said at (Some arch) = Ok (SaysArch arch)
 arch_said at None = usage_fault at UnknownArch
+
+-- mcheck7 has taken the test of `-states`: the operands after it name logs
+abbrev pub takes_logs : Before → Bool
+takes_logs before = before.states && nat_lt 0 before.taken
+
+-- `-arch` at its index with its value: of mcheck7, it is excluded after the test of `-states`
+abbrev pub arch_option_said : Tool → Before → ℕ → List ℕ → Result Saying Usage
+arch_option_said tools.Check before at value = if takes_logs before then usage_fault at ExcludedOption else arch_said (at + 1) (arch_of value)
+arch_option_said _ before at value = arch_said (at + 1) (arch_of value)
 
 -- the value of `-name`, at its index
 abbrev pub name_said : ℕ → List ℕ → Result Saying Usage
@@ -126,6 +141,26 @@ line_tests_said before at =
 -- `-list` at its index: after `-o` it is excluded
 abbrev pub lines_said : Before → ℕ → Result Saying Usage
 lines_said before at = if before.folder then usage_fault at ExcludedOption else Ok SaysLines
+
+-- an option of msum7 at an index comes right after the tool's name, or right after the other option if that was given
+abbrev pub is_leading : ℕ → Bool → Bool
+is_leading at other = if other then at == 2 else at == 1
+
+-- `-table` at its index: only `-skip` may come before it
+abbrev pub table_said : Before → ℕ → Result Saying Usage
+table_said before at = if is_leading at before.skip then Ok SaysTable else usage_fault at UnknownOption
+
+-- `-skip` at its index: only `-table` may come before it
+abbrev pub skip_said : Before → ℕ → Result Saying Usage
+skip_said before at = if is_leading at before.table then Ok SaysSkip else usage_fault at UnknownOption
+
+-- `-dot` of mcheck7 at its index: after `-states` it is excluded
+abbrev pub check_dot_said : Before → ℕ → Result Saying Usage
+check_dot_said before at = if before.states then usage_fault at ExcludedOption else Ok SaysGraph
+
+-- `-states` at its index: after `-dot` or an operand it is excluded
+abbrev pub states_said : Before → ℕ → Result Saying Usage
+states_said before at = if before.graph || nat_lt 0 before.taken then usage_fault at ExcludedOption else Ok SaysStates
 
 -- the edges of an operand, at its index
 abbrev pub edges_said : ℕ → Option (List Edge) → Result Saying Usage
@@ -191,30 +226,40 @@ dashed_said tools.Diy before at text =
     else usage_fault at UnknownOption
 dashed_said tools.Cross before at text = if bytes_eq text (codes "-strict") then Ok SaysStrict else usage_fault at UnknownOption
 dashed_said tools.Norm before at text = if bytes_eq text (codes "-names") then Ok SaysNames else usage_fault at UnknownOption
-dashed_said tools.Msum before at text = if bytes_eq text (codes "-table") && at == 1 then Ok SaysTable else usage_fault at UnknownOption
-dashed_said tools.Check before at text = if bytes_eq text (codes "-dot") then Ok SaysGraph else usage_fault at UnknownOption
+dashed_said tools.Msum before at text =
+    if bytes_eq text (codes "-table") then table_said before at
+    else if bytes_eq text (codes "-skip") then skip_said before at
+    else usage_fault at UnknownOption
+dashed_said tools.Check before at text =
+    if bytes_eq text (codes "-dot") then check_dot_said before at
+    else if bytes_eq text (codes "-states") then states_said before at
+    else usage_fault at UnknownOption
 dashed_said _ before at text = usage_fault at UnknownOption
 
--- an operand of mcheck7, at its index, after `taken` others: the first names the file of the test, the second that of the execution, and
--- a third is stray
-abbrev pub checked_said : ℕ → ℕ → Result Saying Usage
-checked_said taken at = if taken == 0 then Ok (SaysTest at) else if taken == 1 then Ok (SaysExecution at) else usage_fault at StrayWord
+-- an operand of mcheck7, at its index: the first names the file of the test, the second that of the execution, and a third is stray; with
+-- `-states` all after the first name logs
+abbrev pub checked_said : Before → ℕ → Result Saying Usage
+checked_said before at =
+    if takes_logs before then Ok SaysLog
+    else if before.taken == 0 then Ok (SaysTest at)
+    else if before.taken == 1 then Ok (SaysExecution at)
+    else usage_fault at StrayWord
 
--- an operand of a tool, at its index, after `taken` operands whose number is limited: diy7 takes none, demo one and mcheck7 two
-abbrev pub operand_said : Tool → ℕ → ℕ → List ℕ → Result Saying Usage
+-- an operand of a tool, at its index: diy7 takes none, demo one and mcheck7 two, or with `-states` as many as there are
+abbrev pub operand_said : Tool → Before → ℕ → List ℕ → Result Saying Usage
 operand_said tools.DiyOne _ at text = edges_said at (text_edges text)
 operand_said tools.Diy _ at text = usage_fault at StrayWord
 operand_said tools.Cross _ at text = relaxes_said SaysPlace at (relaxes_of text)
 operand_said tools.Norm _ at text = edges_said at (text_edges text)
 operand_said tools.Classify _ at text = Ok (SaysFile at)
 operand_said tools.Msum _ at text = Ok SaysLog
-operand_said tools.Demo taken at text = if taken == 0 then number_said SaysCount at (number_to MAX_TESTS text) else usage_fault at StrayWord
-operand_said tools.Check taken at text = checked_said taken at
+operand_said tools.Demo before at text = if before.taken == 0 then number_said SaysCount at (number_to MAX_TESTS text) else usage_fault at StrayWord
+operand_said tools.Check before at text = checked_said before at
 
 -- what a part of the arguments says, or what is wrong with it, given what those before it said
 abbrev pub said_by : Tool → Before → Part → Result Saying Usage
-said_by tool before (Alone at text) = if begins_option text then dashed_said tool before at text else operand_said tool before.taken at text
-said_by tool before (Valued opts.Arch at value) = arch_said (at + 1) (arch_of value)
+said_by tool before (Alone at text) = if begins_option text then dashed_said tool before at text else operand_said tool before at text
+said_by tool before (Valued opts.Arch at value) = arch_option_said tool before at value
 said_by tool before (Valued opts.Name at value) = test_name_said before at value
 said_by tool before (Valued opts.Obs at value) = obs_said before at value
 said_by tool before (Valued opts.From at value) = from_said before at value

@@ -17,6 +17,7 @@ pub use places::read_places;
 pub use read::read_request;
 pub use request::{
     Check, CheckForm, Coherence, Cross, Demo, Diy, DiyOne, ExecutionForm, LineTestForm, LineTests,
-    MAX_CHOICES, MAX_GIVEN_NAME, MAX_TESTS, Norm, Request, Sought, Source, TestName, Why,
+    MAX_CHOICES, MAX_GIVEN_NAME, MAX_TESTS, Norm, Request, Sought, Source, States, TestName, Why,
+    WrongBlocks,
 };
 pub use usage::{Usage, UsageKind};

@@ -5,7 +5,7 @@ ghost use Rattle.edges_from_text.specs.{declared.read.Separators.TheVariants.{Bl
 ghost use Rattle.edge_algebra.specs.Compose.{composed};
 ghost use Rattle.diy_words.specs.{CodeNotes.{cycle_kept}, NumberWords.{number_to}, declared.usage.UsageKind.TheVariants.{ExcludedOption}};
 ghost use Rattle.diy_words.specs.{Parts.{Unvalued, mode_named}, Notes.{before_noted, more_choices}};
-ghost use Rattle.diy_words.specs.Sayings.{Before, SaysRelaxes, SaysPlace, SaysSize, SaysThreads, SaysAccesses, said_by, arch_said, name_said, test_name_said, mode_said, obs_said, from_said, why_said, co_said, exec_said, dot_said, needs_said, line_tests_said, lines_said, file_folder_said, edges_said, relaxes_said, relax_usage, number_said, after_said, folder_said, checked_said, operand_said, begins_option};
+ghost use Rattle.diy_words.specs.Sayings.{Before, SaysRelaxes, SaysPlace, SaysSize, SaysThreads, SaysAccesses, said_by, arch_said, arch_option_said, is_leading, takes_logs, table_said, skip_said, states_said, check_dot_said, name_said, test_name_said, mode_said, obs_said, from_said, why_said, co_said, exec_said, dot_said, needs_said, line_tests_said, lines_said, file_folder_said, edges_said, relaxes_said, relax_usage, number_said, after_said, folder_said, checked_said, operand_said, begins_option};
 ghost use Rattle.diy_words.specs.declared.options.Tool.TheVariants as tools;
 
 use crate::name::name_of;
@@ -68,6 +68,10 @@ pub struct Notes<'a> {
     pub table: bool,
     /// Whether `-lines` was given.
     pub line_tests: bool,
+    /// Whether `-skip` was given.
+    pub skip: bool,
+    /// Whether `-states` was given.
+    pub states: bool,
 }
 
 impl<'a> Notes<'a> {
@@ -106,6 +110,8 @@ impl<'a> Notes<'a> {
             names: false,
             table: false,
             line_tests: false,
+            skip: false,
+            states: false,
         }
     }
 
@@ -120,10 +126,8 @@ impl<'a> Notes<'a> {
         requires { at + 1 < 2 ^ 64 }
         ensures { notes_left result (code_notes self.new) ≡ notes_valued tool (code_notes self.old) option at value.now }
     {
-        // The clause names the tool, on which no option with a value depends.
-        let _tool = tool;
         match option {
-            OptionName::Arch => self.take_arch(at + 1, value),
+            OptionName::Arch => self.take_arch_option(tool, at, value),
             OptionName::Name => self.take_test_name(at, value),
             OptionName::Obs => self.take_obs(at, value),
             OptionName::From => self.take_from(at, value),
@@ -133,6 +137,17 @@ impl<'a> Notes<'a> {
             OptionName::Accesses => self.take_accesses(at + 1, value),
             OptionName::After => self.take_after(at + 1, value),
             OptionName::Folder => self.take_file_folder(at, value),
+        }
+    }
+
+    /// Takes in `-arch` at index `at` with its value, unless it comes after the test of `-states`.
+    fn take_arch_option(&mut self, tool: Tool, at: usize, value: &str) -> Result<(), Usage>
+        requires { at + 1 < 2 ^ 64 }
+        ensures { notes_left result (code_notes self.new) ≡ notes_after (code_notes self.old) (arch_option_said tool (before_noted (code_notes self.old)) at value.now) }
+    {
+        match tool {
+            Tool::Check if self.takes_logs() => Err(excluded_option(at)),
+            _ => self.take_arch(at + 1, value),
         }
     }
 
@@ -310,14 +325,10 @@ impl<'a> Notes<'a> {
                 self.names = true;
                 Ok(())
             }
-            Tool::Msum if text == "-table" && at == 1 => {
-                self.table = true;
-                Ok(())
-            }
-            Tool::Check if text == "-dot" => {
-                self.graph = true;
-                Ok(())
-            }
+            Tool::Msum if text == "-table" => self.take_table(at),
+            Tool::Msum if text == "-skip" => self.take_skip(at),
+            Tool::Check if text == "-dot" => self.take_check_dot(at),
+            Tool::Check if text == "-states" => self.take_states(at),
             _ => Err(usage_at(at, UsageKind::UnknownOption)),
         }
     }
@@ -411,8 +422,59 @@ impl<'a> Notes<'a> {
         Ok(())
     }
 
+    /// Takes in `-table`, if nothing but `-skip` comes between the tool's name and it.
+    fn take_table(&mut self, at: usize) -> Result<(), Usage>
+        ensures { notes_left result (code_notes self.new) ≡ notes_after (code_notes self.old) (table_said (before_noted (code_notes self.old)) at) }
+    {
+        if !is_leading(at, self.skip) {
+            return Err(usage_at(at, UsageKind::UnknownOption));
+        }
+        self.table = true;
+        Ok(())
+    }
+
+    /// Takes in `-skip`, if nothing but `-table` comes between the tool's name and it.
+    fn take_skip(&mut self, at: usize) -> Result<(), Usage>
+        ensures { notes_left result (code_notes self.new) ≡ notes_after (code_notes self.old) (skip_said (before_noted (code_notes self.old)) at) }
+    {
+        if !is_leading(at, self.table) {
+            return Err(usage_at(at, UsageKind::UnknownOption));
+        }
+        self.skip = true;
+        Ok(())
+    }
+
+    /// Takes in `-dot` for mcheck7, unless `-states` comes before it.
+    fn take_check_dot(&mut self, at: usize) -> Result<(), Usage>
+        ensures { notes_left result (code_notes self.new) ≡ notes_after (code_notes self.old) (check_dot_said (before_noted (code_notes self.old)) at) }
+    {
+        if self.states {
+            return Err(excluded_option(at));
+        }
+        self.graph = true;
+        Ok(())
+    }
+
+    /// Takes in `-states`, unless `-dot` or an operand comes before it.
+    fn take_states(&mut self, at: usize) -> Result<(), Usage>
+        ensures { notes_left result (code_notes self.new) ≡ notes_after (code_notes self.old) (states_said (before_noted (code_notes self.old)) at) }
+    {
+        if self.graph || self.taken > 0 {
+            return Err(excluded_option(at));
+        }
+        self.states = true;
+        Ok(())
+    }
+
+    /// Whether the test of `-states` was taken, so that the operands after it name logs.
+    fn takes_logs(&self) -> bool
+        ensures { result ≡ takes_logs (before_noted (code_notes self.now)) }
+    {
+        self.states && self.taken > 0
+    }
+
     fn take_operand(&mut self, tool: Tool, at: usize, text: &str) -> Result<(), Usage>
-        ensures { notes_left result (code_notes self.new) ≡ notes_after (code_notes self.old) (operand_said tool self.old.taken at text.now) }
+        ensures { notes_left result (code_notes self.new) ≡ notes_after (code_notes self.old) (operand_said tool (before_noted (code_notes self.old)) at text.now) }
     {
         match tool {
             Tool::DiyOne | Tool::Norm => self.take_edges(at, text),
@@ -450,10 +512,14 @@ impl<'a> Notes<'a> {
         }
     }
 
-    /// Takes in a file for mcheck7: first that of the test, then that of the execution, and no third.
+    /// Takes in a file for mcheck7: first that of the test, then that of the execution, and no third; or with `-states`
+    /// first that of the test, then logs.
     fn take_checked(&mut self, at: usize) -> Result<(), Usage>
-        ensures { notes_left result (code_notes self.new) ≡ notes_after (code_notes self.old) (checked_said self.old.taken at) }
+        ensures { notes_left result (code_notes self.new) ≡ notes_after (code_notes self.old) (checked_said (before_noted (code_notes self.old)) at) }
     {
+        if self.takes_logs() {
+            return Ok(());
+        }
         match self.taken {
             0 => self.test = Some(at),
             1 => self.execution = Some(at),
@@ -467,7 +533,7 @@ impl<'a> Notes<'a> {
 
     /// Takes in the number of demo, if none was taken before.
     fn take_count(&mut self, at: usize, text: &str) -> Result<(), Usage>
-        ensures { notes_left result (code_notes self.new) ≡ notes_after (code_notes self.old) (operand_said tools.Demo self.old.taken at text.now) }
+        ensures { notes_left result (code_notes self.new) ≡ notes_after (code_notes self.old) (operand_said tools.Demo (before_noted (code_notes self.old)) at text.now) }
     {
         if self.taken != 0 {
             return Err(usage_at(at, UsageKind::StrayWord));
@@ -555,6 +621,13 @@ fn cycle_of(list: &EdgeList) -> Option<Cycle>
         EdgeList::Whole(edges) => cycle(edges.as_slice()).ok(),
         EdgeList::TooLong => None,
     }
+}
+
+/// Whether an option of msum7 at index `at` comes right after the tool's name, or after the other option if that was given.
+fn is_leading(at: usize, other: bool) -> bool
+    ensures { result ≡ is_leading at other }
+{
+    if other { at == 2 } else { at == 1 }
 }
 
 /// The error of an option at index `at` that comes after one that excludes it.

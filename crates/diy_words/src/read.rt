@@ -1,13 +1,13 @@
 ghost use Rattle.std.specs.Prelude.{◌≡◌, ◌<◌, ◌+◌, ◌^◌, ℕ, List, Some, length, drop, IfOk};
 ghost use Rattle.diy_words.specs.declared.usage.UsageKind.TheVariants.{MissingArch, MissingWhy};
-ghost use Rattle.diy_words.specs.Requests.{asked_of, asked_for, loosely_asked, asks, AsksWhy, AsksName, AsksFamilies, AsksCross, AsksDemo, AsksCheck, why_asked, test_or_execution, coherence_or_execution, list_or_lines, check_asked, one_asked, diyone_asked, diyone_with, norm_asked, name_asked, names_asked, cross_asked, families_with, demo_with, AsksLineTests, cycle_asked, line_tests_asked, line_form, form_asked};
+ghost use Rattle.diy_words.specs.Requests.{asked_of, asked_for, loosely_asked, asks, AsksWhy, AsksName, AsksFamilies, AsksCross, AsksDemo, AsksCheck, why_asked, test_or_execution, coherence_or_execution, list_or_lines, check_asked, check_or_states, states_asked, AsksStates, one_asked, diyone_asked, diyone_with, norm_asked, name_asked, names_asked, cross_asked, families_with, demo_with, AsksLineTests, cycle_asked, line_tests_asked, line_form, form_asked, blocks_asked};
 ghost use Rattle.diy_words.specs.{Given.{GivesTask, HasForm, WithinWords}, CodeNotes.{Steps, GivesAtEnd, GivesFrom, IsPlain, IsOption, code_notes}};
 
 use crate::notes::{Notes, missing_value};
 use crate::options::{OptionName, Tool, option_named, tool_named};
 use crate::request::{
     Check, CheckForm, Coherence, Cross, Demo, Diy, DiyOne, ExecutionForm, LineTestForm, LineTests,
-    MAX_CHOICES, Norm, Request, Sought, Why,
+    MAX_CHOICES, Norm, Request, Sought, States, Why, WrongBlocks,
 };
 use crate::strict::unless_idle;
 use crate::usage::{Usage, UsageKind, usage_at};
@@ -118,21 +118,28 @@ fn finish(tool: Tool, count: usize, notes: Notes<'_>) -> Result<Request<'_>, Usa
         Tool::Diy => finish_list(count, notes),
         Tool::Norm => finish_norm(count, notes),
         Tool::Classify => finish_families(count, notes),
-        Tool::Msum => Ok(Request::Sum(sum_form(&notes))),
+        Tool::Msum => Ok(Request::Sum(sum_form(notes.table), wrong_blocks(notes.skip))),
         Tool::Cross => finish_cross(count, notes),
         Tool::Demo => finish_demo(count, notes),
-        Tool::Check => finish_check(count, notes),
+        Tool::Check => finish_mcheck(count, notes),
     }
 }
 
-/// In which form msum7 is to print the sum.
-fn sum_form(notes: &Notes<'_>) -> SumForm
-    ensures { result ≡ form_asked notes.now.table }
+/// In which form msum7 is to print the sum, by whether `-table` was given.
+fn sum_form(table: bool) -> SumForm
+    ensures { result ≡ form_asked table }
 {
-    if notes.table {
-        SumForm::Table
+    if table { SumForm::Table } else { SumForm::Log }
+}
+
+/// What becomes of blocks with an error, by whether `-skip` was given.
+fn wrong_blocks(skip: bool) -> WrongBlocks
+    ensures { result ≡ blocks_asked skip }
+{
+    if skip {
+        WrongBlocks::LeaveOut
     } else {
-        SumForm::Log
+        WrongBlocks::End
     }
 }
 
@@ -298,6 +305,8 @@ fn finish_list(count: usize, notes: Notes<'_>) -> Result<Request<'_>, Usage>
         names: _,
         table: _,
         line_tests: _,
+        skip: _,
+        states: _,
     } = notes;
     let Some(arch) = arch else {
         return Err(missing_arch(count));
@@ -359,6 +368,30 @@ fn finish_demo(count: usize, notes: Notes<'_>) -> Result<Request<'_>, Usage>
     }
 }
 
+fn finish_mcheck(count: usize, notes: Notes<'_>) -> Result<Request<'_>, Usage>
+    ensures { GivesTask result (check_or_states count (code_notes notes.entry).given) }
+{
+    if notes.states {
+        finish_states(count, notes)
+    } else {
+        finish_check(count, notes)
+    }
+}
+
+/// The request of mcheck7 with `-states`.
+fn finish_states(count: usize, notes: Notes<'_>) -> Result<Request<'_>, Usage>
+    ensures { GivesTask result (asks AsksStates (states_asked count (code_notes notes.entry).given)) }
+{
+    let Some(arch) = notes.arch else {
+        return Err(missing_arch(count));
+    };
+    match notes.test {
+        Some(test) => Ok(Request::States(States { arch, test })),
+        None => Err(usage_at(count, UsageKind::MissingFile)),
+    }
+}
+
+/// The request of mcheck7 without `-states`.
 fn finish_check(count: usize, notes: Notes<'_>) -> Result<Request<'_>, Usage>
     ensures { GivesTask result (asks AsksCheck (check_asked count (code_notes notes.entry).given)) }
 {

@@ -34,9 +34,9 @@ pub enum Request<'a> {
     /// The names of cycles of the architecture by their families, of classify7: those of the tests in the files that
     /// its operands name, which `read_files` finds, or those of the input's lines if there is no operand.
     Families(ArchName),
-    /// The sum of the logs that the arguments after the first name, or of the input if there are none, in a form, of
-    /// msum7; or of those after `-table`, which comes right after the first.
-    Sum(SumForm),
+    /// The sum of the logs that the arguments after `-skip` and `-table` name, or of the input if there are none, in a form,
+    /// of msum7.
+    Sum(SumForm, WrongBlocks),
     /// The tests of the choices of relaxations, of diycross7.
     Cross(Cross<'a>),
     /// A number of tests, of demo.
@@ -53,6 +53,8 @@ pub enum Request<'a> {
     Lines(Diy<'a>),
     /// The tests of the input's lines of cycles, of diyone7 with `-lines`.
     LineTests(LineTests<'a>),
+    /// The states of a test in logs, each with its verdict, of mcheck7 with `-states`.
+    States(States),
 }
 
 /// What norm7 is asked for.
@@ -186,6 +188,15 @@ pub struct Cross<'a> {
     pub folder: Option<&'a str>,
 }
 
+/// What msum7 does with the blocks of logs that have an error.
+#[derive(Clone, Copy)]
+pub enum WrongBlocks {
+    /// The first error ends the sum.
+    End,
+    /// They are left out of the sum, with `-skip`.
+    LeaveOut,
+}
+
 /// What demo is asked for.
 #[derive(Drop)]
 pub struct Demo {
@@ -215,4 +226,14 @@ pub struct Check {
     pub execution: usize,
     /// What is written.
     pub form: CheckForm,
+}
+
+/// What mcheck7 is asked for with `-states`. The logs are those that the arguments after that of the test name, or the
+/// input if there are none.
+#[derive(Clone, Copy)]
+pub struct States {
+    /// The architecture of the test.
+    pub arch: ArchName,
+    /// The index of the argument that names the file of the test.
+    pub test: usize,
 }

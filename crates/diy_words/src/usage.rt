@@ -44,7 +44,8 @@ pub enum UsageKind {
     /// The tool takes no operand, or no further one, or an operand comes together with `-from` or `-lines`.
     StrayWord,
     /// An option comes after one that excludes it: `-obs`, `-why` and `-co` exclude each other, and so do
-    /// `-why` and `-exec`, `-lines` and `-name`, and `-list` and `-o`.
+    /// `-why` and `-exec`, `-lines` and `-name`, `-list` and `-o`, and `-states` and `-dot`. Or `-states` comes after
+    /// an operand, or an option of mcheck7 after that of `-states`.
     ExcludedOption,
     /// The tool requires `-arch`, which is missing.
     MissingArch,
@@ -52,7 +53,7 @@ pub enum UsageKind {
     MissingEdges,
     /// The tool requires a number, which is missing.
     MissingNumber,
-    /// The tool requires two files, of which at least one is missing.
+    /// The tool requires two files, of which at least one is missing, or with `-states` that of a test.
     MissingFile,
     /// `-o` of diyone7 requires `-why` or `-lines`, and both are missing.
     MissingWhy,

@@ -1,6 +1,4 @@
 pub mod ReadingLaws
-pub mod FenceWords
-pub mod KindSpellings
 pub mod EdgeReadings
 mod RelaxExamples
 pub mod Paths

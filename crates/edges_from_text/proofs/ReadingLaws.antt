@@ -1,7 +1,10 @@
 -- How a text is read word by word.
-use Rattle.std.proofs.Common.{◌≡◌, ℕ, ◌+◌, ◌<◌, List, [], ◌∷◌, ◌++◌, length, take, drop, get_or, zero, suc, map, Bor, Option, Some, None, Result, Ok, Err, is_ok, if◌then◌else◌, refl, sym, ap, ◌∙◌, arith}
-use Rattle.std.proofs.lemmas.List.{take-append-drop}
-use Rattle.std.specs.{Option.option_map, Result.IsErr}
+use Rattle.std.proofs.Common.{◌≡◌, ℕ, ◌+◌, ◌-◌, ◌<◌, ◌≤◌, Bool, nat_lt, List, [], ◌∷◌, ◌++◌, length, take, drop, Option, Some, None}
+use Rattle.std.proofs.Common.{Result, Ok, Err, is_ok, if◌then◌else◌, refl, sym, ap, ◌∙◌, arith}
+use Rattle.std.proofs.{lemmas.Bool.{ltb-true, ltb-false}, lemmas.List.{drop-drop, take-append-drop, append-nil}, lemmas.List.Splits.{slice_split_first, slice_split_none}}
+use Rattle.std.proofs.{lemmas.List.Sums.fails_before_first, Math.ListN.drop_of_length-le}
+use Rattle.list_laws.proofs.{Cases.by_test, Elements.rest_from}
+use Rattle.std.specs.{List.{slice_split, before_first, position_or_len}, Option.option_map, Result.IsErr}
 use Rattle.relax_edges.specs.{declared.edge.Edge.Edge, Spelling.edge_of, ReadEdges.before_edges}
 use Rattle.edges_from_text.specs.{declared.list.EdgeList.EdgeList, Spelled.edges_spelled, KeptEdges.{edges_added, pushed}}
 
@@ -40,26 +43,51 @@ no_edge_first list (byte ∷ bytes) more h = of_edge (edge_of (byte ∷ bytes)) 
     of_edge None h = refl
     of_edge (Some edge) h = cc h
 
-drop_next : (all : List (List ℕ)) (n : ℕ) (word : List ℕ) → n < length all → word ≡ get_or all n word → drop n all ≡ word ∷ drop (n + 1) all
-drop_next [] n word below at = absurd (omega (arith, below))
-drop_next (x ∷ all) zero word below at = cc at
-drop_next (x ∷ all) (suc n) word below at = grind (arith, drop_next all n word)
+-- an empty word adds nothing
+empty_last : (word : List ℕ) → edges_spelled (word ∷ [] ∷ []) ≡ edges_spelled (word ∷ [])
+empty_last [] = refl
+empty_last (byte ∷ bytes) = refl
 
--- a list is what was taken of it, the next element and those after that
-parts_at : (all front : List (List ℕ)) (n : ℕ) (word : List ℕ) → front ≡ take n all → n < length all → word ≡ get_or all n word
-    → all ≡ front ++ word ∷ drop (n + 1) all
-parts_at all front n word h below at =
-    sym (take-append-drop n all) ∙ (ap (λ xs. xs ++ drop n all) (sym h) ∙ ap (λ xs. front ++ xs) (drop_next all n word below at))
+-- a text has the word before its first separator, and the words after that
+first_cut : (test : ℕ → Bool) (text : List ℕ)
+    → edges_spelled (slice_split test text)
+    ≡ edges_spelled (before_first test text ∷ slice_split test (drop (position_or_len test text + 1) text))
+first_cut test text =
+    by_test (nat_lt (position_or_len test text) (length text))
+    (λ t. rw (slice_split_first test text 0 (ltb-true _ _ t)) refl)
+    (λ f. let past : length text ≤ position_or_len test text = ltb-false _ _ f in
+    let none : slice_split test text ≡ text ∷ [] =
+    slice_split_none test text (λ k d below. fails_before_first test text k d (omega arith)) in
+    let front = before_first test text in
+    let whole : front ≡ text =
+    sym (append-nil front) ∙ ap (λ end. front ++ end) (sym (drop_of_length-le text {i = position_or_len test text} past))
+    ∙ take-append-drop (position_or_len test text) text in
+    let end : drop (position_or_len test text + 1) text ≡ [] = drop_of_length-le text {i = position_or_len test text + 1} (omega arith) in
+    rw (none, whole, end) (sym (empty_last text)))
 
--- nothing is left of words of which one is no edge, after those before it
-pub none_of : (list kept : EdgeList) (texts : List (List ℕ)) (front : List (Bor (List ℕ))) (word : Bor (List ℕ))
-    → map (λ w. w.now) front ≡ take (length front) texts → (length front < length texts) × (word.now ≡ get_or texts (length front) word.now)
-    → spelled list (map (λ w. w.now) front) ≡ Some kept → spelled kept (word.now ∷ []) ≡ None → spelled list texts ≡ None
-none_of list kept texts front word so_far turn before failed =
-    let parts = parts_at texts (map (λ w. w.now) front) (length front) word.now so_far turn.0 turn.1 in
-    ap (spelled list) parts
-    ∙ (then_words list kept (map (λ w. w.now) front) (word.now ∷ drop (length front + 1) texts) before
-    ∙ no_edge_first kept word.now (drop (length front + 1) texts) failed)
+-- once the first word of a text is read, the words after its separator are left
+pub first_read : (list kept : EdgeList) (test : ℕ → Bool) (text word after : List ℕ) (len : ℕ) → len ≡ position_or_len test text
+    → word ≡ take len text → after ≡ drop (len + 1) text → spelled list (word ∷ []) ≡ Some kept
+    → spelled kept (slice_split test after) ≡ spelled list (slice_split test text)
+first_read list kept test text word after len at is next read =
+    sym (ap (option_map (edges_added list)) (first_cut test text)
+    ∙ rw (← at, ← is, ← next) (then_words list kept (word ∷ []) (slice_split test after) read))
+
+-- a text whose first word is no edge has no edges
+pub first_fails : (list : EdgeList) (test : ℕ → Bool) (text word : List ℕ) (len : ℕ) → len ≡ position_or_len test text
+    → word ≡ take len text → spelled list (word ∷ []) ≡ None → spelled list (slice_split test text) ≡ None
+first_fails list test text word len at is failed =
+    ap (option_map (edges_added list)) (first_cut test text)
+    ∙ rw (← at, ← is) (no_edge_first list word (slice_split test (drop (len + 1) text)) failed)
+
+-- the text after a separator
+pub after_separator : (text after : List ℕ) (len : ℕ) → after ≡ drop len text → take (length after - 1) (drop 1 after) ≡ drop (len + 1) text
+after_separator text after len is = rest_from after 1 ∙ ap (drop 1) is ∙ drop-drop 1 len text
+
+-- at the end of a text nothing is after it
+pub after_end : (text after : List ℕ) (len : ℕ) → after ≡ drop len text → length after < 1 → after ≡ drop (len + 1) text
+after_end text [] len is none = ap (drop 1) is ∙ drop-drop 1 len text
+after_end text (byte ∷ after) len is none = absurd (omega (arith, none))
 
 -- an error keeps nothing
 pub none_if_err : {X E : Type 0} (r : Result X E) (kept : EdgeList) → IsErr r → (if is_ok r then Some kept else None) ≡ None

@@ -7,7 +7,7 @@ use Rattle.std.proofs.lemmas.List.{take-append-drop, map-append, length-append, 
 use Rattle.relax_edges.specs.{declared.edge.Edge.Edge, Spelling.edge_of}
 use Rattle.edges_from_text.specs.Relaxations.{byte_choices, expansions, word_edges}
 use Rattle.edges_from_text.specs.Stars.{star_choices, edges_by_last, edges_by_end}
-use Rattle.edges_from_text.proofs.EdgeReadings.{edge_of_short}
+use Rattle.edges_from_text.proofs.EdgeReadings.{edge_of_short, edge_of_long}
 
 -- the words with a given beginning, by their last two bytes
 abbrev ends : List ℕ → ℕ → ℕ → List (List ℕ)
@@ -120,3 +120,7 @@ pub word_edges_split : (word : List ℕ) → 2 ≤ length word
     → word_edges word ≡ edges_by_end (take (length word - 2) word) (get_or word (length word - 2) 0) (get_or word (length word - 1) 0)
 word_edges_split word some =
     ap word_edges (last_two word some) ∙ word_edges_end (take (length word - 2) word) (get_or word (length word - 2) 0) (get_or word (length word - 1) 0)
+
+-- a text that is too long adds no edge
+pub pushed_long : (edges : List Edge) (text : List ℕ) → 16 < length text → edges ≡ edges ++ option_to_list (edge_of text)
+pushed_long edges text long = rw (edge_of_long text long) (sym (append-nil edges))

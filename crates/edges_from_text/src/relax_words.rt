@@ -4,7 +4,7 @@ ghost use Rattle.relax_edges.specs.Spelling.{edge_of};
 ghost use Rattle.edges_from_text.specs.{RelaxText.{is_separator, words_of, is_empty}, Relaxations.word_edges};
 ghost use Rattle.edges_from_text.specs.Stars.{edges_by_last, edges_by_end};
 
-use crate::edge::read_ending;
+use crate::edge::read_edge_bytes;
 use crate::relax_runs::{RunEnd, is_separator, run_len};
 use arrayvec::ArrayVec;
 use relax_edges::Edge;
@@ -25,11 +25,26 @@ pub(crate) fn next_word(text: &[u8]) -> Option<(&[u8], &[u8])>
     None
 }
 
+/// A prefix and two bytes as one word; `None` if it would be longer than each spelling.
+fn joined(prefix: &[u8], before: u8, last: u8) -> Option<ArrayVec<u8, 16>>
+    ensures { MatchOption result (16 < length (prefix.now ++ before ∷ last ∷ [])) (λ word. word.items ≡ prefix.now ++ before ∷ last ∷ []) }
+{
+    let mut word = ArrayVec::new();
+    word.try_extend_from_slice(prefix).ok()?;
+    word.try_push(before).ok()?;
+    word.try_push(last).ok()?;
+    Some(word)
+}
+
+#[tactic(auto, using(crate::proofs::Stars::pushed_long))]
 fn push_read(prefix: &[u8], before: u8, last: u8, edges: &mut ArrayVec<Edge, 4>)
     requires { array_vec_len edges.old < 4 }
     ensures { edges.new.items ≡ edges.old.items ++ option_to_list (edge_of (prefix.now ++ before ∷ last ∷ [])) }
 {
-    if let Some(edge) = read_ending(prefix, before, last) {
+    let Some(word) = joined(prefix, before, last) else {
+        return;
+    };
+    if let Ok(edge) = read_edge_bytes(word.as_slice()) {
         edges.push(edge);
     }
 }

@@ -2,7 +2,7 @@
 use Rattle.std.proofs.Common.{◌≡◌, ℕ, List, [], ◌∷◌, ◌+◌, take, refl, ◌∙◌, subst, inl, inr}
 use Rattle.std.specs.Prelude.{Ok, Err}
 use Rattle.diy_io.specs.{Count.Rose, Shelf.ShelfSeen, Wrote.SinkSeen, Opened.name_at}
-use Rattle.diy_io.proofs.{FileNameLaws.{absent_before, quiet_before, file_before}, OpenedLaws.{took_no_more, took_one_more}}
+use Rattle.diy_io.proofs.{FileNameLaws.{absent_before, quiet_before, file_before}, OpenedLaws.{took_no_more, took_one_more}, EndLaws.{ends_both, ends_or_more}}
 use Rattle.relax_edges.specs.declared.kinds.ArchName.{ArchName}
 use Rattle.arch_trait.specs.Writing.{Writing}
 use Rattle.litmus_text.specs.{declared.limits.TheConstants.MAX_TEST_TEXT, TestReading.TestRead}
@@ -10,7 +10,7 @@ use Rattle.program_meaning.specs.Executions.{Execution}
 use Rattle.exec_check.specs.{declared.verdict.Judged.Judged, declared.shown.Shown.Shown, declared.checked_errors.CheckFault.CheckFault, ShownTexts.shown_text}
 use Rattle.exec_check.specs.CheckingSteps.{TestFileTo, ExecFileTo, check_end}
 use Rattle.exec_check.specs.FilesChecked.{exec_said, IsTest, BothRead, ExecutionShown, ExecUnread, FilesChecked}
-use Rattle.tests_from_files.specs.{FilesRead.{FileFailed, FileIs}, TestSaid.test_said, FailedFiles.failed_after}
+use Rattle.tests_from_files.specs.{FilesRead.{FileFailed, FileIs, ends_in}, TestSaid.test_said, FailedFiles.failed_after}
 use Rattle.exec_check.specs.declared.checked_errors.CheckedKind.TheVariants as kinds
 use Rattle.exec_check.specs.declared.checked_errors.CheckFault.TheVariants as faults
 
@@ -18,8 +18,8 @@ use Rattle.exec_check.specs.declared.checked_errors.CheckFault.TheVariants as fa
 pub test_refused : (shown : Shown) (arch : ArchName) (w : Writing) (old new : ShelfSeen) (words : List (List ℕ)) (test exec : ℕ) (a : SinkSeen) (fault : CheckFault)
     → TestFileTo arch w old new (name_at words test) (Err fault) → FilesChecked shown arch w old new words test exec a a (check_end test fault)
 test_refused shown arch w old new words test exec a faults.Missing h =
-    (inl (record { place_is = refl; absent = h.absent; no_fault = h.no_fault; took = h.took }), refl)
-test_refused shown arch w old new words test exec a faults.Device h = (record { fault = h.fault; unread = inl h.took }, refl)
+    (inl (record { place_is = refl; absent = h.absent; no_fault = h.no_fault; took = h.took; ends = h.ends }), refl)
+test_refused shown arch w old new words test exec a faults.Device h = (record { fault = h.fault; unread = inl (record { took = h.took; ends = h.ends }) }, refl)
 test_refused shown arch w old new words test exec a (faults.Wrong line (kinds.Test kind)) h = (record { place_is = refl; faulty = h }, refl)
 test_refused shown arch w old new words test exec a (faults.Wrong line kinds.WrongArch) h = (record { place_is = refl; faulty = h }, refl)
 test_refused shown arch w old new words test exec a (faults.Wrong line (kinds.Exec kind)) h = absurd h
@@ -39,6 +39,7 @@ exec_failed arch w old mid new words test exec read f same h = record {
   read = read;
   test_is = test_is arch w old mid (name_at words test) read f;
   took = failed_after old mid new (f.text ∷ []) (name_at words exec) same f.took h;
+  ends = ends_or_more old mid new 1 f.ends h.ends;
 }
 
 -- the file of the execution isn't what is wanted, and that of the test is
@@ -54,6 +55,7 @@ exec_refused shown arch w old mid new words test exec a read faults.Missing f sa
     absent = absent_before old mid new (name_at words exec) same f.no_fault h.absent;
     no_fault = quiet_before old mid new same f.no_fault h.no_fault;
     took = took_no_more old mid new (f.text ∷ []) f.took h.took;
+    ends = ends_both old mid new 1 0 1 f.ends h.ends refl;
   }),
   refl,
 )
@@ -74,6 +76,8 @@ exec_refused shown arch w old mid new words test exec a read (faults.Wrong line 
     named = file_before old mid (name_at words exec) h.text same h.named;
     fault = h.fault;
     took = took_one_more old mid new (f.text ∷ []) (take (MAX_TEST_TEXT + 1) h.text) f.took h.took;
+    ends = ends_both old mid new 1 (ends_in h.text) (1 + ends_in h.text) f.ends h.ends refl;
+    at_open = h.at_open ∙ f.no_fault;
   },
   refl,
 )
@@ -91,6 +95,7 @@ both_read arch w old mid new words test exec read x f same e = record {
   shown = e.text;
   exec_is = record { named = file_before old mid (name_at words exec) e.text same e.named; says = e.is };
   took = took_one_more old mid new (f.text ∷ []) e.text f.took e.took;
+  ends = ends_both old mid new 1 1 2 f.ends e.ends refl;
   no_fault = e.no_fault ∙ f.no_fault;
 }
 

@@ -74,7 +74,8 @@ checked_few shown arch w old new words test exec before after (ends.NoFile word)
         few_taken old new (no_exec.text ∷ []) no_exec.took (test_few arch w old.files (name_at words test) no_exec.text no_exec.read no_exec.test_is) more
 checked_few shown arch w old new words test exec before after ends.ShelfFault h some more = of_unread h.0.unread
   where
-    of_test : TestUnread old new (name_at words test) → new.taken ≤ MAX_TEST_TEXT + 1
+    of_test : (TookFiles old new [] ⊎ ((bytes : List ℕ) × Begins old.files (name_at words test) bytes × TookFiles old new (bytes ∷ [])))
+        → new.taken ≤ MAX_TEST_TEXT + 1
     of_test (inl none) = few_taken old new [] none none_few more
     of_test (inr part) = few_taken old new (part.0 ∷ []) part.2 (begun_few old.files (name_at words test) part.0 part.1) more
 
@@ -89,7 +90,7 @@ checked_few shown arch w old new words test exec before after ends.ShelfFault h 
         more
 
     of_unread : TestUnread old new (name_at words test) ⊎ ExecUnread arch w old new words test exec → new.taken ≤ MAX_TEST_TEXT + 1
-    of_unread (inl unread) = of_test unread
+    of_unread (inl unread) = of_test unread.took
     of_unread (inr unread) = of_exec unread unread.took
 checked_few shown arch w old new words test exec before after ends.NoMemory h some more = absurd (some refl)
 

@@ -1,10 +1,11 @@
 -- What the writing of the tests of a source's lines leaves, in each case.
 use Rattle.std.proofs.Common.{◌≡◌, ◌≤◌, inl, inr, ℕ, ◌+◌, true, false, List, [], ◌∷◌, ◌++◌, length, take, Option, Some, None, refl, sym, ◌∙◌, ap, subst, arith, append-nil, append_assoc, length-append}
+use Rattle.std.proofs.lemmas.List.{take_all}
 use Rattle.list_laws.proofs.Cases.{by_test}
 use Rattle.std.specs.{Prelude.{codes, unwrap_or, if◌then◌else◌}, Fmt.decimal, Io.KnownBytes.IsAtEnd}
-use Rattle.diy_io.specs.{declared.source.TheConstants.MAX_INPUT, Sink.line_feed_count, Shelf.ShelfSeen, Taken.{SourceSeen}, Wrote.{SinkSeen}}
+use Rattle.diy_io.specs.{declared.source.TheConstants.MAX_INPUT, Sink.line_feed_count, Shelf.ShelfSeen, Taken.{SourceSeen, EndedAtMostOnce}, Wrote.{SinkSeen}}
 use Rattle.text_parts.specs.Lines.{without_return, ended_lines, unended, lines_of}
-use Rattle.cycles_from_lines.specs.{Cycles.{line_said, is_long_line}, LineReading.{TookUpTo, whole_of}, declared.line.LineForm.TheVariants.Edges}
+use Rattle.cycles_from_lines.specs.{Cycles.{line_said, is_long_line}, LineReading.{TookUpTo, IsSeenIn, whole_of}, declared.line.LineForm.TheVariants.Edges}
 use Rattle.cycles_from_lines.specs.declared.errors.LineKind.TheVariants.{LineTooLong}
 use Rattle.cycles_from_lines.proofs.LineLaws.{ended_count, long_first}
 use Rattle.tests_to_files.specs.{ListedFiles.{all_path, count_line, file_number}, GivenCycles.PutUpTo, Putting.{PutFiles, PutPart, FailsAt}}
@@ -33,8 +34,10 @@ pub record Shown (old new : SourceSeen) (text : List ℕ) (end : SourceEnd) : Ty
   pub taken : List ℕ
   pub more : List (List ℕ)
   pub took : TookUpTo old new taken
+  pub ends : EndedAtMostOnce old new
   pub few : length taken ≤ MAX_INPUT + 1
   pub lines : lines_of (whole_of taken new) ≡ lines_by (last_line_of end) text ++ more
+  pub cut : take MAX_INPUT taken ≡ text
 
 no_left : (left : Option (List ℕ)) → IsAtEnd left → unwrap_or left [] ≡ []
 no_left None h = refl
@@ -52,25 +55,40 @@ module _ (old new : SourceSeen) (text : List ℕ) where
     taken = text;
     more = [];
     took = inl r.took;
+    ends = inr (r.once, r.at_end);
     few = within (length text) r.few;
     lines = ap (λ left. lines_of (text ++ left)) (no_left new.left r.at_end) ∙ ap lines_of (append-nil text) ∙ sym (append-nil (lines_of text));
+    cut = take_all MAX_INPUT text r.few;
   }
   shown TooMuch r = record {
     taken = text ++ r.byte ∷ [];
     more = lines_of (unended text ++ (r.byte ∷ unwrap_or new.left []));
     took = inl r.took;
+    ends = inl r.no_end;
     few = subst (λ n. n ≤ MAX_INPUT + 1) (sym (length-append text (r.byte ∷ []))) (one_more (length text) MAX_INPUT r.full);
     lines =
         ap lines_of (append_assoc text (r.byte ∷ []) (unwrap_or new.left []))
         ∙ lines_grow text (r.byte ∷ unwrap_or new.left []) (unended_without text);
+    cut = ap (λ n. take n (text ++ r.byte ∷ [])) (sym r.full) ∙ taken_first text (r.byte ∷ []);
   }
   shown Fault r = record {
     taken = text;
     more = lines_of (unended text ++ unwrap_or new.left []);
     took = r.took;
+    ends = inl r.no_end;
     few = within (length text) r.few;
     lines = lines_grow text (unwrap_or new.left []) (unended_without text);
+    cut = take_all MAX_INPUT text r.few;
   }
+
+  -- the error of a line that was read is seen: it ended, or the text is all that the source had
+  pub seen_there : (end : SourceEnd) (read : ReadsText old new text end) (line : ℕ) → line ≤ length (lines_by (last_line_of end) text)
+      → IsSeenIn (whole_of (shown end read).taken new) text line
+  unfolding shown
+  seen_there AtEnd r line h =
+      inr (inr (sym (ap (λ left. text ++ left) (no_left new.left r.at_end) ∙ append-nil text)))
+  seen_there TooMuch r line h = inl (omega (arith, h, ended_count text))
+  seen_there Fault r line h = inl (omega (arith, h, ended_count text))
 
   -- what comes after the lines that were read goes on, if the source wasn't read to its end
   pub record Grown (end : SourceEnd) (read : ReadsText old new text end) : Type 0 where
@@ -113,6 +131,7 @@ module _ (making : Making) (old new : SourceSeen) (text : List ℕ) (end : Sourc
         text = s.taken;
         before = j.before;
         took = s.took;
+        ends = s.ends;
         few = s.few;
         first = record {
           line = w.line;
@@ -124,6 +143,9 @@ module _ (making : Making) (old new : SourceSeen) (text : List ℕ) (end : Sourc
           fault = w.fault;
           number_is = e ∙ ap (λ n. n + 1) j.count_is;
         };
+        seen = subst (λ t. IsSeenIn (whole_of s.taken new) t line) (sym s.cut)
+            (seen_there old new text end read line
+            (omega (arith, e, j.count_is, ap length (j.parts ∙ ap (λ t. j.before ++ t) w.parts), length-append j.before (w.line ∷ w.later))));
         files = subst (λ ls. PutFiles shelf shelf' (files_from making 0 (tests_of making.puts.name ls))) (judged_first making _ judged j) put;
       }
 
@@ -140,6 +162,7 @@ module _ (making : Making) (old new : SourceSeen) (text : List ℕ) (end : Sourc
         text = s.taken;
         before = j.before;
         took = s.took;
+        ends = s.ends;
         few = s.few;
         first = record {
           line = l.line;
@@ -150,6 +173,7 @@ module _ (making : Making) (old new : SourceSeen) (text : List ℕ) (end : Sourc
           fault = long_said making (names_of (tests_of making.puts.name j.before)) l.line l.long;
           number_is = e ∙ ap (λ n. n + 1) j.count_is;
         };
+        seen = subst (λ t. IsSeenIn (whole_of s.taken new) t line) (sym s.cut) (inr (inl long));
         files = subst (λ ls. PutFiles shelf shelf' (files_from making 0 (tests_of making.puts.name ls))) (judged_first making _ judged j) put;
       }
 
@@ -162,6 +186,7 @@ module _ (making : Making) (old new : SourceSeen) (text : List ℕ) (end : Sourc
       record {
         text = s.taken;
         took = s.took;
+        ends = s.ends;
         few = s.few;
         before = j.before;
         later = j.later ++ s.more;
@@ -184,6 +209,7 @@ module _ (making : Making) (old new : SourceSeen) (text : List ℕ) (judged : Ju
       record {
         text = text ++ r.byte ∷ [];
         took = r.took;
+        no_end = r.no_end;
         many = omega (arith, size, r.full);
         no_fault = r.no_fault;
         right = subst (λ t. AreRightLines making (ended_lines t)) (sym cut) (all_right making (ended_lines text) judged j none);
@@ -200,6 +226,7 @@ module _ (making : Making) (old new : SourceSeen) (text : List ℕ) (judged : Ju
   stops_fault r j short put = record {
     text = text;
     took = r.took;
+    no_end = r.no_end;
     few = r.few;
     fault = r.fault;
     never_falls = r.never_falls;
@@ -225,6 +252,7 @@ module _ (making : Making) (old new : SourceSeen) (text : List ℕ) (judged : Ju
         text = text;
         took = r.took;
         at_end = r.at_end;
+        once = r.once;
         few = r.few;
         no_fault = r.no_fault;
         right = all_right making (lines_of text) judged j none;
@@ -248,6 +276,7 @@ module _ (making : Making) (old new : SourceSeen) (text : List ℕ) (judged : Ju
       record {
         text = text;
         took = inl r.took;
+        ends = inr (r.once, r.at_end);
         few = within (length text) r.few;
         before = lines_of text;
         later = [];

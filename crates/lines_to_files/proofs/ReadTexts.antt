@@ -17,6 +17,7 @@ taken_over a b c text buffer count one full h p =
     record {
       byte = byte.0;
       took = subst (λ t. Took a c (text ++ t)) byte.1 (took_then a b c text (take count buffer) h.took p.took);
+      no_end = p.no_end ∙ h.no_end;
       full = full;
       no_fault = p.no_fault ∙ h.no_fault;
     }

@@ -1,10 +1,10 @@
 -- What writing the tests of a source's lines leaves on the shelf and on the sink.
 -- Source: own.
 use Rattle.std.specs.{Prelude.{◌≡◌, ◌≤◌, ◌<◌, ◌⊎◌, ℕ, ◌+◌, true, false, List, [], ◌++◌, length, take}, Io.KnownBytes.IsAtEnd}
-use Rattle.diy_io.specs.{declared.source.TheConstants.MAX_INPUT, Count.Rose, Sink.line_feed_count, Shelf.ShelfSeen, Taken.{SourceSeen, Took}}
+use Rattle.diy_io.specs.{declared.source.TheConstants.MAX_INPUT, Count.Rose, Sink.line_feed_count, Shelf.ShelfSeen, Taken.{SourceSeen, Took, EndedOnce, NotEnded, EndedAtMostOnce}}
 use Rattle.diy_io.specs.Wrote.{SinkSeen, WroteAll, WrotePart}
 use Rattle.text_parts.specs.Lines.{without_return, ended_lines, unended, lines_of}
-use Rattle.cycles_from_lines.specs.{Cycles.{are_sound, is_long_line}, LineReading.{TookUpTo, whole_of}, declared.line.LineForm.TheVariants.Edges}
+use Rattle.cycles_from_lines.specs.{Cycles.{are_sound, is_long_line}, LineReading.{TookUpTo, IsSeenIn, whole_of}, declared.line.LineForm.TheVariants.Edges}
 use Rattle.test_maker.specs.Made.{NamesLocation}
 use Rattle.tests_to_files.specs.{ListedFiles.count_line, GivenCycles.PutUpTo, Putting.PutFiles}
 use Rattle.lines_to_files.specs.{declared.ending.LineTestsEnd.LineTestsEnd, declared.form.WrongTest.WrongTest, declared.form.WrongTest.TheVariants.Refused}
@@ -16,25 +16,29 @@ pub record AreRightLines (making : Making) (lines : List (List ℕ)) : Type 0 wh
   pub sound : are_sound (Edges making.puts.name) lines ≡ true
   pub right : AreRight making (tests_of making.puts.name lines)
 
--- a source was read to its end, its lines are right, and all files of their tests were written, with the one that names them; and
--- `SaysLine` holds for the line on their number
+-- a source was read to its end, which was seen once, its lines are right, and all files of their tests were written, with the one that
+-- names them; and `SaysLine` holds for the line on their number
 pub record WritesTests (making : Making) (old new : SourceSeen) (shelf shelf' : ShelfSeen) (SaysLine : List ℕ → Type 0) : Type 0 where
   pub text : List ℕ
   pub took : Took old new text
   pub at_end : IsAtEnd new.left
+  pub once : EndedOnce old new
   pub few : length text ≤ MAX_INPUT
   pub no_fault : new.faults ≡ old.faults
   pub right : AreRightLines making (lines_of text)
   pub files : PutFiles shelf shelf' (all_files making (tests_in making.puts.name text))
   pub line : SaysLine (count_line (length (tests_in making.puts.name text)))
 
--- this line is the first that is wrong, of all that the source had as far as that is shown, and the files of the tests before were written
+-- this line is the first that is wrong, of all that the source had as far as that is shown, and the files of the tests before were
+-- written; what was taken within the limit shows the error
 pub record StopsAtWrong (making : Making) (old new : SourceSeen) (shelf shelf' : ShelfSeen) (line : ℕ) (kind : WrongTest) : Type 0 where
   pub text : List ℕ
   pub before : List (List ℕ)
   pub took : TookUpTo old new text
+  pub ends : EndedAtMostOnce old new
   pub few : length text ≤ MAX_INPUT + 1
   pub first : FirstWrong making (lines_of (whole_of text new)) before line kind
+  pub seen : IsSeenIn (whole_of text new) (take MAX_INPUT text) line
   pub files : PutFiles shelf shelf' (files_from making 0 (tests_of making.puts.name before))
 
 -- a source has more bytes than the limit, the lines that end within the limit are right, nor is what comes after them too long so far, and
@@ -42,6 +46,7 @@ pub record StopsAtWrong (making : Making) (old new : SourceSeen) (shelf shelf' :
 pub record StopsAtLimit (making : Making) (old new : SourceSeen) (shelf shelf' : ShelfSeen) (line : ℕ) : Type 0 where
   pub text : List ℕ
   pub took : Took old new text
+  pub no_end : NotEnded old new
   pub many : MAX_INPUT < length text
   pub no_fault : new.faults ≡ old.faults
   pub right : AreRightLines making (ended_lines (take MAX_INPUT text))
@@ -54,6 +59,7 @@ pub record StopsAtLimit (making : Making) (old new : SourceSeen) (shelf shelf' :
 pub record StopsAtFault (making : Making) (old new : SourceSeen) (shelf shelf' : ShelfSeen) : Type 0 where
   pub text : List ℕ
   pub took : TookUpTo old new text
+  pub no_end : NotEnded old new
   pub few : length text ≤ MAX_INPUT
   pub fault : Rose old.faults new.faults
   pub never_falls : old.faults ≤ new.faults
@@ -66,6 +72,7 @@ pub record StopsAtFault (making : Making) (old new : SourceSeen) (shelf shelf' :
 pub record StopsAtFile (making : Making) (old new : SourceSeen) (shelf shelf' : ShelfSeen) : Type 0 where
   pub text : List ℕ
   pub took : TookUpTo old new text
+  pub ends : EndedAtMostOnce old new
   pub few : length text ≤ MAX_INPUT + 1
   pub before : List (List ℕ)
   pub later : List (List ℕ)

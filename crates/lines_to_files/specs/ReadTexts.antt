@@ -1,19 +1,21 @@
 -- How a source's text was read. It is used only by private functions.
 -- Source: own.
 use Rattle.std.specs.{Prelude.{◌≡◌, ◌≤◌, ◌<◌, ℕ, List, [], ◌∷◌, ◌++◌, length, take, Result, Ok, Err}, Io.KnownBytes.IsAtEnd}
-use Rattle.diy_io.specs.{declared.source.TheConstants.MAX_INPUT, Count.Rose, Taken.{SourceSeen, Took}}
+use Rattle.diy_io.specs.{declared.source.TheConstants.MAX_INPUT, Count.Rose, Taken.{SourceSeen, Took, EndedOnce, NotEnded}}
 use Rattle.cycles_from_lines.specs.{LineReading.TookUpTo, LineSteps.Stops}
 use Rattle.lines_to_files.specs.{declared.source_text.SourceEnd.SourceEnd, declared.source_text.SourceEnd.TheVariants.{AtEnd, TooMuch, Fault}}
 
--- these bytes were taken from a source without an error
+-- these bytes were taken from a source without an error, and its end wasn't seen
 pub record HasTaken (old new : SourceSeen) (text : List ℕ) : Type 0 where
   pub took : TookUpTo old new text
+  pub no_end : NotEnded old new
   pub no_fault : new.faults ≡ old.faults
 
--- a source is at its end, and these are its bytes
+-- a source is at its end, which was seen once, and these are its bytes
 pub record ReadsToEnd (old new : SourceSeen) (text : List ℕ) : Type 0 where
   pub took : Took old new text
   pub at_end : IsAtEnd new.left
+  pub once : EndedOnce old new
   pub few : length text ≤ MAX_INPUT
   pub no_fault : new.faults ≡ old.faults
 
@@ -21,12 +23,14 @@ pub record ReadsToEnd (old new : SourceSeen) (text : List ℕ) : Type 0 where
 pub record ReadsToLimit (old new : SourceSeen) (text : List ℕ) : Type 0 where
   pub byte : ℕ
   pub took : Took old new (text ++ byte ∷ [])
+  pub no_end : NotEnded old new
   pub full : length text ≡ MAX_INPUT
   pub no_fault : new.faults ≡ old.faults
 
 -- a source failed after these bytes
 pub record ReadsToFault (old new : SourceSeen) (text : List ℕ) : Type 0 where
   pub took : TookUpTo old new text
+  pub no_end : NotEnded old new
   pub few : length text ≤ MAX_INPUT
   pub fault : Rose old.faults new.faults
   pub never_falls : old.faults ≤ new.faults
@@ -40,14 +44,16 @@ ReadsText old new text Fault = ReadsToFault old new text
 -- so many bytes were taken, at least one, and are at the start of a buffer
 pub record TakesPiece (old new : SourceSeen) (buffer : List ℕ) (room count : ℕ) : Type 0 where
   pub took : Took old new (take count buffer)
+  pub no_end : NotEnded old new
   pub some : 0 < count
   pub within : count ≤ room
   pub no_fault : new.faults ≡ old.faults
 
--- a source is at its end, and nothing more was taken
+-- a source is at its end, which was seen once, and nothing more was taken
 pub record TakesNone (old new : SourceSeen) : Type 0 where
   pub took : Took old new []
   pub at_end : IsAtEnd new.left
+  pub once : EndedOnce old new
   pub no_fault : new.faults ≡ old.faults
 
 -- a piece was taken, or the source is at its end, or it failed

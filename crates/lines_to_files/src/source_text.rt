@@ -45,6 +45,7 @@ fn end_at_limit<I: Source>(input: &mut I) -> SourceEnd
 }
 
 /// Reads at most `room` bytes to the start of a buffer, at least one, or returns how the reading ended.
+#[tactic(auto, using(diy_io::proofs::EndLaws::end_counted, diy_io::proofs::EndLaws::no_end_counted))]
 fn read_piece<I: Source>(input: &mut I, buffer: &mut [u8], room: usize) -> Result<usize, SourceEnd>
     requires some { 0 < room }
     requires within { room ≤ length buffer.old }

@@ -1,4 +1,5 @@
 mod ReadingRows
+mod SkippingRows
 pub mod TextLaws
 pub mod CountLaws
 pub mod StateLaws
@@ -14,6 +15,10 @@ pub mod LeftLaws
 pub mod SetLaws
 pub mod EntryLaws
 pub mod TextPlaceLaws
+pub mod ForgetLaws
+pub mod UndoLaws
+pub mod TestUndoLaws
+pub mod TableUndoLaws
 pub mod PrintLaws
 pub mod PlaceLaws
 pub mod RepresentingLaws
@@ -21,3 +26,11 @@ pub mod PieceLaws
 pub mod LineLaws
 pub mod Grammar
 pub mod CarryLaws
+pub mod KeptLaws
+pub mod SiftLaws
+pub mod AloneLaws
+pub mod SieveLaws
+pub mod SievedLaws
+pub mod OpeningLaws
+pub mod FollowSieve
+pub mod HoldLaws

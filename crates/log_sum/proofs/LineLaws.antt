@@ -9,7 +9,7 @@ use Rattle.log_sum.specs.Representing.{running_line}
 use Rattle.log_sum.proofs.FeedLaws.{middle_of, rest_same}
 
 -- after the text of a line comes the next line
-text_line : (seen next : LogSeen) (text : List ℕ) → text_judged seen text ≡ Ok next → next.line ≡ next_line seen.line
+pub text_line : (seen next : LogSeen) (text : List ℕ) → text_judged seen text ≡ Ok next → next.line ≡ next_line seen.line
 unfolding text_judged
 text_line seen next text h = grind arith
 

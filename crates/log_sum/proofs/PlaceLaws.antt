@@ -90,19 +90,19 @@ LineGoes place test line lines (Ok said) = GoesOn place test line lines said
 LineGoes place test line lines (Err kind) = StopsAt line kind (goes_on place test (line ∷ lines))
 
 -- no line of another form begins a test
-count_no_test : (line : List (List ℕ)) (states : ℕ) → histogram_line line ≡ Ok states → test_line line ≡ None
+pub count_no_test : (line : List (List ℕ)) (states : ℕ) → histogram_line line ≡ Ok states → test_line line ≡ None
 unfolding histogram_line test_line
 count_no_test line states h = grind (arith, bytes_eq-Decides)
 
-judgement_no_test : (line : List (List ℕ)) → is_judgement line ≡ true → test_line line ≡ None
+pub judgement_no_test : (line : List (List ℕ)) → is_judgement line ≡ true → test_line line ≡ None
 unfolding test_line
 judgement_no_test line h = grind arith
 
-closing_no_test : (line : List (List ℕ)) → is_observation line ≡ true → test_line line ≡ None
+pub closing_no_test : (line : List (List ℕ)) → is_observation line ≡ true → test_line line ≡ None
 unfolding test_line
 closing_no_test line h = grind (arith, bytes_eq-Decides)
 
-row_no_test : (text : List ℕ) (row : Row) → log_row text ≡ Ok row → test_line (words text) ≡ None
+pub row_no_test : (text : List ℕ) (row : Row) → log_row text ≡ Ok row → test_line (words text) ≡ None
 unfolding log_row test_line words leading_run after_run before_blanks count_read
 row_no_test [] row h = refl
 row_no_test (byte ∷ text) row h =

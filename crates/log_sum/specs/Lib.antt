@@ -12,6 +12,7 @@ pub mod LogReading
 pub mod JudgedLaws
 pub mod Summed
 pub mod Representing
+pub mod KeptStates
 pub mod Feeding
 pub mod StateSpelling
 pub mod StateEntries
@@ -19,3 +20,7 @@ pub mod TextPlaces
 pub mod SummingSteps
 pub mod SumText
 pub mod SumPieces
+pub mod Skipping
+pub mod BlockBefore
+pub mod Undoing
+pub mod Sieving

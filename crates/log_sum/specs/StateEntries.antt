@@ -1,6 +1,6 @@
 -- States with their sums, as a table keeps them.
 -- Source: own.
-use Rattle.std.specs.Prelude.{◌≡◌, ◌+◌, ℕ, Bool, false, cond, min, List, [], ◌∷◌, Option, Some, None, map, option_map, slice_get, is_some, Ok}
+use Rattle.std.specs.Prelude.{◌≡◌, ◌+◌, ℕ, zero, suc, Bool, false, cond, min, List, [], ◌∷◌, Option, Some, None, map, take, option_map, slice_get, is_some, Ok}
 use Rattle.std.specs.{Ordering.nat_cmp, Cmp.Lexicographic.slice_cmp, BTreeMap.insert_entry}
 use Rattle.std.specs.{declared.vec.Vec.Vec, declared.alloc.Global.Global}
 use Rattle.log_sum.specs.{declared.kinds.Mark.Mark, declared.kinds.Mark.TheVariants.Plain, declared.state_table.StateSum.StateSum, LogStates.form_read, StateSpelling.{IsSpelled, is_spelled}}
@@ -19,6 +19,10 @@ sum_or (Some entry) = sum_view entry.1
 -- the mark and count of the state at an index; plain and 0 if there is none
 abbrev pub sum_in : List (Vec ℕ Global × StateSum) → ℕ → Mark × ℕ
 sum_in entries i = sum_or (slice_get entries i)
+
+-- the count of the state at an index; 0 if there is none
+abbrev pub count_in : List (Vec ℕ Global × StateSum) → ℕ → ℕ
+count_in entries i = (sum_in entries i).1
 
 -- a state with its mark and count
 abbrev pub state_view : Vec ℕ Global × StateSum → StateSummed
@@ -82,3 +86,18 @@ pub record HasState (entries : List (Vec ℕ Global × StateSum)) (text : List �
   pub state : List ℕ
   pub state_is : state_at entries i ≡ Some state
   pub read : form_read text ≡ Ok state
+
+-- states, of which the one at an index has this count
+abbrev pub with_count : List StateSummed → ℕ → ℕ → List StateSummed
+with_count [] i count = []
+with_count (state ∷ states) zero count = (state.0, (state.1.0, count)) ∷ states
+with_count (state ∷ states) (suc i) count = state ∷ with_count states i count
+
+-- states with the counts that they had before these were noted, the oldest first
+abbrev pub counts_back : List StateSummed → List (ℕ × ℕ) → List StateSummed
+counts_back states [] = states
+counts_back states (noted ∷ later) = with_count (counts_back states later) noted.0 noted.1
+
+-- the first of a test's states, with their counts before these were noted
+abbrev pub states_undone : ℕ → List (ℕ × ℕ) → List StateSummed → List StateSummed
+states_undone many counts states = counts_back (take many states) counts

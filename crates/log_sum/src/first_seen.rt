@@ -1,4 +1,4 @@
-ghost use Rattle.std.specs.Prelude.{◌≡◌, [], IfOk, OnErr};
+ghost use Rattle.std.specs.Prelude.{◌≡◌, ◌-◌, [], length, take, IfOk, OnErr};
 ghost use Rattle.std.proofs.Props.{props};
 ghost use Rattle.log_sum.specs.TextPlaces.{AreApart, ArePlaced, IsIndexOrLast, IsSeenAt, index_among};
 
@@ -77,5 +77,23 @@ impl<V: Drop> FirstSeen<V> {
         }
         self.entries.push_reserved(entry);
         Ok(i)
+    }
+
+    /// Takes out the texts from this index on, so that they weren't seen.
+    pub(crate) fn forget_from(&mut self, len: usize)
+        ensures { self.new.entries.items ≡ take len self.old.entries.items }
+    {
+        while self.entries.len() > len {
+            self.forget_last();
+        }
+    }
+
+    /// Takes out the text that was seen last.
+    fn forget_last(&mut self)
+        ensures { self.new.entries.items ≡ take (length self.old.entries.items - 1) self.old.entries.items }
+    {
+        if let Some((text, _)) = self.entries.pop() {
+            self.places.remove(text.as_slice());
+        }
     }
 }

@@ -1,4 +1,4 @@
-ghost use Rattle.log_sum.specs.{Representing.{SumOrFault}, SumPieces.{SameAnswers}, SumText.{TableIsObserved}};
+ghost use Rattle.log_sum.specs.{Representing.{SumOrFault}, SumPieces.{SameAnswers}, SumText.{TableIsObserved}, Skipping.{SkippingLaws}, Sieving.{SumOfKept}};
 
 /// A law: the same bytes give the same results and the same sum, in whatever pieces they come.
 ///
@@ -22,4 +22,18 @@ pub fn table_is_observed()
 #[tactic(auto, using(crate::proofs::RepresentingLaws::sum_or_fault))]
 pub fn sum_or_fault()
     ensures { SumOrFault }
+{}
+
+/// A law: what is kept of logs, where blocks with errors are left out, has no error; logs without an error are kept whole; and a
+/// block with an error costs itself alone.
+#[tactic(auto, using(crate::proofs::AloneLaws::skipping_laws))]
+pub fn skipping_laws()
+    ensures { SkippingLaws }
+{}
+
+/// A law: what a summer that leaves out blocks with errors prints between two logs is the sum, or the table, of what is kept of
+/// them, and the blocks that it left out are all others.
+#[tactic(auto, using(crate::proofs::SievedLaws::sum_of_kept))]
+pub fn sum_of_kept()
+    ensures { SumOfKept }
 {}

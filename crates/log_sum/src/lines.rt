@@ -1,4 +1,4 @@
-ghost use Rattle.std.specs.{Prelude.{◌≡◌, option_map, take, IfOk}, Borrow.{Bor}};
+ghost use Rattle.std.specs.{Prelude.{◌≡◌, option_map, take, IfOk}, Borrow.{Bor}, Option.{is_some}};
 ghost use Rattle.log_sum.specs.SumViews.{GivesParsed, ReadsBy, ReadsOr, row_code_said, said_read, condition_view};
 ghost use Rattle.log_sum.specs.LogLines.{kind_named, test_line, is_states, are_states, after_histogram, histogram_line, mark_written, mark_read, log_row, is_judgement, verdict_cut, condition_line, quantifier, hash_line, is_observation};
 ghost use Rattle.log_sum.specs.{LineReading.{hash_said, condition_said, rest_said, log_line_said}, Texts.{joined_words}};
@@ -61,6 +61,13 @@ fn read_test(line: &[u8]) -> Option<(&[u8], Kind)>
         Some(_) => None,
         None => Some((name, kind_of(kind)?)),
     }
+}
+
+/// Whether a line opens a block: it is `Test NAME KIND`. Few others begin with its first letters.
+pub(crate) fn opens_block(line: &[u8]) -> bool
+    ensures { result ≡ is_some (test_line (words line.now)) }
+{
+    without_blanks(line).starts_with(b"Test") && read_test(line).is_some()
 }
 
 /// Whether the only word of a text is `states)` or `state)`.

@@ -52,7 +52,7 @@ fn how_often<'a>(starred: u64, plain: u64) -> &'a [u8]
 }
 
 /// The spaces that fill a count up to six columns, and then the sign of a mark.
-fn filled_sign<'a>(count: &[u8], mark: Mark) -> &'a [u8]
+pub(crate) fn filled_sign<'a>(count: &[u8], mark: Mark) -> &'a [u8]
     ensures { result.now ≡ filling count.now ++ mark_sign mark }
 {
     let from = count.len().min(6);

@@ -1,5 +1,7 @@
-ghost use Rattle.std.specs.Prelude.{◌≡◌};
-ghost use Rattle.log_sum.specs.{SumViews.{said_read, row_code_said, progress_view}, LogReading.{LogSeen, nothing_seen, text_judged, end_judged}};
+ghost use Rattle.std.specs.Prelude.{◌≡◌, [], true, false, Some};
+ghost use Rattle.log_sum.specs.{Undoing.{TableUndoneStays, UnlessNoMemory, tests_undone}, Skipping.{is_opening}, Sieving.{is_outside, says_opening}};
+ghost use Rattle.log_sum.specs.declared.kinds.Place.TheVariants.{Outside};
+ghost use Rattle.log_sum.specs.{SumViews.{said_read, row_code_said, progress_view, tests_view}, LogReading.{next_line, LogSeen, nothing_seen, text_judged, end_judged}};
 ghost use Rattle.log_sum.specs.Feeding.{RowPut, FollowsSeen, JudgedTo, SaidTo, ForRunningTest};
 
 use crate::errors::{Fault, LogKind};
@@ -25,7 +27,8 @@ pub(crate) struct Reading {
 impl Reading {
     /// A reading that has read nothing.
     pub(crate) fn new(alloc: Global) -> Reading
-        ensures { FollowsSeen (progress_view result) nothing_seen }
+        ensures seen { FollowsSeen (progress_view result) nothing_seen }
+        ensures undone { tests_undone result.table ≡ [] }
     {
         Reading {
             alloc,
@@ -38,12 +41,49 @@ impl Reading {
 
     /// Reads a line, which is given without its end.
     pub(crate) fn judge(&mut self, text: &[u8]) -> Result<(), Fault>
-        ensures { (seen : LogSeen) → FollowsSeen (progress_view self.old) seen → JudgedTo (progress_view self.new) (text_judged seen text.now) result }
+        ensures judged { (seen : LogSeen) → FollowsSeen (progress_view self.old) seen → JudgedTo (progress_view self.new) (text_judged seen text.now) result }
+        ensures undone { is_opening (Some text.now) ≡ false → TableUndoneStays self.old.table self.new.table result }
+        ensures begun { is_opening (Some text.now) ≡ true → self.old.place ≡ Outside → UnlessNoMemory result (tests_undone self.new.table ≡ tests_view self.old.table) }
     {
         let said = read_line(self.alloc, self.place, text)?;
         self.put(said)?;
         self.line = self.line.saturating_add(1);
         Ok(())
+    }
+
+    /// Passes over a line, whatever it says.
+    pub(crate) fn pass_line(&mut self)
+        ensures line { progress_view self.new ≡ record (progress_view self.old) { line = next_line self.old.line } }
+        ensures undone { tests_undone self.new.table ≡ tests_undone self.old.table }
+    {
+        self.line = self.line.saturating_add(1);
+    }
+
+    /// Whether the reading is outside the blocks.
+    pub(crate) fn is_outside(&self) -> bool
+        ensures { result ≡ is_outside self.now.place }
+    {
+        matches!(self.place, Place::Outside)
+    }
+
+    /// Takes the running block out; the reading is outside the blocks then.
+    pub(crate) fn leave_block_out(&mut self)
+        ensures tests { (progress_view self.new).tests ≡ tests_undone self.old.table }
+        ensures undone { tests_undone self.new.table ≡ tests_undone self.old.table }
+        ensures place { self.new.place ≡ Outside }
+        ensures line { self.new.line ≡ self.old.line }
+    {
+        self.table.undo_block();
+        self.place = Place::Outside;
+    }
+
+    /// Ends a log outside the blocks.
+    pub(crate) fn end_outside(&mut self)
+        ensures line { progress_view self.new ≡ record (progress_view self.old) { line = 1 } }
+        ensures undone { tests_undone self.new.table ≡ tests_view self.old.table }
+    {
+        self.table.end_block();
+        self.line = 1;
     }
 
     /// Ends a log. `Truncated` inside a block.
@@ -63,6 +103,8 @@ impl Reading {
     fn put(&mut self, said: Said<'_>) -> Result<(), Fault>
         ensures put { SaidTo (progress_view self.old) (progress_view self.new) (said_read said.entry) result }
         ensures line { self.new.line ≡ self.old.line }
+        ensures undone { says_opening (said_read said.entry) ≡ false → TableUndoneStays self.old.table self.new.table result }
+        ensures begun { says_opening (said_read said.entry) ≡ true → UnlessNoMemory result (tests_undone self.new.table ≡ tests_view self.old.table) }
     {
         self.place = place_after(self.place, &said);
         match said {
@@ -79,6 +121,7 @@ impl Reading {
         ensures put { ForRunningTest self.old.table (λ entries name. RowPut entries name (row_code_said row.entry) self.new.table result) }
         ensures place { self.new.place ≡ self.old.place }
         ensures line { self.new.line ≡ self.old.line }
+        ensures undone { TableUndoneStays self.old.table self.new.table result }
     {
         self.table.put_row(self.alloc, &mut self.states, row)
     }

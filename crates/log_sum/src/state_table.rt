@@ -1,6 +1,6 @@
-ghost use Rattle.std.specs.{Prelude.{◌≡◌, ℕ, [], Some, None, Ok, OnOk, IfOk, IfSome}, Bool.{OnTrue}};
+ghost use Rattle.std.specs.{Prelude.{◌≡◌, ℕ, [], map, take, length, Some, None, Ok, OnOk, IfOk, IfSome}, Bool.{OnTrue}};
 ghost use Rattle.log_sum.specs.{LogStates.{form_read}, StateSpelling.{IsSpelled}};
-ghost use Rattle.log_sum.specs.StateEntries.{EntriesAreWritten, ForStateAt, HasState, SeenMore, and_state, has_text, known_in, state_at, states_view, sum_in};
+ghost use Rattle.log_sum.specs.StateEntries.{EntriesAreWritten, ForStateAt, HasState, SeenMore, and_state, has_text, known_in, state_at, state_view, states_view, sum_in, with_count, count_in, states_undone};
 
 use crate::first_seen::FirstSeen;
 use crate::kinds::Mark;
@@ -98,7 +98,8 @@ impl StateTable {
 
     /// Adds a count to the state at an index; the sum stops at 2^64-1.
     pub(crate) fn add(&mut self, i: usize, count: u64)
-        ensures { SeenMore self.old.sums.entries.items self.new.sums.entries.items i count }
+        ensures seen { SeenMore self.old.sums.entries.items self.new.sums.entries.items i count }
+        ensures back { with_count (map state_view self.new.sums.entries.items) i (count_in self.old.sums.entries.items i) ≡ map state_view self.old.sums.entries.items }
     {
         self.next = self.index_after(i);
         if i >= self.sums.entries.len() {
@@ -111,7 +112,7 @@ impl StateTable {
     /// Keeps a text that writes the state at an index, unless it is kept already, or the state has one besides the first.
     pub(crate) fn keep_text(&mut self, alloc: Global, i: usize, text: &[u8]) -> Result<(), NoMemory>
         requires { HasState self.old.sums.entries.items text.now i }
-        ensures states { states_view self.new.sums.entries.items ≡ states_view self.old.sums.entries.items }
+        ensures states { map state_view self.new.sums.entries.items ≡ map state_view self.old.sums.entries.items }
         ensures same { (j : ℕ) → state_at self.new.sums.entries.items j ≡ state_at self.old.sums.entries.items j }
     {
         if i >= self.sums.entries.len() {
@@ -145,8 +146,44 @@ impl StateTable {
         requires { form_read text.now ≡ Ok form.now }
         ensures index { IfOk result (λ i. state_at self.new.sums.entries.items i ≡ Some form.now) }
         ensures states { OnOk result (states_view self.new.sums.entries.items ≡ and_state self.old.sums.entries.items form.now mark) }
+        ensures first { take (length self.old.sums.entries.items) (map state_view self.new.sums.entries.items) ≡ map state_view self.old.sums.entries.items }
     {
         let sum = new_sum(alloc, form, text, mark)?;
         self.sums.index_or_put(alloc, form, sum)
+    }
+
+    /// How many states there are.
+    pub(crate) fn count(&self) -> usize
+        ensures { result ≡ length self.now.sums.entries.items }
+    {
+        self.sums.entries.len()
+    }
+
+    /// Takes out the states from an index on, and sets the counts of the others back, the last that was noted first.
+    pub(crate) fn undo(&mut self, len: usize, counts: &mut Vec<(usize, u64)>)
+        ensures { map state_view self.new.sums.entries.items ≡ states_undone len counts.old.items (map state_view self.old.sums.entries.items) }
+    {
+        self.forget_from(len);
+        while let Some((i, count)) = counts.pop() {
+            self.set_count(i, count);
+        }
+    }
+
+    /// Takes out the states from an index on.
+    fn forget_from(&mut self, len: usize)
+        ensures { map state_view self.new.sums.entries.items ≡ take len (map state_view self.old.sums.entries.items) }
+    {
+        self.sums.forget_from(len);
+        self.next = 0;
+    }
+
+    /// Sets the count of the state at an index.
+    fn set_count(&mut self, i: usize, count: u64)
+        ensures { map state_view self.new.sums.entries.items ≡ with_count (map state_view self.old.sums.entries.items) i count }
+    {
+        if i >= self.sums.entries.len() {
+            return;
+        }
+        self.sums.entries[i].1.count = count;
     }
 }

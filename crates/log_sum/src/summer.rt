@@ -1,9 +1,11 @@
-ghost use Rattle.std.specs.Prelude.{◌≡◌, ℕ, List, [], ◌++◌, true, Some, None, IfOk, IfErr, OnOk};
+ghost use Rattle.std.specs.Prelude.{◌≡◌, ℕ, List, [], ◌++◌, true, Some, None, IfOk, IfErr, OnOk, map, option_map};
 ghost use Rattle.diy_io.specs.{Page.{Sends}, Wrote.{Wrote}};
 ghost use Rattle.log_sum.specs.LogReading.{LogSeen, line_judged, rest_judged};
 ghost use Rattle.log_sum.specs.Representing.{Kept, Represents, IsBetweenLogs, FedTo, EndedTo, IsKeptRefusal, GivenAgain, kept_table, kept_text, running_line};
+ghost use Rattle.log_sum.specs.KeptStates.{counted_view, states_kept};
 ghost use Rattle.log_sum.specs.Feeding.{IsFed, FollowsSeen, JudgedTo, PieceTo, EndTo, sum_refusal};
 
+use crate::counted::{CountedState, counted_states};
 use crate::errors::{Fault, LogError, LogKind, SumError};
 use crate::print;
 use crate::reading::Reading;
@@ -109,6 +111,25 @@ impl Summer {
         let mut page = Page::new();
         self.print_lines(&mut page, out)?;
         page.flush(out)
+    }
+
+    /// The states of the test with this name, in byte order, each with its mark and the sum of its counts; `None` if no log so
+    /// far has the test.
+    pub fn states_of(
+        &self,
+        alloc: Global,
+        name: &[u8],
+    ) -> Result<Option<Vec<CountedState>>, NoMemory>
+        ensures { IfOk result (λ states. option_map (λ list. map counted_view list.items) states ≡ states_kept name.now self.now) }
+    {
+        let tests = &self.reading.table.tests;
+        let Some(i) = tests.index_of(name) else {
+            return Ok(None);
+        };
+        match tests.entries.get(i) {
+            Some((_, test)) => Ok(Some(counted_states(alloc, &test.states)?)),
+            None => Ok(None),
+        }
     }
 
     /// The number of the running line in the running log, from 1; it stops at 2^64-1. The contract says nothing for

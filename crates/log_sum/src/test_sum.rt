@@ -1,13 +1,15 @@
-ghost use Rattle.std.specs.Prelude.{◌≡◌};
+ghost use Rattle.std.specs.Prelude.{◌≡◌, []};
 ghost use Rattle.log_sum.specs.SumViews.{GivesParsed, GivesOr, TestTold, row_code_said, test_view};
 ghost use Rattle.log_sum.specs.{Facts.{same_kind, same_state_mark, a_kind, a_condition, a_hash, a_row, row_with}};
-ghost use Rattle.log_sum.specs.{StateEntries.{ForStateAt}, SummingSteps.{fact_to, of_kind, row_to, with_verdict, marked, with_marked}};
+ghost use Rattle.log_sum.specs.{BlockBefore.{IsBefore}, Undoing.{CountNoted, UndoneKept, UndoneStays, test_undone}};
+ghost use Rattle.log_sum.specs.{StateEntries.{ForStateAt, count_in}, SummingSteps.{fact_to, of_kind, row_to, with_verdict, marked, with_marked}};
 
 use crate::errors::{Fault, LogKind};
 use crate::kinds::{Kind, Mark, Verdict};
 use crate::lines::Row;
 use crate::state_table::StateTable;
 use crate::states::StateReader;
+use crate::undo::{TestBefore, Undo};
 use std::alloc::Global;
 
 /// What the logs so far say about a test.
@@ -75,7 +77,8 @@ impl TestSum {
     }
 
     fn put_verdict(&mut self, verdict: Verdict)
-        ensures { test_view self.new ≡ with_verdict (test_view self.old) verdict }
+        ensures put { test_view self.new ≡ with_verdict (test_view self.old) verdict }
+        ensures undone { UndoneKept self.old self.new }
     {
         match verdict {
             Verdict::Validated => self.once_validated = true,
@@ -86,7 +89,8 @@ impl TestSum {
     /// Adds a condition, with the verdict of its block.
     #[tactic(auto, unfolding(crate::specs::SummingSteps::fact_to))]
     pub(crate) fn put_condition(&mut self, text: Vec<u8>, verdict: Verdict) -> Result<(), LogKind>
-        ensures { GivesParsed (λ _. test_view self.new) result (fact_to (test_view self.old) (a_condition text.items verdict)) }
+        ensures put { GivesParsed (λ _. test_view self.new) result (fact_to (test_view self.old) (a_condition text.items verdict)) }
+        ensures undone { UndoneKept self.old self.new }
     {
         if let Some(known) = &self.condition {
             if known.as_slice() != text.as_slice() {
@@ -102,7 +106,8 @@ impl TestSum {
     /// Adds a hash.
     #[tactic(auto, unfolding(crate::specs::SummingSteps::fact_to))]
     pub(crate) fn put_hash(&mut self, alloc: Global, text: &[u8]) -> Result<(), Fault>
-        ensures { TestTold self.old self.new (a_hash text.now) result }
+        ensures put { TestTold self.old self.new (a_hash text.now) result }
+        ensures undone { UndoneKept self.old self.new }
     {
         if let Some(known) = &self.hash {
             if known.as_slice() != text {
@@ -125,7 +130,8 @@ impl TestSum {
     }
 
     fn set_marked(&mut self, mark: Mark, sum: u64)
-        ensures { test_view self.new ≡ with_marked (test_view self.old) mark sum }
+        ensures marked { test_view self.new ≡ with_marked (test_view self.old) mark sum }
+        ensures undone { UndoneKept self.old self.new }
     {
         match mark {
             Mark::Starred => self.starred = sum,
@@ -139,23 +145,71 @@ impl TestSum {
         alloc: Global,
         reader: &mut StateReader,
         row: Row<'_>,
+        undo: &mut Undo,
     ) -> Result<(), Fault>
-        ensures { GivesOr (λ _. test_view self.new) result (row_to (test_view self.old) (row_code_said row.entry)) }
+        ensures put { GivesOr (λ _. test_view self.new) result (row_to (test_view self.old) (row_code_said row.entry)) }
+        ensures undone { UndoneStays self.old self.new undo.old.counts.items undo.new.counts.items }
+        ensures before { undo.new.before ≡ undo.old.before }
     {
         if let Some(i) = self.states.written_index(row.text) {
-            return self.add(i, row.mark, row.count);
+            return self.add_noted(i, row.mark, row.count, undo);
         }
         reader.read(row.text)?;
         let i = self
             .states
             .index_or_new(alloc, reader.form(), row.text, row.mark)?;
         self.states.keep_text(alloc, i, row.text)?;
-        self.add(i, row.mark, row.count)
+        self.add_noted(i, row.mark, row.count, undo)
+    }
+
+    /// Adds a count to the state at an index, which must have this mark, and notes the count before.
+    fn add_noted(&mut self, i: usize, mark: Mark, count: u64, undo: &mut Undo) -> Result<(), Fault>
+        ensures put { ForStateAt self.old.states.sums.entries.items i (λ state. TestTold self.old self.new (a_row (row_with state mark count)) result) }
+        ensures undone { UndoneStays self.old self.new undo.old.counts.items undo.new.counts.items }
+        ensures before { undo.new.before ≡ undo.old.before }
+    {
+        let (_, known) = self.states.sum_at(i);
+        undo.note(i, known)?;
+        self.add(i, mark, count)
+    }
+
+    /// What the test is before a block.
+    pub(crate) fn before(&self) -> TestBefore
+        ensures before { IsBefore result self.now }
+        ensures undone { test_undone result [] self.now ≡ test_view self.now }
+    {
+        TestBefore {
+            had_condition: self.condition.is_some(),
+            had_hash: self.hash.is_some(),
+            once_validated: self.once_validated,
+            always_validated: self.always_validated,
+            starred: self.starred,
+            plain: self.plain,
+            states: self.states.count(),
+        }
+    }
+
+    /// Takes the running block out, before which this was.
+    pub(crate) fn undo(&mut self, before: TestBefore, counts: &mut Vec<(usize, u64)>)
+        ensures { test_view self.new ≡ test_undone before counts.old.items self.old }
+    {
+        self.states.undo(before.states, counts);
+        if !before.had_condition {
+            self.condition = None;
+        }
+        if !before.had_hash {
+            self.hash = None;
+        }
+        self.once_validated = before.once_validated;
+        self.always_validated = before.always_validated;
+        self.starred = before.starred;
+        self.plain = before.plain;
     }
 
     /// Adds a count to the state at an index, which must have this mark.
     fn add(&mut self, i: usize, mark: Mark, count: u64) -> Result<(), Fault>
-        ensures { ForStateAt self.old.states.sums.entries.items i (λ state. TestTold self.old self.new (a_row (row_with state mark count)) result) }
+        ensures put { ForStateAt self.old.states.sums.entries.items i (λ state. TestTold self.old self.new (a_row (row_with state mark count)) result) }
+        ensures undone { CountNoted self.old self.new i (count_in self.old.states.sums.entries.items i) }
     {
         let sum = self.sum_of_mark(mark);
         let (known, _) = self.states.sum_at(i);

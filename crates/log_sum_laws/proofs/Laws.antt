@@ -1,5 +1,9 @@
 -- The laws of sums of sums.
-use Rattle.log_sum_laws.proofs.Vocabulary.{◌≡◌, ℕ, ◌≤◌, List, [], ◌∷◌, ◌++◌, true, refl, sym, ap, ◌∙◌, arith, subst, append_assoc, append-nil, Some, Ok, map, codes, list_any, flat_map, AllByRecursion, bytes_eq, by_test, last_count, Row, Fact, Entry, a_hash, rows, hashes, first_of, marked_sum, state_sum, facts_of, tests_of, LogSeen, nothing_seen, file_judged, files_judged, files_both, state_by, summed, summed_text, sum_text, logs_text, without_return, KeepsSumLimits, NoFault, IsSum, Represent, none, a_log, a_sum, SumsAreLogs, SumOfSums, bytes_same, judged_text, files_by_blocks}
+use Rattle.log_sum_laws.proofs.Vocabulary.{◌≡◌, ℕ, ◌≤◌, List, [], ◌∷◌, ◌++◌, true, refl, sym, ap, ◌∙◌, arith, subst, append_assoc, append-nil, Some, Ok, map, codes, list_any, flat_map, AllByRecursion, bytes_eq, by_test, last_count, Row, Fact, Entry, a_hash, rows, hashes, first_of, marked_sum, state_sum, facts_of, tests_of, LogSeen, nothing_seen, file_judged, files_judged, files_both, state_by, summed, summed_text, sum_text, logs_text, without_return, KeepsSumLimits, NoFault, IsSum, Represent, none, a_log, a_sum, SumsAreLogs, SumOfSums, Result, Err, LogError, bytes_same, judged_text, files_by_blocks}
+use Rattle.std.specs.Prelude.{IfErr}
+use Rattle.log_sum.specs.Skipping.{sifted, kept_sum, IsWrong}
+use Rattle.log_sum.proofs.SiftLaws.{kept_none}
+use Rattle.log_sum_laws.specs.Laws.{SumsOfKept}
 use Rattle.log_sum_laws.proofs.{Cases.{Mark, Outside, Starred, Plain}, Texts.is_word, Lines.line_of_hash, Sums.{Marks, printed_facts}, LineFacts.IsRead}
 use Rattle.log_sum_laws.proofs.{Blocks.{seen_at, Clean, clean_parts, return_prefix}, Printed.{IsForm, AreForms, Printable, given, file_goes}}
 use Rattle.log_sum_laws.proofs.Scans.{files_scan, files_end, IsEnd, clean_both}
@@ -248,3 +252,22 @@ sums_are_logs = record { same = sum_again }
 -- the sum of sums is the sum
 pub sum_of_sums : SumOfSums
 sum_of_sums = record { two = two_sums; between = replace; trees = all_represent; parts = both_parts }
+
+-- what is kept of logs has no error
+kept_no_fault : (logs : List (List ℕ)) → NoFault (sifted logs).kept
+kept_no_fault logs = by_text (kept_sum logs) refl (kept_none logs)
+  where
+    by_text : (r : Result (List ℕ) LogError) → kept_sum logs ≡ r → IfErr (kept_sum logs) (λ e. ⊥) → NoFault (sifted logs).kept
+    by_text (Ok text) e right = record { text = text; is = e }
+    by_text (Err error) e right = absurd (subst (λ r. IfErr r (λ x. ⊥)) e right)
+
+-- a log with an error alone has one after any logs
+wrong_after : (log : List ℕ) (error : LogError) → logs_text (log ∷ []) ≡ Err error → IsWrong log
+wrong_after log error h logs text e =
+    let alone : NoFault (log ∷ []) = (both_parts logs (log ∷ []) (record { text = text; is = e })).1 in
+    let same : ◌≡◌ {A = Result (List ℕ) LogError} (Ok alone.text) (Err error) = sym alone.is ∙ h in
+    cc
+
+-- the laws of sums of sums hold of what is kept
+pub sums_of_kept : SumsOfKept
+sums_of_kept = record { trees = λ files logs r. all_represent files (sifted logs).kept r (kept_no_fault logs); wrong = wrong_after }

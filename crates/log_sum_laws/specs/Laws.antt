@@ -1,8 +1,9 @@
 -- The laws of sums of sums.
 -- Source: own.
-use Rattle.std.specs.{Prelude.{◌≡◌, ℕ, ◌≤◌, true, not, List, [], ◌∷◌, ◌++◌, length, Some, Ok}, List.list_all}
+use Rattle.std.specs.{Prelude.{◌≡◌, ℕ, ◌≤◌, true, not, List, [], ◌∷◌, ◌++◌, length, Some, Ok, Err}, List.list_all}
 use Rattle.diy_io.specs.Count.{last_count}
 use Rattle.log_sum.specs.{Facts.{Entry, facts_of}, LogGrammar.{is_too_long, all_judged}, Summed.summed, SumText.sum_text, Representing.logs_text}
+use Rattle.log_sum.specs.{declared.errors.LogError.LogError, Skipping.{sifted, kept_sum, IsWrong}}
 use Rattle.text_parts.specs.Lines.{without_return, whole_lines}
 
 -- a printed sum keeps the limits of a log: none of its lines is too long, the number of states of each test isn't above the
@@ -44,3 +45,10 @@ pub record SumOfSums : Type 0 where
       → logs_text (before ++ text ∷ after) ≡ logs_text (before ++ (logs ++ after))
   pub trees : (files logs : List (List ℕ)) → Represent files logs → NoFault logs → logs_text files ≡ logs_text logs
   pub parts : (first second : List (List ℕ)) → NoFault (first ++ second) → NoFault first × NoFault second
+
+-- the laws of sums of sums hold of what is kept of logs: in any tree over what is kept, whose printed sums keep the limits, the sum is
+-- that of what is kept. And a log with an error alone has one after any logs, so a block with an error costs itself alone
+-- (`SkippingLaws` of `log_sum`)
+pub record SumsOfKept : Type 0 where
+  pub trees : (files logs : List (List ℕ)) → Represent files (sifted logs).kept → logs_text files ≡ kept_sum logs
+  pub wrong : (log : List ℕ) (error : LogError) → logs_text (log ∷ []) ≡ Err error → IsWrong log

@@ -1,7 +1,7 @@
 //! Laws of sums of logs: a printed sum is a log, and the sum of sums is the sum.
 #![tactic(auto)]
 
-ghost use Rattle.log_sum_laws.specs.Laws.{SumsAreLogs, SumOfSums};
+ghost use Rattle.log_sum_laws.specs.Laws.{SumsAreLogs, SumOfSums, SumsOfKept};
 
 /// A printed sum is read as a log without an error, and its sum is itself.
 ///
@@ -18,4 +18,11 @@ pub fn sums_are_logs()
 #[tactic(auto, using(crate::proofs::Laws::sum_of_sums))]
 pub fn sum_of_sums()
     ensures { SumOfSums }
+{}
+
+/// The laws of sums of sums hold of what is kept of logs, where blocks with errors are left out; and a log with an error
+/// alone has one after any logs, so such a block costs itself alone.
+#[tactic(auto, using(crate::proofs::Laws::sums_of_kept))]
+pub fn sums_of_kept()
+    ensures { SumsOfKept }
 {}

@@ -2,7 +2,7 @@
 use Rattle.std.proofs.Common.{◌≡◌, ◌≤◌, ◌<◌, ℕ, ◌+◌, List, [], ◌∷◌, ◌++◌, length, take, drop, set, min, refl, sym, ap, ◌∙◌, subst, arith, Some, None, length-drop, length-append}
 use Rattle.std.proofs.{lemmas.List.{take-append-drop, drop_all, drop-drop, get_or-set_same, length-take-le, take-append-le, take-take}, lemmas.Option.same_Some}
 use Rattle.std.specs.Prelude.{Result, OnErr}
-use Rattle.diy_io.specs.Count.{next_count, count_of}
+use Rattle.diy_io.specs.Count.{next_count, count_of, ends_after}
 use Rattle.diy_io.specs.Shelf.{Idle, name_written, IsWriting, with_more, Opened, NotThere, Stopped, Gave, Created, AppendedPart}
 use Rattle.memory_devices.specs.{declared.mem_shelf.Work.Work, declared.mem_shelf.MemShelf.TheInside.Inside}
 use Rattle.memory_devices.specs.MemFiles.{MemFilesState, NamedFile, file_place, file_name_at, bytes_at, files_named}
@@ -17,14 +17,16 @@ is_place name files i e = grind (arith, name_there)
 -- a file is open
 pub opens : (old new : MemShelfState) (name : List ℕ) (i : ℕ) → file_place name old.held.files ≡ Some i
     → new.held ≡ old.held → new.mode ≡ mode_of old.held.files (works.Reading i 0) → new.faults ≡ old.faults → new.taken ≡ 0 → new.opened ≡ next_count old.opened
+    → new.ends ≡ old.ends → new.faults_at_open ≡ old.faults
     → Opened (mem_shelf_seen old) (mem_shelf_seen new) name
-opens old new name i e held mode faults taken opened = grind (arith, bytes_there, name_there)
+opens old new name i e held mode faults taken opened ends at_open = grind (arith, bytes_there, name_there)
 
 -- a file is not there
 pub misses : (old new : MemShelfState) (name : List ℕ) → file_place name old.held.files ≡ None → old.mode ≡ Idle
     → new.held ≡ old.held → new.mode ≡ old.mode → new.faults ≡ old.faults → new.taken ≡ old.taken → new.opened ≡ old.opened
+    → new.ends ≡ old.ends → new.faults_at_open ≡ old.faults_at_open
     → NotThere (mem_shelf_seen old) (mem_shelf_seen new) name
-misses old new name e idle held mode faults taken opened = grind (arith, bytes_not_there)
+misses old new name e idle held mode faults taken opened ends at_open = grind (arith, bytes_not_there)
 
 prefix_of : (bytes : List ℕ) (at' n : ℕ) → drop at' bytes ≡ take n (drop at' bytes) ++ drop (at' + n) bytes
 prefix_of bytes at' n = sym (take-append-drop n (drop at' bytes)) ∙ ap (λ rest. take n (drop at' bytes) ++ rest) (drop-drop n at' bytes)
@@ -39,9 +41,10 @@ none_left bytes at' n room count none some = drop_all (at' + n) bytes (omega (ar
 pub gives : (old new : MemShelfState) (file at' n room : ℕ) (bytes : List ℕ) → old.mode ≡ mode_of old.held.files (works.Reading file at')
     → new.held ≡ old.held → new.mode ≡ mode_of old.held.files (works.Reading file (at' + n)) → new.faults ≡ old.faults
     → new.taken ≡ count_of (old.taken + n) → new.opened ≡ old.opened
+    → new.ends ≡ ends_after old.ends room n → new.faults_at_open ≡ old.faults_at_open
     → n ≡ min room (length (drop at' (bytes_at file old.held.files))) → bytes ≡ take n (drop at' (bytes_at file old.held.files))
     → Gave (mem_shelf_seen old) (mem_shelf_seen new) bytes room
-gives old new file at' n room bytes was held mode faults taken opened count is = grind (arith, given_length, prefix_of, none_left)
+gives old new file at' n room bytes was held mode faults taken opened ends at_open count is = grind (arith, given_length, prefix_of, none_left)
 
 set_inside : (files : List NamedFile) (i : ℕ) (file : NamedFile) → i < length files → file_name_at i (set files i file) ≡ file.0
 set_inside files i file h = ap (λ f. f.0) (get_or-set_same files i file ([], []) h)
@@ -91,14 +94,17 @@ after_begun inside held file = record {
   faults = inside.faults;
   taken = inside.taken;
   opened = inside.opened;
+  ends = inside.ends;
+  faults_at_open = inside.faults_at_open;
 }
 
 -- a file is begun that was there
 pub begins_again : (old new : MemShelfState) (name : List ℕ) (i : ℕ) → file_place name old.held.files ≡ Some i
     → new.held.files ≡ set old.held.files i (file_name_at i old.held.files, []) → new.mode ≡ mode_of new.held.files (works.Writing i)
     → new.faults ≡ old.faults → new.taken ≡ old.taken → new.opened ≡ old.opened
+    → new.ends ≡ old.ends → new.faults_at_open ≡ old.faults_at_open
     → Created (mem_shelf_seen old) (mem_shelf_seen new) name
-begins_again old new name i e held mode faults taken opened =
+begins_again old new name i e held mode faults taken opened ends at_open =
     grind (arith, (name_there name old.held.files i e), (writes_on name [] old.held.files i e), (files_put old.held.files name [] i e))
 
 -- the file after all others
@@ -110,8 +116,9 @@ last_is (f ∷ files) name bytes = last_is files name bytes
 pub begins : (old new : MemShelfState) (name : List ℕ) → file_place name old.held.files ≡ None
     → new.held.files ≡ old.held.files ++ (name, []) ∷ [] → new.mode ≡ mode_of new.held.files (works.Writing (length old.held.files))
     → new.faults ≡ old.faults → new.taken ≡ old.taken → new.opened ≡ old.opened
+    → new.ends ≡ old.ends → new.faults_at_open ≡ old.faults_at_open
     → Created (mem_shelf_seen old) (mem_shelf_seen new) name
-begins old new name e held mode faults taken opened = grind (arith, (last_is old.held.files name []), (files_added old.held.files name [] e))
+begins old new name e held mode faults taken opened ends at_open = grind (arith, (last_is old.held.files name []), (files_added old.held.files name [] e))
 
 -- and it is in its place
 pub begins_at : (files new : List NamedFile) (name : List ℕ) → file_place name files ≡ None → new ≡ files ++ (name, []) ∷ [] → IsPlace (length files) new
@@ -130,8 +137,9 @@ copied_count rest got buf whole n is same count = grind (arith, length-take-le, 
 pub stops_after : (old mid new : MemShelfState) (name bytes : List ℕ) (n : ℕ)
     → files_named mid.held.files ≡ with_more name (take n bytes) (files_named old.held.files)
     → mid.faults ≡ old.faults → mid.taken ≡ old.taken → mid.opened ≡ old.opened
+    → mid.ends ≡ old.ends → mid.faults_at_open ≡ old.faults_at_open
     → Stopped (mem_shelf_seen mid) (mem_shelf_seen new) → AppendedPart (mem_shelf_seen old) (mem_shelf_seen new) name bytes
-stops_after old mid new name bytes n files faults taken opened stopped = grind (arith, (take-append-drop n bytes))
+stops_after old mid new name bytes n files faults taken opened ends at_open stopped = grind (arith, (take-append-drop n bytes))
 
 -- what holds anyway holds where a call fails
 pub on_err_any : {X E : Type 0} (r : Result X E) (P : Type 0) → P → OnErr r P

@@ -13,6 +13,8 @@ pub record MemShelfState : Type 0 where
   pub faults : ℕ
   pub taken : ℕ
   pub opened : ℕ
+  pub ends : ℕ
+  pub faults_at_open : ℕ
 
 -- a new shelf: it has no files, space for this many files and this many appended bytes, and no open file; these calls are to fail,
 -- and nothing is counted yet
@@ -25,6 +27,8 @@ new_shelf files room fail = record {
   faults = 0;
   taken = 0;
   opened = 0;
+  ends = 0;
+  faults_at_open = 0;
 }
 
 -- what a shelf holds once this many of the first bytes of a text are appended to the file that is written
@@ -43,6 +47,8 @@ mem_shelf_seen shelf = record {
   faults = shelf.faults;
   taken = shelf.taken;
   opened = shelf.opened;
+  ends = shelf.ends;
+  faults_at_open = shelf.faults_at_open;
 }
 
 -- a call was counted, and the same calls are to fail

@@ -30,4 +30,4 @@ mem_source_failed it = record {
 
 -- it shows the bytes to come
 abbrev pub mem_source_seen : MemSourceState → SourceSeen
-mem_source_seen it = record { left = Some it.source.left; taken = it.source.taken; faults = it.faults }
+mem_source_seen it = record { left = Some it.source.left; taken = it.source.taken; faults = it.faults; ends = it.source.ends }

@@ -4,7 +4,7 @@ ghost use Rattle.diy_io.specs.Count.{next_count};
 ghost use Rattle.diy_io.specs.Shelf.{Idle, name_written, IsReading, IsWriting, IsBusy, Opened, NotThere, Stopped, Gave, Created, NotCreated, Appended, AppendedPart, Finished};
 
 use crate::mem_files::{MAX_FILE_NAME, MemFiles};
-use diy_io::{Failed, NoMemory, OpenError, Shelf};
+use diy_io::{Failed, NoMemory, OpenError, Shelf, ends_after};
 use std::alloc::Global;
 use std::marker::Model;
 
@@ -30,6 +30,8 @@ pub struct MemShelf {
     faults: u64,
     taken: u64,
     opened: u64,
+    ends: u64,
+    faults_at_open: u64,
 }
 
 impl Model for MemShelf {
@@ -45,6 +47,8 @@ impl Model for MemShelf {
       faults = s.faults;
       taken = s.taken;
       opened = s.opened;
+      ends = s.ends;
+      faults_at_open = s.faults_at_open;
     } };
 
     ghost invariant = { λ s. IsAt s.held.files s.work };
@@ -76,6 +80,8 @@ impl MemShelf {
             faults: 0,
             taken: 0,
             opened: 0,
+            ends: 0,
+            faults_at_open: 0,
         })
     }
 
@@ -220,6 +226,7 @@ impl Shelf for MemShelf {
                 self.work = Work::Reading(file, 0);
                 self.taken = 0;
                 self.opened = self.opened.saturating_add(1);
+                self.faults_at_open = self.faults;
                 Ok(())
             }
         }
@@ -243,6 +250,7 @@ impl Shelf for MemShelf {
         buf[..count].copy_from_slice(&rest[..count]);
         self.work = Work::Reading(file, at + count);
         self.taken = self.taken.saturating_add(count as u64);
+        self.ends = ends_after(self.ends, buf.len(), count);
         Ok(count)
     }
 

@@ -28,7 +28,7 @@ impl MemSource {
     /// The calls whose numbers are in `fail` are the ones that fail.
     pub fn new(bytes: Vec<u8>, piece: usize, fail: Vec<u64>) -> MemSource
         requires { 1 ≤ piece }
-        ensures { result ≡ record { source = record { left = bytes.items; piece = piece; taken = 0 }; fail = fail.items; calls = 0; faults = 0 } }
+        ensures { result ≡ record { source = record { left = bytes.items; piece = piece; taken = 0; ends = 0 }; fail = fail.items; calls = 0; faults = 0 } }
     {
         MemSource {
             source: SureSource::new(bytes, piece),

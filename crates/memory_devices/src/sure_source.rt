@@ -2,7 +2,7 @@ ghost use Rattle.std.specs.Prelude.{◌≡◌, ◌≤◌, ◌++◌, Ok, drop, ta
 ghost use Rattle.diy_io.specs.Taken.{GivesBytes};
 ghost use Rattle.memory_devices.specs.SureSource.{SureSourceState, given_count, sure_source_after, sure_source_seen};
 
-use diy_io::{Failed, Source};
+use diy_io::{Failed, Source, ends_after};
 use std::marker::Model;
 
 /// A source of bytes in memory, which never fails.
@@ -12,12 +12,13 @@ pub struct SureSource {
     at: usize,
     piece: usize,
     taken: u64,
+    ends: u64,
 }
 
 impl Model for SureSource {
     ghost Value = { SureSourceState };
 
-    ghost view = { λ source. record { left = drop source.at source.bytes.items; piece = source.piece; taken = source.taken } };
+    ghost view = { λ source. record { left = drop source.at source.bytes.items; piece = source.piece; taken = source.taken; ends = source.ends } };
 
     ghost invariant = { λ source. (source.at ≤ vec_len source.bytes) × (1 ≤ source.piece) };
 }
@@ -26,13 +27,14 @@ impl SureSource {
     /// A source of `bytes`, which gives at most `piece` of them in a call, where `piece` is at least 1.
     pub fn new(bytes: Vec<u8>, piece: usize) -> SureSource
         requires { 1 ≤ piece }
-        ensures { result ≡ record { left = bytes.items; piece = piece; taken = 0 } }
+        ensures { result ≡ record { left = bytes.items; piece = piece; taken = 0; ends = 0 } }
     {
         SureSource {
             bytes,
             at: 0,
             piece,
             taken: 0,
+            ends: 0,
         }
     }
 
@@ -48,6 +50,7 @@ impl SureSource {
         buf[..count].copy_from_slice(&rest[..count]);
         self.at += count;
         self.taken = self.taken.saturating_add(count as u64);
+        self.ends = ends_after(self.ends, buf.len(), count);
         count
     }
 }

@@ -12,13 +12,13 @@ pub input_said : (form : SumForm) (old new : SourceSeen) (done : List ℕ → Ty
     → (s : LogSummed old new feeding []) → (sum : List ℕ) → form_text form (s.log ∷ []) ≡ Ok sum → done sum → InputSaid form old new done
 input_said form old new done feeding s sum is wrote = record {
   sum = sum;
-  read = record { log = s.log; text = s.text; at_end = s.at_end; short = s.short; taken = s.taken; no_fault = s.no_fault; is = is };
+  read = record { log = s.log; text = s.text; at_end = s.at_end; once = s.once; short = s.short; taken = s.taken; no_fault = s.no_fault; is = is };
   wrote = wrote;
 }
 
 -- an input is at an error
 input_stopped : (old new : SourceSeen) (fault : LogFault) → LogFaulty old new [] fault × (new.faults ≡ old.faults) → InputStopped old new (λ log bytes. IsFaulty [] log bytes fault)
-input_stopped old new fault f = record { log = f.0.log; text = f.0.text; bytes = f.0.bytes; taken = f.0.taken; is = f.0.is; no_fault = f.1 }
+input_stopped old new fault f = record { log = f.0.log; text = f.0.text; bytes = f.0.bytes; taken = f.0.taken; ends = f.0.ends; is = f.0.is; no_fault = f.1 }
 
 -- an input with an error
 pub input_faulty : (form : SumForm) (old new : SourceSeen) (a : SinkSeen) (fault : LogFault) → LogFaulty old new [] fault × (new.faults ≡ old.faults)

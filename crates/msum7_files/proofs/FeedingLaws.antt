@@ -3,16 +3,16 @@ use Rattle.std.proofs.Common.{◌≡◌, ◌≤◌, ◌<◌, ◌^◌, ℕ, ◌+�
 use Rattle.std.proofs.{lemmas.List.{take-append-drop, length-take-le}, lemmas.List.Sums.count_by-le-length}
 use Rattle.std.proofs.KnownBytes.{Consumes-nil, Consumes-trans, Consumes-whole}
 use Rattle.std.specs.{Prelude.{Err, ◌==◌}, Io.KnownBytes.{Consumes, IsAtEnd}}
-use Rattle.diy_io.specs.{Count.{count_of, Rose}, Taken.{SourceSeen, Took}}
+use Rattle.diy_io.specs.{Count.{count_of, next_count, ends_after, Rose}, Taken.{SourceSeen, Took, EndedOnce, NotEnded}}
 use Rattle.log_sum.specs.{declared.errors.SumError.SumError, Representing.{Kept, Represents, ShowsNone, FedTo, EndedTo, running_line}}
 use Rattle.log_sum.specs.declared.errors.SumError.TheVariants as sums
 use Rattle.log_sum_laws.proofs.Represented.{end_fault_stays}
 use Rattle.msum7_files.specs.{declared.feeding.Feeding.Feeding, declared.feeding.LogFault.LogFault, FileFaults.sum_fault}
 use Rattle.msum7_files.specs.Logs.{IsShort, max_piece, PrefixFull, TookCount}
 use Rattle.msum7_files.specs.FileFeeding.{ReadsLogs, IsFaultOfLogs, IsEndFault, ReadSoFar, ReadWhole, ReadPart, LogFailed}
-use Rattle.diy_io.proofs.ConsumedLaws.{prefix_of}
+use Rattle.diy_io.proofs.{ConsumedLaws.prefix_of, EndLaws.{end_counted, no_end_counted}}
 
-parts_of : (bytes piece : List ℕ) (n : ℕ) → bytes ++ piece ≡ (bytes ++ take n piece) ++ drop n piece
+pub parts_of : (bytes piece : List ℕ) (n : ℕ) → bytes ++ piece ≡ (bytes ++ take n piece) ++ drop n piece
 parts_of bytes piece n = ap (λ p. bytes ++ p) (sym (take-append-drop n piece)) ∙ sym (append_assoc bytes (take n piece) (drop n piece))
 
 -- a piece that is refused
@@ -55,6 +55,7 @@ reads_nothing old feeding logs reads = record {
   bytes = [];
   consumed = Consumes-nil old.left;
   taken = omega arith;
+  no_end = refl;
   reads = reads;
   no_fault = refl;
 }
@@ -67,24 +68,25 @@ took_of old new buf n h consumed counted = record {
   counted = counted ∙ ap (λ k. count_of (old.taken + k)) (sym (length-take-le n buf h));
 }
 
-took_both : (old mid new : SourceSeen) (a : ℕ) (piece : List ℕ) → TookCount old mid a → Took mid new piece → TookCount old new (a + length piece)
+pub took_both : (old mid new : SourceSeen) (a : ℕ) (piece : List ℕ) → TookCount old mid a → Took mid new piece → TookCount old new (a + length piece)
 took_both old mid new a piece p q = let e : new.taken ≡ count_of (mid.taken + length piece) = q.counted in omega arith
 
 -- more was read and fed
 pub reads_more : (old mid new : SourceSeen) (feeding after : Feeding) (logs : List (List ℕ)) (piece : List ℕ) (r : ReadSoFar old mid feeding logs)
-    → Took mid new piece → new.faults ≡ mid.faults → ReadsLogs after logs (r.bytes ++ piece) → ReadSoFar old new after logs
-reads_more old mid new feeding after logs piece r took same reads = record {
+    → Took mid new piece → NotEnded mid new → new.faults ≡ mid.faults → ReadsLogs after logs (r.bytes ++ piece) → ReadSoFar old new after logs
+reads_more old mid new feeding after logs piece r took no_end same reads = record {
   bytes = r.bytes ++ piece;
   consumed = Consumes-trans old.left mid.left new.left r.bytes piece r.consumed took.consumed;
   taken = subst (TookCount old new) (sym (length-append r.bytes piece)) (took_both old mid new (length r.bytes) piece r.taken took);
+  no_end = no_end ∙ r.no_end;
   reads = reads;
   no_fault = same ∙ r.no_fault;
 }
 
 -- the whole log was read
 pub reads_whole : (old mid new : SourceSeen) (feeding : Feeding) (logs : List (List ℕ)) (piece : List ℕ) → ReadSoFar old mid feeding logs
-    → Took mid new piece → piece ≡ [] → IsAtEnd new.left → new.faults ≡ mid.faults → ReadWhole old new feeding logs
-reads_whole old mid new feeding logs piece r took none end same =
+    → Took mid new piece → piece ≡ [] → IsAtEnd new.left → EndedOnce mid new → new.faults ≡ mid.faults → ReadWhole old new feeding logs
+reads_whole old mid new feeding logs piece r took none end once same =
     let all : r.bytes ++ piece ≡ r.bytes = ap (λ p. r.bytes ++ p) none ∙ append-nil r.bytes in
     let consumed : Consumes old.left new.left r.bytes =
     subst (Consumes old.left new.left) all (Consumes-trans old.left mid.left new.left r.bytes piece r.consumed took.consumed) in
@@ -94,6 +96,7 @@ reads_whole old mid new feeding logs piece r took none end same =
       log = r.bytes;
       text = Consumes-whole old.left new.left r.bytes (λ whole. whole ≡ r.bytes) consumed end refl;
       at_end = end;
+      once = once ∙ ap (λ n. next_count n) r.no_end;
       taken = omega arith;
       reads = r.reads;
       no_fault = same ∙ r.no_fault;
@@ -109,14 +112,15 @@ reads_short feeding logs bytes reads short = let read : feeding.read ≡ length 
 -- no more is fed
 pub reads_part : (old mid new : SourceSeen) (feeding : Feeding) (logs : List (List ℕ)) (piece : List ℕ) (fault : LogFault) (r : ReadSoFar old mid feeding logs)
     → feeding.read ≤ 2 ^ 40 → length piece ≤ max_piece
-    → Took mid new piece → new.faults ≡ mid.faults → IsFaultOfLogs logs (r.bytes ++ piece) fault → ReadPart old new logs fault
-reads_part old mid new feeding logs piece fault r short one took same is =
+    → Took mid new piece → NotEnded mid new → new.faults ≡ mid.faults → IsFaultOfLogs logs (r.bytes ++ piece) fault → ReadPart old new logs fault
+reads_part old mid new feeding logs piece fault r short one took no_end same is =
     let prefix = prefix_of old.left new.left (r.bytes ++ piece) (Consumes-trans old.left mid.left new.left r.bytes piece r.consumed took.consumed) in
     record {
       log = prefix.text;
       text = prefix.is;
       bytes = r.bytes ++ piece;
       taken = subst (TookCount old new) (sym (length-append r.bytes piece)) (took_both old mid new (length r.bytes) piece r.taken took);
+      no_end = no_end ∙ r.no_end;
       up_to = record {
         rest = prefix.rest;
         parts = prefix.parts;
@@ -137,8 +141,8 @@ short_piece buf n fits room = omega (arith, length-take-le n buf fits)
 
 -- the device failed
 pub reads_failed : (old mid new : SourceSeen) (feeding : Feeding) (logs : List (List ℕ)) → ReadSoFar old mid feeding logs → feeding.read ≤ 2 ^ 40
-    → new.taken ≡ mid.taken → Rose mid.faults new.faults → mid.faults ≤ new.faults → LogFailed old new feeding logs
-reads_failed old mid new feeding logs r short taken fault never_falls =
+    → new.taken ≡ mid.taken → NotEnded mid new → Rose mid.faults new.faults → mid.faults ≤ new.faults → LogFailed old new feeding logs
+reads_failed old mid new feeding logs r short taken no_end fault never_falls =
     let same : mid.faults ≡ old.faults = r.no_fault in
     let prefix = prefix_of old.left mid.left r.bytes r.consumed in
     record {
@@ -151,18 +155,24 @@ reads_failed old mid new feeding logs r short taken fault never_falls =
         short = reads_short feeding logs r.bytes r.reads short;
         no_fault = reads_none feeding logs r.bytes r.reads;
         taken = ap count_of taken ∙ r.taken;
+        ends = inl (no_end ∙ r.no_end);
         fault = omega arith;
         never_falls = omega arith;
       };
       fed = inl r.reads;
     }
 
-take_none : (buf : List ℕ) (n : ℕ) → n ≡ 0 → take n buf ≡ []
+pub take_none : (buf : List ℕ) (n : ℕ) → n ≡ 0 → take n buf ≡ []
 take_none buf n e = ap (λ k. take k buf) e
 
 -- a read that gives nothing
 pub read_end : (old mid new : SourceSeen) (feeding : Feeding) (logs : List (List ℕ)) (buf : List ℕ) (n : ℕ) → ReadSoFar old mid feeding logs
     → n ≤ length buf → Consumes mid.left new.left (take n buf) → IsAtEnd new.left → n ≡ 0
-    → new.taken ≡ count_of (mid.taken + n) → new.faults ≡ mid.faults → ReadWhole old new feeding logs
-read_end old mid new feeding logs buf n r h consumed end zero counted same =
-    reads_whole old mid new feeding logs (take n buf) r (took_of mid new buf n h consumed counted) (take_none buf n zero) end same
+    → new.ends ≡ ends_after mid.ends (length buf) n → 0 < length buf → new.taken ≡ count_of (mid.taken + n) → new.faults ≡ mid.faults → ReadWhole old new feeding logs
+read_end old mid new feeding logs buf n r h consumed end zero ends room counted same =
+    reads_whole old mid new feeding logs (take n buf) r (took_of mid new buf n h consumed counted) (take_none buf n zero) end
+    (ends ∙ end_counted mid.ends (length buf) n zero room) same
+
+-- a read that gives something doesn't count an end
+pub goes_on : (mid new : SourceSeen) (room n : ℕ) → new.ends ≡ ends_after mid.ends room n → (n ≡ 0 → ⊥) → NotEnded mid new
+goes_on mid new room n ends some = ends ∙ no_end_counted mid.ends room n (omega (arith, some))

@@ -1,16 +1,16 @@
 -- Files of a shelf that are summed, one after another.
 use Rattle.std.proofs.Common.{◌≡◌, ◌+◌, ℕ, List, [], ◌∷◌, ◌++◌, length, refl, sym, ap, ◌∙◌, subst, arith, Some, None, inl, inr, length-append, get_or}
 use Rattle.std.proofs.lemmas.List.Elements.{All-append}
-use Rattle.std.specs.Prelude.{Option, Ok, Err, All, slice_get, zero, suc}
-use Rattle.diy_io.specs.{Count.Rose, Shelf.{Files, ShelfSeen, Opened}, Wrote.SinkSeen, Opened.IsFile}
+use Rattle.std.specs.Prelude.{◌⊎◌, Option, Ok, Err, All, slice_get, zero, suc}
+use Rattle.diy_io.specs.{Count.{next_count, Rose}, Shelf.{Files, ShelfSeen, Opened}, Wrote.SinkSeen, Opened.{IsFile, EndsSeen, EndsSeenOrOneMore}}
 use Rattle.msum7_files.specs.{declared.sum_form.SumForm.SumForm, SumForms.{form_text}}
 use Rattle.msum7_files.specs.{declared.feeding.Feeding.Feeding, declared.feeding.LogFault.LogFault}
 use Rattle.msum7_files.specs.{declared.feeding.LogFault.TheVariants.{Wrong, TooMuch, NoMemory}, declared.feeding.ReadFault.ReadFault}
 use Rattle.msum7_files.specs.{declared.feeding.ReadFault.TheVariants.{Log, Device}, declared.files.FileFault.FileFault}
-use Rattle.msum7_files.specs.{declared.files.FileFault.TheVariants.{Missing, Read}, Logs.IsShort, FileFeeding.{IsFaulty, LogSummed, ClosedTo}}
+use Rattle.msum7_files.specs.{declared.files.FileFault.TheVariants.{Missing, Read}, Logs.{IsShort, EndsAt}, FileFeeding.{IsFaulty, LogSummed, ClosedTo}}
 use Rattle.msum7_files.specs.SumEnds.{AreLogs, IsBegun, IsAtWord, FileStopped, LogFilesSaid, FilesSummed}
 use Rattle.msum7_files.specs.LogFiles.{log_seen, FileSummed, LogFileFaulty, LogFileTo, FilesSoFar, log_file_end}
-use Rattle.diy_io.proofs.{FileNameLaws.{absent_before, quiet_before, file_before}, OpenedLaws.{opened_text, opened_took, took_one_more, took_no_more}}
+use Rattle.diy_io.proofs.{FileNameLaws.{absent_before, quiet_before, file_before}, OpenedLaws.{opened_text, opened_took, took_one_more, took_no_more}, EndLaws.{ends_both, no_ends, one_end}}
 use Rattle.msum7_files.proofs.LogLaws.{are_right}
 
 -- a file that was opened is summed
@@ -23,20 +23,32 @@ opened_summed old mid new feeding before name opened s same = record {
   reads = s.reads;
   no_fault = s.no_fault ∙ opened.no_fault;
   took = opened_took old mid new name s.log opened s.taken same;
+  ends = one_end old new (s.once ∙ ap (λ n. next_count n) opened.ends);
 }
+
+pub opened_ends : (old mid new : ShelfSeen) (name bytes log : List ℕ) → Opened old mid name → EndsAt (log_seen mid) (log_seen new) bytes log
+    → EndsSeen old new 0 ⊎ (EndsSeen old new 1 × (bytes ≡ log))
+opened_ends old mid new name bytes log opened (inl none) = inl (no_ends old new (none ∙ opened.ends))
+opened_ends old mid new name bytes log opened (inr all) = inr (one_end old new (all.0 ∙ ap (λ n. next_count n) opened.ends), all.1)
+
+pub failed_ends : (old mid new : ShelfSeen) (name bytes log : List ℕ) → Opened old mid name → EndsAt (log_seen mid) (log_seen new) bytes log → EndsSeenOrOneMore old new 0
+failed_ends old mid new name bytes log opened (inl none) = inl (no_ends old new (none ∙ opened.ends))
+failed_ends old mid new name bytes log opened (inr all) = inr (one_end old new (all.0 ∙ ap (λ n. next_count n) opened.ends))
 
 -- a file that was opened isn't summed
 pub opened_refused : (old mid new : ShelfSeen) (feeding : Feeding) (before : List (List ℕ)) (name : List ℕ) (fault : ReadFault) → Opened old mid name
-    → ClosedTo (log_seen mid) (log_seen new) feeding before (Err fault) → new.opened ≡ mid.opened
+    → ClosedTo (log_seen mid) (log_seen new) feeding before (Err fault) → new.opened ≡ mid.opened → new.faults_at_open ≡ mid.faults_at_open
     → LogFileTo old new feeding before name (Err (Read fault))
-opened_refused old mid new feeding before name (Log fault) opened s same = record {
+opened_refused old mid new feeding before name (Log fault) opened s same at_open = record {
   log = s.log;
   text = opened_text old mid name s.log opened s.text;
   bytes = s.bytes;
   is = s.is;
   took = opened_took old mid new name s.bytes opened s.taken same;
+  ends = opened_ends old mid new name s.bytes s.log opened s.ends;
+  at_open = at_open ∙ opened.at_open;
 }
-opened_refused old mid new feeding before name Device opened s same =
+opened_refused old mid new feeding before name Device opened s same at_open =
     let none : mid.faults ≡ old.faults = opened.no_fault in
     let rose : Rose mid.faults new.faults = s.failed.fault in
     record {
@@ -54,6 +66,7 @@ opened_refused old mid new feeding before name Device opened s same =
             },
             opened_took old mid new name s.failed.bytes opened s.failed.taken same,
           );
+      ends = failed_ends old mid new name s.failed.bytes s.failed.log opened s.failed.ends;
     }
 
 last_log : (logs : List (List ℕ)) (log other : List ℕ) (k : ℕ) → slice_get (logs ++ log ∷ []) k ≡ Some other
@@ -70,7 +83,7 @@ one_short : (log : List ℕ) → IsShort log → All IsShort (log ∷ [])
 one_short log short k d h = let z : k ≡ 0 = omega arith in subst (λ i. IsShort (get_or (log ∷ []) i d)) (sym z) short
 
 -- one log more is named
-more_logs : (files : Option Files) (words : List (List ℕ)) (first place : ℕ) (logs : List (List ℕ)) (name log : List ℕ) → AreLogs files words first logs
+pub more_logs : (files : Option Files) (words : List (List ℕ)) (first place : ℕ) (logs : List (List ℕ)) (name log : List ℕ) → AreLogs files words first logs
     → place ≡ first + length logs → slice_get words place ≡ Some name → IsFile files name log → IsShort log → AreLogs files words first (logs ++ log ∷ [])
 more_logs files words first place logs name log are count word text short = record {
   named = λ k n l w g.
@@ -92,6 +105,7 @@ one_more old mid new feeding after words first place name s files word f =
       reads = f.reads;
       no_fault = f.no_fault ∙ s.no_fault;
       took = took_one_more old mid new s.logs f.log s.took f.took;
+      ends = ends_both old mid new (length s.logs) 1 (length (s.logs ++ f.log ∷ [])) s.ends f.ends (length-append s.logs (f.log ∷ []));
     }
 
 at_word : (old mid : ShelfSeen) (feeding : Feeding) (words : List (List ℕ)) (first place : ℕ) (name : List ℕ) (s : FilesSoFar old mid feeding words first place)
@@ -114,6 +128,11 @@ files_stopped old mid new feeding words first place name fault s files word f = 
   bytes = f.bytes;
   is = f.is;
   took = took_one_more old mid new s.logs f.bytes s.took f.took;
+  ends = elim f.ends [
+    | inl none ↦ inl (ends_both old mid new (length s.logs) 0 (length s.logs) s.ends none (omega arith))
+    | inr all ↦ inr (ends_both old mid new (length s.logs) 1 (length s.logs + 1) s.ends all.0 refl, all.1)
+  ];
+  at_open = f.at_open ∙ s.no_fault;
 }
 
 -- a file isn't summed
@@ -129,6 +148,7 @@ files_refused form old mid new a feeding after words first place name Missing s 
     absent = absent_before old mid new name files s.no_fault f.absent;
     no_fault = quiet_before old mid new files s.no_fault f.no_fault;
     took = took_no_more old mid new s.logs s.took f.took;
+    ends = ends_both old mid new (length s.logs) 0 (length s.logs) s.ends f.ends (omega arith);
   },
   refl,
 )
@@ -144,6 +164,10 @@ files_refused form old mid new a feeding after words first place name (Read Devi
       | inl none ↦ inl (took_no_more old mid new s.logs s.took none)
       | inr some ↦ inr (some.0, begun_same old.files mid.files s.logs name some.0 files some.1, took_one_more old mid new s.logs some.0 s.took some.2)
     ];
+    ends = elim f.ends [
+      | inl none ↦ inl (ends_both old mid new (length s.logs) 0 (length s.logs) s.ends none (omega arith))
+      | inr one ↦ inr (ends_both old mid new (length s.logs) 1 (length s.logs + 1) s.ends one refl)
+    ];
   },
   refl,
 )
@@ -158,6 +182,6 @@ pub files_said : (form : SumForm) (old new : ShelfSeen) (done : List ℕ → Typ
     → (s : FilesSoFar old new feeding words first place) → place ≡ length words → (sum : List ℕ) → form_text form s.logs ≡ Ok sum → done sum → LogFilesSaid form old new words first done
 files_said form old new done feeding words first place s all sum is wrote = record {
   sum = sum;
-  read = record { logs = s.logs; all = sym s.count ∙ all; are = s.are; no_fault = s.no_fault; took = s.took; is = is };
+  read = record { logs = s.logs; all = sym s.count ∙ all; are = s.are; no_fault = s.no_fault; took = s.took; ends = s.ends; is = is };
   wrote = wrote;
 }

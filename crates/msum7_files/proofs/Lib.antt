@@ -3,3 +3,6 @@ pub mod FileLaws
 pub mod LogLaws
 pub mod EndLaws
 pub mod FilesLaws
+mod LogsFedLaws
+pub mod SkipLaws
+pub mod SkipFilesLaws

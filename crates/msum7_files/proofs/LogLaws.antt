@@ -1,13 +1,13 @@
 -- A log that was read, summed or refused.
 use Rattle.std.proofs.Common.{◌≡◌, ◌≤◌, ◌^◌, ℕ, List, [], ◌∷◌, ◌++◌, length, refl, sym, ap, ◌∙◌, subst, arith, append_assoc, append-nil, inl, inr}
 use Rattle.std.specs.{Prelude.{Result, Ok, Err, OnOk, OnErr}, Io.KnownBytes.IsAtEnd}
-use Rattle.diy_io.specs.{Count.{count_of, Rose}, Taken.SourceSeen, Shelf.{ShelfSeen, Mode, Idle, Stopped, Finished, left_to_read}}
+use Rattle.diy_io.specs.{Count.{count_of, Rose}, Taken.{SourceSeen, NotEnded}, Shelf.{ShelfSeen, Mode, Idle, Stopped, Finished, left_to_read}}
 use Rattle.diy_io.specs.declared.errors.Failed.{Failed}
 use Rattle.log_sum.specs.{declared.errors.LogError.LogError, Representing.{ShowsNone, logs_text}}
 use Rattle.log_sum_laws.proofs.Represented.{represented_text}
 use Rattle.msum7_files.specs.{declared.feeding.Feeding.Feeding, declared.feeding.LogFault.LogFault}
 use Rattle.msum7_files.specs.{declared.feeding.LogFault.TheVariants.{Wrong, TooMuch, NoMemory}, declared.feeding.ReadFault.ReadFault}
-use Rattle.msum7_files.specs.{declared.feeding.ReadFault.TheVariants.{Log, Device}, Logs.{IsShort, AreWholeLogs, PrefixWrong, UpToFault, IsWrongLog}}
+use Rattle.msum7_files.specs.{declared.feeding.ReadFault.TheVariants.{Log, Device}, Logs.{IsShort, EndsAt, AreWholeLogs, PrefixWrong, UpToFault, IsWrongLog}}
 use Rattle.msum7_files.specs.FileFeeding.{ReadsLogs, IsFaultOfLogs, IsEndFault, ReadWhole, ReadPart, LogFailed, ReadTo, LogSummed, LogFaulty, IsFaulty, SummedTo}
 
 -- logs that were fed without an error
@@ -48,6 +48,7 @@ part_faulty old new feeding before fault reads part = (
     text = part.text;
     bytes = part.bytes;
     taken = part.taken;
+    ends = inl part.no_end;
     is = faulty before part.log part.bytes fault (are_right feeding before reads) part.up_to part.is;
   },
   part.no_fault,
@@ -85,6 +86,7 @@ end_faulty old new feeding read before fault reads whole is =
         text = whole.text;
         bytes = whole.log;
         taken = whole.taken;
+        ends = inr (whole.once, refl);
         is = end_wrong before whole.log fault (are_right feeding before reads) (omega arith) none is;
       },
       whole.no_fault,
@@ -100,6 +102,7 @@ whole_summed old new read after before whole reads =
       log = whole.log;
       text = whole.text;
       at_end = whole.at_end;
+      once = whole.once;
       short = omega arith;
       taken = whole.taken;
       reads = reads;
@@ -108,11 +111,12 @@ whole_summed old new read after before whole reads =
 
 -- a log that was summed is closed
 pub closed_summed : (old mid new : SourceSeen) (feeding : Feeding) (before : List (List ℕ)) → LogSummed old mid feeding before
-    → IsAtEnd new.left → new.taken ≡ mid.taken → new.faults ≡ mid.faults → LogSummed old new feeding before
-closed_summed old mid new feeding before s end same no_fault = record {
+    → IsAtEnd new.left → new.taken ≡ mid.taken → NotEnded mid new → new.faults ≡ mid.faults → LogSummed old new feeding before
+closed_summed old mid new feeding before s end same no_end no_fault = record {
   log = s.log;
   text = s.text;
   at_end = end;
+  once = no_end ∙ s.once;
   short = s.short;
   taken = ap count_of same ∙ s.taken;
   reads = s.reads;
@@ -121,8 +125,8 @@ closed_summed old mid new feeding before s end same no_fault = record {
 
 -- the device failed when a log that was summed was closed
 pub closed_failed : (old mid new : SourceSeen) (feeding : Feeding) (before : List (List ℕ)) → LogSummed old mid feeding before
-    → new.taken ≡ mid.taken → Rose mid.faults new.faults → mid.faults ≤ new.faults → LogFailed old new feeding before
-closed_failed old mid new feeding before s same rose falls =
+    → new.taken ≡ mid.taken → NotEnded mid new → Rose mid.faults new.faults → mid.faults ≤ new.faults → LogFailed old new feeding before
+closed_failed old mid new feeding before s same no_end rose falls =
     let none : mid.faults ≡ old.faults = s.no_fault in
     record {
       failed = record {
@@ -134,16 +138,28 @@ closed_failed old mid new feeding before s same rose falls =
         short = s.short;
         no_fault = right_shows_none before s.log (are_right feeding (before ++ s.log ∷ []) s.reads);
         taken = ap count_of same ∙ s.taken;
+        ends = inr (no_end ∙ s.once, refl);
         fault = omega arith;
         never_falls = omega arith;
       };
       fed = inr (refl, s.reads);
     }
 
+pub ends_closed : (old mid new : SourceSeen) (bytes log : List ℕ) → EndsAt old mid bytes log → NotEnded mid new → EndsAt old new bytes log
+ends_closed old mid new bytes log (inl none) same = inl (same ∙ none)
+ends_closed old mid new bytes log (inr all) same = inr (same ∙ all.0, all.1)
+
 -- a log with an error is closed
 pub closed_faulty : (old mid new : SourceSeen) (before : List (List ℕ)) (fault : LogFault) → LogFaulty old mid before fault
-    → new.taken ≡ mid.taken → LogFaulty old new before fault
-closed_faulty old mid new before fault f same = record { log = f.log; text = f.text; bytes = f.bytes; taken = ap count_of same ∙ f.taken; is = f.is }
+    → new.taken ≡ mid.taken → NotEnded mid new → LogFaulty old new before fault
+closed_faulty old mid new before fault f same no_end = record {
+  log = f.log;
+  text = f.text;
+  bytes = f.bytes;
+  taken = ap count_of same ∙ f.taken;
+  ends = ends_closed old mid new f.bytes f.log f.ends no_end;
+  is = f.is;
+}
 
 -- a file is closed, whatever the answer
 pub record Closed (old new : ShelfSeen) : Type 0 where
@@ -151,6 +167,7 @@ pub record Closed (old new : ShelfSeen) : Type 0 where
   pub files : new.files ≡ old.files
   pub taken : new.taken ≡ old.taken
   pub opened : new.opened ≡ old.opened
+  pub ends : new.ends ≡ old.ends
   pub never_falls : old.faults ≤ new.faults
 
 -- no file is open, so nothing is left to read
@@ -159,8 +176,8 @@ idle_at_end mode idle = subst (λ m. IsAtEnd (left_to_read m)) (sym idle) tt
 
 -- an attempt to close a file closes it, whatever the answer
 pub closed : (old new : ShelfSeen) (r : Result (Unit {0}) Failed) → OnOk r (Finished old new) → OnErr r (Stopped old new) → Closed old new
-closed old new (Ok x) f s = record { mode = f.mode; files = f.files; taken = f.counts.taken; opened = f.counts.opened; never_falls = (let e : new.faults ≡ old.faults = f.no_fault in omega arith) }
-closed old new (Err x) f s = record { mode = s.mode; files = s.files; taken = s.counts.taken; opened = s.counts.opened; never_falls = s.faulted.never_falls }
+closed old new (Ok x) f s = record { mode = f.mode; files = f.files; taken = f.counts.taken; opened = f.counts.opened; ends = f.counts.ends; never_falls = (let e : new.faults ≡ old.faults = f.no_fault in omega arith) }
+closed old new (Err x) f s = record { mode = s.mode; files = s.files; taken = s.counts.taken; opened = s.counts.opened; ends = s.counts.ends; never_falls = s.faulted.never_falls }
 
 -- a log that isn't read to its end isn't summed
 pub part_summed : (old new : SourceSeen) (feeding read : Feeding) (before : List (List ℕ)) (fault : ReadFault) → ReadsLogs feeding before []

@@ -1,13 +1,13 @@
 -- What a result says about a log that is fed to a summer in pieces.
 -- Source: own.
 use Rattle.std.specs.{Prelude.{◌≡◌, ◌⊎◌, ℕ, List, [], ◌∷◌, ◌++◌, length, Result, Ok, Err}, Io.KnownBytes.{Consumes, IsAtEnd}}
-use Rattle.diy_io.specs.{Taken.SourceSeen, Wrote.{SinkSeen, Wrote}, declared.errors.Failed.Failed}
+use Rattle.diy_io.specs.{Taken.{SourceSeen, EndedOnce, NotEnded}, Wrote.{SinkSeen, Wrote}, declared.errors.Failed.Failed}
 use Rattle.log_sum.specs.Representing.{Represents, logs_text}
 use Rattle.msum7_files.specs.{declared.sum_form.SumForm.SumForm, SumForms.{form_text}}
 use Rattle.msum7_files.specs.{declared.feeding.Feeding.Feeding, declared.feeding.LogFault.LogFault}
 use Rattle.msum7_files.specs.{declared.feeding.LogFault.TheVariants.{Wrong, TooMuch, NoMemory}, declared.feeding.ReadFault.ReadFault}
 use Rattle.msum7_files.specs.declared.feeding.ReadFault.TheVariants.{Log, Device}
-use Rattle.msum7_files.specs.Logs.{IsText, IsShort, TookCount, PrefixWrong, PrefixFull, UpToFault, IsWrongLog, IsTooMuch, ReadFailed}
+use Rattle.msum7_files.specs.Logs.{IsText, IsShort, TookCount, EndsAt, PrefixWrong, PrefixFull, UpToFault, IsWrongLog, IsTooMuch, ReadFailed}
 
 -- whole logs and the bytes so far of one more were fed, and the bytes of this one are counted
 pub record ReadsLogs (feeding : Feeding) (logs : List (List ℕ)) (bytes : List ℕ) : Type 0 where
@@ -40,29 +40,32 @@ abbrev pub EndedOn : Feeding → List (List ℕ) → List ℕ → Result (Unit {
 EndedOn new logs log (Ok x) = ReadsLogs new (logs ++ log ∷ []) []
 EndedOn new logs log (Err fault) = IsEndFault logs log fault
 
--- bytes of a log were read and fed, and the device hasn't failed
+-- bytes of a log were read and fed, the end wasn't seen, and the device hasn't failed
 pub record ReadSoFar (old new : SourceSeen) (feeding : Feeding) (logs : List (List ℕ)) : Type 0 where
   pub bytes : List ℕ
   pub consumed : Consumes old.left new.left bytes
   pub taken : TookCount old new (length bytes)
+  pub no_end : NotEnded old new
   pub reads : ReadsLogs feeding logs bytes
   pub no_fault : new.faults ≡ old.faults
 
--- a complete log was read and fed, and the device hasn't failed
+-- a complete log was read and fed, its end was seen once, and the device hasn't failed
 pub record ReadWhole (old new : SourceSeen) (feeding : Feeding) (logs : List (List ℕ)) : Type 0 where
   pub log : List ℕ
   pub text : IsText old.left log
   pub at_end : IsAtEnd new.left
+  pub once : EndedOnce old new
   pub taken : TookCount old new (length log)
   pub reads : ReadsLogs feeding logs log
   pub no_fault : new.faults ≡ old.faults
 
--- bytes of a log were read, and no more is fed, for this reason; the device hasn't failed
+-- bytes of a log were read, and no more is fed, for this reason; the end wasn't seen, and the device hasn't failed
 pub record ReadPart (old new : SourceSeen) (logs : List (List ℕ)) (fault : LogFault) : Type 0 where
   pub log : List ℕ
   pub text : IsText old.left log
   pub bytes : List ℕ
   pub taken : TookCount old new (length bytes)
+  pub no_end : NotEnded old new
   pub up_to : UpToFault logs log bytes
   pub is : IsFaultOfLogs logs bytes fault
   pub no_fault : new.faults ≡ old.faults
@@ -78,11 +81,12 @@ ReadTo old new feeding logs (Ok x) = ReadWhole old new feeding logs
 ReadTo old new feeding logs (Err (Log fault)) = ReadPart old new logs fault
 ReadTo old new feeding logs (Err Device) = LogFailed old new feeding logs
 
--- a complete log was read and summed, it has at most 2^40 bytes, nothing is left to read, and the device hasn't failed
+-- a complete log was read and summed, its end was seen once, it has at most 2^40 bytes, nothing is left to read, and the device hasn't failed
 pub record LogSummed (old new : SourceSeen) (feeding : Feeding) (before : List (List ℕ)) : Type 0 where
   pub log : List ℕ
   pub text : IsText old.left log
   pub at_end : IsAtEnd new.left
+  pub once : EndedOnce old new
   pub short : IsShort log
   pub taken : TookCount old new (length log)
   pub reads : ReadsLogs feeding (before ++ log ∷ []) []
@@ -100,6 +104,7 @@ pub record LogFaulty (old new : SourceSeen) (before : List (List ℕ)) (fault : 
   pub text : IsText old.left log
   pub bytes : List ℕ
   pub taken : TookCount old new (length bytes)
+  pub ends : EndsAt old new bytes log
   pub is : IsFaulty before log bytes fault
 
 -- the result for a log that stays open

@@ -4,3 +4,7 @@ pub mod FileFaults
 pub mod LogFiles
 pub mod SumForms
 pub mod SumEnds
+pub mod LogsFed
+pub mod RightLogs
+pub mod SkipEnds
+pub mod SkipReading

@@ -1,7 +1,7 @@
 -- Logs, as they are read from a device.
 -- Source: own.
 use Rattle.std.specs.Prelude.{◌≡◌, ◌≤◌, ◌<◌, ◌⊎◌, ◌^◌, ◌+◌, ℕ, List, ◌∷◌, ◌++◌, length, Option, IfSome, Err}
-use Rattle.diy_io.specs.{Count.{count_of, Rose}, Taken.SourceSeen, Sink.line_feed_count}
+use Rattle.diy_io.specs.{Count.{count_of, Rose}, Taken.{SourceSeen, EndedOnce, NotEnded}, Sink.line_feed_count}
 use Rattle.log_sum.specs.{declared.errors.LogError.LogError, Representing.{ShowsFault, ShowsNone, logs_text}}
 use Rattle.log_sum_laws.specs.Laws.{NoFault}
 
@@ -69,6 +69,10 @@ pub record IsTooMuch (before : List (List ℕ)) (log taken : List ℕ) (line : �
 abbrev pub TookCount : SourceSeen → SourceSeen → ℕ → Type 0
 TookCount old new count = count_of new.taken ≡ count_of (old.taken + count)
 
+-- the end of a log wasn't seen; or it was, once, and these bytes are all of it
+abbrev pub EndsAt : SourceSeen → SourceSeen → List ℕ → List ℕ → Type 0
+EndsAt old new bytes log = NotEnded old new ⊎ (EndedOnce old new × (bytes ≡ log))
+
 -- the device failed, and the bytes that were taken of the log after these are at most 2^40 and show no error
 pub record ReadFailed (old new : SourceSeen) (before : List (List ℕ)) : Type 0 where
   pub log : List ℕ
@@ -79,5 +83,6 @@ pub record ReadFailed (old new : SourceSeen) (before : List (List ℕ)) : Type 0
   pub short : IsShort bytes
   pub no_fault : ShowsNone before bytes
   pub taken : TookCount old new (length bytes)
+  pub ends : EndsAt old new bytes log
   pub fault : Rose old.faults new.faults
   pub never_falls : old.faults ≤ new.faults

@@ -2,17 +2,18 @@
 -- Source: own.
 use Rattle.std.specs.Prelude.{◌≡◌, ◌⊎◌, ◌+◌, ℕ, List, [], ◌∷◌, ◌++◌, length, slice_get, Option, None, Some, IfSome, MatchOption, All, Ok}
 use Rattle.std.specs.Io.KnownBytes.{IsAtEnd}
-use Rattle.diy_io.specs.{Count.Rose, Shelf.{Files, ShelfSeen}, Taken.SourceSeen, Wrote.{SinkSeen, WroteAll, WrotePart}, Opened.{IsFile, TookFiles}}
+use Rattle.diy_io.specs.{Count.Rose, Shelf.{Files, ShelfSeen}, Taken.{SourceSeen, EndedOnce}, Wrote.{SinkSeen, WroteAll, WrotePart}, Opened.{EndsSeen, EndsSeenOrOneMore, IsFile, TookFiles}}
 use Rattle.log_sum.specs.{declared.errors.LogError.LogError, declared.errors.LogKind.LogKind, Representing.{ShowsNone}}
-use Rattle.msum7_files.specs.{declared.sum_end.SumEnd.SumEnd, Logs.{IsText, IsShort, TookCount, AreWholeLogs, IsWrongLog, IsTooMuch, ReadFailed}}
+use Rattle.msum7_files.specs.{declared.sum_end.SumEnd.SumEnd, Logs.{IsText, IsShort, TookCount, EndsAt, AreWholeLogs, IsWrongLog, IsTooMuch, ReadFailed}}
 use Rattle.msum7_files.specs.{declared.sum_form.SumForm.SumForm, SumForms.{form_text}}
 use Rattle.msum7_files.specs.declared.sum_end.SumEnd.TheVariants as ends
 
--- the input is a log of at most 2^40 bytes without an error, which was read to its end, and this is its sum in a form
+-- the input is a log of at most 2^40 bytes without an error, which was read to its end, seen once, and this is its sum in a form
 pub record InputRead (form : SumForm) (old new : SourceSeen) (sum : List ℕ) : Type 0 where
   pub log : List ℕ
   pub text : IsText old.left log
   pub at_end : IsAtEnd new.left
+  pub once : EndedOnce old new
   pub short : IsShort log
   pub taken : TookCount old new (length log)
   pub no_fault : new.faults ≡ old.faults
@@ -24,12 +25,14 @@ pub record InputSaid (form : SumForm) (old new : SourceSeen) (done : List ℕ �
   pub read : InputRead form old new sum
   pub wrote : done sum
 
--- the input is a log of which these bytes were taken and no more, this holds of both, and the input hasn't failed
+-- the input is a log of which these bytes were taken and no more, its end was seen only if they are all, this holds of both, and the
+-- input hasn't failed
 pub record InputStopped (old new : SourceSeen) (Is : List ℕ → List ℕ → Type 0) : Type 0 where
   pub log : List ℕ
   pub text : IsText old.left log
   pub bytes : List ℕ
   pub taken : TookCount old new (length bytes)
+  pub ends : EndsAt old new bytes log
   pub is : Is log bytes
   pub no_fault : new.faults ≡ old.faults
 
@@ -63,13 +66,14 @@ pub record AreLogs (files : Option Files) (words : List (List ℕ)) (first : ℕ
   pub named : (k : ℕ) (name log : List ℕ) → slice_get words (first + k) ≡ Some name → slice_get logs k ≡ Some log → IsFile files name log
   pub short : All IsShort logs
 
--- the arguments name files that are logs without an error, each read to its end once, and this is their sum in a form
+-- the arguments name files that are logs without an error, each read to its end, which was seen once, and this is their sum in a form
 pub record FilesRead (form : SumForm) (old new : ShelfSeen) (words : List (List ℕ)) (first : ℕ) (sum : List ℕ) : Type 0 where
   pub logs : List (List ℕ)
   pub all : first + length logs ≡ length words
   pub are : AreLogs old.files words first logs
   pub no_fault : new.faults ≡ old.faults
   pub took : TookFiles old new logs
+  pub ends : EndsSeen old new (length logs)
   pub is : form_text form logs ≡ Ok sum
 
 -- the files were read in this way, and this was done with their sum
@@ -85,7 +89,7 @@ pub record IsAtWord (files : Option Files) (words : List (List ℕ)) (first plac
   pub word : slice_get words place ≡ Some name
 
 -- some bytes were taken of the log that the argument at an index names, no more was opened or taken, and this holds of the logs
--- before it, of the log and of the bytes
+-- before it, of the log and of the bytes; the shelf hadn't failed when it was opened, and its end was seen only if all of it was taken
 pub record FileStopped (old new : ShelfSeen) (words : List (List ℕ)) (first place : ℕ) (Is : List (List ℕ) → List ℕ → List ℕ → Type 0) : Type 0 where
   pub before : List (List ℕ)
   pub name : List ℕ
@@ -95,6 +99,8 @@ pub record FileStopped (old new : ShelfSeen) (words : List (List ℕ)) (first pl
   pub bytes : List ℕ
   pub is : Is before log bytes
   pub took : TookFiles old new (before ++ bytes ∷ [])
+  pub ends : EndsSeen old new (length before) ⊎ (EndsSeen old new (length before + 1) × (bytes ≡ log))
+  pub at_open : new.faults_at_open ≡ old.faults
 
 -- the log that the argument at an index names has the first error of the logs, and no more was opened or taken
 abbrev pub LogFileWrong : ShelfSeen → ShelfSeen → List (List ℕ) → ℕ → ℕ → LogError → Type 0
@@ -114,6 +120,7 @@ pub record LogFileMissing (old new : ShelfSeen) (words : List (List ℕ)) (first
   pub absent : MatchOption old.files (Rose old.faults new.faults) (λ there. there name ≡ None)
   pub no_fault : IfSome old.files (λ there. new.faults ≡ old.faults)
   pub took : TookFiles old new before
+  pub ends : EndsSeen old new (length before)
 
 -- these are the first bytes of the log of a name, at most 2^40, and show no error after other logs
 pub record IsBegun (files : Option Files) (before : List (List ℕ)) (name bytes : List ℕ) : Type 0 where
@@ -133,6 +140,7 @@ pub record SumShelfFailed (old new : ShelfSeen) (words : List (List ℕ)) (first
   pub place_is : IsAtWord old.files words first place before name
   pub right_before : AreWholeLogs before
   pub took : TookFiles old new before ⊎ ((bytes : List ℕ) × IsBegun old.files before name bytes × TookFiles old new (before ++ bytes ∷ []))
+  pub ends : EndsSeenOrOneMore old new (length before)
 
 -- how the summing of files ended, of which this form was asked for
 abbrev pub FilesSummed : SumForm → ShelfSeen → ShelfSeen → List (List ℕ) → ℕ → SinkSeen → SinkSeen → SumEnd → Type 0

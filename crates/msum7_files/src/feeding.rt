@@ -1,6 +1,7 @@
 ghost use Rattle.std.specs.Prelude.{true, ◌≡◌, ◌+◌, ◌≤◌, ◌^◌, ◌++◌, ℕ, List, [], length, OnOk, IfOk};
 ghost use Rattle.log_sum.specs.Representing.{IsBetweenLogs};
 ghost use Rattle.msum7_files.specs.{FileFaults.{sum_fault, sum_end_at}, declared.feeding.ReadFault.TheVariants.{Log, Device}};
+ghost use Rattle.msum7_files.specs.declared.feeding.LogFault.TheVariants as faults;
 
 use crate::sum_end::SumEnd;
 use crate::sum_form::SumForm;
@@ -28,6 +29,14 @@ pub(crate) enum ReadFault {
     Log(LogFault),
     /// The device failed.
     Device,
+}
+
+impl From<NoMemory> for LogFault {
+    ghost from_gives = { λ _ error. error ≡ faults.NoMemory };
+
+    fn from(_error: NoMemory) -> LogFault {
+        LogFault::NoMemory
+    }
 }
 
 impl From<LogFault> for ReadFault {

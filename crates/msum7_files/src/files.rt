@@ -18,7 +18,7 @@ pub(crate) enum FileFault {
 
 impl FileFault {
     /// How the call ends if the file that argument `word` names isn't summed.
-    fn end_at(self, word: usize) -> SumEnd
+    pub(crate) fn end_at(self, word: usize) -> SumEnd
         ensures { result ≡ log_file_end word self }
     {
         match self {
@@ -42,6 +42,7 @@ fn read_file<H: Shelf>(
     ensures mode { ModeAfter (H.seen shelf.new).mode result }
     ensures files { (H.seen shelf.new).files ≡ (H.seen shelf.old).files }
     ensures opened { (H.seen shelf.new).opened ≡ (H.seen shelf.old).opened }
+    ensures at_open { (H.seen shelf.new).faults_at_open ≡ (H.seen shelf.old).faults_at_open }
 {
     loop {
         let count = shelf.read(buf)?;
@@ -60,6 +61,7 @@ fn sum_log<H: Shelf>(feeding: &mut Feeding, shelf: &mut H, buf: &mut [u8]) -> Re
     ensures mode { ModeAfter (H.seen shelf.new).mode result }
     ensures files { (H.seen shelf.new).files ≡ (H.seen shelf.old).files }
     ensures opened { (H.seen shelf.new).opened ≡ (H.seen shelf.old).opened }
+    ensures at_open { (H.seen shelf.new).faults_at_open ≡ (H.seen shelf.old).faults_at_open }
     ensures summed { ForLogs feeding.old (λ logs. SummedTo (log_seen (H.seen shelf.old)) (log_seen (H.seen shelf.new)) feeding.new logs result) }
 {
     read_file(feeding, shelf, buf)?;
@@ -75,6 +77,7 @@ fn sum_open<H: Shelf>(feeding: &mut Feeding, shelf: &mut H, buf: &mut [u8]) -> R
     ensures mode { (H.seen shelf.new).mode ≡ Idle }
     ensures files { (H.seen shelf.new).files ≡ (H.seen shelf.old).files }
     ensures opened { (H.seen shelf.new).opened ≡ (H.seen shelf.old).opened }
+    ensures at_open { (H.seen shelf.new).faults_at_open ≡ (H.seen shelf.old).faults_at_open }
     ensures summed { ForLogs feeding.old (λ logs. ClosedTo (log_seen (H.seen shelf.old)) (log_seen (H.seen shelf.new)) feeding.new logs result) }
 {
     match sum_log(feeding, shelf, buf) {
@@ -91,7 +94,7 @@ fn sum_open<H: Shelf>(feeding: &mut Feeding, shelf: &mut H, buf: &mut [u8]) -> R
 }
 
 // Opens a file, sums it and closes it.
-fn sum_file<H: Shelf>(
+pub(crate) fn sum_file<H: Shelf>(
     feeding: &mut Feeding,
     shelf: &mut H,
     name: &str,

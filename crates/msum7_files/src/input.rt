@@ -8,7 +8,7 @@ use diy_io::{Failed, Sink, Source};
 use std::alloc::Global;
 
 /// Feeds the input, which is one log, and ends the log.
-fn sum_source<I: Source>(
+pub(crate) fn sum_source<I: Source>(
     feeding: &mut Feeding,
     input: &mut I,
     buf: &mut [u8],

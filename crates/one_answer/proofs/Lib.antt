@@ -1,8 +1,13 @@
+pub mod Beginnings
 pub mod Printed
+pub mod SeenErrors
 pub mod ReadLines
 pub mod ReadFiles
 pub mod LineTests
 pub mod Checked
+pub mod LongLogs
 pub mod SummedInput
 pub mod SummedFiles
+pub mod SkippedSums
+pub mod StatesAlike
 pub mod OneAnswer

@@ -1,9 +1,10 @@
 -- diyone7 -lines ends alike.
-use Rattle.std.proofs.Common.{◌≡◌, ◌≤◌, ◌++◌, ◌+◌, ℕ, List, [], ◌∷◌, length, Option, Some, None, refl, sym, ap, subst, arith, inl, inr, ◌∙◌, length-append}
+use Rattle.std.proofs.Common.{◌≡◌, ◌≤◌, ◌++◌, ◌+◌, ℕ, List, [], ◌∷◌, length, take, drop, append_assoc, Option, Some, None, refl, sym, ap, subst, arith, inl, inr, ◌∙◌, length-append}
+use Rattle.std.proofs.lemmas.List.{take-append-drop}
 use Rattle.std.specs.{Prelude.{◌⊎◌, unwrap_or}, Io.KnownBytes.Keeps}
-use Rattle.diy_io.specs.{declared.source.TheConstants.MAX_INPUT, Count.Rose, Shelf.ShelfSeen, Taken.SourceSeen, Wrote.{SinkSeen, WroteAll}}
-use Rattle.text_parts.specs.Lines.{lines_of}
-use Rattle.cycles_from_lines.specs.{Cycles.line_said, LineReading.{TookUpTo, whole_of}, ReadingLaws.whole_is, declared.line.LineForm.TheVariants.Edges}
+use Rattle.diy_io.specs.{declared.source.TheConstants.MAX_INPUT, Count.Rose, Sink.line_feed_count, Shelf.ShelfSeen, Taken.SourceSeen, Wrote.{SinkSeen, WroteAll}}
+use Rattle.text_parts.specs.Lines.{ended_lines, lines_of}
+use Rattle.cycles_from_lines.specs.{Cycles.line_said, LineReading.{TookUpTo, IsSeenIn, whole_of}, ReadingLaws.whole_is, declared.line.LineForm.TheVariants.Edges}
 use Rattle.tests_to_files.specs.{ListedFiles.count_line, GivenCycles.PutUpTo, Putting.PutFiles}
 use Rattle.lines_to_files.specs.{GivenTests.{tests_of, tests_in}, TestFiles.{Making, files_from, all_files}, LineTestEnds.{AreRightLines, EndsLineTests}}
 use Rattle.lines_to_files.specs.{RightTests.{FirstWrong, names_of, wrong_by}, declared.form.WrongTest.WrongTest, declared.ending.LineTestsEnd.LineTestsEnd}
@@ -12,7 +13,8 @@ use Rattle.run_status.specs.{declared.status.Status.Status}
 use Rattle.run_status.specs.declared.status.Status.TheVariants as statuses
 use Rattle.diy_tools.specs.LineTestAnswers.{line_tests_status, wrong_kind}
 use Rattle.diy_tools.proofs.RightLines.{right_lines}
-use Rattle.one_answer.proofs.{Printed.{Failed, shown_in, AlikeBoth, put_same, wrote_same}, ReadLines.{cons_same, read_is}}
+use Rattle.run_status.specs.declared.status.TextKind.TheVariants as texts
+use Rattle.one_answer.proofs.{Beginnings.{cons_same, same_start, take_few}, Printed.{Failed, shown_in, AlikeBoth, put_same, wrote_same}, ReadLines.{passes, read_is}, SeenErrors.{PassesLimit, IsSeenEarly, passes_long, seen_in}}
 
 kept_is : (old new : Option (List ℕ)) (all : List ℕ) → Keeps old new → old ≡ Some all → unwrap_or new [] ≡ all
 kept_is None new all k e = cc e
@@ -51,6 +53,19 @@ ordered (x ∷ before) (y ∷ others) line other later after e = of_rest (ordere
     of_rest (inl h) = inl (same before others h.0, h.1)
     of_rest (inr (inl h)) = inr (inl (h.0, sym (same (before ++ line ∷ h.0) others (sym h.1))))
     of_rest (inr (inr h)) = inr (inr (h.0, same before (others ++ other ∷ h.0) h.1))
+
+-- an error that is seen in what was taken within the limit
+limited_early : (new : SourceSeen) (text all : List ℕ) (line : ℕ) → whole_of text new ≡ all
+    → IsSeenIn (whole_of text new) (take MAX_INPUT text) line → IsSeenEarly all line
+limited_early new text all line whole seen = record {
+  text = take MAX_INPUT text;
+  rest = drop MAX_INPUT text ++ unwrap_or new.left [];
+  parts =
+      sym whole ∙ ap (λ (t : List ℕ). t ++ unwrap_or new.left []) (sym (take-append-drop MAX_INPUT text))
+      ∙ append_assoc (take MAX_INPUT text) (drop MAX_INPUT text) (unwrap_or new.left []);
+  few = take_few MAX_INPUT text;
+  seen = subst (λ (t : List ℕ). IsSeenIn t (take MAX_INPUT text) line) whole seen;
+}
 
 -- what is wrong with a line after others
 abbrev wrong_at : Making → List (List ℕ) → List ℕ → Option WrongTest
@@ -92,6 +107,7 @@ first_wrong making lines before others number count kind sort h k =
 
 -- the lines are right, and their files and the line on their number are written
 pub record IsWritten (making : Making) (all : List ℕ) (shelf one : ShelfSeen) (before a : SinkSeen) (s : Status) : Type 0 where
+  pub few : length all ≤ MAX_INPUT
   pub right : AreRightLines making (lines_of all)
   pub files : PutFiles shelf one (all_files making (tests_in making.puts.name all))
   pub line : WroteAll before a (count_line (length (tests_in making.puts.name all)))
@@ -103,13 +119,26 @@ pub record IsWrong (making : Making) (all : List ℕ) (shelf one : ShelfSeen) (b
   pub line : ℕ
   pub kind : WrongTest
   pub first : FirstWrong making (lines_of all) lines line kind
+  pub early : IsSeenEarly all line
   pub files : PutFiles shelf one (files_from making 0 (tests_of making.puts.name lines))
   pub stays : a ≡ before
   pub status : s ≡ statuses.BadText None line (wrong_kind kind)
 
+-- there is too much, and the files of the lines that end within the limit are written
+pub record IsLimited (making : Making) (all : List ℕ) (shelf one : ShelfSeen) (before a : SinkSeen) (s : Status) : Type 0 where
+  pub passes : PassesLimit (Edges making.puts.name) all
+  pub right : AreRightLines making (ended_lines passes.start)
+  pub files : PutFiles shelf one (files_from making 0 (tests_of making.puts.name (ended_lines passes.start)))
+  pub stays : a ≡ before
+  pub status : s ≡ statuses.BadText None (line_feed_count passes.start + 1) texts.TooMuch
+
+-- what a call did that didn't run out of memory
+abbrev Did : Making → List ℕ → ShelfSeen → ShelfSeen → SinkSeen → SinkSeen → Status → Type 0
+Did making all shelf one before a s =
+    IsWritten making all shelf one before a s ⊎ (IsWrong making all shelf one before a s ⊎ IsLimited making all shelf one before a s)
+
 abbrev Ended : Making → List ℕ → ShelfSeen → ShelfSeen → SinkSeen → SinkSeen → Status → Type 0
-Ended making all shelf one before a s =
-    (s ≡ statuses.NoMemory) ⊎ (IsWritten making all shelf one before a s ⊎ IsWrong making all shelf one before a s)
+Ended making all shelf one before a s = (s ≡ statuses.NoMemory) ⊎ Did making all shelf one before a s
 
 -- a shelf that didn't fail failed at no file
 none_failed : (files others : List (List ℕ × List ℕ)) (Last : Type 0) (shelf one : ShelfSeen) → (Rose shelf.faults one.faults → ⊥)
@@ -118,50 +147,75 @@ none_failed files others Last shelf one sound (inl put) = sound put.part.faulted
 none_failed files others Last shelf one sound (inr put) = sound put.1.part.faulted.fault
 
 ended : (making : Making) (all : List ℕ) (old new : SourceSeen) (shelf one : ShelfSeen) (before a : SinkSeen) (end : LineTestsEnd)
-    → old.left ≡ Some all → length all ≤ MAX_INPUT → (Failed before a → ⊥) → (Rose shelf.faults one.faults → ⊥)
+    → old.left ≡ Some all → (Failed before a → ⊥) → (Rose shelf.faults one.faults → ⊥)
     → (Rose old.faults new.faults → ⊥) → EndsLineTests making end old new shelf one before a
     → Ended making all shelf one before a (line_tests_status end)
-ended making all old new shelf one before a ends.NoMemory e few none sound safe h = inl refl
-ended making all old new shelf one before a ends.OutFault e few none sound safe h = absurd (none h.line.fault)
-ended making all old new shelf one before a ends.InputFault e few none sound safe h = absurd (safe h.0.fault)
-ended making all old new shelf one before a ends.ShelfFault e few none sound safe h =
+unfolding passes
+ended making all old new shelf one before a ends.NoMemory e none sound safe h = inl refl
+ended making all old new shelf one before a ends.OutFault e none sound safe h = absurd (none h.line.fault)
+ended making all old new shelf one before a ends.InputFault e none sound safe h = absurd (safe h.0.fault)
+ended making all old new shelf one before a ends.ShelfFault e none sound safe h =
     absurd (none_failed _ _ (h.0.later ≡ []) shelf one sound h.0.part)
-ended making all old new shelf one before a (ends.TooMuch line) e few none sound safe h =
-    let whole : h.0.text ++ unwrap_or new.left [] ≡ all = whole_is old new h.0.text all h.0.took e in
-    absurd (omega (arith, few, h.0.many, ap length whole, length-append h.0.text (unwrap_or new.left [])))
-ended making all old new shelf one before a (ends.Wrong line kind) e few none sound safe h =
-    inr (inr record {
+ended making all old new shelf one before a (ends.TooMuch line) e none sound safe h =
+    inr (inr (inr record {
+      passes = passes (Edges making.puts.name) old new h.0.text all e h.0.took h.0.many h.0.right.sound h.0.short;
+      right = h.0.right;
+      files = h.0.files;
+      stays = h.1;
+      status = ap (λ (n : ℕ). statuses.BadText None n texts.TooMuch) h.0.line_is;
+    }))
+ended making all old new shelf one before a (ends.Wrong line kind) e none sound safe h =
+    let whole = whole_up_to old new h.0.text all e h.0.took in
+    inr (inr (inl record {
       lines = h.0.before;
       line = line;
       kind = kind;
-      first = subst (λ (t : List ℕ). FirstWrong making (lines_of t) h.0.before line kind)
-          (whole_up_to old new h.0.text all e h.0.took) h.0.first;
+      first = subst (λ (t : List ℕ). FirstWrong making (lines_of t) h.0.before line kind) whole h.0.first;
+      early = limited_early new h.0.text all line whole h.0.seen;
       files = h.0.files;
       stays = h.1;
       status = refl;
-    })
-ended making all old new shelf one before a ends.Done e few none sound safe h =
+    }))
+ended making all old new shelf one before a ends.Done e none sound safe h =
     let is : h.text ≡ all = read_is old new h.text all e h.took h.at_end in
     inr (inl record {
+      few = subst (λ (t : List ℕ). length t ≤ MAX_INPUT) is h.few;
       right = subst (λ (t : List ℕ). AreRightLines making (lines_of t)) is h.right;
       files = subst (λ (t : List ℕ). PutFiles shelf one (all_files making (tests_in making.puts.name t))) is h.files;
       line = subst (λ (t : List ℕ). WroteAll before a (count_line (length (tests_in making.puts.name t)))) is h.line;
       status = refl;
     })
 
-ends_same : (making : Making) (all : List ℕ) (shelf one two : ShelfSeen) (before a b : SinkSeen) (s t : Status)
-    → Ended making all shelf one before a s → Ended making all shelf two before b t → AlikeBoth s t one two a b
-ends_same making all shelf one two before a b s t (inl h) k = inl h
-ends_same making all shelf one two before a b s t (inr h) (inl k) = inr (inl k)
-ends_same making all shelf one two before a b s t (inr (inl h)) (inr (inr k)) =
-    absurd (right_lines making (lines_of all) k.lines k.line k.kind h.right k.first)
-ends_same making all shelf one two before a b s t (inr (inr h)) (inr (inl k)) =
-    absurd (right_lines making (lines_of all) h.lines h.line h.kind k.right h.first)
-ends_same making all shelf one two before a b s t (inr (inl h)) (inr (inl k)) =
-    inr (inr (h.status ∙ sym k.status, wrote_same _ _ _ _ shelf one two before a b refl refl h.files k.files h.line k.line))
-ends_same making all shelf one two before a b s t (inr (inr h)) (inr (inr k)) =
-    let same = first_wrong making (lines_of all) h.lines k.lines h.line k.line h.kind k.kind h.first k.first in
-    inr (inr (
+-- right lines aren't wrong, nor do they pass the limit
+written_only : (making : Making) (all : List ℕ) (shelf one two : ShelfSeen) (before a b : SinkSeen) (s t : Status)
+    → IsWritten making all shelf one before a s
+    → (IsWrong making all shelf two before b t ⊎ IsLimited making all shelf two before b t) → ⊥
+written_only making all shelf one two before a b s t h (inl k) = right_lines making (lines_of all) k.lines k.line k.kind h.right k.first
+written_only making all shelf one two before a b s t h (inr k) =
+    omega (arith, h.few, passes_long (Edges making.puts.name) all k.passes)
+
+-- an error within the limit isn't passed over
+wrong_limited : (making : Making) (all : List ℕ) (shelf one two : ShelfSeen) (before a b : SinkSeen) (s t : Status)
+    → IsWrong making all shelf one before a s → IsLimited making all shelf two before b t → ⊥
+wrong_limited making all shelf one two before a b s t h k =
+    let f = h.first in
+    let there = seen_in (Edges making.puts.name) all h.line h.lines f.line f.later h.early k.passes f.parts f.number_is in
+    right_lines making (ended_lines k.passes.start) h.lines h.line h.kind k.right
+    (record { line = f.line; later = there.0; parts = there.1; sound = f.sound; right = f.right; fault = f.fault; number_is = f.number_is })
+
+did_same : (making : Making) (all : List ℕ) (shelf one two : ShelfSeen) (before a b : SinkSeen) (s t : Status)
+    → Did making all shelf one before a s → Did making all shelf two before b t
+    → (s ≡ t) × ((one.files ≡ two.files) × (shown_in a ≡ shown_in b))
+did_same making all shelf one two before a b s t (inl h) (inl k) =
+    (h.status ∙ sym k.status, wrote_same _ _ _ _ shelf one two before a b refl refl h.files k.files h.line k.line)
+did_same making all shelf one two before a b s t (inl h) (inr k) = absurd (written_only making all shelf one two before a b s t h k)
+did_same making all shelf one two before a b s t (inr h) (inl k) = absurd (written_only making all shelf two one before b a t s k h)
+did_same making all shelf one two before a b s t (inr (inl h)) (inr (inr k)) =
+    absurd (wrong_limited making all shelf one two before a b s t h k)
+did_same making all shelf one two before a b s t (inr (inr h)) (inr (inl k)) =
+    absurd (wrong_limited making all shelf two one before b a t s k h)
+did_same making all shelf one two before a b s t (inr (inl h)) (inr (inl k)) =
+    let same = first_wrong making (lines_of all) h.lines k.lines h.line k.line h.kind k.kind h.first k.first in (
       h.status ∙ ap (λ (n : ℕ). statuses.BadText None n (wrong_kind h.kind)) same.numbers
           ∙ ap (λ (kind : WrongTest). statuses.BadText None k.line (wrong_kind kind)) same.kinds ∙ sym k.status,
       (
@@ -169,16 +223,31 @@ ends_same making all shelf one two before a b s t (inr (inr h)) (inr (inr k)) =
             h.files k.files,
         ap shown_in (h.stays ∙ sym k.stays),
       ),
-    ))
+    )
+did_same making all shelf one two before a b s t (inr (inr h)) (inr (inr k)) =
+    let start : h.passes.start ≡ k.passes.start =
+    same_start h.passes.start k.passes.start h.passes.rest k.passes.rest (h.passes.full ∙ sym k.passes.full) (sym h.passes.parts ∙ k.passes.parts) in (
+      h.status ∙ ap (λ (u : List ℕ). statuses.BadText None (line_feed_count u + 1) texts.TooMuch) start ∙ sym k.status,
+      (
+        put_same _ _ shelf one two (ap (λ (u : List ℕ). files_from making 0 (tests_of making.puts.name (ended_lines u))) start) h.files k.files,
+        ap shown_in (h.stays ∙ sym k.stays),
+      ),
+    )
+
+ends_same : (making : Making) (all : List ℕ) (shelf one two : ShelfSeen) (before a b : SinkSeen) (s t : Status)
+    → Ended making all shelf one before a s → Ended making all shelf two before b t → AlikeBoth s t one two a b
+ends_same making all shelf one two before a b s t (inl h) k = inl h
+ends_same making all shelf one two before a b s t (inr h) (inl k) = inr (inl k)
+ends_same making all shelf one two before a b s t (inr h) (inr k) = inr (inr (did_same making all shelf one two before a b s t h k))
 
 -- diyone7 -lines
 pub lined_alike : (making : Making) (all : List ℕ) (old new next : SourceSeen) (shelf one two : ShelfSeen) (before a b : SinkSeen)
-    (end other : LineTestsEnd) → old.left ≡ Some all → length all ≤ MAX_INPUT → (Failed before a → ⊥) → (Failed before b → ⊥)
+    (end other : LineTestsEnd) → old.left ≡ Some all → (Failed before a → ⊥) → (Failed before b → ⊥)
     → (Rose shelf.faults one.faults → ⊥) → (Rose shelf.faults two.faults → ⊥)
     → (Rose old.faults new.faults → ⊥) → (Rose old.faults next.faults → ⊥)
     → EndsLineTests making end old new shelf one before a → EndsLineTests making other old next shelf two before b
     → AlikeBoth (line_tests_status end) (line_tests_status other) one two a b
-lined_alike making all old new next shelf one two before a b end other e few none nothing sound safe whole intact h k =
+lined_alike making all old new next shelf one two before a b end other e none nothing sound safe whole intact h k =
     ends_same making all shelf one two before a b (line_tests_status end) (line_tests_status other)
-    (ended making all old new shelf one before a end e few none sound whole h)
-    (ended making all old next shelf two before b other e few nothing safe intact k)
+    (ended making all old new shelf one before a end e none sound whole h)
+    (ended making all old next shelf two before b other e nothing safe intact k)

@@ -12,10 +12,9 @@ use Rattle.run_status.specs.{declared.status.Status.Status}
 use Rattle.run_status.specs.declared.status.Status.TheVariants as statuses
 use Rattle.run_status.specs.declared.status.TextKind.TheVariants.{Log, TooMuch}
 use Rattle.diy_tools.specs.SumAnswers.{sum_status}
-use Rattle.diy_tools.proofs.CountedLogs.{long_taken}
-use Rattle.one_answer.proofs.{Printed.{Failed, shown_in, AlikeOut}, SummedInput.{form_right}}
+use Rattle.one_answer.proofs.{LongLogs.{long_log, same_line, wrong_long}, Printed.{Failed, shown_in, AlikeOut}, SummedInput.{form_right}}
 
-none_some : {X : Type 0} (x : X) → None ≡ Some x → ⊥
+pub none_some : {X : Type 0} (x : X) → None ≡ Some x → ⊥
 none_some x e = cc e
 
 -- a list that begins as another one does, and then has an element
@@ -30,7 +29,7 @@ splits (b ∷ before) (y ∷ all) x same here =
     (rest.0, ap (λ z. z ∷ all) first ∙ ap (λ zs. b ∷ zs) rest.1)
 
 -- a list that begins as another one of the same length is that one
-same_list : {X : Type 0} (xs ys : List X) → length xs ≡ length ys → ((k : ℕ) (y : X) → slice_get xs k ≡ Some y
+pub same_list : {X : Type 0} (xs ys : List X) → length xs ≡ length ys → ((k : ℕ) (y : X) → slice_get xs k ≡ Some y
     → slice_get ys k ≡ Some y) → xs ≡ ys
 same_list [] [] e same = refl
 same_list [] (y ∷ ys) e same = absurd (omega (arith, e))
@@ -39,11 +38,11 @@ same_list (x ∷ xs) (y ∷ ys) e same =
     ap (λ z. z ∷ xs) (sym (same_Some y x (same 0 x refl)))
     ∙ ap (λ zs. y ∷ zs) (same_list xs ys (omega (arith, e)) (λ k z h. same (suc k) z h))
 
-file_on : (shown : Option Files) (files : Files) (name log : List ℕ) → shown ≡ Some files → IsFile shown name log → files name ≡ Some log
+pub file_on : (shown : Option Files) (files : Files) (name log : List ℕ) → shown ≡ Some files → IsFile shown name log → files name ≡ Some log
 file_on shown files name log e named = subst (λ (o : Option Files). IsFile o name log) e named
 
 -- the log of a place
-log_at : (files : Files) (words : List (List ℕ)) (first : ℕ) (logs : List (List ℕ)) (k : ℕ) (log : List ℕ) → first + k < length words
+pub log_at : (files : Files) (words : List (List ℕ)) (first : ℕ) (logs : List (List ℕ)) (k : ℕ) (log : List ℕ) → first + k < length words
     → AreLogs (Some files) words first logs
     → slice_get logs k ≡ Some log
     → files (get_or words (first + k) []) ≡ Some log
@@ -51,7 +50,7 @@ log_at files words first logs k log inside are at =
     are.named k (get_or words (first + k) []) log (slice_get-get_or words (first + k) [] inside) at
 
 -- the logs that two calls found are the same, as far as both go
-agree : (files : Files) (words : List (List ℕ)) (first : ℕ) (logs others : List (List ℕ)) → first + length logs ≤ length words
+pub agree : (files : Files) (words : List (List ℕ)) (first : ℕ) (logs others : List (List ℕ)) → first + length logs ≤ length words
     → length logs ≤ length others
     → AreLogs (Some files) words first logs → AreLogs (Some files) words first others → (k : ℕ) (log : List ℕ) → slice_get logs k ≡ Some log
     → slice_get others k ≡ Some log
@@ -92,18 +91,14 @@ pub record IsMissing (files : Files) (first : ℕ) (before : List (List ℕ)) (n
   pub status : s ≡ statuses.NoFile (first + length before)
 
 -- why it stopped
-abbrev Why : Files → ℕ → List (List ℕ) → List ℕ → Status → Type 0
+abbrev pub Why : Files → ℕ → List (List ℕ) → List ℕ → Status → Type 0
 Why files first before name s = IsWrong files first before name s ⊎ (IsLong files first before name s ⊎ IsMissing files first before name s)
-
-long_log : (before : List (List ℕ)) (log bytes : List ℕ) (line : ℕ) → IsTooMuch before log bytes line → 2 ^ 40 < length log
-long_log before log bytes line h =
-    omega (arith, long_taken before log bytes line h, ap length h.up_to.parts, length-append bytes h.up_to.rest)
 
 err_ok : (text : List ℕ) (error : LogError) (r : Result (List ℕ) LogError) → r ≡ Ok text → r ≡ Err error → ⊥
 err_ok text error r p q = cc (p, q)
 
 -- what lies before another call's logs is none of these
-none_before : (files : Files) (words : List (List ℕ)) (first : ℕ) (spot : Spot files words first) (s : Status) (others : List (List ℕ))
+pub none_before : (files : Files) (words : List (List ℕ)) (first : ℕ) (spot : Spot files words first) (s : Status) (others : List (List ℕ))
     → Why files first spot.before spot.name s → length spot.before < length others
     → AreLogs (Some files) words first others → AreWholeLogs others → ⊥
 none_before files words first spot s others why less also right = of_why why
@@ -135,55 +130,6 @@ none_before files words first spot s others why less also right = of_why why
         (there ∙ sym found ∙ wrong.there) in
         err_ok right.text wrong.error (logs_text others) right.is (ap logs_text parts.1 ∙ wrong.is.wrong parts.0)
 
--- of two beginnings of one list the longer begins with the shorter
-extends : (p q r s : List ℕ) → length p ≤ length q → p ++ r ≡ q ++ s → (more : List ℕ) × (q ≡ p ++ more)
-extends [] q r s h e = (q, refl)
-extends (x ∷ p) [] r s h e = absurd (omega (arith, h))
-extends (x ∷ p) (y ∷ q) r s h e =
-    let both = heads x y (p ++ r) (q ++ s) e in
-    let rest = extends p q r s (omega (arith, h)) both.1 in
-    (rest.0, ap (λ z. z ∷ q) (sym both.0) ∙ ap (λ zs. x ∷ zs) rest.1)
-  where
-    heads : (a b : ℕ) (xs ys : List ℕ) → a ∷ xs ≡ b ∷ ys → (a ≡ b) × (xs ≡ ys)
-    heads a b xs ys e = (cc e, cc e)
-
--- two beginnings of the same length are the same
-same_start : (p q r s : List ℕ) → length p ≡ length q → p ++ r ≡ q ++ s → p ≡ q
-same_start [] [] r s h e = refl
-same_start [] (y ∷ q) r s h e = absurd (omega (arith, h))
-same_start (x ∷ p) [] r s h e = absurd (omega (arith, h))
-same_start (x ∷ p) (y ∷ q) r s h e =
-    let both = heads x y (p ++ r) (q ++ s) e in
-    ap (λ z. z ∷ p) both.0 ∙ ap (λ zs. y ∷ zs) (same_start p q r s (omega (arith, h)) both.1)
-  where
-    heads : (a b : ℕ) (xs ys : List ℕ) → a ∷ xs ≡ b ∷ ys → (a ≡ b) × (xs ≡ ys)
-    heads a b xs ys e = (cc e, cc e)
-
--- a log of more than 2^40 bytes begins with these and goes on
-full_log : (before : List (List ℕ)) (log bytes : List ℕ) (line : ℕ) (h : IsTooMuch before log bytes line)
-    → log ≡ h.full.prefix ++ (h.full.rest ++ h.up_to.rest)
-full_log before log bytes line h =
-    h.up_to.parts ∙ ap (λ z. z ++ h.up_to.rest) h.full.parts ∙ append_assoc h.full.prefix h.full.rest h.up_to.rest
-
--- a log isn't both wrong and too long
-wrong_long : (before : List (List ℕ)) (log bytes taken : List ℕ) (error : LogError) (line : ℕ) → IsWrongLog before log bytes error
-    → IsTooMuch before log taken line → ⊥
-wrong_long before log bytes taken error line h k = of_shown h.shown
-  where
-    of_shown : (((bytes ≡ log) × IsShort log) ⊎ PrefixWrong before bytes error) → ⊥
-    of_shown (inl short) =
-        let few : length log ≤ 2 ^ 40 = short.1 in
-        let many : 2 ^ 40 < length log = long_log before log taken line k in omega arith
-    of_shown (inr part) =
-        let is : part.prefix ++ (part.rest ++ h.up_to.rest) ≡ k.full.prefix ++ (k.full.rest ++ k.up_to.rest) =
-        sym (h.up_to.parts ∙ ap (λ z. z ++ h.up_to.rest) part.parts ∙ append_assoc part.prefix part.rest h.up_to.rest)
-        ∙ full_log before log taken line k in
-        let few : length part.prefix ≤ 2 ^ 40 = part.short in
-        let more = extends part.prefix k.full.prefix _ _ (omega (arith, k.full.full, few)) is in
-        k.full.no_fault error (λ rest logs.
-        ap (λ z. logs_text (before ++ z ∷ logs)) (ap (λ z. z ++ rest) more.1 ∙ append_assoc part.prefix more.0 rest)
-        ∙ part.wrong (more.0 ++ rest) logs)
-
 same_error : (r : Result (List ℕ) LogError) (e f : LogError) → r ≡ Err e → r ≡ Err f → e ≡ f
 same_error r e f p q = cc (p, q)
 
@@ -210,10 +156,7 @@ same_why files first before name s t (inr (inl h)) (inl k) =
     (subst (λ (z : List ℕ). IsTooMuch before z h.bytes h.line) (sym log) h.is))
 same_why files first before name s t (inr (inl h)) (inr (inl k)) =
     let log : k.log ≡ h.log = same_file (files name) h.log k.log h.there k.there in
-    let start : h.is.full.prefix ≡ k.is.full.prefix =
-    same_start h.is.full.prefix k.is.full.prefix _ _ (h.is.full.full ∙ sym k.is.full.full)
-    (sym (full_log before h.log h.bytes h.line h.is) ∙ sym log ∙ full_log before k.log k.bytes k.line k.is) in
-    let line : h.line ≡ k.line = h.is.full.number ∙ ap (λ (z : List ℕ). line_feed_count z + 1) start ∙ sym k.is.full.number in
+    let line = same_line before h.log h.bytes k.bytes h.line k.line h.is (subst (λ (z : List ℕ). IsTooMuch before z k.bytes k.line) log k.is) in
     h.status ∙ ap (λ (n : ℕ). statuses.BadText (Some (first + length before)) n TooMuch) line ∙ sym k.status
 same_why files first before name s t (inl h) (inr (inr k)) = absurd (none_some h.log (sym k.there ∙ h.there))
 same_why files first before name s t (inr (inl h)) (inr (inr k)) = absurd (none_some h.log (sym k.there ∙ h.there))
@@ -241,7 +184,7 @@ abbrev Ended : SumForm → Files → List (List ℕ) → ℕ → SinkSeen → Si
 Ended form files words first before a s =
     (s ≡ statuses.NoMemory) ⊎ (IsSummed form files words first before a s ⊎ IsStopped files words first before a s)
 
-abbrev spot_of : (files : Files) (words : List (List ℕ)) (first : ℕ) (before : List (List ℕ)) (name : List ℕ) (place : ℕ)
+abbrev pub spot_of : (files : Files) (words : List (List ℕ)) (first : ℕ) (before : List (List ℕ)) (name : List ℕ) (place : ℕ)
     (shown : Option Files) → shown ≡ Some files → IsAtWord shown words first place before name → AreWholeLogs before
     → Spot files words first
 spot_of files words first before name place shown e at right = record {
@@ -320,7 +263,7 @@ spots_same files words first p q s t e h k =
     same_why files first q.before q.name s t
     (subst (λ (z : List ℕ). Why files first q.before z s) name (subst (λ (zs : List (List ℕ)). Why files first zs p.name s) logs h)) k
 
-order : (m n : ℕ) → (m < n) ⊎ ((m ≡ n) ⊎ (n < m))
+pub order : (m n : ℕ) → (m < n) ⊎ ((m ≡ n) ⊎ (n < m))
 order m n = by_test (nat_lt m n) refl (nat_lt n m) refl
   where
     by_test : (b : Bool) → nat_lt m n ≡ b → (c : Bool) → nat_lt n m ≡ c → (m < n) ⊎ ((m ≡ n) ⊎ (n < m))
@@ -328,7 +271,7 @@ order m n = by_test (nat_lt m n) refl (nat_lt n m) refl
     by_test false e true f = inr (inr (grind (arith, nat_tests, f)))
     by_test false e false f = inr (inl (grind (arith, nat_tests, e, f)))
 
-stops_same : (files : Files) (words : List (List ℕ)) (first : ℕ) (p q : Spot files words first) (s t : Status)
+pub stops_same : (files : Files) (words : List (List ℕ)) (first : ℕ) (p q : Spot files words first) (s t : Status)
     → Why files first p.before p.name s
     → Why files first q.before q.name t → s ≡ t
 stops_same files words first p q s t h k = by_order (order (length p.before) (length q.before))

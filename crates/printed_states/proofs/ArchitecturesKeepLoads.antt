@@ -1,15 +1,15 @@
 -- The code of the five architectures keeps what its loads read.
-use Rattle.std.proofs.Common.{◌≡◌, ℕ, ◌+◌, ◌<◌, ◌==◌, ◌||◌, ◌&&◌, true, false, List, [], ◌∷◌, ◌++◌, Option, Some, None, refl, sym, ◌∙◌, ap, append_assoc, arith, eq-eqb}
+use Rattle.std.proofs.Common.{◌≡◌, ℕ, ◌+◌, ◌<◌, ◌==◌, ◌||◌, ◌&&◌, true, false, List, [], ◌∷◌, ◌++◌, Option, Some, None, refl, ◌∙◌, ap, append_assoc, arith, eq-eqb}
 use Rattle.std.proofs.lemmas.Bool.{ne_eqb}
 use Rattle.relax_edges.specs.declared.kinds.Mark.{Mark}
 use Rattle.relax_edges.specs.declared.kinds.Mark.TheVariants.{Plain, Acquire, Release}
-use Rattle.micro_ops.specs.{declared.operation.Micro.Micro, Running.{is_named_register, target, writes}}
+use Rattle.micro_ops.specs.{declared.operation.Micro.Micro, Running.{target, writes}}
 use Rattle.micro_ops.specs.declared.operation.Micro.TheVariants as ops
 use Rattle.micro_ops.specs.declared.operation.Barrier.TheVariants as barriers
 use Rattle.relax_edges.specs.declared.kinds.FenceKind.TheVariants as fences
 use Rattle.arch_trait.specs.{declared.link.Link.Link, Links.{is_addr, is_data, source_if}, Taking.{Taken, took, address_of}}
 use Rattle.arch_trait.specs.declared.link.Link.TheVariants as links
-use Rattle.arch_trait.specs.Addressed.{Instructions, branch_code, load_op, store_op, load_through, store_through, link_code, load_on, filled_on, store_on, puts_of}
+use Rattle.arch_trait.specs.Addressed.{Instructions, branch_code, store_op, load_through, store_through, link_code, load_on, filled_on, store_on, puts_of}
 use Rattle.arch_x86.specs.Puts as x86
 use Rattle.arch_power.specs.Puts as power
 use Rattle.arch_aarch64.specs.Puts as aarch64

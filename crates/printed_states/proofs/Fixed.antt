@@ -7,7 +7,7 @@ use Rattle.relax_edges.specs.{declared.kinds.ArchName.ArchName, declared.kinds.O
 use Rattle.list_laws.specs.Numbers.{upto}
 use Rattle.list_laws.proofs.{Cases.by_test, Elements.all_parts, Ranks.rank_upto, Numbers.{length-map-upto, slice_get-upto}}
 use Rattle.cycle_events.specs.{Resolution.move_count, Values.{is_observed, write_count}}
-use Rattle.final_cond.specs.Conditions.{AtPlace, CondSeen, InRegister, LeftSeen, TermSeen}
+use Rattle.final_cond.specs.Conditions.{AtPlace, CondSeen, InRegister, TermSeen}
 use Rattle.arch_trait.specs.{Cells.WritesCells, Cells.MakesOneAccess, declared.step.Step.Step, Codes.AllBelow, Laws.IsArch, PlaceNames.{letters, location_name, number_in}, PlaceRenumbering.step_at, SeenTests.TestSeen, Threads.{FitSteps, Puts, compiled, loads_in, setting_out}, Writing.{Writing, WritesBack, name_in}}
 use Rattle.arch_trait.proofs.Tables.{length-letters}
 use Rattle.program_meaning.specs.{declared.WriteAt.WriteAt, Accesses.Access, Executions.Execution, Intended.IsNumbering, Interleavings.accesses_on, Programs.{Program, accesses_in}}
@@ -15,22 +15,21 @@ use Rattle.program_meaning.proofs.Runs.{accesses-count}
 use Rattle.accesses_force_cycles.specs.Joining.{MakesAccesses, accesses_filled, values_read}
 use Rattle.accesses_force_cycles.proofs.{ResolvedFacts.resolves, Lists.{got_below, got_map, image_of}, Resolves.Resolves}
 use Rattle.sc_and_interleavings.specs.CoherenceLaws.{WritesWithin}
-use Rattle.litmus_text.specs.{TestReadsBack.TestReadsBack, Reread.{reread, thread_reread}, TestReading.{TestRead, ThreadRead}}
-use Rattle.tests_force_cycles.specs.{CycleSteps.{cycle_steps, numbers_read}, TestPrograms.{test_program, thread_from}, TestHeadline.{FindsRegisters, HasCode, HasTest, IsRenumbered}}
+use Rattle.litmus_text.specs.{TestReadsBack.TestReadsBack, Reread.{reread, thread_reread}, TestReading.{TestRead}}
+use Rattle.tests_force_cycles.specs.{CycleSteps.{cycle_steps, numbers_read}, TestPrograms.{thread_from}, TestHeadline.{FindsRegisters, HasCode, IsRenumbered}}
 use Rattle.tests_force_cycles.specs.TestOf.{is_named_location, last_term, last_terms, load_term, load_terms, plain, test_of, thread_terms}
 use Rattle.tests_force_cycles.proofs.{ListElements.{all_from, all_gets}, AccessesMade.{makes_enough, planned_at}, Visits.step_access, PlaceNames.{AreNamed, place_found}, RegisterNames.registers_found, Terms.{loads-count, reads-count}, StepsFit.steps_fit, ThreadRuns.AreEnough}
 use Rattle.tests_force_cycles.proofs.{TestCodes.{are_codes, cycle_codes, cycle_program, loads_below, numbers_kept, origin_of, steps_numbered}, Headline.{renumbered_names, renumbered_numbers, renumbered_program}}
-use Rattle.bytes_force_cycles.specs.{Links.IsPrintedTest, Readings.program_read}
+use Rattle.bytes_force_cycles.specs.{Readings.program_read}
 use Rattle.bytes_force_cycles.proofs.{BackLaws.reads_back, PrintedSc.same_test, Readable.readable}
 use Rattle.bytes_force_cycles.proofs.RereadTests.{reread_test, reread_renumbered, by_table, threads_numbered}
-use Rattle.states_fix_executions.specs.{States.{EndsIn, FinalState}, CycleStates.SettlesCycle}
+use Rattle.states_fix_executions.specs.{States.{FinalState}, CycleStates.SettlesCycle}
 use Rattle.states_fix_executions.proofs.{Cycles.{HasLists, own_values, settled, writes_inside}, Endings.accesses_same}
 use Rattle.test_states.specs.LoggedStates.{HasFewWrites}
-use Rattle.rebuilt_executions.specs.Settled.{AreSettled, end_at, given}
-use Rattle.state_verdicts.specs.StateParts.{FixesExecution, end_given, ends_given, is_number, known_registers, loads_from, place_named, register_named, with_loads, with_register}
-use Rattle.state_verdicts.specs.StateParts as state_parts
+use Rattle.rebuilt_executions.specs.Settled.{AreSettled, FixReads, end_at, given}
+use Rattle.state_verdicts.specs.StateParts.{FixesExecution, FixesReads, end_given, ends_given, is_number, known_registers, loads_from, place_named, register_named, with_loads, with_register}
 use Rattle.rebuilt_executions.specs.LoadValues.{known_value}
-use Rattle.printed_states.specs.{FixedStates.{GivesValue, HasLeftSides, PrintedStatesAreFixed}, KeptLoads.KeepsLoads}
+use Rattle.printed_states.specs.{FixedStates.{GivesValue, HasLeftSides, PrintedStatesAreFixed, PrintedStatesFixReads}, KeptLoads.KeepsLoads}
 use Rattle.printed_states.proofs.KeptLoads.{IsKnown, read_values, value_of}
 
 -- a register that is known stays known with one more
@@ -168,19 +167,26 @@ settles es mode number names terms loads few found within h = record {
       (value.0, ap given (got_map (end_given names terms) (upto (length names)) (number l) (number l) (slice_get-upto (length names) (number l) (within l b))) ∙ value.1);
 }
 
--- accesses of a cycle's test that values lead to are settled
+-- accesses of a cycle's test that values lead to fix what is read, and are settled where there are few writes
 are_settled : (a : Puts) (register_number : List ℕ → Option ℕ) (es : List Edge) (mode : ObsMode) (number : ℕ → ℕ) (names : List (List ℕ)) (terms : List TermSeen) → IsArch a → HasCode a es mode
-    → IsNumbering es number → AreNamed es number names → length names ≡ move_count es → HasFewWrites es mode → AllByRecursion (λ term. GivesValue terms term.left) (last_terms es mode)
-    → AreSettled (accesses_on (cycle_program a es mode number) (loads_read a register_number terms 0 (cycle_steps es mode plain))) (ends_given names terms)
-are_settled a register_number es mode number names terms laws t n named count few h =
-    subst (λ threads. AreSettled threads (ends_given names terms)) (reading_makes p loads) (record {
-      few = few_accesses;
-      values = own_values es mode number p x r n made lists;
-      within = subst (WritesWithin (accesses_in p x)) (sym ends_count) (writes_inside es mode number p x r n made lists);
-      settled = λ place l. settled es mode number p s x place r n made lists
-          (settles es mode number names terms loads few (λ l b. place_found es number names l t.resolved n named b) (λ l b. omega (arith, n.below l b, count)) h)
-          (omega (arith, l, ends_count));
-    })
+    → IsNumbering es number → AreNamed es number names → length names ≡ move_count es → AllByRecursion (λ term. GivesValue terms term.left) (last_terms es mode)
+    → FixReads (accesses_on (cycle_program a es mode number) (loads_read a register_number terms 0 (cycle_steps es mode plain))) (length names)
+    × (HasFewWrites es mode → AreSettled (accesses_on (cycle_program a es mode number) (loads_read a register_number terms 0 (cycle_steps es mode plain))) (ends_given names terms))
+are_settled a register_number es mode number names terms laws t n named count h = (
+  subst (λ threads. FixReads threads (length names)) (reading_makes p loads) (record {
+    few = few_accesses;
+    values = own_values es mode number p x r n made lists;
+    within = subst (WritesWithin (accesses_in p x)) (sym count) (writes_inside es mode number p x r n made lists);
+  }),
+  (λ few. subst (λ threads. AreSettled threads (ends_given names terms)) (reading_makes p loads) (record {
+    few = few_accesses;
+    values = own_values es mode number p x r n made lists;
+    within = subst (WritesWithin (accesses_in p x)) (sym ends_count) (writes_inside es mode number p x r n made lists);
+    settled = λ place l. settled es mode number p s x place r n made lists
+        (settles es mode number names terms loads few (λ l b. place_found es number names l t.resolved n named b) (λ l b. omega (arith, n.below l b, count)) h)
+        (omega (arith, l, ends_count));
+  })),
+)
   where
     loads : List (List ℕ)
     loads = loads_read a register_number terms 0 (cycle_steps es mode plain)
@@ -231,19 +237,23 @@ are_settled a register_number es mode number names terms laws t n named count fe
           (steps_fit es mode number a.name k steps.element t.resolved t.of_arch steps.got).few,
         )))
 
--- what is read back of a printed test is fixed
+-- what is read back of a printed test fixes what is read, and one execution where there are few writes
 read_fixed : (a : Puts) (arch : ArchName) (w : Writing) (name : List ℕ) (es : List Edge) (mode : ObsMode) (state : CondSeen) → IsArch a → WritesBack a w → KeepsLoads a → HasCode a es mode
-    → HasFewWrites es mode → (r : TestReadsBack arch w name (test_of a (name_in w.registers) es mode)) → HasLeftSides state (test_of a (name_in w.registers) es mode).cond
-    → FixesExecution (number_in w.registers) (reread r.table name (test_of a (name_in w.registers) es mode)) state
-read_fixed a arch w name es mode state laws back keeps t few r h = record {
-  loads = loads;
-  given = loads_given a laws keeps (name_in w.registers) (number_in w.registers) r.table (name_in (letters (move_count es))) state.terms 0 (cycle_steps es mode plain) (registers_found a w back)
-      (λ k steps g. ((steps_fit es mode plain a.name k steps t.resolved t.of_arch g).fit, loads_below a es mode k steps laws t g)) parts.1;
-  settled = subst (λ (p : Program). AreSettled (accesses_on p loads) (ends_given r.table state.terms)) program_is
-      (are_settled a (number_in w.registers) es mode number r.table state.terms laws t
-      (renumbered_numbers a (name_in w.registers) es mode seen number t renumbered) (renumbered_names a (name_in w.registers) es mode seen number renumbered)
-      (renumbered.count ∙ length-letters (move_count es)) few parts.0);
-}
+    → (r : TestReadsBack arch w name (test_of a (name_in w.registers) es mode)) → HasLeftSides state (test_of a (name_in w.registers) es mode).cond
+    → FixesReads (number_in w.registers) (reread r.table name (test_of a (name_in w.registers) es mode)) state
+    × (HasFewWrites es mode → FixesExecution (number_in w.registers) (reread r.table name (test_of a (name_in w.registers) es mode)) state)
+read_fixed a arch w name es mode state laws back keeps t r h = (
+  record {
+    loads = loads;
+    given = known;
+    reads = subst (λ (p : Program). FixReads (accesses_on p loads) (length r.table)) program_is made.0;
+  },
+  (λ few. record {
+    loads = loads;
+    given = known;
+    settled = subst (λ (p : Program). AreSettled (accesses_on p loads) (ends_given r.table state.terms)) program_is (made.1 few);
+  }),
+)
   where
     seen : TestSeen
     seen = reread_test r.table (test_of a (name_in w.registers) es mode)
@@ -265,9 +275,26 @@ read_fixed a arch w name es mode state laws back keeps t few r h = record {
     parts : AllByRecursion (λ term. GivesValue state.terms term.left) (last_terms es mode) × AllByRecursion (λ term. GivesValue state.terms term.left) (load_terms a (name_in w.registers) 0 (cycle_steps es mode plain))
     parts = all_parts (λ (term : TermSeen). GivesValue state.terms term.left) (last_terms es mode) (load_terms a (name_in w.registers) 0 (cycle_steps es mode plain)) h
 
+    known : loads_from (number_in w.registers) state.terms 0 (reread r.table name (test_of a (name_in w.registers) es mode)).threads ≡ Some loads
+    known = loads_given a laws keeps (name_in w.registers) (number_in w.registers) r.table (name_in (letters (move_count es))) state.terms 0 (cycle_steps es mode plain) (registers_found a w back)
+        (λ k steps g. ((steps_fit es mode plain a.name k steps t.resolved t.of_arch g).fit, loads_below a es mode k steps laws t g)) parts.1
+
+    made : FixReads (accesses_on (cycle_program a es mode number) loads) (length r.table)
+        × (HasFewWrites es mode → AreSettled (accesses_on (cycle_program a es mode number) loads) (ends_given r.table state.terms))
+    made = are_settled a (number_in w.registers) es mode number r.table state.terms laws t
+        (renumbered_numbers a (name_in w.registers) es mode seen number t renumbered) (renumbered_names a (name_in w.registers) es mode seen number renumbered)
+        (renumbered.count ∙ length-letters (move_count es)) parts.0
+
 pub printed_states_are_fixed : (a : Puts) (arch : ArchName) (w : Writing) → IsArch a → WritesBack a w → WritesCells a w → MakesOneAccess a → PrintedStatesAreFixed a arch w
 printed_states_are_fixed a arch w laws back cells one name es mode test state keeps printed few h =
     let r = reads_back a arch w name (test_of a (name_in w.registers) es mode) back cells (readable a arch w name es mode laws back cells one printed.named printed.has_test.code) in
     let same = same_test (reread r.table name (test_of a (name_in w.registers) es mode)) test (sym r.read ∙ printed.read) in
     subst (λ t. FixesExecution (number_in w.registers) t state) same
-    (read_fixed a arch w name es mode state laws back keeps printed.has_test.code few r (subst (λ (t : TestRead). HasLeftSides state t.cond) (sym same) h))
+    ((read_fixed a arch w name es mode state laws back keeps printed.has_test.code r (subst (λ (t : TestRead). HasLeftSides state t.cond) (sym same) h)).1 few)
+
+pub printed_states_fix_reads : (a : Puts) (arch : ArchName) (w : Writing) → IsArch a → WritesBack a w → WritesCells a w → MakesOneAccess a → PrintedStatesFixReads a arch w
+printed_states_fix_reads a arch w laws back cells one name es mode test state keeps printed h =
+    let r = reads_back a arch w name (test_of a (name_in w.registers) es mode) back cells (readable a arch w name es mode laws back cells one printed.named printed.has_test.code) in
+    let same = same_test (reread r.table name (test_of a (name_in w.registers) es mode)) test (sym r.read ∙ printed.read) in
+    subst (λ t. FixesReads (number_in w.registers) t state) same
+    (read_fixed a arch w name es mode state laws back keeps printed.has_test.code r (subst (λ (t : TestRead). HasLeftSides state t.cond) (sym same) h)).0

@@ -1,21 +1,21 @@
 -- A state that an interleaving gives is sequential, and nothing else in a printed test.
-use Rattle.std.proofs.Common.{◌≡◌, ℕ, List, Option, Some, length, refl, sym, ◌∙◌, ap, subst, inl, inr, arith}
-use Rattle.std.specs.{Prelude.{◌⊎◌, is_some}, Option.{option_and_then, option_map}}
+use Rattle.std.proofs.Common.{◌≡◌, ℕ, List, Option, length, refl, sym, ◌∙◌, subst, inl, inr, arith}
+use Rattle.std.specs.{Prelude.{◌⊎◌, is_some}}
 use Rattle.relax_edges.specs.declared.{kinds.ArchName.ArchName, kinds.ObsMode.ObsMode, kinds.Value.Value, edge.Edge.Edge}
 use Rattle.cycle_events.specs.Resolution.{move_count}
 use Rattle.final_cond.specs.{Conditions.{AtPlace, CondSeen, InRegister, LeftSeen}, States.Meets}
 use Rattle.arch_trait.specs.{Cells.WritesCells, Cells.MakesOneAccess, Laws.IsArch, PlaceNames.{letters, number_in}, Threads.Puts, Writing.{Writing, WritesBack, name_in}}
-use Rattle.program_meaning.specs.{declared.WriteAt.WriteAt, Executions.Execution, Interleavings.accesses_on, Programs.{Program, IsCandidate, accesses_in}}
+use Rattle.program_meaning.specs.{declared.WriteAt.WriteAt, Executions.Execution, Interleavings.accesses_on, Programs.{Program}}
 use Rattle.litmus_text.specs.{TestReadsBack.TestReadsBack, Reread.reread, TestReading.TestRead}
-use Rattle.sc_and_interleavings.specs.{CoherenceLaws.WritesWithin, Made.{made_by, IsOfInterleaving}}
+use Rattle.sc_and_interleavings.specs.{Made.{made_by, IsOfInterleaving}}
 use Rattle.sc_and_interleavings.proofs.{InterleavingLaws.sequential_is_coherent, Made.interleavings_make_executions}
 use Rattle.tests_force_cycles.specs.{FinalStates.final_state, TestHeadline.HasTest, TestPrograms.test_program, TestOf.test_of}
-use Rattle.bytes_force_cycles.specs.{Links.IsPrintedTest, Readings.{program_read, state_after}}
+use Rattle.bytes_force_cycles.specs.{Readings.{program_read, state_after}}
 use Rattle.bytes_force_cycles.proofs.{BackLaws.{numbered_in, reads_back}, NoInterleaving.{WritesInside, test_writes_within}, PrintedSc.same_test, Readable.readable}
 use Rattle.bytes_force_cycles.proofs.RereadTests.{reread_test, reread_renumbered, by_table, threads_numbered}
-use Rattle.state_verdicts.specs.{declared.verdict.Verdict.Verdict, Verdicts.{EndsInState, IsVerdictOf}}
+use Rattle.state_verdicts.specs.{declared.verdict.Verdict.Verdict, Verdicts.{IsVerdictOf}}
 use Rattle.state_verdicts.specs.declared.verdict.Verdict.TheVariants as verdicts
-use Rattle.printed_states.specs.PrintedStates.{InterleavedIsSequential, InterleavedStaysSequential, InterleavingEndsIn, OnlyVerdict}
+use Rattle.printed_states.specs.PrintedStates.{InterleavedIsSequential, InterleavedStaysSequential, OnlyVerdict}
 
 -- the final state of an interleaving is that of the execution that it makes
 same_state : (p : Program) (names : List (List ℕ)) (register_number : List ℕ → Option ℕ) (values : List (List ℕ)) (line : List WriteAt) (x : Execution)

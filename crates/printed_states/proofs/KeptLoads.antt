@@ -1,5 +1,5 @@
 -- The code of a thread keeps what its loads read: their values are those of their registers at the end.
-use Rattle.std.proofs.Common.{◌≡◌, ℕ, ◌<◌, ◌||◌, ◌&&◌, Bool, true, false, cond, List, [], ◌∷◌, ◌++◌, map, Option, Some, None, refl, sym, ◌∙◌, ap, append_assoc, arith}
+use Rattle.std.proofs.Common.{◌≡◌, ℕ, ◌<◌, ◌||◌, ◌&&◌, Bool, true, false, cond, List, [], ◌∷◌, ◌++◌, map, Option, Some, None, refl, ◌∙◌, ap, append_assoc, arith}
 use Rattle.std.specs.{Prelude.{is_some, unwrap_or}, List.AllByRecursion}
 use Rattle.std.proofs.lemmas.{Bool.{and_parts, and_from}, List.Folds.list_any-append}
 use Rattle.relax_edges.specs.declared.kinds.Dir.{Dir}
@@ -8,7 +8,7 @@ use Rattle.micro_ops.specs.{declared.operation.Micro.Micro, Running.{target}}
 use Rattle.arch_trait.specs.{declared.step.Step.Step, Laws.IsArch, Threads.{Way, Puts, FitSteps, is_load_dir, from_of, put_of, filled_by, next_put, next_filled, further, step_code, thread_code, thread_loads, put_before}}
 use Rattle.arch_trait.proofs.Runs.{step_grew}
 use Rattle.litmus_text.specs.Placing.{op_renumbered}
-use Rattle.rebuilt_executions.specs.LoadValues.{begins_with, is_set, kept_value, known_value, load_values, loaded, runs_through, values_of_loads, with_load, with_value}
+use Rattle.rebuilt_executions.specs.LoadValues.{begins_with, is_set, kept_value, known_value, load_values, runs_through, values_of_loads, with_value}
 use Rattle.printed_states.specs.KeptLoads.{KeepsLoads, WritesFrom}
 
 -- code after code that runs through

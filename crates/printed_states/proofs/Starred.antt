@@ -1,8 +1,8 @@
 -- The state with the star is relaxed, and that of a coherence test incoherent.
-use Rattle.std.proofs.Common.{◌≡◌, ℕ, List, [], ◌∷◌, Option, Some, Ok, refl, sym, ◌∙◌, subst, inl, inr}
+use Rattle.std.proofs.Common.{◌≡◌, ℕ, List, [], ◌∷◌, Option, Some, refl, sym, ◌∙◌, subst, inl, inr}
 use Rattle.std.specs.{Prelude.{◌⊎◌, ◌↔◌}, List.AllByRecursion}
-use Rattle.relax_edges.specs.declared.{kinds.ArchName.ArchName, kinds.ObsMode.ObsMode, kinds.Value.Value, kinds.Value.TheVariants.Num, edge.Edge.Edge}
-use Rattle.final_cond.specs.{Conditions.{CondSeen, LeftSeen, TermSeen}, States.Meets}
+use Rattle.relax_edges.specs.declared.{kinds.ArchName.ArchName, kinds.ObsMode.ObsMode, kinds.Value.TheVariants.Num, edge.Edge.Edge}
+use Rattle.final_cond.specs.{Conditions.{CondSeen, TermSeen}, States.Meets}
 use Rattle.arch_trait.specs.{Cells.WritesCells, Cells.MakesOneAccess, Laws.IsArch, PlaceNames.number_in, Threads.Puts, Writing.Writing, Writing.WritesBack, Writing.name_in}
 use Rattle.co_tests.proofs.Printed.{printed_show}
 use Rattle.program_meaning.specs.{declared.WriteAt.WriteAt, Accesses.Access, Executions.Execution, Programs.{IsCandidate, IsCoherentIn, accesses_in}}
@@ -13,7 +13,7 @@ use Rattle.states_fix_executions.specs.States.{Any, SomeCoherent, SomeEnding, So
 use Rattle.tests_force_cycles.specs.FinalStates.{final_state}
 use Rattle.tests_force_cycles.specs.TestOf.{test_of}
 use Rattle.program_meaning.specs.Intended.{intended}
-use Rattle.bytes_force_cycles.specs.{Links.IsPrintedTest, Readings.{place_in_test, program_read, ReadingAsks}, PrintedHeadline.BytesForce}
+use Rattle.bytes_force_cycles.specs.{Readings.{place_in_test, program_read, ReadingAsks}, PrintedHeadline.BytesForce}
 use Rattle.bytes_force_cycles.proofs.{Printed.printed_force, PrintedSc.same_test}
 use Rattle.co_tests.specs.CoherenceTests.{coherence_test_of, incoherent_execution}
 use Rattle.co_tests.specs.Incoherence.{BytesShowIncoherence, MeetsReading}

@@ -1,4 +1,4 @@
--- States of printed tests that fix one execution.
+-- States of printed tests that fix what is read, or one execution.
 -- Source: own.
 use Rattle.std.specs.{Prelude.{ℕ, ◌≡◌, ◌⊎◌, List, [], ◌∷◌}, List.AllByRecursion}
 use Rattle.relax_edges.specs.declared.{kinds.ArchName.ArchName, kinds.ObsMode.ObsMode, edge.Edge.Edge}
@@ -7,7 +7,7 @@ use Rattle.arch_trait.specs.{PlaceNames.number_in, Threads.Puts, Writing.Writing
 use Rattle.litmus_text.specs.TestReading.{TestRead}
 use Rattle.bytes_force_cycles.specs.Links.{IsPrintedTest}
 use Rattle.test_states.specs.LoggedStates.{HasFewWrites}
-use Rattle.state_verdicts.specs.StateParts.{FixesExecution}
+use Rattle.state_verdicts.specs.StateParts.{FixesExecution, FixesReads}
 use Rattle.printed_states.specs.KeptLoads.{KeepsLoads}
 
 -- a state gives a value to a left side
@@ -25,3 +25,9 @@ abbrev pub PrintedStatesAreFixed : Puts → ArchName → Writing → Type 0
 PrintedStatesAreFixed a arch w =
     (name : List ℕ) (es : List Edge) (mode : ObsMode) (test : TestRead) (state : CondSeen) → KeepsLoads a → IsPrintedTest a arch w name es mode test →
     HasFewWrites es mode → HasLeftSides state test.cond → FixesExecution (number_in w.registers) test state
+
+-- in that of any cycle's test, such a state fixes what is read
+abbrev pub PrintedStatesFixReads : Puts → ArchName → Writing → Type 0
+PrintedStatesFixReads a arch w =
+    (name : List ℕ) (es : List Edge) (mode : ObsMode) (test : TestRead) (state : CondSeen) → KeepsLoads a → IsPrintedTest a arch w name es mode test →
+    HasLeftSides state test.cond → FixesReads (number_in w.registers) test state

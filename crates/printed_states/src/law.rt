@@ -1,4 +1,4 @@
-ghost use Rattle.printed_states.specs.{FixedStates.PrintedStatesAreFixed, KeptLoads.ArchitecturesKeepLoads};
+ghost use Rattle.printed_states.specs.{FixedStates.{PrintedStatesAreFixed, PrintedStatesFixReads}, KeptLoads.ArchitecturesKeepLoads};
 ghost use Rattle.printed_states.specs.PrintedStates.{InterleavedIsSequential, InterleavedStaysSequential, StarredIsIncoherent, StarredIsRelaxed};
 
 use arch_trait::Arch;
@@ -37,4 +37,9 @@ pub fn architectures_keep_loads()
 /// sides of the condition, no location has more than two writes, and none with two has an observer.
 pub fn printed_states_are_fixed<A: Arch>()
     ensures { PrintedStatesAreFixed A.puts A.NAME A.writing }
+{}
+
+/// A state of the printed text of any cycle's test fixes what is read, if it has all left sides of the condition.
+pub fn printed_states_fix_reads<A: Arch>()
+    ensures { PrintedStatesFixReads A.puts A.NAME A.writing }
 {}

@@ -6,5 +6,5 @@ mod law;
 
 pub use law::{
     architectures_keep_loads, interleaved_is_sequential, interleaved_stays_sequential,
-    printed_states_are_fixed, starred_is_incoherent, starred_is_relaxed,
+    printed_states_are_fixed, printed_states_fix_reads, starred_is_incoherent, starred_is_relaxed,
 };

@@ -1,15 +1,15 @@
 -- The tests of what accesses and final values fix decide it.
-use Rattle.std.proofs.Common.{◌≡◌, ℕ, zero, suc, ◌+◌, ◌<◌, ◌≤◌, ◌==◌, Bool, true, false, not, ◌&&◌, ◌||◌, List, [], ◌∷◌, length, Option, Some, None, slice_get, count_by, ◌∙◌, refl, sym, ap, subst, inl, inr, arith}
-use Rattle.std.specs.{Prelude.{◌⊎◌, ◌↔◌, nat_le, nat_lt}, List.{filter, list_all, list_any}}
-use Rattle.std.proofs.lemmas.{Bool.and_parts, Bool.and_from, Bool.eqb-true, Bool.leb-true, Bool.le-leb, Option.same_Some, Option.slice_get_within, List.Sums.length-filter}
-use Rattle.list_laws.proofs.Cases.{by_test, by_option}
-use Rattle.program_meaning.specs.{declared.WriteAt.WriteAt, Accesses.{Access, at_name, is_read, write}, Deciding.{every, writes_there, writes_to, writes_value}, Interleavings.writes_in}
+use Rattle.std.proofs.Common.{◌≡◌, ℕ, ◌<◌, Bool, true, false, not, List, [], ◌∷◌, Option, Some, None, ◌∙◌, refl, sym, ap, subst, inl, inr, arith}
+use Rattle.std.specs.{Prelude.{nat_lt}, List.{list_any}}
+use Rattle.std.proofs.lemmas.{Bool.and_parts, Bool.and_from, Option.same_Some}
+use Rattle.list_laws.proofs.Cases.{by_test}
+use Rattle.program_meaning.specs.{declared.WriteAt.WriteAt, Accesses.{Access, at_name, is_read, write}, Deciding.{writes_there, writes_to, writes_value}, Interleavings.writes_in}
 use Rattle.program_meaning.proofs.Candidates.{writes_there_means, writes_to_from}
-use Rattle.sc_and_interleavings.specs.{CoherenceLaws.WritesWithin, Relations.IsWriteTo}
-use Rattle.states_fix_executions.specs.{Listed.names_of, Rebuilt.{HaveOwnValues, HasAtMostOne, HasAtMostTwo, IsSettled}}
-use Rattle.states_fix_executions.proofs.Lists.{IsIn, in_filter, of_filter, any_from_in, any_in, all_in, all_from_in}
-use Rattle.states_fix_executions.proofs.{Names.{AreApart, listed, in_writes, of_writes, writes_apart}, Endings.{writes_value_means, writes_value_from}}
-use Rattle.rebuilt_executions.specs.{Settled.{AreSettled, end_at}, Settling.{has_own_value, have_own_values, is_within, are_within, most_settled, is_settled, are_settled, are_fixed}}
+use Rattle.sc_and_interleavings.specs.{CoherenceLaws.WritesWithin}
+use Rattle.states_fix_executions.specs.{Listed.names_of, Rebuilt.{HaveOwnValues}}
+use Rattle.states_fix_executions.proofs.Lists.{IsIn, in_filter, any_from_in, any_in, all_in, all_from_in}
+use Rattle.states_fix_executions.proofs.{Names.{AreApart, listed, writes_apart}, Endings.{writes_value_means, writes_value_from}}
+use Rattle.rebuilt_executions.specs.Settling.{has_own_value, have_own_values, is_within, are_within, are_fixed}
 
 -- a write of a value to a location isn't a read, and the value is its own
 own_here : (threads : List (List Access)) (o : Option Access) (later : List WriteAt) (place value : ℕ) → has_own_value threads o later ≡ true → o ≡ Some (write place value)
@@ -130,134 +130,16 @@ within_from threads places h = all_from_in (λ w. is_within places (at_name thre
         by_test (is_read a) (λ t. rw t refl)
         (λ f. let b = h a.place w (a.value, e ∙ ap Some (is_write a f)) in rw f (grind arith))
 
--- lists of one or two elements
-one_of : (ws : List WriteAt) (u v : WriteAt) → length ws ≤ 1 → IsIn u ws → IsIn v ws → u ≡ v
-one_of [] u v l i j = absurd i
-one_of (w ∷ []) u v l (inl i) (inl j) = i ∙ sym j
-one_of (w ∷ []) u v l (inr i) j = absurd i
-one_of (w ∷ []) u v l i (inr j) = absurd j
-one_of (w ∷ x ∷ ws) u v l i j = absurd (omega (arith, l))
-
-two_of : (ws : List WriteAt) (u w v : WriteAt) → length ws ≤ 2 → IsIn u ws → IsIn w ws → IsIn v ws → (u ≡ w) ⊎ ((w ≡ v) ⊎ (u ≡ v))
-two_of [] u w v l i j k = absurd i
-two_of (x ∷ []) u w v l i j k = inl (one_of (x ∷ []) u w (omega arith) i j)
-two_of (x ∷ y ∷ []) u w v l (inl i) (inl j) k = inl (i ∙ sym j)
-two_of (x ∷ y ∷ []) u w v l (inr i) (inr j) k = inl (one_of (y ∷ []) u w (omega arith) i j)
-two_of (x ∷ y ∷ []) u w v l (inl i) (inr j) (inl k) = inr (inr (i ∙ sym k))
-two_of (x ∷ y ∷ []) u w v l (inl i) (inr j) (inr k) = inr (inl (one_of (y ∷ []) w v (omega arith) j k))
-two_of (x ∷ y ∷ []) u w v l (inr i) (inl j) (inl k) = inr (inl (j ∙ sym k))
-two_of (x ∷ y ∷ []) u w v l (inr i) (inl j) (inr k) = inr (inr (one_of (y ∷ []) u v (omega arith) i k))
-two_of (x ∷ y ∷ z ∷ ws) u w v l i j k = absurd (omega (arith, l))
-
-at_most_one : (ws : List WriteAt) → AreApart ws → ((u v : WriteAt) → IsIn u ws → IsIn v ws → u ≡ v) → length ws ≤ 1
-at_most_one [] a h = omega arith
-at_most_one (w ∷ []) a h = omega arith
-at_most_one (w ∷ x ∷ ws) a h = absurd (a.0 (inl (h w x (inl refl) (inr (inl refl)))))
-
-at_most_two : (ws : List WriteAt) → AreApart ws → ((u w v : WriteAt) → IsIn u ws → IsIn w ws → IsIn v ws → (u ≡ w) ⊎ ((w ≡ v) ⊎ (u ≡ v))) → length ws ≤ 2
-at_most_two [] a h = omega arith
-at_most_two (w ∷ []) a h = omega arith
-at_most_two (w ∷ x ∷ []) a h = omega arith
-at_most_two (w ∷ x ∷ y ∷ ws) a h = absurd (by_two (h w x y (inl refl) (inr (inl refl)) (inr (inr (inl refl)))))
-  where
-    by_two : (w ≡ x) ⊎ ((x ≡ y) ⊎ (w ≡ y)) → ⊥
-    by_two (inl e) = a.0 (inl e)
-    by_two (inr (inl e)) = a.1.0 (inl e)
-    by_two (inr (inr e)) = a.0 (inr (inl e))
-
--- how many writes to a location there are
-abbrev writes_at : List (List Access) → ℕ → List WriteAt
-writes_at threads place = writes_in threads place (names_of threads)
-
-settled_here : (threads : List (List Access)) (place : ℕ) (end : Option ℕ) → length (writes_at threads place) ≤ most_settled end → IsSettled threads place end
-settled_here threads place None h = inl (λ u v a b. one_of (writes_at threads place) u v h (in_writes threads place u a) (in_writes threads place v b))
-settled_here threads place (Some value) h =
-    inr ((λ u w v a b c. two_of (writes_at threads place) u w v h (in_writes threads place u a) (in_writes threads place w b) (in_writes threads place v c)), (value, refl))
-
-count_here : (threads : List (List Access)) (place : ℕ) (end : Option ℕ) → IsSettled threads place end → length (writes_at threads place) ≤ most_settled end
-count_here threads place end (inl one) =
-    let l = at_most_one (writes_at threads place) (writes_apart threads place) (λ u v i j. one u v (of_writes threads place u i) (of_writes threads place v j)) in
-    most end l
-  where
-    most : (end : Option ℕ) → length (writes_at threads place) ≤ 1 → length (writes_at threads place) ≤ most_settled end
-    most None l = l
-    most (Some value) l = omega (arith, l)
-count_here threads place end (inr two) =
-    let l = at_most_two (writes_at threads place) (writes_apart threads place)
-    (λ u w v i j k. two.0 u w v (of_writes threads place u i) (of_writes threads place w j) (of_writes threads place v k)) in
-    subst (λ o. length (writes_at threads place) ≤ most_settled o) (sym two.1.1) l
-
-settled_means : (threads : List (List Access)) (place : ℕ) (end : Option ℕ) → is_settled threads (names_of threads) place end ≡ true → IsSettled threads place end
-settled_means threads place end h =
-    settled_here threads place end (omega (arith, leb-true (count_by (λ w. writes_there place (at_name threads w)) (names_of threads)) (most_settled end) h, length-filter (λ w. writes_there place (at_name threads w)) (names_of threads)))
-
-settled_from : (threads : List (List Access)) (place : ℕ) (end : Option ℕ) → IsSettled threads place end → is_settled threads (names_of threads) place end ≡ true
-settled_from threads place end h =
-    le-leb (count_by (λ w. writes_there place (at_name threads w)) (names_of threads)) (most_settled end)
-    (omega (arith, count_here threads place end h, length-filter (λ w. writes_there place (at_name threads w)) (names_of threads)))
-
--- what holds of each element with its number
-every_means : {X : Type 0} (p : ℕ → X → Bool) (n : ℕ) (xs : List X) → every p n xs ≡ true → (k : ℕ) (x : X) → slice_get xs k ≡ Some x → p (n + k) x ≡ true
-every_means p n [] h k x e = cc e
-every_means p n (y ∷ xs) h zero x e =
-    let q = and_parts (p n y) (every p (n + 1) xs) h in
-    let m : n + 0 ≡ n = omega arith in
-    ap (λ i. p i x) m ∙ ap (p n) (sym (same_Some y x e)) ∙ q.0
-every_means p n (y ∷ xs) h (suc k) x e =
-    let q = and_parts (p n y) (every p (n + 1) xs) h in
-    let m : n + suc k ≡ n + 1 + k = omega arith in
-    ap (λ i. p i x) m ∙ every_means p (n + 1) xs q.1 k x e
-
-every_from : {X : Type 0} (p : ℕ → X → Bool) (n : ℕ) (xs : List X) → ((k : ℕ) (x : X) → slice_get xs k ≡ Some x → p (n + k) x ≡ true) → every p n xs ≡ true
-every_from p n [] h = refl
-every_from p n (y ∷ xs) h =
-    let m : n ≡ n + 0 = omega arith in
-    and_from (p n y) (every p (n + 1) xs) (ap (λ i. p i y) m ∙ h 0 y refl)
-    (every_from p (n + 1) xs (λ k x e. let s : n + 1 + k ≡ n + suc k = omega arith in ap (λ i. p i x) s ∙ h (suc k) x e))
-
-all_settled_means : (threads : List (List Access)) (ends : List (Option ℕ)) → are_settled threads (names_of threads) ends ≡ true
-    → (place : ℕ) → place < length ends → IsSettled threads place (end_at ends place)
-all_settled_means threads ends h place l = by_option (slice_get ends place)
-    (λ e. absurd (not_past ends place e l))
-    (λ end e. let z : 0 + place ≡ place = omega arith in
-    subst (IsSettled threads place) (ap given_end (sym e)) (settled_means threads place end
-    (ap (λ n. is_settled threads (names_of threads) n end) (sym z) ∙ every_means (is_settled threads (names_of threads)) 0 ends h place end e)))
-  where
-    given_end : Option (Option ℕ) → Option ℕ
-    given_end None = None
-    given_end (Some end) = end
-
-    not_past : {X : Type 0} (xs : List X) (k : ℕ) → slice_get xs k ≡ None → k < length xs → ⊥
-    not_past [] k e l = omega (arith, l)
-    not_past (x ∷ xs) zero e l = cc e
-    not_past (x ∷ xs) (suc k) e l = not_past xs k e (omega (arith, l))
-
-all_settled_from : (threads : List (List Access)) (ends : List (Option ℕ)) → ((place : ℕ) → place < length ends → IsSettled threads place (end_at ends place))
-    → are_settled threads (names_of threads) ends ≡ true
-all_settled_from threads ends h =
-    every_from (is_settled threads (names_of threads)) 0 ends
-    (λ k end e. let z : 0 + k ≡ k = omega arith in
-    ap (λ n. is_settled threads (names_of threads) n end) z
-    ∙ settled_from threads k end (subst (IsSettled threads k) (ap given_end e) (h k (slice_get_within ends k end e))))
-  where
-    given_end : Option (Option ℕ) → Option ℕ
-    given_end None = None
-    given_end (Some end) = end
-
--- the tests pass exactly where an execution is fixed
-pub record AreFixed (threads : List (List Access)) (ends : List (Option ℕ)) : Type 0 where
+-- the tests pass exactly where what is read is fixed
+pub record AreFixed (threads : List (List Access)) (places : ℕ) : Type 0 where
   pub values : HaveOwnValues threads
-  pub within : WritesWithin threads (length ends)
-  pub settled : (place : ℕ) → place < length ends → IsSettled threads place (end_at ends place)
+  pub within : WritesWithin threads places
 
-pub fixed_means : (threads : List (List Access)) (ends : List (Option ℕ)) → are_fixed threads (names_of threads) ends ≡ true → AreFixed threads ends
-fixed_means threads ends h =
-    let p = and_parts (have_own_values threads (names_of threads)) (are_within threads (length ends) (names_of threads) && are_settled threads (names_of threads) ends) h in
-    let q = and_parts (are_within threads (length ends) (names_of threads)) (are_settled threads (names_of threads) ends) p.1 in
-    record { values = own_means threads p.0; within = within_means threads (length ends) q.0; settled = all_settled_means threads ends q.1 }
+pub fixed_means : (threads : List (List Access)) (places : ℕ) → are_fixed threads (names_of threads) places ≡ true → AreFixed threads places
+fixed_means threads places h =
+    let p = and_parts (have_own_values threads (names_of threads)) (are_within threads places (names_of threads)) h in
+    record { values = own_means threads p.0; within = within_means threads places p.1 }
 
-pub fixed_from : (threads : List (List Access)) (ends : List (Option ℕ)) → AreFixed threads ends → are_fixed threads (names_of threads) ends ≡ true
-fixed_from threads ends h =
-    and_from (have_own_values threads (names_of threads)) (are_within threads (length ends) (names_of threads) && are_settled threads (names_of threads) ends) (own_from threads h.values)
-    (and_from (are_within threads (length ends) (names_of threads)) (are_settled threads (names_of threads) ends) (within_from threads (length ends) h.within)
-    (all_settled_from threads ends h.settled))
+pub fixed_from : (threads : List (List Access)) (places : ℕ) → AreFixed threads places → are_fixed threads (names_of threads) places ≡ true
+fixed_from threads places h =
+    and_from (have_own_values threads (names_of threads)) (are_within threads places (names_of threads)) (own_from threads h.values) (within_from threads places h.within)

@@ -1,8 +1,8 @@
 -- Lists of lists that grow at their ends, and executions that grow by reads and writes.
-use Rattle.std.proofs.Common.{◌≡◌, ℕ, zero, suc, ◌+◌, ◌-◌, ◌<◌, ◌≤◌, Bool, true, false, List, [], ◌∷◌, ◌++◌, length, map, take, drop, Option, Some, None, slice_get, refl, sym, ap, ◌∙◌, subst, arith, append_assoc, append-nil, get_or}
+use Rattle.std.proofs.Common.{◌≡◌, ℕ, zero, suc, ◌+◌, ◌-◌, ◌<◌, ◌≤◌, Bool, true, false, List, [], ◌∷◌, ◌++◌, length, map, take, drop, Option, Some, slice_get, refl, sym, ap, ◌∙◌, subst, arith, append_assoc, append-nil}
 use Rattle.std.specs.{Prelude.unwrap_or, List.filter}
-use Rattle.std.proofs.lemmas.{List.length-append, List.length-set, List.length-map, List.length-take-le, List.take_more, List.take_all, List.map_push, List.drop_all, Option.slice_get_within, Option.get_or_from_slice_get}
-use Rattle.list_laws.proofs.{Elements.drop_given, Cases.by_test}
+use Rattle.std.proofs.lemmas.{List.length-append, List.length-set, List.length-map, List.length-take-le, List.take_more, List.take_all, List.map_push, Option.slice_get_within, Option.get_or_from_slice_get}
+use Rattle.list_laws.proofs.{Elements.drop_given}
 use Rattle.program_meaning.specs.{declared.WriteAt.WriteAt, Executions.Execution, KeptExecutions.{added_to_list, empty_lists, with_read, with_write}}
 use Rattle.rebuilt_executions.specs.Growing.{with_appended, with_reads, with_writes}
 

@@ -7,3 +7,4 @@ pub mod LoadWalks
 pub mod NameWalks
 pub mod RebuiltSteps
 pub mod OrderWalks
+pub mod SortedWalks

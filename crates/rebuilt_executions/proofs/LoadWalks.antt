@@ -1,11 +1,11 @@
 -- How the loops over code and over known registers make their answers.
-use Rattle.std.proofs.Common.{◌≡◌, ℕ, ◌+◌, ◌-◌, ◌≤◌, Bool, true, false, cond, List, [], ◌∷◌, ◌++◌, length, take, drop, Option, Some, None, slice_get, refl, sym, ap, ◌∙◌, append_assoc, append-nil}
-use Rattle.std.specs.Prelude.{option_map, ◌&&◌, ◌==◌}
+use Rattle.std.proofs.Common.{◌≡◌, ℕ, ◌+◌, ◌-◌, ◌≤◌, true, false, List, [], ◌∷◌, ◌++◌, length, take, drop, Option, Some, None, slice_get, refl, sym, ap, ◌∙◌, append_assoc, append-nil}
+use Rattle.std.specs.Prelude.{option_map, ◌==◌}
 use Rattle.std.proofs.lemmas.{List.drop_all, Bool.eqb-true, Bool.eq-eqb}
 use Rattle.list_laws.proofs.Cases.{by_test}
 use Rattle.list_laws.proofs.Elements.{drop_given, rest_from}
 use Rattle.micro_ops.specs.{declared.operation.Micro.Micro, Running.target}
-use Rattle.rebuilt_executions.specs.LoadValues.{begins_with, runs_through, loaded, known_value, kept_value, with_value, with_load, load_values}
+use Rattle.rebuilt_executions.specs.LoadValues.{begins_with, runs_through, loaded, known_value, kept_value, load_values}
 
 -- a branch that leads to the label right after it leaves the answer to the code after it
 pub through_step : (code : List Micro) (i : ℕ) (op : Micro) → slice_get code i ≡ Some op → begins_with (target op) (drop (i + 1) code) ≡ true → runs_through (drop i code) ≡ runs_through (drop (i + 1) code)

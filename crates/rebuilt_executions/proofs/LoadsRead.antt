@@ -1,13 +1,13 @@
 -- The loads of code that runs through read the values that their registers have at the end.
-use Rattle.std.proofs.Common.{◌≡◌, ℕ, zero, suc, ◌+◌, ◌==◌, Bool, true, false, cond, ◌&&◌, List, [], ◌∷◌, ◌++◌, Option, Some, None, ◌∙◌, refl, sym, ap, subst, inl, inr, eq-eqb, arith}
-use Rattle.std.specs.{Prelude.{◌⊎◌, ◌||◌, option_map}, List.list_any}
-use Rattle.std.proofs.lemmas.{Bool.and_parts, Bool.eqb-true, Option.same_Some}
+use Rattle.std.proofs.Common.{◌≡◌, ℕ, Bool, true, false, cond, List, [], ◌∷◌, Option, Some, None, ◌∙◌, refl, sym, ap, subst, inl, inr, eq-eqb, arith}
+use Rattle.std.specs.{Prelude.{◌⊎◌, ◌||◌}}
+use Rattle.std.proofs.lemmas.{Bool.and_parts, Option.same_Some}
 use Rattle.list_laws.proofs.Cases.{by_test, by_option}
 use Rattle.relax_edges.specs.declared.kinds.{Mark.Mark, Mark.TheVariants.Plain, Mark.TheVariants.Acquire, Value.Value, Value.TheVariants.Num}
 use Rattle.micro_ops.specs.declared.{held.Held.Held, operation.Micro.Micro, operation.Item.Item}
 use Rattle.micro_ops.specs.declared.operation.Micro.TheVariants as ops
-use Rattle.micro_ops.specs.Machine.{ThreadState, Effect, step, loading, num, bit, put, place_reached, address_mask}
-use Rattle.micro_ops.specs.Running.{Run, Point, At, Past, Wants, Stuck, Outcome, Ended, ReadsLeft, ReadsShort, NoRule, go, exec, taken, led, wanting, landing, is_load, is_label, is_named_register, is_written, target, writes, outcome, run_ended, runs, beginning, add_item, OnRun}
+use Rattle.micro_ops.specs.Machine.{ThreadState, Effect, step, loading, num, bit, place_reached, address_mask}
+use Rattle.micro_ops.specs.Running.{Run, Point, At, Past, Wants, Stuck, Ended, ReadsShort, NoRule, go, exec, taken, led, wanting, landing, is_load, is_label, is_named_register, is_written, target, writes, outcome, run_ended, runs, beginning, add_item, OnRun}
 use Rattle.micro_ops.specs.RunLaws.{stuck_stays, wants_stays}
 use Rattle.micro_ops.proofs.Laws.{unwritten_kept}
 use Rattle.program_meaning.specs.Programs.{held_at_end}

@@ -1,10 +1,10 @@
 -- How the loops over accesses list their names, and the writes among them.
-use Rattle.std.proofs.Common.{◌≡◌, ℕ, suc, ◌+◌, ◌-◌, ◌≤◌, Bool, true, false, List, [], ◌∷◌, ◌++◌, length, take, drop, Option, Some, None, slice_get, refl, sym, ap, ◌∙◌, add-one, append_assoc, append-nil}
-use Rattle.std.specs.List.{filter, flat_map}
+use Rattle.std.proofs.Common.{◌≡◌, ℕ, ◌+◌, ◌-◌, ◌≤◌, Bool, true, false, List, [], ◌∷◌, ◌++◌, length, take, drop, Option, Some, slice_get, refl, sym, ap, ◌∙◌, add-one, append_assoc, append-nil}
+use Rattle.std.specs.List.{flat_map}
 use Rattle.std.proofs.lemmas.List.{drop_all}
 use Rattle.list_laws.proofs.Elements.{drop_given, rest_from}
 use Rattle.program_meaning.specs.{declared.WriteAt.WriteAt, Accesses.{Access, at_name}, Deciding.{name, writes_there}, Interleavings.writes_in}
-use Rattle.states_fix_executions.specs.Listed.{names_from, names_of, thread_names}
+use Rattle.states_fix_executions.specs.Listed.{names_from, thread_names}
 use Rattle.rebuilt_executions.specs.Settling.{has_own_value, have_own_values}
 
 -- one name more

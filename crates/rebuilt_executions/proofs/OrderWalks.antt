@@ -1,5 +1,5 @@
 -- How the loop that takes accesses away decides whether they can be ordered.
-use Rattle.std.proofs.Common.{◌≡◌, ℕ, zero, suc, ◌+◌, ◌<◌, ◌==◌, Bool, true, false, List, [], length, Option, Some, None, refl, sym, ap, ◌∙◌, arith}
+use Rattle.std.proofs.Common.{◌≡◌, ℕ, zero, suc, ◌<◌, ◌==◌, Bool, List, length, Some, None, refl, ap, ◌∙◌, arith}
 use Rattle.std.specs.List.{position_from, remove}
 use Rattle.std.proofs.lemmas.{List.Edits.length-remove, Option.slice_get_within}
 use Rattle.states_fix_executions.specs.Ordered.{empties, is_free, taken_away}

@@ -1,13 +1,14 @@
 -- What the loops over threads and locations rebuild.
-use Rattle.std.proofs.Common.{◌≡◌, ℕ, ◌+◌, ◌≤◌, ◌<◌, Bool, true, false, not, List, [], ◌∷◌, ◌++◌, length, map, drop, Option, Some, None, refl, sym, ap, subst, ◌∙◌, slice_get, arith}
+use Rattle.std.proofs.Common.{◌≡◌, ℕ, ◌+◌, ◌≤◌, ◌<◌, Bool, true, false, not, List, ◌∷◌, ◌++◌, length, map, drop, Option, Some, None, sym, ap, subst, ◌∙◌, slice_get, arith}
 use Rattle.std.specs.{List.filter, Prelude.{Result, OnOk, Ok, Err}}
-use Rattle.std.proofs.lemmas.List.{drop_all, length-map}
+use Rattle.std.proofs.lemmas.List.{drop_all}
 use Rattle.list_laws.specs.Numbers.{upto}
 use Rattle.list_laws.proofs.Numbers.{length-upto, slice_get-upto}
 use Rattle.program_meaning.specs.{declared.WriteAt.WriteAt, Accesses.{Access, is_read}, Executions.Execution, KeptExecutions.{empty_lists, with_read, with_write}}
-use Rattle.states_fix_executions.specs.Rebuilt.{is_last, order_by_end, source_by_value}
-use Rattle.rebuilt_executions.specs.{Settled.{end_at, rebuilt_from}, Growing.{with_appended, with_reads, with_writes}}
-use Rattle.rebuilt_executions.proofs.Growing.{appended_both, appended_length, filled_length, filled_none, filled_to, filled_whole, no_reads, no_writes, orders_count, orders_more, passing, passed_over, reads_after, reads_count, reads_more, writes_after}
+use Rattle.states_fix_executions.specs.Rebuilt.{is_last, source_by_value}
+use Rattle.write_orders.specs.WriteOrders.{ordered_writes}
+use Rattle.rebuilt_executions.specs.{Settled.{end_at, rebuilt_from}, Growing.{with_reads, with_writes}}
+use Rattle.rebuilt_executions.proofs.Growing.{appended_both, filled_length, filled_none, filled_to, filled_whole, no_reads, no_writes, orders_more, passing, passed_over, reads_after, writes_after}
 
 -- the reads of a thread
 abbrev pub reads_by_value : List (List Access) → List Access → List (ℕ × Option WriteAt)
@@ -15,7 +16,7 @@ reads_by_value threads accesses = map (source_by_value threads) (filter is_read 
 
 -- the order of a location
 abbrev pub order_given : List (List Access) → List (Option ℕ) → ℕ → List WriteAt
-order_given threads ends place = order_by_end threads place (end_at ends place)
+order_given threads ends place = ordered_writes threads place (end_at ends place)
 
 -- what follows from what a result says
 pub more_on_ok : {X E : Type 0} {P Q : Type 0} (r : Result X E) → (P → Q) → OnOk r P → OnOk r Q
@@ -95,11 +96,11 @@ orders_inside threads ends x y k l h =
 
 -- one location more has its writes
 pub orders_step : (threads : List (List Access)) (ends : List (Option ℕ)) (x y z : Execution) (k : ℕ) (end : Option ℕ) → slice_get ends k ≡ Some end → k < length ends
-    → y ≡ record x { orders = filled_to (order_given threads ends) (upto (length ends)) k } → z ≡ with_writes y k (order_by_end threads k end)
+    → y ≡ record x { orders = filled_to (order_given threads ends) (upto (length ends)) k } → z ≡ with_writes y k (ordered_writes threads k end)
     → z ≡ record x { orders = filled_to (order_given threads ends) (upto (length ends)) (k + 1) }
 orders_step threads ends x y z k end e l h put =
     orders_more (order_given threads ends) (upto (length ends)) x y z k k (slice_get-upto (length ends) k l) h
-    (put ∙ ap (λ o. with_writes y k (order_by_end threads k o)) (sym (ap given_end e)))
+    (put ∙ ap (λ o. with_writes y k (ordered_writes threads k o)) (sym (ap given_end e)))
   where
     given_end : Option (Option ℕ) → Option ℕ
     given_end None = None

@@ -3,14 +3,19 @@
 #![tactic(auto)]
 
 mod accesses;
+mod common_order;
+mod forced;
 mod law;
 mod loads;
 mod names;
 mod order;
 mod rebuilding;
 mod settled;
+mod sorted;
 
 pub use accesses::{Accesses, accesses_of_run};
+pub use common_order::have_an_order;
+pub use forced::are_forced;
 pub use law::loads_are_read;
 pub use loads::values_of_loads;
 pub use order::can_be_ordered;

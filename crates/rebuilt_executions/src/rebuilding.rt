@@ -1,11 +1,13 @@
 ghost use Rattle.std.specs.Prelude.{◌≡◌, ◌<◌, ◌≤◌, not, IfOk, OnOk, filter, length, map, All};
-ghost use Rattle.program_meaning.specs.{Accesses.{is_read}, Interleavings.{writes_in}, KeptExecutions.{empty_lists}};
-ghost use Rattle.states_fix_executions.specs.{Listed.{names_of}, Rebuilt.{is_last, order_by_end, source_by_value}};
+ghost use Rattle.program_meaning.specs.{Accesses.{is_read}, KeptExecutions.{empty_lists}};
+ghost use Rattle.states_fix_executions.specs.{Listed.{names_of}, Rebuilt.{is_last, source_by_value}};
+ghost use Rattle.write_orders.specs.WriteOrders.{ordered_writes};
 ghost use Rattle.rebuilt_executions.specs.{Settled.{IsRebuilt, rebuilt_from, end_at}, Growing.{with_reads, with_writes}};
 
 use crate::accesses::{Accesses, is_read, writes_value};
-use crate::names::{are_few, names_of, source_of, writes_in};
+use crate::names::{are_few, names_of, source_of};
 use crate::settled::are_fixed;
+use crate::sorted::sorted_writes;
 use diy_io::NoMemory;
 use program_meaning::{Access, Execution, WriteAt};
 use std::alloc::Global;
@@ -45,7 +47,7 @@ fn add_all_reads(all: &[Accesses], names: &[WriteAt], exec: &mut Execution) -> R
 }
 
 /// Whether a write has the value that is given as the final one of its location.
-fn is_last(all: &[Accesses], place: u8, end: Option<u32>, write: WriteAt) -> bool
+pub(crate) fn is_last(all: &[Accesses], place: u8, end: Option<u32>, write: WriteAt) -> bool
     ensures { result ≡ is_last all.now place end write }
 {
     match end {
@@ -92,7 +94,8 @@ fn add_last(
     Ok(())
 }
 
-/// Adds the writes to a location: first those that don't have its final value, and then that which has it.
+/// Adds the writes to a location, sorted by what has to come before what: first those that don't have its final
+/// value, and then that which has it.
 fn add_order(
     alloc: Global,
     all: &[Accesses],
@@ -103,9 +106,9 @@ fn add_order(
 ) -> Result<(), NoMemory>
     requires names { names.now ≡ names_of all.now }
     requires place { place < length exec.old.orders }
-    ensures { OnOk result (exec.new ≡ with_writes exec.old place (order_by_end all.now place end)) }
+    ensures { OnOk result (exec.new ≡ with_writes exec.old place (ordered_writes all.now place end)) }
 {
-    let writes = writes_in(alloc, all, names, place)?;
+    let writes = sorted_writes(alloc, all, names, place)?;
     add_earlier(all, place, end, &writes, exec)?;
     add_last(all, place, end, &writes, exec)
 }
@@ -129,8 +132,7 @@ fn add_all_orders(
     Ok(())
 }
 
-/// The execution of threads that make these accesses: each read by its value, the order of each location by its
-/// final value.
+/// The execution of threads that make these accesses: each read by its value, the writes of each location sorted.
 fn rebuilt(
     alloc: Global,
     all: &[Accesses],
@@ -148,11 +150,11 @@ fn rebuilt(
     Ok(exec)
 }
 
-/// The execution that is fixed by the accesses of all threads and by the final value of each location, if it
-/// is given: each read reads the write of its value, or the initial value if there is none, and a
-/// location's write of its final value is its last. Nothing is fixed, and there is none, if a write has the
-/// value 0, if two writes to a location have the same value, if a location has two writes and no final value is
-/// given, or more than two writes, if a write is to none of the locations, or if a thread makes more than 256
+/// The execution that is rebuilt from the accesses of all threads and from the final value of each location, if
+/// it is given: each read reads the write of its value, or the initial value if there is none; the writes
+/// of a location are sorted so that each comes after those that have to come before it, as far as this can
+/// be, and its write of the final value is its last. There is none if a write has the value 0, if two writes to a
+/// location have the same value, if a write is to none of the locations, or if a thread makes more than 256
 /// accesses. It may return `NoMemory` instead.
 pub fn rebuilt_execution(
     alloc: Global,
@@ -167,7 +169,7 @@ pub fn rebuilt_execution(
         return Ok(None);
     }
     let names = names_of(alloc, all)?;
-    if !are_fixed(all, &names, ends) {
+    if !are_fixed(all, &names, ends.len()) {
         return Ok(None);
     }
     Ok(Some(rebuilt(alloc, all, &names, ends)?))

@@ -1,8 +1,8 @@
-ghost use Rattle.std.specs.{Prelude.{◌≡◌, ◌≤◌, count_by, length}, List.{list_any}};
-ghost use Rattle.program_meaning.specs.{Accesses.{at_name}, Deciding.{writes_there, writes_value}};
-ghost use Rattle.rebuilt_executions.specs.Settling.{has_own_value, have_own_values, is_within, are_within, most_settled, is_settled, are_settled, are_fixed};
+ghost use Rattle.std.specs.{Prelude.{◌≡◌}, List.{list_any}};
+ghost use Rattle.program_meaning.specs.{Accesses.{at_name}, Deciding.{writes_value}};
+ghost use Rattle.rebuilt_executions.specs.Settling.{has_own_value, have_own_values, is_within, are_within, are_fixed};
 
-use crate::accesses::{Accesses, access_at, is_read, writes_there, writes_value};
+use crate::accesses::{Accesses, access_at, is_read, writes_value};
 use program_meaning::{Access, WriteAt};
 
 /// Whether one of these accesses writes this value to this location.
@@ -57,50 +57,9 @@ fn are_within(all: &[Accesses], places: usize, names: &[WriteAt]) -> bool
         .all(|name| is_within(places, access_at(all, *name)))
 }
 
-/// The most writes to a location whose order is settled by its final value.
-fn most_settled(end: Option<u32>) -> usize
-    ensures { result ≡ most_settled end }
+/// Whether the accesses with these names fix what is read, over this many locations.
+pub(crate) fn are_fixed(all: &[Accesses], names: &[WriteAt], places: usize) -> bool
+    ensures { result ≡ are_fixed all.now names.now places }
 {
-    match end {
-        None => 1,
-        Some(_) => 2,
-    }
-}
-
-fn writes_count(all: &[Accesses], names: &[WriteAt], place: u8) -> usize
-    ensures { result ≡ count_by (λ w. writes_there place (at_name all.now w)) names.now }
-{
-    names
-        .iter()
-        .filter(|name| writes_there(all, place, **name))
-        .count()
-}
-
-fn is_settled(all: &[Accesses], names: &[WriteAt], place: u8, end: Option<u32>) -> bool
-    ensures { result ≡ is_settled all.now names.now place end }
-{
-    writes_count(all, names, place) <= most_settled(end)
-}
-
-#[tactic(auto, using(crate::proofs::Walks::every_step, crate::proofs::Walks::every_stops))]
-fn are_settled(all: &[Accesses], names: &[WriteAt], ends: &[Option<u32>]) -> bool
-    requires { length ends.now ≤ 255 }
-    ensures { result ≡ are_settled all.now names.now ends.now }
-{
-    for (place, end) in ends.iter().enumerate() {
-        if !is_settled(all, names, place as u8, *end) {
-            return false;
-        }
-    }
-    true
-}
-
-/// Whether the accesses with these names, and these final values of locations, fix an execution.
-pub(crate) fn are_fixed(all: &[Accesses], names: &[WriteAt], ends: &[Option<u32>]) -> bool
-    requires { length ends.now ≤ 255 }
-    ensures { result ≡ are_fixed all.now names.now ends.now }
-{
-    have_own_values(all, names)
-        && are_within(all, ends.len(), names)
-        && are_settled(all, names, ends)
+    have_own_values(all, names) && are_within(all, places, names)
 }

@@ -1,6 +1,7 @@
 pub mod Ranks
 pub mod Spellings
 pub mod WordBounds
-pub mod KindRanks
+pub mod EdgeList
+pub mod HashedNames
 pub mod EachKind
 pub mod WordTable

@@ -17,7 +17,7 @@ all_fail : {A : Type 0} (test : A → Bool) (xs : List A) → find test xs ≡ N
 all_fail test [] none = refl
 all_fail test (x ∷ xs) none = grind (arith, (all_fail test xs))
 
-find_none : (test : Edge → Bool) (edge : Edge) → find test edges_in_order ≡ None → test edge ≡ false
+pub find_none : (test : Edge → Bool) (edge : Edge) → find test edges_in_order ≡ None → test edge ≡ false
 find_none test edge none = not-true (test edge) (each_edge (λ x. not (test x)) (all_fail test edges_in_order none) edge)
 
 -- what a test says of all, it says of one that another test finds

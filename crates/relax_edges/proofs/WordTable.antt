@@ -7,11 +7,10 @@ use Rattle.relax_edges.proofs.Ranks.{placed}
 edge_within : (edge : Edge) → rank_of edge < length edges_in_order
 edge_within edge = slice_get_within edges_in_order (rank_of edge) edge (placed edge)
 
--- the table has a word at the rank of each edge
-pub word_within : {A : Type 0} (seen : A → List ℕ) (words : List A) (edge : Edge) → map seen words ≡ map word_of edges_in_order → rank_of edge < length words
+word_within : {A : Type 0} (seen : A → List ℕ) (words : List A) (edge : Edge) → map seen words ≡ map word_of edges_in_order → rank_of edge < length words
 word_within seen words edge same = grind (arith, length-map, edge_within)
 
--- that word is the edge's
+-- the word at the rank of an edge is the edge's
 pub word_at : {A : Type 0} (seen : A → List ℕ) (words : List A) (d : A) (edge : Edge) (rank : ℕ) → map seen words ≡ map word_of edges_in_order
     → rank ≡ rank_of edge → seen (get_or words rank d) ≡ word_of edge
 word_at seen words d edge rank same is =

@@ -9,3 +9,4 @@ pub mod ReadEdges
 pub mod NamedKinds
 pub mod Architectures
 pub mod NamedEdges
+pub mod HashedWords

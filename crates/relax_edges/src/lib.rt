@@ -5,7 +5,9 @@ mod arch;
 mod edge;
 mod kinds;
 mod marked;
+mod named;
 mod order;
+mod table;
 mod word;
 
 pub use arch::read_arch;
@@ -14,6 +16,7 @@ pub use kinds::{
     ArchName, Com, DepKind, Dir, FenceKind, Kind, Mark, ObsMode, Pick, Reach, Sd, Value,
 };
 pub use marked::MarkedEdge;
+pub use named::WordHash;
 pub use order::EDGES;
 
 /// The most edges that a cycle may have.

@@ -21,13 +21,6 @@ impl Dir {
             Dir::W => 1,
         }
     }
-
-    fn at_rank(k: u16) -> Dir
-        requires { k < 2 }
-        ensures { dir_rank result ≡ k }
-    {
-        if k == 0 { Dir::R } else { Dir::W }
-    }
 }
 
 impl Sd {
@@ -38,13 +31,6 @@ impl Sd {
             Sd::Diff => 0,
             Sd::Same => 1,
         }
-    }
-
-    fn at_rank(k: u16) -> Sd
-        requires { k < 2 }
-        ensures { sd_rank result ≡ k }
-    {
-        if k == 0 { Sd::Diff } else { Sd::Same }
     }
 }
 
@@ -57,17 +43,6 @@ impl Reach {
             Reach::Internal => 1,
         }
     }
-
-    fn at_rank(k: u16) -> Reach
-        requires { k < 2 }
-        ensures { reach_rank result ≡ k }
-    {
-        if k == 0 {
-            Reach::External
-        } else {
-            Reach::Internal
-        }
-    }
 }
 
 impl Pick {
@@ -78,17 +53,6 @@ impl Pick {
             Pick::R => 0,
             Pick::RW => 1,
             Pick::W => 2,
-        }
-    }
-
-    fn at_rank(k: u16) -> Pick
-        requires { k < 3 }
-        ensures { pick_rank result ≡ k }
-    {
-        match k {
-            0 => Pick::R,
-            1 => Pick::RW,
-            _ => Pick::W,
         }
     }
 }
@@ -218,133 +182,6 @@ impl MarkedEdge {
     }
 }
 
-/// The edge of a kind that may have marks: without marks if `ends` is 0, otherwise with those of this rank.
-#[tactic(auto, using(crate::proofs::KindRanks::unmarked_rank), unfolding(crate::specs::Order::rank_of))]
-fn edge_at(kind: MarkableKind, ends: u16) -> Edge
-    requires { ends < 4 }
-    ensures { rank_of result ≡ kind_rank (markable_kind kind) + ends }
-{
-    let ends = match ends {
-        0 => return kind.kind().without_marks(),
-        1 => MarkedEnds::Both,
-        2 => MarkedEnds::Source,
-        _ => MarkedEnds::Target,
-    };
-    Edge::Marked(MarkedEdge { kind, ends })
-}
-
-fn choices_at(k: u16) -> (Sd, Dir, Dir)
-    requires { k < 8 }
-    ensures { 4 * sd_rank result.0 + 2 * dir_rank result.1 + dir_rank result.2 ≡ k }
-{
-    (
-        Sd::at_rank(k / 4),
-        Dir::at_rank(k / 2 % 2),
-        Dir::at_rank(k % 2),
-    )
-}
-
-impl Com {
-    fn edge_at(self, k: u16) -> Edge
-        requires { k < 8 }
-        ensures { rank_of result ≡ com_rank self + k }
-    {
-        let kind = MarkableKind::Com {
-            com: self,
-            reach: Reach::at_rank(k / 4),
-        };
-        edge_at(kind, k % 4)
-    }
-}
-
-fn program_order_at(k: u16) -> Edge
-    requires { k < 32 }
-    ensures { rank_of result ≡ 276 + k }
-{
-    let (sd, from, to) = choices_at(k / 4);
-    edge_at(MarkableKind::Po { sd, from, to }, k % 4)
-}
-
-impl Dmb {
-    fn edge_at(self, k: u16) -> Edge
-        requires { k < 32 }
-        ensures { rank_of result ≡ fence_rank (markable_fence self) + k }
-    {
-        let (sd, from, to) = choices_at(k / 4);
-        let kind = MarkableKind::Fenced {
-            fence: self,
-            sd,
-            from,
-            to,
-        };
-        edge_at(kind, k % 4)
-    }
-}
-
-impl MarkableDep {
-    fn edge_at(self, k: u16) -> Edge
-        requires { k < 16 }
-        ensures { rank_of result ≡ dependency_rank (markable_dependency self) + k }
-    {
-        let kind = MarkableKind::Dep {
-            dep: self,
-            sd: Sd::at_rank(k / 8),
-            to: Dir::at_rank(k / 4 % 2),
-        };
-        edge_at(kind, k % 4)
-    }
-}
-
-fn data_at(k: u16) -> Edge
-    requires { k < 8 }
-    ensures { rank_of result ≡ 156 + k }
-{
-    let kind = MarkableKind::Data {
-        sd: Sd::at_rank(k / 4),
-    };
-    edge_at(kind, k % 4)
-}
-
-impl FenceKind {
-    #[tactic(auto, unfolding(crate::specs::Order::rank_of))]
-    fn edge_at(self, k: u16) -> Edge
-        requires few { k < 8 }
-        requires unmarked { fence_words self ≡ 1 }
-        ensures { rank_of result ≡ fence_rank self + k }
-    {
-        let (sd, from, to) = choices_at(k);
-        Edge::Fenced {
-            fence: self,
-            sd,
-            from,
-            to,
-        }
-    }
-}
-
-#[tactic(auto, unfolding(crate::specs::Order::rank_of))]
-fn power_dependency_at(k: u16) -> Edge
-    requires { k < 4 }
-    ensures { rank_of result ≡ 136 + k }
-{
-    Edge::Dep {
-        dep: DepKind::CtrlIsync,
-        sd: Sd::at_rank(k / 2),
-        to: Dir::at_rank(k % 2),
-    }
-}
-
-fn riscv_fence_at(k: u16) -> Edge
-    requires { k < 72 }
-    ensures { rank_of result ≡ 172 + k }
-{
-    let fence = FenceKind::Fence {
-        pred: Pick::at_rank(k / 24),
-        succ: Pick::at_rank(k / 8 % 3),
-    };
-    fence.edge_at(k % 8)
-}
-
 impl Edge {
     /// The position of the edge among all edges, in the byte order of their printed names, from 0.
     #[tactic(auto, unfolding(crate::specs::Order::rank_of))]
@@ -364,35 +201,6 @@ impl Edge {
             Edge::Dep { dep, sd, to } => dep.rank(2 * sd.rank() + to.rank()),
             Edge::Data { sd } => 156 + 4 * sd.rank(),
             Edge::Marked(marked) => marked.rank(),
-        }
-    }
-
-    /// The edge of a rank below `EDGES`. The ranks from 0 on give each edge once, in the byte order
-    /// of their printed names.
-    pub fn at_rank(k: u16) -> Edge
-        requires { k < EDGES }
-        ensures { rank_of result ≡ k }
-    {
-        match k {
-            0..=31 => Dmb::Ld.edge_at(k),
-            32..=63 => Dmb::St.edge_at(k - 32),
-            64..=95 => Dmb::Sy.edge_at(k - 64),
-            96..=103 => FenceKind::Dmb.edge_at(k - 96),
-            104..=119 => MarkableDep::Addr.edge_at(k - 104),
-            120..=135 => MarkableDep::CtrlIsb.edge_at(k - 120),
-            136..=139 => power_dependency_at(k - 136),
-            140..=155 => MarkableDep::Ctrl.edge_at(k - 140),
-            156..=163 => data_at(k - 156),
-            164..=171 => FenceKind::Eieio.edge_at(k - 164),
-            172..=243 => riscv_fence_at(k - 172),
-            244..=251 => Com::Fr.edge_at(k - 244),
-            252..=259 => FenceKind::ISync.edge_at(k - 252),
-            260..=267 => FenceKind::LwSync.edge_at(k - 260),
-            268..=275 => FenceKind::MFence.edge_at(k - 268),
-            276..=307 => program_order_at(k - 276),
-            308..=315 => Com::Rf.edge_at(k - 308),
-            316..=323 => FenceKind::Sync.edge_at(k - 316),
-            _ => Com::Ws.edge_at(k - 324),
         }
     }
 }

@@ -2,6 +2,7 @@ ghost use Rattle.std.specs.{Prelude.{◌≡◌, ◌≤◌, ◌<◌, length, map}
 ghost use Rattle.relax_edges.specs.{WordParts.{word_of}, AllEdges.{edges_in_order}};
 
 use crate::edge::Edge;
+use crate::order::EDGES;
 use arrayvec::ArrayString;
 
 /// The names of all edges, in byte order and row by row, so that the index of each is the rank of its edge.
@@ -174,8 +175,9 @@ const WORDS: [[&str; 2]; 166] = [
     ["WsiLP", "WsiPL"],
 ];
 
-fn words() -> &'static [&'static str]
-    ensures { map (λ word. word.now) result.now ≡ map word_of edges_in_order }
+pub(crate) fn words() -> &'static [&'static str]
+    ensures words { map (λ word. word.now) result.now ≡ map word_of edges_in_order }
+    ensures count { length result.now ≡ EDGES }
 {
     WORDS.as_flattened()
 }

@@ -26,10 +26,12 @@ exit_of statuses.Done = 0
 exit_of (statuses.Refused _) = 1
 exit_of (statuses.BadText _ _ _) = 1
 exit_of (statuses.NoFile _) = 1
+exit_of (statuses.NoBlock _) = 1
 exit_of (statuses.Usage _ _) = 2
 exit_of (statuses.ReadFault _) = 3
 exit_of (statuses.WriteFault _) = 3
 exit_of statuses.NoMemory = 4
+exit_of statuses.Skipped = 5
 
 -- the text of a refusal
 abbrev pub refusal_text : Refusal → List ℕ
@@ -176,15 +178,17 @@ text_line file line kind = text_head file line ++ kind ++ codes "\n"
 abbrev pub usage_line : List ℕ → List ℕ → List ℕ
 usage_line name shown = codes "diy: usage " ++ name ++ shown ++ codes "\n"
 
--- the line of a status; Done has none
+-- the line of a status; Done and Skipped have none
 abbrev pub status_line : List (List ℕ) → Status → List ℕ
 status_line words statuses.Done = []
+status_line words statuses.Skipped = []
 status_line words (statuses.Refused refusal) = refusal_line (refusal_text refusal)
 status_line words (statuses.Usage word kind) =
     usage_line (usage_text kind) (shown_word (option_map (fault_part kind) (slice_get words word)))
 status_line words (statuses.BadText file line kind) =
     text_line (file_text words file) line (kind_text kind)
 status_line words (statuses.NoFile word) = codes "diy: no file: " ++ word_at words word ++ codes "\n"
+status_line words (statuses.NoBlock word) = codes "diy: no block: " ++ word_at words word ++ codes "\n"
 status_line words (statuses.ReadFault device) = codes "diy: read fault: " ++ device_text device ++ codes "\n"
 status_line words (statuses.WriteFault device) = codes "diy: write fault: " ++ device_text device ++ codes "\n"
 status_line words statuses.NoMemory = codes "diy: no memory\n"

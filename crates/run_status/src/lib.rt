@@ -1,8 +1,9 @@
-//! How a call of the tools ended: its exit status, and its line on standard error.
+//! How a call of the tools ended: its exit status, and its lines on standard error.
 #![tactic(auto)]
 
 mod line;
+mod outcome;
 mod status;
 
-pub use line::report;
+pub use outcome::{Outcome, report};
 pub use status::{Device, Status, TextKind};

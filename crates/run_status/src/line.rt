@@ -1,6 +1,6 @@
 ghost use Rattle.std.specs.{Prelude.{◌≡◌, ◌<◌, ◌++◌, codes, drop, slice_get, take}, Option.{option_map}, Fmt.{decimal}};
 ghost use Rattle.relax_edges.specs.declared.TheConstants.{MAX_EDGES};
-ghost use Rattle.diy_io.specs.{Page.{Sends}, Wrote.{Wrote}};
+ghost use Rattle.diy_io.specs.Page.{Sends};
 ghost use Rattle.test_maker.specs.declared.refusal.Refusal.TheVariants as refusals;
 ghost use Rattle.test_maker.specs.Made.{NamesLocation};
 ghost use Rattle.run_status.specs.Report.{status_line, refusal_line, refusal_text, usage_line, usage_text, line_text, log_text, test_kind_text, exec_text, kind_text, word_at, file_text, fault_part, shown_word, device_text, StatusNamesLocation, text_line, KindNamesLocation, line_end, text_head};
@@ -16,22 +16,8 @@ use litmus_text::TestKind;
 use log_sum::LogKind;
 use test_maker::Refusal;
 
-/// Writes the line of a status, if it has one. If the sink fails, it has taken a prefix of the line.
-#[inline(never)]
-pub fn report<E: Sink>(status: Status, words: &Words, err: &mut E) -> Result<(), Failed>
-    requires { StatusNamesLocation status }
-    ensures { Wrote (E.seen err.old) (E.seen err.new) (status_line words.now status) result }
-{
-    if let Status::Done = status {
-        return Ok(());
-    }
-    let mut page = Page::new();
-    send_line(status, words, &mut page, err)?;
-    page.flush(err)
-}
-
 /// Sends the line of a status through a page.
-fn send_line<E: Sink>(
+pub(crate) fn send_line<E: Sink>(
     status: Status,
     words: &Words,
     page: &mut Page,
@@ -42,6 +28,7 @@ fn send_line<E: Sink>(
 {
     match status {
         Status::Done => Ok(()),
+        Status::Skipped => Ok(()),
         Status::Refused(refusal) => send_refused(refusal, page, err),
         Status::Usage { word, kind } => send_usage(word, kind, words, page, err),
         Status::BadText { file, line, kind } => {
@@ -49,6 +36,9 @@ fn send_line<E: Sink>(
         }
         Status::NoFile { word } => {
             page.send_pieces(&[b"diy: no file: ", word_at(word, words), b"\n"], err)
+        }
+        Status::NoBlock { word } => {
+            page.send_pieces(&[b"diy: no block: ", word_at(word, words), b"\n"], err)
         }
         Status::ReadFault { of } => {
             page.send_pieces(&[b"diy: read fault: ", device_name(of), b"\n"], err)
@@ -163,7 +153,7 @@ fn line_name(kind: LineKind) -> &'static [u8]
     }
 }
 
-fn log_name(kind: LogKind) -> &'static [u8]
+pub(crate) fn log_name(kind: LogKind) -> &'static [u8]
     ensures { result.now ≡ log_text kind }
 {
     match kind {
@@ -237,7 +227,7 @@ fn send_name<E: Sink>(name: &[u8], page: &mut Page, err: &mut E) -> Result<(), F
 }
 
 /// The argument at an index, or the empty text if there is none.
-fn word_at(place: usize, words: &Words) -> &[u8]
+pub(crate) fn word_at(place: usize, words: &Words) -> &[u8]
     ensures { result.now ≡ word_at words.now place }
 {
     if place < words.len() {
@@ -273,7 +263,12 @@ fn send_text<E: Sink>(
 }
 
 /// Sends the head of the line of an error in a text.
-fn send_head<E: Sink>(file: &[u8], line: u64, page: &mut Page, err: &mut E) -> Result<(), Failed>
+pub(crate) fn send_head<E: Sink>(
+    file: &[u8],
+    line: u64,
+    page: &mut Page,
+    err: &mut E,
+) -> Result<(), Failed>
     ensures { Sends (E.seen err.old) page.old (E.seen err.new) page.new (text_head file.now line) result }
 {
     let mut digits = Buffer::new();

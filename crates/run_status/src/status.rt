@@ -13,6 +13,8 @@ use test_maker::Refusal;
 pub enum Status {
     /// Everything that was asked for is written.
     Done,
+    /// The sum is written, but blocks with an error were left out of it, with `-skip`.
+    Skipped,
     /// The edges make no cycle of the architecture, the cycle has no test of the kind that was asked for,
     /// or nothing can be shown of it with `-why`.
     Refused(Refusal),
@@ -25,6 +27,10 @@ pub enum Status {
     },
     /// There is no file with the name that the argument at this index gives.
     NoFile {
+        word: usize,
+    },
+    /// No log has a block of the test in the file that the argument at this index names.
+    NoBlock {
         word: usize,
     },
     /// The arguments make no request, or no cycle has the name that norm7 is given with `-from`. `word` is the index of
@@ -83,8 +89,9 @@ pub enum TextKind {
 }
 
 impl Status {
-    /// The exit status of the program: 0 if everything is done, 1 for a refusal, an error in a text and a file that
-    /// doesn't exist, 2 for a usage error, 3 if a device failed, and 4 if the tool ran out of memory.
+    /// The exit status of the program: 0 if everything is done, 1 for a refusal, an error in a text, a file that doesn't
+    /// exist and logs without a block of the test, 2 for a usage error, 3 if a device failed, 4 if the tool ran out of
+    /// memory, and 5 if all is done but for blocks of logs that were left out.
     pub fn exit(self) -> u8
         ensures { result ≡ exit_of self }
     {
@@ -93,10 +100,12 @@ impl Status {
             Status::Refused(_) => 1,
             Status::BadText { .. } => 1,
             Status::NoFile { .. } => 1,
+            Status::NoBlock { .. } => 1,
             Status::Usage { .. } => 2,
             Status::ReadFault { .. } => 3,
             Status::WriteFault { .. } => 3,
             Status::NoMemory => 4,
+            Status::Skipped => 5,
         }
     }
 }

@@ -1,16 +1,17 @@
 -- What is rebuilt from a state, and when nothing is.
 use Rattle.std.proofs.Common.{◌≡◌, ℕ, List, Option, Some, None, length, map, sym, ap, subst, ◌∙◌}
 use Rattle.std.proofs.lemmas.{List.length-map, Option.same_Some}
-use Rattle.list_laws.specs.Numbers.{upto}
 use Rattle.list_laws.proofs.Numbers.{length-map-upto}
 use Rattle.final_cond.specs.Conditions.{CondSeen}
 use Rattle.program_meaning.specs.{Accesses.{Access, is_read}, Executions.Execution, Interleavings.accesses_on}
+use Rattle.sc_and_interleavings.specs.CoherenceLaws.{WritesWithin}
 use Rattle.litmus_text.specs.{ReadPrograms.program_read, TestReading.TestRead}
 use Rattle.std.specs.List.{filter}
-use Rattle.states_fix_executions.specs.Rebuilt.{order_by_end, source_by_value}
-use Rattle.rebuilt_executions.specs.Settled.{AreSettled, end_at, rebuilt_from}
-use Rattle.state_verdicts.proofs.{LoadLists.accesses_count, StateLaws.only_ending}
-use Rattle.state_verdicts.specs.{OnlyOne.IsOnlyEnding, StateParts.{FixesExecution, end_given, ends_given, loads_from}}
+use Rattle.states_fix_executions.specs.Rebuilt.{source_by_value}
+use Rattle.write_orders.specs.WriteOrders.{ordered_writes}
+use Rattle.rebuilt_executions.specs.Settled.{FixReads, end_at, rebuilt_from}
+use Rattle.state_verdicts.proofs.{LoadLists.accesses_count, StateLaws.{best_ending, ends_count}}
+use Rattle.state_verdicts.specs.{BestEnding.IsBestEnding, StateParts.{FixesExecution, FixesReads, end_given, ends_given, loads_from}}
 
 -- where not all loads are known, the state fixes nothing
 pub none_given : (register_number : List ℕ → Option ℕ) (test : TestRead) (state : CondSeen) → None ≡ loads_from register_number state.terms 0 test.threads
@@ -24,21 +25,40 @@ pub record AreOfState (register_number : List ℕ → Option ℕ) (test : TestRe
   pub all_is : all ≡ accesses_on (program_read test) loads
   pub ends_is : ends ≡ ends_given test.places state.terms
 
--- where they settle no execution, the state fixes none
+-- where they don't fix what is read, the state doesn't
 pub not_fixed : (register_number : List ℕ → Option ℕ) (test : TestRead) (state : CondSeen) (all : List (List Access)) (ends : List (Option ℕ))
-    → AreOfState register_number test state all ends → (AreSettled all ends → ⊥) → FixesExecution register_number test state → ⊥
-not_fixed register_number test state all ends k unsettled h =
+    → AreOfState register_number test state all ends → (FixReads all (length ends) → ⊥) → FixesReads register_number test state → ⊥
+not_fixed register_number test state all ends k unfixed h =
     let same : h.loads ≡ k.loads = same_Some h.loads k.loads (sym h.given ∙ sym k.given) in
     let a : accesses_on (program_read test) h.loads ≡ all = ap (accesses_on (program_read test)) same ∙ sym k.all_is in
-    unsettled (subst (λ (z : List (List Access) × List (Option ℕ)). AreSettled z.0 z.1) (λ i. (a i, sym k.ends_is i)) h.settled)
+    let n : length test.places ≡ length ends = sym (ends_count test.places state.terms) ∙ ap length (sym k.ends_is) in
+    unfixed (subst (λ (z : List (List Access) × ℕ). FixReads z.0 z.1) (λ i. (a i, n i)) h.reads)
 
--- where they do, no other candidate ends in the state than what is rebuilt
-pub only_rebuilt : (register_number : List ℕ → Option ℕ) (test : TestRead) (state : CondSeen) (all : List (List Access)) (ends : List (Option ℕ)) (x : Execution)
-    → AreOfState register_number test state all ends → AreSettled all ends → x ≡ rebuilt_from all ends → IsOnlyEnding register_number test state x
-only_rebuilt register_number test state all ends x k settled is =
-    only_ending register_number test state k.loads x (sym k.given)
-    (subst (λ (z : List (List Access) × List (Option ℕ)). AreSettled z.0 z.1) (λ i. (k.all_is i, k.ends_is i)) settled)
-    (is ∙ (λ i. rebuilt_from (k.all_is i) (k.ends_is i)))
+-- a state that fixes one execution fixes what is read
+pub reads_too : (register_number : List ℕ → Option ℕ) (test : TestRead) (state : CondSeen) → FixesExecution register_number test state → FixesReads register_number test state
+reads_too register_number test state h = record {
+  loads = h.loads;
+  given = h.given;
+  reads = record {
+    few = h.settled.few;
+    values = h.settled.values;
+    within = subst (WritesWithin (accesses_on (program_read test) h.loads)) (ends_count test.places state.terms) h.settled.within;
+  };
+}
+
+-- where not all loads are known, the state doesn't fix what is read
+pub no_reads : (register_number : List ℕ → Option ℕ) (test : TestRead) (state : CondSeen) → None ≡ loads_from register_number state.terms 0 test.threads
+    → FixesReads register_number test state → ⊥
+no_reads register_number test state e h = let q : None ≡ Some h.loads = e ∙ h.given in cc q
+
+-- where they do, what is rebuilt is as good as any candidate that ends in the state
+pub best_rebuilt : (register_number : List ℕ → Option ℕ) (test : TestRead) (state : CondSeen) (all : List (List Access)) (ends : List (Option ℕ)) (x : Execution)
+    → AreOfState register_number test state all ends → FixReads all (length ends) → x ≡ rebuilt_from all ends → IsBestEnding register_number test state all ends x
+best_rebuilt register_number test state all ends x k reads is =
+    subst (λ (z : List (List Access) × List (Option ℕ)). IsBestEnding register_number test state z.0 z.1 x) (λ i. (sym k.all_is i, sym k.ends_is i))
+    (best_ending register_number test state k.loads x (sym k.given)
+    (subst (λ (z : List (List Access) × List (Option ℕ)). FixReads z.0 (length z.1)) (λ i. (k.all_is i, k.ends_is i)) reads)
+    (is ∙ (λ i. rebuilt_from (k.all_is i) (k.ends_is i))))
 
 -- it has the threads and locations of the test
 pub thread_count : (register_number : List ℕ → Option ℕ) (test : TestRead) (state : CondSeen) (all : List (List Access)) (ends : List (Option ℕ)) (x : Execution)
@@ -50,5 +70,10 @@ thread_count register_number test state all ends x k is =
 pub place_count : (register_number : List ℕ → Option ℕ) (test : TestRead) (state : CondSeen) (all : List (List Access)) (ends : List (Option ℕ)) (x : Execution)
     → AreOfState register_number test state all ends → x ≡ rebuilt_from all ends → length x.orders ≡ length test.places
 place_count register_number test state all ends x k is =
-    ap (λ (y : Execution). length y.orders) is ∙ length-map-upto (λ place. order_by_end all place (end_at ends place)) (length ends)
+    ap (λ (y : Execution). length y.orders) is ∙ length-map-upto (λ place. ordered_writes all place (end_at ends place)) (length ends)
     ∙ ap length k.ends_is ∙ length-map-upto (end_given test.places state.terms) (length test.places)
+
+pub order_count : (register_number : List ℕ → Option ℕ) (test : TestRead) (state : CondSeen) (all : List (List Access)) (ends : List (Option ℕ)) (x : Execution)
+    → AreOfState register_number test state all ends → x ≡ rebuilt_from all ends → length x.orders ≡ length ends
+order_count register_number test state all ends x k is =
+    ap (λ (y : Execution). length y.orders) is ∙ length-map-upto (λ place. ordered_writes all place (end_at ends place)) (length ends)

@@ -3,12 +3,15 @@ use Rattle.std.proofs.Common.{◌≡◌, ℕ, Bool, true, false, List, Option, l
 use Rattle.std.specs.Prelude.{◌↔◌, IsTrue}
 use Rattle.relax_edges.specs.declared.kinds.Value.{Value}
 use Rattle.final_cond.specs.{Conditions.{LeftSeen, CondSeen}, States.Meets}
-use Rattle.program_meaning.specs.{Executions.Execution, Programs.{IsCandidate, IsCoherentIn, accesses_in}, declared.seen.SeenAccess.SeenAccess, SeenAccesses.seen_in}
+use Rattle.program_meaning.specs.{Accesses.Access, Executions.Execution, Programs.{IsCandidate, IsCoherentIn, accesses_in}, declared.seen.SeenAccess.SeenAccess, SeenAccesses.seen_in}
 use Rattle.litmus_text.specs.{ReadPrograms.program_read, TestReading.TestRead}
 use Rattle.sc_and_interleavings.specs.{CoherenceLaws.WritesWithin, Sequential.IsSequential}
-use Rattle.states_fix_executions.specs.{Ordered.can_be_ordered, States.{Any, SomeCoherent, SomeEnding, SomeSequential}}
+use Rattle.states_fix_executions.specs.{Ordered.can_be_ordered, States.{SomeCoherent}}
 use Rattle.states_fix_executions.proofs.Ordering.{sequential_is_decided}
-use Rattle.state_verdicts.specs.{OnlyOne.IsOnlyEnding, Verdicts.{EndsInState, IsVerdictOf}}
+use Rattle.sc_and_interleavings.proofs.InterleavingLaws.{sequential_is_coherent}
+use Rattle.write_orders.specs.WriteOrders.{have_an_order}
+use Rattle.rebuilt_executions.specs.Settled.{are_forced, end_at}
+use Rattle.state_verdicts.specs.{BestEnding.IsBestEnding, Verdicts.{EndsInState, IsVerdictOf}}
 use Rattle.state_verdicts.specs.declared.verdict.Verdict.TheVariants as verdicts
 
 -- a state that is judged in an equal final state has the same answer
@@ -25,35 +28,49 @@ order_decides test x seen looked answer candidate within e f a =
     let s : can_be_ordered looked ≡ can_be_ordered (seen_in (program_read test) x) = ap can_be_ordered (f ∙ e) in
     ((λ t. d.0 (sym s ∙ sym a ∙ t)), (λ h. a ∙ s ∙ d.1 h))
 
--- no candidate ends so where the one that could isn't one
-pub no_candidate : (register_number : List ℕ → Option ℕ) (test : TestRead) (state : CondSeen) (x : Execution) → IsOnlyEnding register_number test state x
-    → (IsCandidate (program_read test) x → ⊥) → IsVerdictOf register_number test state verdicts.Impossible
-no_candidate register_number test state x o h s =
-    h (subst (IsCandidate (program_read test)) (o.only s.execution s.candidate s.ends) s.candidate)
+-- no candidate ends so where the best one isn't one
+pub no_candidate : (register_number : List ℕ → Option ℕ) (test : TestRead) (state : CondSeen) (all : List (List Access)) (ends : List (Option ℕ)) (x : Execution)
+    → IsBestEnding register_number test state all ends x → (IsCandidate (program_read test) x → ⊥) → IsVerdictOf register_number test state verdicts.Impossible
+no_candidate register_number test state all ends x o h s = h (o.best s.execution s.candidate s.ends).0
 
 -- or where it ends otherwise
-pub ends_otherwise : (register_number : List ℕ → Option ℕ) (test : TestRead) (state : CondSeen) (x : Execution) → IsOnlyEnding register_number test state x
-    → (EndsInState register_number test state x → ⊥) → IsVerdictOf register_number test state verdicts.Impossible
-ends_otherwise register_number test state x o h s =
-    h (subst (EndsInState register_number test state) (o.only s.execution s.candidate s.ends) s.ends)
+pub ends_otherwise : (register_number : List ℕ → Option ℕ) (test : TestRead) (state : CondSeen) (all : List (List Access)) (ends : List (Option ℕ)) (x : Execution)
+    → IsBestEnding register_number test state all ends x → (EndsInState register_number test state x → ⊥) → IsVerdictOf register_number test state verdicts.Impossible
+ends_otherwise register_number test state all ends x o h s = h (o.best s.execution s.candidate s.ends).1
 
--- what holds of the only candidate that ends so
+-- what holds of a candidate that ends so
 pub sequential_here : (register_number : List ℕ → Option ℕ) (test : TestRead) (state : CondSeen) (x : Execution) → IsCandidate (program_read test) x
     → EndsInState register_number test state x → IsSequential (accesses_in (program_read test) x) x → IsVerdictOf register_number test state verdicts.Sequential
 sequential_here register_number test state x candidate ends holds = record { execution = x; candidate = candidate; ends = ends; holds = holds }
 
-pub relaxed_here : (register_number : List ℕ → Option ℕ) (test : TestRead) (state : CondSeen) (x : Execution) → IsOnlyEnding register_number test state x
-    → IsCandidate (program_read test) x → EndsInState register_number test state x → (IsSequential (accesses_in (program_read test) x) x → ⊥) → IsCoherentIn (program_read test) x
+-- what holds of the only coherent one
+pub relaxed_here : (register_number : List ℕ → Option ℕ) (test : TestRead) (state : CondSeen) (all : List (List Access)) (given : List (Option ℕ)) (x : Execution)
+    → IsBestEnding register_number test state all given x → IsCandidate (program_read test) x → EndsInState register_number test state x
+    → (IsSequential (accesses_in (program_read test) x) x → ⊥) → IsCoherentIn (program_read test) x → are_forced all given x ≡ true
     → IsVerdictOf register_number test state verdicts.Relaxed
-relaxed_here register_number test state x o candidate ends h coherent = (
-  (λ s. h (subst (λ y. IsSequential (accesses_in (program_read test) y) y) (o.only s.execution s.candidate s.ends) s.holds)),
+relaxed_here register_number test state all given x o candidate ends h coherent forced = (
+  (λ s. let c = sequential_is_coherent (program_read test) s.execution s.candidate (o.within s.execution s.candidate s.ends) s.holds in
+      h (subst (λ y. IsSequential (accesses_in (program_read test) y) y) (o.only forced s.execution s.candidate s.ends c) s.holds)),
   record { execution = x; candidate = candidate; ends = ends; holds = coherent },
 )
 
-pub incoherent_here : (register_number : List ℕ → Option ℕ) (test : TestRead) (state : CondSeen) (x : Execution) → IsOnlyEnding register_number test state x
-    → IsCandidate (program_read test) x → EndsInState register_number test state x → (IsCoherentIn (program_read test) x → ⊥)
-    → IsVerdictOf register_number test state verdicts.Incoherent
-incoherent_here register_number test state x o candidate ends h = (
-  (λ s. h (subst (IsCoherentIn (program_read test)) (o.only s.execution s.candidate s.ends) s.holds)),
+-- or of all, where the accesses have no order
+pub unordered_here : (register_number : List ℕ → Option ℕ) (test : TestRead) (state : CondSeen) (all : List (List Access)) (given : List (Option ℕ)) (x : Execution)
+    → IsBestEnding register_number test state all given x → IsCandidate (program_read test) x → EndsInState register_number test state x
+    → IsCoherentIn (program_read test) x → have_an_order all (end_at given) ≡ false → IsVerdictOf register_number test state verdicts.Relaxed
+unordered_here register_number test state all given x o candidate ends coherent none =
+    (o.ordered none, record { execution = x; candidate = candidate; ends = ends; holds = coherent })
+
+-- none is coherent where the best one isn't
+pub incoherent_here : (register_number : List ℕ → Option ℕ) (test : TestRead) (state : CondSeen) (all : List (List Access)) (given : List (Option ℕ)) (x : Execution)
+    → IsBestEnding register_number test state all given x → IsCandidate (program_read test) x → EndsInState register_number test state x
+    → (IsCoherentIn (program_read test) x → ⊥) → IsVerdictOf register_number test state verdicts.Incoherent
+incoherent_here register_number test state all given x o candidate ends h = (
+  (λ s. h ((o.best s.execution s.candidate s.ends).2 s.holds)),
   record { execution = x; candidate = candidate; ends = ends; holds = tt },
 )
+
+-- some is coherent where it is
+pub coherent_here : (register_number : List ℕ → Option ℕ) (test : TestRead) (state : CondSeen) (x : Execution) → IsCandidate (program_read test) x
+    → EndsInState register_number test state x → IsCoherentIn (program_read test) x → SomeCoherent (program_read test) (EndsInState register_number test state)
+coherent_here register_number test state x candidate ends holds = record { execution = x; candidate = candidate; ends = ends; holds = holds }

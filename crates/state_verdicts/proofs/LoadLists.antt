@@ -1,11 +1,11 @@
 -- How the loops over threads list the values of loads, and the accesses that they lead to.
 use Rattle.std.proofs.Common.{◌≡◌, ℕ, zero, suc, ◌+◌, ◌≤◌, List, [], ◌∷◌, ◌++◌, length, map, take, drop, Option, Some, None, slice_get, refl, sym, ap, ◌∙◌, arith, add-one, append_assoc, append-nil}
 use Rattle.std.specs.Prelude.{option_map}
-use Rattle.std.proofs.lemmas.{List.drop_all, List.length-map, List.map_push, List.take_more, List.take_all, Option.same_Some, Option.slice_get_within, Option.get_or_from_slice_get}
+use Rattle.std.proofs.lemmas.{List.drop_all, List.length-map, List.take_more, List.take_all, Option.same_Some, Option.slice_get_within, Option.get_or_from_slice_get}
 use Rattle.list_laws.proofs.Elements.{drop_given}
 use Rattle.accesses_force_cycles.proofs.Lists.{got_map}
 use Rattle.relax_edges.specs.declared.kinds.Value.{Value}
-use Rattle.micro_ops.specs.{declared.operation.Micro.Micro, Running.{Outcome, runs}}
+use Rattle.micro_ops.specs.{declared.operation.Micro.Micro, Running.{runs}}
 use Rattle.final_cond.specs.Conditions.{TermSeen}
 use Rattle.program_meaning.specs.{Accesses.{Access, accesses_of, visits_of}, Interleavings.{accesses_on, runs_on}, Programs.{Thread, made_in}}
 use Rattle.litmus_text.specs.{ReadPrograms.{program_read, thread_read}, TestReading.{TestRead, ThreadRead}}

@@ -1,25 +1,28 @@
--- A candidate that ends in a state reads what the state says, and is the execution that the state fixes.
-use Rattle.std.proofs.Common.{◌≡◌, ℕ, zero, suc, ◌+◌, ◌<◌, ◌==◌, Bool, true, false, cond, List, [], ◌∷◌, length, map, Option, Some, None, slice_get, ◌∙◌, refl, sym, ap, subst, arith}
-use Rattle.std.specs.{Prelude.option_map, Option.option_and_then, List.AllByRecursion}
-use Rattle.std.proofs.lemmas.{Bool.eqb-true, Option.same_Some, List.length-map}
+-- A candidate that ends in a state reads what the state says, and what is rebuilt from the state is as good.
+use Rattle.std.proofs.Common.{◌≡◌, ℕ, suc, ◌+◌, ◌<◌, ◌==◌, true, false, cond, List, [], ◌∷◌, length, map, Option, Some, None, slice_get, ◌∙◌, refl, sym, ap, subst, arith, inl, inr}
+use Rattle.std.specs.{Prelude.{option_map, ◌⊎◌}, Option.option_and_then, List.AllByRecursion, Str.bytes_eq}
+use Rattle.std.proofs.lemmas.{Bool.eqb-true, Bool.eq-eqb, Option.same_Some, Option.slice_get_within, List.length-map}
 use Rattle.list_laws.specs.Numbers.{upto}
 use Rattle.list_laws.proofs.{Cases.by_test, Cases.by_option, Numbers.length-map-upto, Numbers.slice_get-map-upto}
-use Rattle.relax_edges.specs.{declared.kinds.Value.Value, declared.kinds.Value.TheVariants.Num}
-use Rattle.micro_ops.specs.{declared.operation.Item.Item, Running.{Outcome, Ended, ReadsLeft, ReadsShort, NoRule, runs}}
+use Rattle.relax_edges.specs.{declared.kinds.Value.TheVariants.Num}
+use Rattle.micro_ops.specs.{Running.{Outcome, Ended, ReadsLeft, ReadsShort, NoRule}}
 use Rattle.final_cond.specs.Conditions.{AtPlace, CondSeen, InRegister, LeftSeen, TermSeen}
 use Rattle.arch_trait.specs.PlaceNames.{number_in}
-use Rattle.program_meaning.specs.{declared.WriteAt.WriteAt, Accesses.Access, Executions.Execution, Coherence.final_value, Interleavings.accesses_on}
+use Rattle.program_meaning.specs.{declared.WriteAt.WriteAt, Executions.Execution, Coherence.final_value, Coherence.order_at, Interleavings.accesses_on}
 use Rattle.program_meaning.specs.Programs.{Program, HasEnded, IsCandidate, accesses_in, held_at_end, held_at_last, register_in, run_of, runs_of}
-use Rattle.program_meaning.proofs.Runs.{accesses-count}
+use Rattle.program_meaning.proofs.{ElementTests.every_from, ElementTests.every_means, Runs.accesses-count}
+use Rattle.accesses_force_cycles.proofs.Lists.{got_below}
 use Rattle.litmus_text.specs.{ReadPrograms.{program_read, thread_read}, TestReading.{TestRead, ThreadRead}}
-use Rattle.sc_and_interleavings.specs.{Along.values_in, CoherenceLaws.WritesWithin}
+use Rattle.sc_and_interleavings.specs.{CoherenceLaws.WritesWithin}
 use Rattle.tests_force_cycles.specs.FinalStates.{final_state}
-use Rattle.states_fix_executions.specs.{States.{EndsIn, EndsWith, FinalState}, Rebuilt.{Fixes, order_by_end, rebuilt}}
-use Rattle.states_fix_executions.proofs.{Endings.accesses_same, Rebuilding.only_the_rebuilt}
-use Rattle.rebuilt_executions.specs.{LoadValues.{known_value, values_of_loads}, Settled.{AreSettled, end_at, rebuilt_from}}
+use Rattle.states_fix_executions.specs.{States.{EndsIn, EndsWith, FinalState}, Rebuilt.Fixes}
+use Rattle.states_fix_executions.proofs.{Endings.accesses_same, Lists.position_means}
+use Rattle.write_orders.specs.{OrderLaws.FixesReads as Known, WriteOrders.{AreForced, is_forced, ordered_writes, sorted_execution}}
+use Rattle.write_orders.proofs.{Best.sorted_is_best, AlwaysBefore.none_is_sequential, Forced.forced_is_only, Forced.settled_is_forced}
+use Rattle.rebuilt_executions.specs.{LoadValues.{known_value, values_of_loads}, Settled.{AreSettled, FixReads, are_forced, end_at, given, rebuilt_from}}
 use Rattle.rebuilt_executions.proofs.LoadsRead.{loads_read}
-use Rattle.state_verdicts.specs.{OnlyOne.IsOnlyEnding, Verdicts.EndsInState}
-use Rattle.state_verdicts.specs.StateParts.{register_named, with_register, known_registers, thread_loads, with_loads, loads_from, is_number, place_named, end_given, ends_given}
+use Rattle.state_verdicts.specs.{BestEnding.IsBestEnding, Verdicts.EndsInState}
+use Rattle.state_verdicts.specs.StateParts.{FixesExecution, register_named, with_register, known_registers, thread_loads, with_loads, loads_from, is_number, place_named, end_given, ends_given}
 
 -- each equality holds at the end of an execution
 abbrev AllHold : Program → List (List ℕ) → (List ℕ → Option ℕ) → Execution → List TermSeen → Type 0
@@ -163,35 +166,133 @@ ends_in register_number test state loads x h candidate ends = record {
       (end_holds (program_read test) test.places register_number x place state.terms ends);
 }
 
-ends_count : (names : List (List ℕ)) (terms : List TermSeen) → length (ends_given names terms) ≡ length names
+pub ends_count : (names : List (List ℕ)) (terms : List TermSeen) → length (ends_given names terms) ≡ length names
 ends_count names terms = length-map-upto (end_given names terms) (length names)
 
--- so it is the execution that is rebuilt
-pub only_ending : (register_number : List ℕ → Option ℕ) (test : TestRead) (state : CondSeen) (loads : List (List ℕ)) (x : Execution)
+-- a location is named by one of these equalities
+abbrev NamedIn : List (List ℕ) → ℕ → List TermSeen → Type 0
+NamedIn names place [] = ⊥
+NamedIn names place (term ∷ terms) = (place_named names term.left ≡ Some place) ⊎ NamedIn names place terms
+
+named_below : (names : List (List ℕ)) (place : ℕ) (left : LeftSeen) → place_named names left ≡ Some place → place < length names
+named_below names place (InRegister thread name) e = cc e
+named_below names place (AtPlace name) e = let m = position_means (λ x. bytes_eq x name) names place e in slice_get_within names place m.0 m.1
+
+-- then it is one of the test's, and a final value is given
+record GivenEnd (names : List (List ℕ)) (terms : List TermSeen) (place : ℕ) : Type 0 where
+  below : place < length names
+  value : ℕ
+  given : end_given names terms place ≡ Some value
+
+given_end : (names : List (List ℕ)) (terms : List TermSeen) (place : ℕ) → NamedIn names place terms → GivenEnd names terms place
+given_end names [] place n = absurd n
+given_end names (term ∷ terms) place (inl e) =
+    let t : is_number place (place_named names term.left) ≡ true = ap (is_number place) e ∙ eq-eqb place place refl in
+    record { below = named_below names place term.left e; value = term.value; given = ap (λ b. cond b (Some term.value) (end_given names terms place)) t }
+given_end names (term ∷ terms) place (inr n) =
+    let g = given_end names terms place n in
+    by_test (is_number place (place_named names term.left))
+    (λ t. record { below = g.below; value = term.value; given = ap (λ b. cond b (Some term.value) (end_given names terms place)) t })
+    (λ f. record { below = g.below; value = g.value; given = ap (λ b. cond b (Some term.value) (end_given names terms place)) f ∙ g.given })
+
+-- what a left side has at the ends of two executions with the same reads
+left_alike : (p : Program) (names : List (List ℕ)) (register_number : List ℕ → Option ℕ) (x y : Execution) (left : LeftSeen) → x.reads ≡ y.reads
+    → ((place : ℕ) → place_named names left ≡ Some place → final_value (accesses_in p x) x place ≡ final_value (accesses_in p y) y place)
+    → final_state p names register_number x left ≡ final_state p names register_number y left
+left_alike p names register_number x y (InRegister thread name) r h =
+    ap (λ reads. option_and_then (λ register. held_at_last (slice_get (runs_of p.threads reads) thread) register) (register_number name)) r
+left_alike p names register_number x y (AtPlace name) r h =
+    by_option (number_in names name)
+    (λ e. ap (option_map (λ place. Num (final_value (accesses_in p x) x place))) e ∙ sym (ap (option_map (λ place. Num (final_value (accesses_in p y) y place))) e))
+    (λ k e. ap (option_map (λ place. Num (final_value (accesses_in p x) x place))) e ∙ ap (λ n. Some (Num n)) (h k e)
+    ∙ sym (ap (option_map (λ place. Num (final_value (accesses_in p y) y place))) e))
+
+all_alike : (p : Program) (names : List (List ℕ)) (register_number : List ℕ → Option ℕ) (x y : Execution) (terms : List TermSeen) → x.reads ≡ y.reads
+    → ((place : ℕ) → NamedIn names place terms → final_value (accesses_in p x) x place ≡ final_value (accesses_in p y) y place)
+    → AllHold p names register_number y terms → AllHold p names register_number x terms
+all_alike p names register_number x y [] r h all = tt
+all_alike p names register_number x y (term ∷ terms) r h all = (
+  left_alike p names register_number x y term.left r (λ place e. h place (inl e)) ∙ all.0,
+  all_alike p names register_number x y terms r (λ place n. h place (inr n)) all.1,
+)
+
+-- so one that ends as well as another ends in the state if the other does
+ends_as_well : (register_number : List ℕ → Option ℕ) (test : TestRead) (state : CondSeen) (loads : List (List ℕ)) (x y : Execution) → x.reads ≡ y.reads
+    → EndsIn (program_read test) (state_of test state loads) x → EndsIn (program_read test) (state_of test state loads) y → EndsInState register_number test state y
+    → EndsInState register_number test state x
+ends_as_well register_number test state loads x y r ex ey h =
+    all_alike (program_read test) test.places register_number x y state.terms r
+    (λ place n. let g = given_end test.places state.terms place n in
+    let e : end_at (ends_given test.places state.terms) place ≡ Some g.value = end_is test.places state.terms place g.below ∙ g.given in
+    let a : EndsWith (Some g.value) (final_value (accesses_in (program_read test) x) x place) = subst (λ o. EndsWith o (final_value (accesses_in (program_read test) x) x place)) e (ex.ends place g.below) in
+    let b : EndsWith (Some g.value) (final_value (accesses_in (program_read test) y) y place) = subst (λ o. EndsWith o (final_value (accesses_in (program_read test) y) y place)) e (ey.ends place g.below) in
+    a ∙ sym b)
+    h
+
+-- the test of forced orders decides it
+forced_means : (test : TestRead) (state : CondSeen) (loads : List (List ℕ)) (x : Execution) → are_forced (accesses_on (program_read test) loads) (ends_given test.places state.terms) x ≡ true
+    → AreForced (program_read test) (state_of test state loads) x
+forced_means test state loads x h place l =
+    let o = got_below (ends_given test.places state.terms) place (omega (arith, l, ends_count test.places state.terms)) in
+    let t = every_means (λ place end. is_forced (accesses_on (program_read test) loads) place end (order_at x place)) 0 (ends_given test.places state.terms) h place place o.element (omega arith) o.got in
+    subst (λ end. is_forced (accesses_on (program_read test) loads) place end (order_at x place) ≡ true) (sym (ap given o.got)) t
+
+forced_from : (test : TestRead) (state : CondSeen) (loads : List (List ℕ)) (x : Execution) → AreForced (program_read test) (state_of test state loads) x
+    → are_forced (accesses_on (program_read test) loads) (ends_given test.places state.terms) x ≡ true
+forced_from test state loads x h =
+    every_from (λ place end. is_forced (accesses_on (program_read test) loads) place end (order_at x place)) 0 (ends_given test.places state.terms)
+    (λ k place end r e. let s : k ≡ place = omega (arith, r) in
+    let l : k < length test.places = omega (arith, slice_get_within (ends_given test.places state.terms) k end e, ends_count test.places state.terms) in
+    subst (λ n. is_forced (accesses_on (program_read test) loads) n end (order_at x n) ≡ true) s
+    (subst (λ end. is_forced (accesses_on (program_read test) loads) k end (order_at x k) ≡ true) (ap given e) (h k l)))
+
+-- what is rebuilt is as good as any candidate that ends in the state
+pub best_ending : (register_number : List ℕ → Option ℕ) (test : TestRead) (state : CondSeen) (loads : List (List ℕ)) (x : Execution)
     → loads_from register_number state.terms 0 test.threads ≡ Some loads
-    → AreSettled (accesses_on (program_read test) loads) (ends_given test.places state.terms)
+    → FixReads (accesses_on (program_read test) loads) (length (ends_given test.places state.terms))
     → x ≡ rebuilt_from (accesses_on (program_read test) loads) (ends_given test.places state.terms)
-    → IsOnlyEnding register_number test state x
-only_ending register_number test state loads x h settled is = record {
-  only = λ y candidate ends.
-      only_the_rebuilt (program_read test) (state_of test state loads) y fixes candidate (ends_in register_number test state loads y h candidate ends)
-      ∙ sym same ∙ sym is;
-  within = λ candidate ends.
-      subst (λ t. WritesWithin t (length test.places)) (sym (accesses_same (program_read test) (state_of test state loads) x (ends_in register_number test state loads x h candidate ends)))
-      (subst (WritesWithin (accesses_on (program_read test) loads)) (ends_count test.places state.terms) settled.within);
-}
+    → IsBestEnding register_number test state (accesses_on (program_read test) loads) (ends_given test.places state.terms) x
+best_ending register_number test state loads x h reads is =
+    subst (IsBestEnding register_number test state (accesses_on (program_read test) loads) (ends_given test.places state.terms)) (sym same ∙ sym is) (record {
+      best = λ y candidate ends.
+          let e = ends_in register_number test state loads y h candidate ends in
+          let g = sorted_is_best (program_read test) (state_of test state loads) y fixes candidate e in
+          (g.candidate, ends_as_well register_number test state loads (sorted_execution (program_read test) (state_of test state loads)) y g.reads g.ends e ends, g.coherent);
+      only = λ forced y candidate ends coherent.
+          forced_is_only (program_read test) (state_of test state loads) y fixes (forced_means test state loads (sorted_execution (program_read test) (state_of test state loads)) forced) candidate
+          (ends_in register_number test state loads y h candidate ends) coherent;
+      within = λ y candidate ends.
+          subst (λ t. WritesWithin t (length test.places)) (sym (accesses_same (program_read test) (state_of test state loads) y (ends_in register_number test state loads y h candidate ends)))
+          fixes.within;
+      settled = λ f candidate ends.
+          forced_from test state loads (sorted_execution (program_read test) (state_of test state loads))
+          (settled_is_forced (program_read test) (state_of test state loads) (all_fixed f) candidate
+          (ends_in register_number test state loads (sorted_execution (program_read test) (state_of test state loads)) h candidate ends));
+      ordered = λ none s.
+          none_is_sequential (program_read test) (state_of test state loads) fixes none
+          (record { execution = s.execution; candidate = s.candidate; ends = ends_in register_number test state loads s.execution h s.candidate s.ends; holds = s.holds });
+    })
   where
-    fixes : Fixes (program_read test) (state_of test state loads)
+    fixes : Known (program_read test) (state_of test state loads)
     fixes = record {
-      values = settled.values;
-      settled = λ place l. settled.settled place (subst (λ n. place < n) (sym (ends_count test.places state.terms)) l);
+      values = reads.values;
+      within = subst (WritesWithin (accesses_on (program_read test) loads)) (ends_count test.places state.terms) reads.within;
     }
 
-    same : rebuilt_from (accesses_on (program_read test) loads) (ends_given test.places state.terms) ≡ rebuilt (program_read test) (state_of test state loads)
+    all_fixed : FixesExecution register_number test state → Fixes (program_read test) (state_of test state loads)
+    all_fixed f =
+        let l : f.loads ≡ loads = same_Some f.loads loads (sym f.given ∙ h) in
+        let settled = subst (λ z. AreSettled (accesses_on (program_read test) z) (ends_given test.places state.terms)) l f.settled in
+        record {
+          values = settled.values;
+          settled = λ place l. settled.settled place (subst (λ n. place < n) (sym (ends_count test.places state.terms)) l);
+        }
+
+    same : rebuilt_from (accesses_on (program_read test) loads) (ends_given test.places state.terms) ≡ sorted_execution (program_read test) (state_of test state loads)
     same = ap (λ n. record {
-      reads = (rebuilt (program_read test) (state_of test state loads)).reads;
+      reads = (sorted_execution (program_read test) (state_of test state loads)).reads;
       orders = map (λ place. order_of place) (upto n);
     }) (ends_count test.places state.terms)
       where
         order_of : ℕ → List WriteAt
-        order_of place = order_by_end (accesses_on (program_read test) loads) place (end_at (ends_given test.places state.terms) place)
+        order_of place = ordered_writes (accesses_on (program_read test) loads) place (end_at (ends_given test.places state.terms) place)

@@ -1,3 +1,3 @@
 pub mod Verdicts
 pub mod StateParts
-pub mod OnlyOne
+pub mod BestEnding

@@ -1,12 +1,12 @@
 -- What a state says of the loads of a test's threads, and of its locations; and when this fixes the execution.
 -- Source: own.
-use Rattle.std.specs.Prelude.{ℕ, zero, suc, ◌≡◌, ◌==◌, Bool, false, cond, List, [], ◌∷◌, length, map, Option, Some, None, option_map}
+use Rattle.std.specs.Prelude.{ℕ, suc, ◌≡◌, ◌==◌, Bool, false, cond, List, [], ◌∷◌, length, map, Option, Some, None, option_map}
 use Rattle.list_laws.specs.Numbers.{upto}
 use Rattle.final_cond.specs.Conditions.{AtPlace, CondSeen, InRegister, LeftSeen, TermSeen}
 use Rattle.arch_trait.specs.PlaceNames.{number_in}
 use Rattle.program_meaning.specs.Interleavings.{accesses_on}
 use Rattle.litmus_text.specs.{ReadPrograms.program_read, TestReading.{TestRead, ThreadRead}}
-use Rattle.rebuilt_executions.specs.{LoadValues.values_of_loads, Settled.AreSettled}
+use Rattle.rebuilt_executions.specs.{LoadValues.values_of_loads, Settled.{AreSettled, FixReads}}
 
 -- the register of a thread that a left side names, by its number
 abbrev pub register_named : (List ℕ → Option ℕ) → ℕ → LeftSeen → Option ℕ
@@ -57,6 +57,13 @@ end_given names (term ∷ terms) place = cond (is_number place (place_named name
 -- the final value of each location
 abbrev pub ends_given : List (List ℕ) → List TermSeen → List (Option ℕ)
 ends_given names terms = map (end_given names terms) (upto (length names))
+
+-- a state fixes what the loads of a test read: it gives the values of all loads, the writes that these lead to have their own values and are
+-- to the test's locations, and no thread makes more than 256 accesses
+pub record FixesReads (register_number : List ℕ → Option ℕ) (test : TestRead) (state : CondSeen) : Type 0 where
+  pub loads : List (List ℕ)
+  pub given : loads_from register_number state.terms 0 test.threads ≡ Some loads
+  pub reads : FixReads (accesses_on (program_read test) loads) (length test.places)
 
 -- a state fixes one execution of a test: it gives the values of all loads, and these, with the final values that it gives, settle the execution
 pub record FixesExecution (register_number : List ℕ → Option ℕ) (test : TestRead) (state : CondSeen) : Type 0 where

@@ -25,3 +25,7 @@ IsVerdict p Ends verdicts.Undecided = Unit {0}
 -- a verdict is that of a state of a test
 abbrev pub IsVerdictOf : (List ℕ → Option ℕ) → TestRead → CondSeen → Verdict → Type 0
 IsVerdictOf register_number test state v = IsVerdict (program_read test) (EndsInState register_number test state) v
+
+-- a coherent candidate execution of a test ends in a state
+abbrev pub CoherentEndsIn : (List ℕ → Option ℕ) → TestRead → CondSeen → Type 0
+CoherentEndsIn register_number test state = SomeCoherent (program_read test) (EndsInState register_number test state)

@@ -1,7 +1,7 @@
 ghost use Rattle.std.specs.Prelude.{◌≡◌, IfOk};
 ghost use Rattle.final_cond.specs.Conditions.{cond_view};
 ghost use Rattle.arch_trait.specs.PlaceNames.{number_in};
-ghost use Rattle.state_verdicts.specs.{Verdicts.{IsVerdictOf}, StateParts.{FixesExecution}};
+ghost use Rattle.state_verdicts.specs.{Verdicts.{CoherentEndsIn, IsVerdictOf}, StateParts.{FixesExecution, FixesReads}};
 
 use crate::judged::judged;
 use crate::loads::{all_accesses, all_loads};
@@ -22,6 +22,8 @@ use std::alloc::Global;
 /// of a load is written again later, a branch leads elsewhere than to the label right after it, a write
 /// has the value 0, two writes to a location have the same value, a location has two writes and the state
 /// doesn't give its final value, a location has more than two writes, or a thread makes more than 256 accesses.
+/// If the order of some writes is all that is missing, it is `Undecided` only if a coherent execution ends in
+/// the state, so that it hides neither `Incoherent` nor `Impossible`.
 /// It may return `NoMemory` instead.
 pub fn verdict_of<A: Arch>(
     alloc: Global,
@@ -30,6 +32,7 @@ pub fn verdict_of<A: Arch>(
 ) -> Result<Verdict, NoMemory>
     ensures verdict { IfOk result (λ v. IsVerdictOf (number_in A.writing.registers) test.now (cond_view state.now) v) }
     ensures decided { IfOk result (λ v. FixesExecution (number_in A.writing.registers) test.now (cond_view state.now) → v ≡ Verdict.Undecided → ⊥) }
+    ensures coherent { IfOk result (λ v. FixesReads (number_in A.writing.registers) test.now (cond_view state.now) → v ≡ Verdict.Undecided → CoherentEndsIn (number_in A.writing.registers) test.now (cond_view state.now)) }
 {
     let Some(loads) = all_loads(alloc, test, state)? else {
         return Ok(Verdict::Undecided);
@@ -37,7 +40,7 @@ pub fn verdict_of<A: Arch>(
     let all = all_accesses(alloc, test, &loads)?;
     let ends = ends_given(alloc, test.places(), state)?;
     match rebuilt_execution(alloc, &all, &ends)? {
-        Some(exec) => judged(alloc, test, state, &exec),
+        Some(exec) => judged(alloc, test, state, &all, &ends, &exec),
         None => Ok(Verdict::Undecided),
     }
 }

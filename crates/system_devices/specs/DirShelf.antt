@@ -16,6 +16,8 @@ pub record DirShelfState : Type 0 where
   pub faults : ℕ
   pub taken : ℕ
   pub opened : ℕ
+  pub ends : ℕ
+  pub faults_at_open : ℕ
 
 -- it shows nothing of its files
 abbrev pub dir_shelf_seen : DirShelfState → ShelfSeen
@@ -25,4 +27,6 @@ dir_shelf_seen shelf = record {
   faults = shelf.faults;
   taken = shelf.taken;
   opened = shelf.opened;
+  ends = shelf.ends;
+  faults_at_open = shelf.faults_at_open;
 }

@@ -15,6 +15,10 @@ std_source_faults source = source.faults
 abbrev pub std_source_taken : {R : Type 0} → StdSource R → ℕ
 std_source_taken source = source.taken
 
+-- how often the end was seen
+abbrev pub std_source_ends : {R : Type 0} → StdSource R → ℕ
+std_source_ends source = source.ends
+
 -- it shows nothing of the bytes to come
 abbrev pub std_source_seen : {R : Type 0} → StdSource R → SourceSeen
-std_source_seen source = record { left = None; taken = source.taken; faults = source.faults }
+std_source_seen source = record { left = None; taken = source.taken; faults = source.faults; ends = source.ends }

@@ -5,7 +5,7 @@ ghost use Rattle.diy_io.specs.Shelf.{ShelfSeen, Idle, name_written, IsReading, I
 ghost use Rattle.system_devices.specs.DirShelf.{dir_shelf_seen};
 
 use crate::again::{read_again, write_again};
-use diy_io::{Failed, OpenError, Shelf};
+use diy_io::{Failed, OpenError, Shelf, ends_after};
 use std::alloc::{AllocError, Global};
 use std::fs::OpenOptions;
 use std::io::{Error, ErrorKind, Write};
@@ -50,6 +50,8 @@ pub struct DirShelf<R: Files> {
     faults: u64,
     taken: u64,
     opened: u64,
+    ends: u64,
+    faults_at_open: u64,
 }
 
 impl<R: Files> Model for DirShelf<R> {
@@ -63,6 +65,8 @@ impl<R: Files> Model for DirShelf<R> {
       faults = s.faults;
       taken = s.taken;
       opened = s.opened;
+      ends = s.ends;
+      faults_at_open = s.faults_at_open;
     } };
 }
 
@@ -70,7 +74,7 @@ impl<R: Files> DirShelf<R> {
     /// A shelf over `files` that has no open file and has counted nothing. It allocates no memory
     /// before the first file.
     pub fn new(alloc: Global, files: R) -> DirShelf<R>
-        ensures { result ≡ record { mode = Idle; faults = 0; taken = 0; opened = 0 } }
+        ensures { result ≡ record { mode = Idle; faults = 0; taken = 0; opened = 0; ends = 0; faults_at_open = 0 } }
     {
         DirShelf {
             files,
@@ -80,6 +84,8 @@ impl<R: Files> DirShelf<R> {
             faults: 0,
             taken: 0,
             opened: 0,
+            ends: 0,
+            faults_at_open: 0,
         }
     }
 
@@ -139,6 +145,7 @@ impl<R: Files> DirShelf<R> {
         self.file = AtFile::Reading(file);
         self.taken = 0;
         self.opened = self.opened.saturating_add(1);
+        self.faults_at_open = self.faults;
         Ok(())
     }
 
@@ -185,6 +192,7 @@ impl<R: Files> Shelf for DirShelf<R> {
         match answer {
             Ok(count) => {
                 self.taken = self.taken.saturating_add(count as u64);
+                self.ends = ends_after(self.ends, buf.len(), count);
                 Ok(count)
             }
             Err(_) => Err(self.count_fault()),

@@ -1,9 +1,9 @@
 -- A file that is opened, read and closed.
-use Rattle.std.proofs.Common.{◌≡◌, ℕ, List, [], ◌∷◌, ap, ◌∙◌, subst, arith, inr}
+use Rattle.std.proofs.Common.{◌≡◌, ℕ, List, [], ◌∷◌, ap, ◌∙◌, subst, arith, inl, inr}
 use Rattle.std.specs.Prelude.{OnOk, OnErr, Result, Ok, Err}
 use Rattle.diy_io.specs.{Count.{count_of, Rose}, Opened.TookFiles, Shelf.{ShelfSeen, CountsStay, Finished, Opened, Stopped}, declared.errors.Failed.Failed}
-use Rattle.diy_io.proofs.OpenedLaws.{opened_text, opened_took}
-use Rattle.tests_from_files.specs.{declared.errors.FileFault.FileFault, declared.errors.FileFault.TheVariants.{Missing, NoMemory}, FilesRead.FileTo}
+use Rattle.diy_io.proofs.{OpenedLaws.{opened_text, opened_took}, EndLaws.{ends_of_opened, no_ends}}
+use Rattle.tests_from_files.specs.{declared.errors.FileFault.FileFault, declared.errors.FileFault.TheVariants.{Missing, NoMemory}, FilesRead.{ends_in, FileTo}}
 use Rattle.tests_from_files.specs.OpenFiles.{TookBytes, FileReadWhole, OpenTo}
 use Rattle.tests_from_files.specs.declared.errors.FileFault.TheVariants as faults
 
@@ -13,6 +13,7 @@ closed_took old mid new bytes took files counts = record {
   taken = ap count_of counts.taken ∙ took.taken;
   opened = counts.opened ∙ took.opened;
   files = files ∙ took.files;
+  at_open = counts.at_open ∙ took.at_open;
 }
 
 -- a file that was read is closed, or that fails
@@ -23,6 +24,7 @@ open_read old mid new bytes (Ok x) r finished stopped = record {
   shown = r.shown;
   bytes_are = r.bytes_are;
   took = closed_took old mid new bytes r.took finished.files finished.counts;
+  ends = ap count_of finished.counts.ends ∙ r.ends;
   no_fault = finished.no_fault ∙ r.no_fault;
   fault = tt;
 }
@@ -34,6 +36,7 @@ open_read old mid new bytes (Err x) r finished stopped =
       shown = r.shown;
       bytes_are = r.bytes_are;
       took = closed_took old mid new bytes r.took stopped.files stopped.counts;
+      ends = ap count_of stopped.counts.ends ∙ r.ends;
       no_fault = tt;
       fault = omega arith;
     }
@@ -49,6 +52,8 @@ file_opened old mid new name bytes (Ok closed) opened o = record {
   named = opened_text old mid name o.text opened o.shown;
   text_is = o.bytes_are;
   took = took_one old mid new name bytes opened o.took;
+  ends = ends_of_opened old mid new (ends_in o.text) opened.ends o.ends;
+  at_open = o.took.at_open ∙ opened.at_open;
   no_fault = subst (λ (n : ℕ). OnOk closed (new.faults ≡ n)) opened.no_fault o.no_fault;
   fault = subst (λ (n : ℕ). OnErr closed (Rose n new.faults)) opened.no_fault o.fault;
 }
@@ -61,5 +66,6 @@ file_opened old mid new name bytes (Err faults.Failed) opened o = record {
         record { text = o.text; named = opened_text old mid name o.text opened o.shown; rest = o.rest; parts = o.parts; short = o.short },
         took_one old mid new name o.bytes opened o.took,
       );
+  ends = inl (no_ends old new (o.no_end ∙ opened.ends));
 }
 file_opened old mid new name bytes (Err NoMemory) opened o = tt

@@ -1,13 +1,13 @@
 -- Files that are read, one after another.
-use Rattle.std.proofs.Common.{◌≡◌, ◌≤◌, ◌<◌, ◌+◌, ℕ, zero, suc, List, [], ◌∷◌, ◌++◌, length, take, drop, get_or, refl, sym, ap, ◌∙◌, subst, arith}
+use Rattle.std.proofs.Common.{◌≡◌, ◌≤◌, ◌<◌, ◌+◌, ℕ, zero, suc, List, [], ◌∷◌, ◌++◌, length, take, drop, get_or, refl, sym, ap, ◌∙◌, subst, arith, length-append}
 use Rattle.std.proofs.lemmas.List.{take_all, map_push}
 use Rattle.std.specs.Prelude.{Option, Ok, Err}
-use Rattle.diy_io.specs.{Count.Rose, Shelf.{Files, ShelfSeen}, Wrote.SinkSeen, Opened.{IsFile, TookFiles, name_at}}
-use Rattle.diy_io.proofs.{FileNameLaws.{absent_before, quiet_before, file_before}, OpenedLaws.{took_no_more, took_one_more}}
+use Rattle.diy_io.specs.{Count.Rose, Shelf.{Files, ShelfSeen}, Wrote.SinkSeen, Opened.{EndsSeen, IsFile, TookFiles, name_at}}
+use Rattle.diy_io.proofs.{FileNameLaws.{absent_before, quiet_before, file_before}, OpenedLaws.{took_no_more, took_one_more}, EndLaws.{ends_both, ends_or_more}}
 use Rattle.relax_edges.specs.declared.edge.Edge.{Edge}
 use Rattle.litmus_text.specs.declared.limits.TheConstants.{MAX_TEST_TEXT}
 use Rattle.cycles_from_lines.specs.{Classified.families_text, FamilyTables.{FamilyEntry, HoldsCycles}}
-use Rattle.tests_from_files.specs.{FilesRead.FileIs, FailedFiles.failed_after, Read.{CycleTo, file_end}, declared.classified_errors.CycleFault.CycleFault}
+use Rattle.tests_from_files.specs.{FilesRead.{ends_in, FileIs}, FailedFiles.failed_after, Read.{CycleTo, file_end}, declared.classified_errors.CycleFault.CycleFault}
 use Rattle.tests_from_files.specs.declared.classified_errors.CycleFault.TheVariants.{Missing, Device, Text}
 use Rattle.tests_from_files.specs.declared.classified_errors.TextFault.TheVariants.{Wrong, NoMemory}
 use Rattle.tests_from_files.specs.FilesEnds.{Asked, said_on, AreNamed, SayCycles, ReadFiles, AllRead, FilesSaid, IsAtPlace, FilesClassified}
@@ -18,6 +18,7 @@ pub record FilesSoFar (asked : Asked) (old new : ShelfSeen) (words : List (List 
   pub cycles : List (List Edge)
   pub read : ReadFiles asked old.files words places texts cycles
   pub took : TookFiles old new texts
+  pub ends : EndsSeen old new (length texts)
   pub no_fault : new.faults ≡ old.faults
   pub holds : HoldsCycles families cycles
 
@@ -28,6 +29,7 @@ none_so_far asked old words families holds = record {
   cycles = [];
   read = record { named = tt; say = refl };
   took = record { opened = omega arith; last = refl };
+  ends = omega arith;
   no_fault = refl;
   holds = holds;
 }
@@ -56,6 +58,7 @@ one_more asked old mid new words places place cycle before after s files f put =
     say = more_said asked s.texts s.cycles f.text cycle s.read.say f.is;
   };
   took = took_one_more old mid new s.texts f.text s.took f.took;
+  ends = ends_both old mid new (length s.texts) 1 (length (s.texts ++ f.text ∷ [])) s.ends f.ends (length-append s.texts (f.text ∷ []));
   no_fault = f.no_fault ∙ s.no_fault;
   holds = put s.cycles s.holds;
 }
@@ -103,6 +106,7 @@ files_refused asked old mid new a words places i place families Missing within i
     absent = absent_before old mid new (name_at words place) files s.no_fault f.absent;
     no_fault = quiet_before old mid new files s.no_fault f.no_fault;
     took = took_no_more old mid new s.texts s.took f.took;
+    ends = ends_both old mid new (length s.texts) 0 (length s.texts) s.ends f.ends (omega arith);
   },
   refl,
 )
@@ -113,6 +117,7 @@ files_refused asked old mid new a words places i place families Device within is
     texts = s.texts;
     place_is = at_place asked old mid words places i place families within is s;
     took = failed_after old mid new s.texts (name_at words place) files s.took f;
+    ends = ends_or_more old mid new (length s.texts) s.ends f.ends;
   },
   refl,
 )
@@ -124,6 +129,8 @@ files_refused asked old mid new a words places i place families (Text (Wrong err
     named = file_before old mid (name_at words place) f.text files f.named;
     fault = f.fault;
     took = took_one_more old mid new s.texts (take (MAX_TEST_TEXT + 1) f.text) s.took f.took;
+    ends = ends_both old mid new (length s.texts) (ends_in f.text) (length s.texts + ends_in f.text) s.ends f.ends refl;
+    at_open = f.at_open ∙ s.no_fault;
   },
   refl,
 )
@@ -136,6 +143,7 @@ all_read asked old new words places i families all s = record {
   texts = s.texts;
   read = subst (λ (ps : List ℕ). ReadFiles asked old.files words ps s.texts s.cycles) (take_all i places all) s.read;
   took = s.took;
+  ends = s.ends;
   no_fault = s.no_fault;
 }
 

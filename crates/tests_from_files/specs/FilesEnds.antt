@@ -1,12 +1,12 @@
 -- How a call that classifies files ended, and what it did to its devices.
 -- Source: own.
-use Rattle.std.specs.Prelude.{◌≡◌, ◌⊎◌, ◌+◌, ⊤, ℕ, List, [], ◌∷◌, ◌++◌, take, map, Option, None, IfSome, MatchOption, Result, Ok, Err}
-use Rattle.diy_io.specs.{Count.Rose, Shelf.{Files, ShelfSeen}, Wrote.{SinkSeen, WroteAll, WrotePart}, Opened.{IsFile, TookFiles, name_at}}
+use Rattle.std.specs.Prelude.{◌≡◌, ◌⊎◌, ◌+◌, ⊤, ℕ, List, [], ◌∷◌, ◌++◌, length, take, map, Option, None, IfSome, MatchOption, Result, Ok, Err}
+use Rattle.diy_io.specs.{Count.Rose, Shelf.{Files, ShelfSeen}, Wrote.{SinkSeen, WroteAll, WrotePart}, Opened.{EndsSeen, EndsSeenOrOneMore, IsFile, TookFiles, name_at}}
 use Rattle.relax_edges.specs.{declared.edge.Edge.Edge, declared.kinds.ArchName.ArchName}
 use Rattle.arch_trait.specs.Writing.{Writing}
 use Rattle.litmus_text.specs.declared.limits.TheConstants.{MAX_TEST_TEXT}
 use Rattle.cycles_from_lines.specs.Classified.{families_text}
-use Rattle.tests_from_files.specs.{FilesRead.Begins, QuotedCycle.text_said, declared.classified_errors.FileKind.FileKind}
+use Rattle.tests_from_files.specs.{FilesRead.{Begins, ends_in}, QuotedCycle.text_said, declared.classified_errors.FileKind.FileKind}
 use Rattle.tests_from_files.specs.{declared.classified_errors.FileError.FileError, declared.classified_errors.FilesEnd.FilesEnd}
 use Rattle.tests_from_files.specs.declared.classified_errors.FilesEnd.TheVariants as ends
 
@@ -34,11 +34,13 @@ pub record ReadFiles (asked : Asked) (files : Option Files) (words : List (List 
   pub named : AreNamed files words places texts
   pub say : SayCycles asked texts cycles
 
--- the files of all positions say these cycles, and each was opened once, in order, and read to its end, without an error
+-- the files of all positions say these cycles, and each was opened once, in order, and read to its end, which was seen once,
+-- without an error
 pub record AllRead (asked : Asked) (old new : ShelfSeen) (words : List (List ℕ)) (places : List ℕ) (cycles : List (List Edge)) : Type 0 where
   pub texts : List (List ℕ)
   pub read : ReadFiles asked old.files words places texts cycles
   pub took : TookFiles old new texts
+  pub ends : EndsSeen old new (length texts)
   pub no_fault : new.faults ≡ old.faults
 
 -- all files were read in this way, and this was done with the text of their families
@@ -56,7 +58,7 @@ pub record IsAtPlace (asked : Asked) (files : Option Files) (words : List (List 
   pub read : ReadFiles asked files words before texts cycles
 
 -- the file of this position has this first error, and those before it have none; at most one byte more than a test may have was taken
--- from it, and no more was opened or taken
+-- from it, its end was seen only if it is no longer, and no more was opened or taken; the shelf hadn't failed when it was opened
 pub record FileWrong (asked : Asked) (old new : ShelfSeen) (words : List (List ℕ)) (places : List ℕ) (place : ℕ) (error : FileError) : Type 0 where
   pub texts : List (List ℕ)
   pub place_is : IsAtPlace asked old.files words places place texts
@@ -64,6 +66,8 @@ pub record FileWrong (asked : Asked) (old new : ShelfSeen) (words : List (List �
   pub named : IsFile old.files (name_at words place) text
   pub fault : said_on asked text ≡ Err error
   pub took : TookFiles old new (texts ++ take (MAX_TEST_TEXT + 1) text ∷ [])
+  pub ends : EndsSeen old new (length texts + ends_in text)
+  pub at_open : new.faults_at_open ≡ old.faults
 
 -- the argument at this position names no file: if the files are shown, none has the name and there was no error, and otherwise the
 -- error count rose; the files before it have no error, and no more was opened
@@ -73,6 +77,7 @@ pub record FileMissing (asked : Asked) (old new : ShelfSeen) (words : List (List
   pub absent : MatchOption old.files (Rose old.faults new.faults) (λ there. there (name_at words place) ≡ None)
   pub no_fault : IfSome old.files (λ there. new.faults ≡ old.faults)
   pub took : TookFiles old new texts
+  pub ends : EndsSeen old new (length texts)
 
 -- the shelf failed at the file of a position, after files without an error: that one wasn't opened, or its first bytes were taken, at
 -- most as many as a test may have
@@ -82,6 +87,7 @@ pub record ShelfFailed (asked : Asked) (old new : ShelfSeen) (words : List (List
   pub texts : List (List ℕ)
   pub place_is : IsAtPlace asked old.files words places place texts
   pub took : TookFiles old new texts ⊎ ((bytes : List ℕ) × Begins old.files (name_at words place) bytes × TookFiles old new (texts ++ bytes ∷ []))
+  pub ends : EndsSeenOrOneMore old new (length texts)
 
 -- an error at a line of a file
 abbrev pub file_error_at : ℕ → FileKind → FileError

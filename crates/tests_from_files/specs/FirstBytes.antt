@@ -3,12 +3,12 @@
 use Rattle.std.proofs.Common.{◌≡◌, ◌≤◌, ◌<◌, ◌+◌, ⊎_elim, ℕ, Bool, true, false, List, [], ◌∷◌, length, take, refl, sym, ap, ◌∙◌, subst, arith, inr, nat_lt, append-nil}
 use Rattle.std.proofs.{lemmas.Bool.cases_lt, lemmas.Bool.Decides.nat_tests, lemmas.List.{take_all, length-take-le}}
 use Rattle.std.specs.Prelude.{cond, OnOk, OnErr, Result, Ok, Err}
-use Rattle.diy_io.specs.{Count.Rose, Shelf.ShelfSeen, Opened.{IsFile, TookFiles}, declared.errors.Failed.Failed}
+use Rattle.diy_io.specs.{Count.Rose, Shelf.ShelfSeen, Opened.{EndsSeen, IsFile, TookFiles}, declared.errors.Failed.Failed}
 use Rattle.relax_edges.specs.declared.kinds.ArchName.{ArchName}
 use Rattle.arch_trait.specs.Writing.{Writing}
 use Rattle.litmus_text.specs.{declared.errors.TestKind.TheVariants.TooLarge, declared.limits.TheConstants.MAX_TEST_TEXT, TestReading.arch_in_text}
 use Rattle.tests_from_files.specs.{declared.errors.TestFileError.TestFileError, declared.errors.TestFileKind.TheVariants.Test}
-use Rattle.tests_from_files.specs.{FilesRead.{FileRead, FileFailed, FileIs, FileFaulty}, TestSaid.{test_said, headed_said}}
+use Rattle.tests_from_files.specs.{FilesRead.{ends_in, FileRead, FileFailed, FileIs, FileFaulty}, TestSaid.{test_said, headed_said}}
 
 -- a judgement of texts depends only on their first bytes, one more than a test may have, and a text that it accepts has no more than
 -- a test may have
@@ -86,6 +86,20 @@ whole_read judge j whole text x e is =
     let right : judge whole ≡ Ok x = sym (j.same whole) ∙ sym (ap judge e) ∙ is in
     e ∙ take_all (MAX_TEST_TEXT + 1) whole (omega (arith, j.short whole x right))
 
+-- the end of a text is seen if it isn't longer than a test may be
+pub short_ends : (text : List ℕ) → length text ≤ MAX_TEST_TEXT → ends_in text ≡ 1
+short_ends text few = grind (arith, nat_tests)
+
+-- and isn't if it is
+pub long_ends : (text : List ℕ) → MAX_TEST_TEXT < length text → ends_in text ≡ 0
+long_ends text many = grind (arith, nat_tests)
+
+whole_ends : {X E : Type 0} (judge : List ℕ → Result X E) → JudgesFirstBytes judge → (old new : ShelfSeen) (whole text : List ℕ) (x : X)
+    → text ≡ take (MAX_TEST_TEXT + 1) whole → judge text ≡ Ok x → EndsSeen old new (ends_in whole) → EndsSeen old new 1
+whole_ends judge j old new whole text x e is ends =
+    let right : judge whole ≡ Ok x = sym (j.same whole) ∙ sym (ap judge e) ∙ is in
+    subst (EndsSeen old new) (short_ends whole (j.short whole x right)) ends
+
 -- a file whose text was accepted, and that was closed
 pub file_is : {X E : Type 0} (judge : List ℕ → Result X E) → JudgesFirstBytes judge → (old new : ShelfSeen) (name text judged : List ℕ)
     (closed : Result (Unit {0}) Failed) (u : Unit {0}) (x : X) → FileRead old new name text closed → closed ≡ Ok u → judged ≡ text → judge judged ≡ Ok x
@@ -97,6 +111,7 @@ file_is judge j old new name text judged closed u x r shut same right =
       named = subst (IsFile old.files name) (sym (whole_read judge j r.whole text x r.text_is is)) r.named;
       is = is;
       took = r.took;
+      ends = whole_ends judge j old new r.whole text x r.text_is is r.ends;
       no_fault = subst (λ c. OnOk c (new.faults ≡ old.faults)) shut r.no_fault;
     }
 
@@ -120,6 +135,7 @@ file_unclosed judge j old new name text judged closed f x r failed same right =
             },
             r.took,
           );
+      ends = inr (whole_ends judge j old new r.whole text x r.text_is is r.ends);
     }
 
 -- a file whose text has an error, whether or not its closing failed
@@ -131,4 +147,6 @@ file_faulty judge j old new name text judged closed error r same wrong = record 
   named = r.named;
   fault = sym (j.same r.whole) ∙ sym (ap judge r.text_is) ∙ sym (ap judge same) ∙ wrong;
   took = subst (λ (t : List ℕ). TookFiles old new (t ∷ [])) r.text_is r.took;
+  ends = r.ends;
+  at_open = r.at_open;
 }

@@ -1,16 +1,18 @@
 -- Used only by private functions: what is read of a file that is open.
 use Rattle.std.specs.{Prelude.{◌≡◌, ◌≤◌, ◌+◌, ⊤, ℕ, List, ◌++◌, length, take, IfSome, OnOk, OnErr, Result, Ok, Err}, Io.KnownBytes.Consumes}
-use Rattle.diy_io.specs.{Count.{count_of, Rose}, Shelf.{Idle, IsReading, ShelfSeen, left_to_read}, declared.errors.Failed.Failed}
+use Rattle.diy_io.specs.{Count.{count_of, Rose}, Shelf.{Idle, IsReading, ShelfSeen, left_to_read}, Opened.EndsSeen, declared.errors.Failed.Failed}
 use Rattle.litmus_text.specs.declared.limits.TheConstants.{MAX_TEST_TEXT}
-use Rattle.tests_from_files.specs.{declared.errors.FileFault.FileFault, declared.errors.ReadFault.ReadFault}
+use Rattle.tests_from_files.specs.{declared.errors.FileFault.FileFault, declared.errors.ReadFault.ReadFault, FilesRead.ends_in}
 use Rattle.tests_from_files.specs.declared.errors.FileFault.TheVariants as faults
 use Rattle.tests_from_files.specs.declared.errors.ReadFault.TheVariants as reads
 
--- these bytes were taken from the file that is read, as far as they are counted; no file was opened, and none changed
+-- these bytes were taken from the file that is read, as far as they are counted; no file was opened, and none changed, nor did the error
+-- count of the last opening
 pub record TookBytes (old new : ShelfSeen) (bytes : List ℕ) : Type 0 where
   pub taken : count_of new.taken ≡ count_of (old.taken + length bytes)
   pub opened : new.opened ≡ old.opened
   pub files : new.files ≡ old.files
+  pub at_open : new.faults_at_open ≡ old.faults_at_open
 
 -- a file that is open was read to its end, or up to one byte more than a test may have, and is still open; this is what was taken
 pub record FileReadWhole (old new : ShelfSeen) (bytes : List ℕ) : Type 0 where
@@ -18,6 +20,7 @@ pub record FileReadWhole (old new : ShelfSeen) (bytes : List ℕ) : Type 0 where
   pub shown : IfSome (left_to_read old.mode) (λ whole. whole ≡ text)
   pub bytes_are : bytes ≡ take (MAX_TEST_TEXT + 1) text
   pub took : TookBytes old new bytes
+  pub ends : EndsSeen old new (ends_in text)
   pub mode : IsReading new.mode
   pub no_fault : new.faults ≡ old.faults
 
@@ -30,6 +33,7 @@ pub record FileReadPart (old new : ShelfSeen) : Type 0 where
   pub parts : text ≡ bytes ++ rest
   pub short : length bytes ≤ MAX_TEST_TEXT
   pub took : TookBytes old new bytes
+  pub no_end : new.ends ≡ old.ends
   pub mode : new.mode ≡ Idle
   pub fault : Rose old.faults new.faults
 
@@ -44,10 +48,11 @@ FileReadTo old new bytes (Ok x) = FileReadWhole old new bytes
 FileReadTo old new bytes (Err reads.Failed) = FileReadPart old new
 FileReadTo old new bytes (Err reads.NoMemory) = ReadUnheld old new
 
--- these bytes of a file that is open were read without an error
+-- these bytes of a file that is open were read without an error, and its end wasn't seen
 pub record FileReadSoFar (old new : ShelfSeen) (bytes : List ℕ) : Type 0 where
   pub consumed : Consumes (left_to_read old.mode) (left_to_read new.mode) bytes
   pub took : TookBytes old new bytes
+  pub no_end : new.ends ≡ old.ends
   pub mode : IsReading new.mode
   pub no_fault : new.faults ≡ old.faults
 
@@ -57,6 +62,7 @@ pub record OpenRead (old new : ShelfSeen) (bytes : List ℕ) (closed : Result (U
   pub shown : IfSome (left_to_read old.mode) (λ whole. whole ≡ text)
   pub bytes_are : bytes ≡ take (MAX_TEST_TEXT + 1) text
   pub took : TookBytes old new bytes
+  pub ends : EndsSeen old new (ends_in text)
   pub no_fault : OnOk closed (new.faults ≡ old.faults)
   pub fault : OnErr closed (Rose old.faults new.faults)
 

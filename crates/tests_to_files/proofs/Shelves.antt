@@ -43,7 +43,12 @@ with_one_file path a (Some files) = refl
 
 -- counts that stay, and then stay again
 stay : (a b c : ShelfSeen) → CountsStay a b → CountsStay b c → CountsStay a c
-stay a b c p q = record { taken = q.taken ∙ p.taken; opened = q.opened ∙ p.opened }
+stay a b c p q = record {
+  taken = q.taken ∙ p.taken;
+  opened = q.opened ∙ p.opened;
+  ends = q.ends ∙ p.ends;
+  at_open = q.at_open ∙ p.at_open;
+}
 
 later_fault : (a b c : ShelfSeen) → b.faults ≡ a.faults → Faulted b c → Faulted a c
 later_fault a b c e f = record {
@@ -53,7 +58,12 @@ later_fault a b c e f = record {
 
 -- nothing is written
 pub put_nothing : (a : ShelfSeen) → a.mode ≡ Idle → PutFiles a a []
-put_nothing a idle = record { mode = idle; files = sym (with_no_files a.files); no_fault = refl; counts = record { taken = refl; opened = refl } }
+put_nothing a idle = record {
+  mode = idle;
+  files = sym (with_no_files a.files);
+  no_fault = refl;
+  counts = record { taken = refl; opened = refl; ends = refl; at_open = refl };
+}
 
 -- files, and then others
 pub put_both : (a b c : ShelfSeen) (xs ys : List (List ℕ × List ℕ)) → PutFiles a b xs → PutFiles b c ys → PutFiles a c (xs ++ ys)

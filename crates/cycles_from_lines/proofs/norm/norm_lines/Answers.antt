@@ -1,5 +1,5 @@
 -- That `norm_lines` writes the lines of the cycles up to the end of the source, or up to what stops it.
-use Rattle.std.proofs.Common.{sym, subst}
+use Rattle.std.proofs.Common.{sym, subst, arith}
 use Rattle.cycles_from_lines.specs.LineSteps.{HasRead}
 use Rattle.cycles_from_lines.proofs.NormLaws.{nothing_normed, line_normed, line_stopped, blank_normed, fault_normed, hand_on_stopped, more_normed, all_written, normed_last, normed_up_to}
 use Rattle.cycles_from_lines.proofs.norm.norm_lines.Goals as goal
@@ -32,7 +32,7 @@ pub loop-cycle-preserved : goal.loop-cycle-preserved
 loop-cycle-preserved g c =
     let given = c.loop-cycle.invariant in
     let unmoved = subst (λ r. HasRead c.args.form (g.I.Source.seen c.args.input.now) (g.I.Source.seen c.loop-cycle.input) r given.cycles) (sym c.in-Unended.ensures.1) given.read in
-    more_normed c.args.form _ _ _ _ c.read_more.new.self _ given.cycles (c.in-Ok-read_more.ensures.refills c.args.form _ given.cycles unmoved).0
+    more_normed c.args.form _ _ _ _ c.read_more.new.self _ given.cycles ((c.in-Ok-read_more.ensures.refills c.args.form _ given.cycles unmoved).0 (omega (arith, c.in-Ok-read_more.field-0-test.1)))
     (all_written _ _ _ _ _ given.sent c.in-Ok-hand_on-2.ensures.wrote.ok) c.in-Ok-hand_on-2.ensures.empty
 
 pub returns-in-Err-read_more : goal.returns-in-Err-read_more
@@ -48,7 +48,7 @@ returns-in-Ok-last_line g c =
     let unmoved = subst (λ r. HasRead c.args.form (g.I.Source.seen c.args.input.now) (g.I.Source.seen c.loop-cycle.input) r given.cycles) (sym c.in-Unended.ensures.1) given.read in
     let refilled = c.in-Ok-eq0.ensures.refills c.args.form _ given.cycles unmoved in
     normed_last c.args.form _ _ _ _ _ given.cycles c.last_line.new.cycle c.write_last.result
-    (c.in-Ok-last_line.ensures _ _ given.cycles refilled.0 (refilled.1 c.in-Ok-eq0.field-0-test))
+    (c.in-Ok-last_line.ensures _ _ given.cycles (refilled.1 c.in-Ok-eq0.field-0-test))
     (all_written _ _ _ _ _ given.sent c.in-Ok-hand_on-2.ensures.wrote.ok) c.write_last.ensures
 
 pub returns-in-Err-last_line : goal.returns-in-Err-last_line
@@ -57,5 +57,5 @@ returns-in-Err-last_line g c =
     let unmoved = subst (λ r. HasRead c.args.form (g.I.Source.seen c.args.input.now) (g.I.Source.seen c.loop-cycle.input) r given.cycles) (sym c.in-Unended.ensures.1) given.read in
     let refilled = c.in-Ok-eq0.ensures.refills c.args.form _ given.cycles unmoved in
     normed_up_to c.args.form _ _ _ _ given.cycles c.in-Err-last_line.error
-    (c.in-Err-last_line.ensures _ _ given.cycles refilled.0 (refilled.1 c.in-Ok-eq0.field-0-test))
+    (c.in-Err-last_line.ensures _ _ given.cycles (refilled.1 c.in-Ok-eq0.field-0-test))
     (all_written _ _ _ _ _ given.sent c.in-Ok-hand_on-2.ensures.wrote.ok)

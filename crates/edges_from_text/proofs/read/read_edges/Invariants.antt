@@ -1,7 +1,13 @@
--- The edges of the words so far are kept.
-use Rattle.std.proofs.Common.{◌≡◌, Some, map}
+-- What the words read leave, and the words of the rest add to it, is what the words of the text add.
+use Rattle.std.proofs.Common.{◌≡◌, length}
+use Rattle.std.specs.List.{slice_split}
+use Rattle.edges_from_text.specs.Spelled.{separates}
 use Rattle.edges_from_text.proofs.ReadingLaws.{spelled}
 use Rattle.edges_from_text.proofs.read.read_edges.Given as goal
 
-abbrev pub invariant-loop-word : goal.invariant-loop-word
-invariant-loop-word l = spelled l.fn.edges (map (λ word. word.now) l.yielded) ≡ Some l.edges
+abbrev pub invariant-loop-rest : goal.invariant-loop-rest
+invariant-loop-rest l =
+    spelled l.edges (slice_split (separates l.separators) l.rest) ≡ spelled l.fn.edges (slice_split (separates l.separators) l.text)
+
+abbrev pub decreases-loop-rest : goal.decreases-loop-rest
+decreases-loop-rest l = length l.rest

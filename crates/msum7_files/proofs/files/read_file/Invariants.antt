@@ -13,6 +13,7 @@ invariant-loop-count g l = record {
   mode : IsReading (g.H.Shelf.seen l.shelf).mode;
   files : (g.H.Shelf.seen l.shelf).files ≡ (g.H.Shelf.seen l.initial.shelf).files;
   opened : (g.H.Shelf.seen l.shelf).opened ≡ (g.H.Shelf.seen l.initial.shelf).opened;
+  at_open : (g.H.Shelf.seen l.shelf).faults_at_open ≡ (g.H.Shelf.seen l.initial.shelf).faults_at_open;
 }
 
 abbrev pub decreases-loop-count : goal.decreases-loop-count

@@ -10,4 +10,4 @@ returns-in-Ok-sum_open-clause-summed g c = λ logs reads.
 pub returns-in-Err-clause-summed : goal.returns-in-Err-clause-summed
 returns-in-Err-clause-summed g c = λ logs reads.
     opened_refused _ (g.H.Shelf.seen c.open_file.new.self) (g.H.Shelf.seen c.sum_open.new.shelf) c.sum_open.new.feeding logs c.args.name.now c.in-Err.fault
-    c.in-Ok.ensures.ok (c.in-Err.ensures.summed logs reads) c.sum_open.ensures.opened
+    c.in-Ok.ensures.ok (c.in-Err.ensures.summed logs reads) c.sum_open.ensures.opened c.sum_open.ensures.at_open

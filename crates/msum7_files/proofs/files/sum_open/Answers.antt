@@ -7,18 +7,19 @@ use Rattle.msum7_files.proofs.files.sum_open.Goals as goal
 pub returns-in-Ok-finish-clause-summed : goal.returns-in-Ok-finish-clause-summed
 returns-in-Ok-finish-clause-summed g c = λ logs reads.
     closed_summed _ (log_seen (g.H.Shelf.seen c.sum_log.new.shelf)) (log_seen (g.H.Shelf.seen c.finish.new.self)) c.sum_log.new.feeding logs
-    (c.in-Ok.ensures.summed logs reads) (idle_at_end _ c.in-Ok-finish.ensures.ok.mode) c.in-Ok-finish.ensures.ok.counts.taken c.in-Ok-finish.ensures.ok.no_fault
+    (c.in-Ok.ensures.summed logs reads) (idle_at_end _ c.in-Ok-finish.ensures.ok.mode) c.in-Ok-finish.ensures.ok.counts.taken c.in-Ok-finish.ensures.ok.counts.ends c.in-Ok-finish.ensures.ok.no_fault
 
 pub returns-in-Err-clause-summed : goal.returns-in-Err-clause-summed
 returns-in-Err-clause-summed g c = λ logs reads.
     closed_failed _ (log_seen (g.H.Shelf.seen c.sum_log.new.shelf)) (log_seen (g.H.Shelf.seen c.finish.new.self)) c.sum_log.new.feeding logs
-    (c.in-Ok.ensures.summed logs reads) c.in-Err.ensures.failed.counts.taken c.in-Err.ensures.failed.faulted.fault c.in-Err.ensures.failed.faulted.never_falls
+    (c.in-Ok.ensures.summed logs reads) c.in-Err.ensures.failed.counts.taken c.in-Err.ensures.failed.counts.ends c.in-Err.ensures.failed.faulted.fault c.in-Err.ensures.failed.faulted.never_falls
 
 pub returns-in-Err-Log-clause-summed : goal.returns-in-Err-Log-clause-summed
 returns-in-Err-Log-clause-summed g c = λ logs reads.
     closed_faulty _ (log_seen (g.H.Shelf.seen c.sum_log.new.shelf)) (log_seen (g.H.Shelf.seen c.finish-in-Err-Log.new.self)) logs c.in-Err-Log.fault
     (summed_refused _ _ _ _ _ _ (c.sum_log.ensures.summed logs reads) (c.in-Err-Log.is ∙ ap Err c.in-Err-Log.field-0-is)).0
     (closed _ _ _ c.finish-in-Err-Log.ensures.ok c.finish-in-Err-Log.ensures.failed).taken
+    (closed _ _ _ c.finish-in-Err-Log.ensures.ok c.finish-in-Err-Log.ensures.failed).ends
 
 pub returns-in-Err-Device-clause-summed : goal.returns-in-Err-Device-clause-summed
 returns-in-Err-Device-clause-summed g c = λ logs reads.

@@ -1,7 +1,7 @@
 -- Each load adds the value of its register, or there are no values.
-use Rattle.std.proofs.{Common.{◌≡◌, ◌+◌, sym, ap, ◌∙◌, drop}, lemmas.Option.slice_get-get_or}
+use Rattle.std.proofs.{Common.{◌+◌, sym, ap, ◌∙◌, drop}, lemmas.Option.slice_get-get_or}
 use Rattle.rebuilt_executions.specs.LoadValues.{kept_value, load_values}
-use Rattle.rebuilt_executions.proofs.LoadWalks.{after_is, before, plain_step, load_step, load_stops, loads_end}
+use Rattle.rebuilt_executions.proofs.LoadWalks.{after_is, before, plain_step, load_step}
 use Rattle.rebuilt_executions.proofs.loads.load_values.Goals.{in-Some+in-Some-kept_value+in_ok-push-in-Some-kept_value, in_default}
 use Rattle.rebuilt_executions.proofs.loads.load_values.Goals as goal
 

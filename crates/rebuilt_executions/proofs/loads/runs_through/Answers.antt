@@ -1,5 +1,5 @@
 -- Each branch leads to the label right after it, or the answer is no.
-use Rattle.std.proofs.{Common.{◌≡◌, ◌+◌, ◌-◌, length, take, drop, sym, ap, ◌∙◌}, lemmas.Option.slice_get-get_or}
+use Rattle.std.proofs.{Common.{◌+◌, ◌-◌, length, take, drop, sym, ap, ◌∙◌}, lemmas.Option.slice_get-get_or}
 use Rattle.rebuilt_executions.specs.LoadValues.{begins_with}
 use Rattle.rebuilt_executions.proofs.LoadWalks.{after_is, through_step, through_stops, through_ends}
 use Rattle.rebuilt_executions.proofs.loads.runs_through.Goals as goal

@@ -1,5 +1,5 @@
 -- In the loop over the threads: the names so far, and those that are left, make up the whole.
-use Rattle.std.proofs.Common.{◌≡◌, ◌++◌, drop}
+use Rattle.std.proofs.Common.{◌≡◌, ◌++◌}
 use Rattle.states_fix_executions.specs.Listed.{names_of}
 use Rattle.rebuilt_executions.proofs.NameWalks.{names_after}
 use Rattle.rebuilt_executions.proofs.names.names_of.Given as goal

@@ -1,5 +1,5 @@
 -- The write is found among all names.
-use Rattle.std.proofs.Common.{ℕ, Option, ap, ◌∙◌}
+use Rattle.std.proofs.Common.{Option, ap, ◌∙◌}
 use Rattle.std.specs.List.{find}
 use Rattle.program_meaning.specs.{declared.WriteAt.WriteAt, Accesses.at_name, Deciding.writes_value}
 use Rattle.rebuilt_executions.proofs.names.source_of.Goals as goal

@@ -1,5 +1,5 @@
 -- The location has all writes that pass.
-use Rattle.std.proofs.{Common.{◌≡◌, Bool, drop, not, sym, ap, ◌∙◌, arith}, lemmas.Option.slice_get-get_or}
+use Rattle.std.proofs.{Common.{Bool, drop, sym, ◌∙◌, arith}, lemmas.Option.slice_get-get_or}
 use Rattle.std.specs.List.{filter}
 use Rattle.program_meaning.specs.declared.WriteAt.{WriteAt}
 use Rattle.states_fix_executions.specs.Rebuilt.{is_last}

@@ -1,7 +1,7 @@
 -- The location has all its writes, in their order.
-use Rattle.std.proofs.Common.{◌≡◌, ◌<◌, ◌++◌, length, not, sym, ap, subst, ◌∙◌, arith}
+use Rattle.std.proofs.Common.{◌++◌, length, not, ap, ◌∙◌, arith}
 use Rattle.std.specs.List.{filter}
-use Rattle.program_meaning.specs.{Executions.Execution, Interleavings.writes_in}
+use Rattle.program_meaning.specs.Executions.{Execution}
 use Rattle.states_fix_executions.specs.Rebuilt.{is_last}
 use Rattle.rebuilt_executions.specs.Growing.{with_writes}
 use Rattle.rebuilt_executions.proofs.{Growing.appended_length, RebuiltSteps.{more_on_ok, order_whole}}
@@ -23,9 +23,8 @@ returns c =
     let end = c.args.end in
     let writes = c.in_ok-writes.writes.items in
     let first = c.in_ok-add_earlier.ensures ∙ ap (λ l. with_writes c.args.exec.now place (filter (λ w. not (is_last all place end w)) l)) c.deref.ensures.value in
-    let is = c.in_ok-writes.ensures ∙ ap (writes_in all place) c.requires.names in
     more_on_ok c.add_last.result
     (λ put. order_whole all place end writes _ c.args.exec.now c.add_earlier.new.exec c.add_last.new.exec first
     (put ∙ ap (λ l. with_writes c.add_earlier.new.exec place (filter (is_last all place end) l)) c.deref-2.ensures.value)
-    (ap (λ l. filter (λ w. not (is_last all place end w)) l ++ filter (is_last all place end) l) is))
+    (ap (λ l. filter (λ w. not (is_last all place end w)) l ++ filter (is_last all place end) l) c.in_ok-writes.ensures))
     c.add_last.ensures

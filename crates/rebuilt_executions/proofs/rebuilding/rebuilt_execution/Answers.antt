@@ -1,5 +1,5 @@
--- The tests decide whether the execution is fixed.
-use Rattle.std.proofs.Common.{◌≡◌, true, false, sym, ap, ◌∙◌}
+-- The tests decide whether what is read is fixed.
+use Rattle.std.proofs.Common.{◌≡◌, true, false, length, sym, ap, ◌∙◌}
 use Rattle.rebuilt_executions.specs.Settling.{are_fixed}
 use Rattle.rebuilt_executions.proofs.Fixing.{fixed_from, fixed_means}
 use Rattle.rebuilt_executions.proofs.rebuilding.rebuilt_execution.Goals as goal
@@ -9,15 +9,15 @@ returns-then-not-are_few c = λ s. let q : true ≡ false = sym (c.are_few.ensur
 
 pub returns-then-not-are_fixed : goal.returns-then-not-are_fixed
 returns-then-not-are_fixed c =
-    λ s. let t = fixed_from c.args.all.now c.args.ends.now (record { values = s.values; within = s.within; settled = s.settled }) in
+    λ s. let t = fixed_from c.args.all.now (length c.args.ends.now) (record { values = s.values; within = s.within }) in
     let q : true ≡ false =
-    sym t ∙ ap (λ l. are_fixed c.args.all.now l c.args.ends.now) (sym (c.deref.ensures.value ∙ c.in_ok-names.ensures)) ∙ sym c.are_fixed.ensures
+    sym t ∙ ap (λ l. are_fixed c.args.all.now l (length c.args.ends.now)) (sym (c.deref.ensures.value ∙ c.in_ok-names.ensures)) ∙ sym c.are_fixed.ensures
     ∙ c.if-not-are_fixed.true in
     cc q
 
 pub returns : goal.returns
 returns c =
-    let f = fixed_means c.args.all.now c.args.ends.now
-    (ap (λ l. are_fixed c.args.all.now l c.args.ends.now) (sym (c.deref.ensures.value ∙ c.in_ok-names.ensures)) ∙ sym c.are_fixed.ensures
+    let f = fixed_means c.args.all.now (length c.args.ends.now)
+    (ap (λ l. are_fixed c.args.all.now l (length c.args.ends.now)) (sym (c.deref.ensures.value ∙ c.in_ok-names.ensures)) ∙ sym c.are_fixed.ensures
     ∙ c.if-not-are_fixed.false) in
-    (record { few = c.are_few.ensures.0 c.if-not-are_few.false; values = f.values; within = f.within; settled = f.settled }, c.in_ok-rebuilt.ensures)
+    (record { few = c.are_few.ensures.0 c.if-not-are_few.false; values = f.values; within = f.within }, c.in_ok-rebuilt.ensures)

@@ -1,14 +1,14 @@
 -- The execution that is rebuilt is the only one that can end in the state; where none is rebuilt, the state fixes none.
-use Rattle.std.proofs.Common.{◌≡◌, List, ℕ, Some, length, map, sym, ap, subst, ◌∙◌}
+use Rattle.std.proofs.Common.{◌≡◌, arith, List, ℕ, Option, Some, length, map, sym, ap, subst, ◌∙◌}
 use Rattle.std.specs.Prelude.{option_map}
 use Rattle.std.proofs.lemmas.List.{length-map}
 use Rattle.arch_trait.specs.PlaceNames.{number_in}
 use Rattle.final_cond.specs.Conditions.{cond_view}
 use Rattle.litmus_text.specs.ReadPrograms.{program_read}
-use Rattle.program_meaning.specs.Interleavings.{accesses_on}
+use Rattle.program_meaning.specs.{Accesses.Access, Interleavings.accesses_on}
 use Rattle.rebuilt_executions.specs.Settled.{IsRebuilt}
-use Rattle.state_verdicts.specs.StateParts.{ends_given, loads_from}
-use Rattle.state_verdicts.proofs.{Deciding.{AreOfState, not_fixed, only_rebuilt, place_count, thread_count}, LoadLists.loads_count}
+use Rattle.state_verdicts.specs.StateParts.{ends_given}
+use Rattle.state_verdicts.proofs.{Deciding.{AreOfState, best_rebuilt, not_fixed, order_count, place_count, reads_too, thread_count}, LoadLists.loads_count}
 use Rattle.state_verdicts.proofs.decided.verdict_of.Goals as goal
 
 pub all_accesses-requires : goal.all_accesses-requires
@@ -22,6 +22,34 @@ pub judged-requires : goal.judged-requires
 judged-requires g c =
     let names = number_in g.A.Arch.writing.registers in
     let state = cond_view c.args.state.now in
+    let exec = c.in-Some-2.exec in
+    let all = c.deref-in-Some-2.result.now in
+    let ends = c.deref-in-Some-2-2.result.now in
+    let k : AreOfState names c.args.test.now state all ends = record {
+      loads = map (λ list. list.items) c.in-Some.loads.items;
+      given = ap (option_map (λ lists. map (λ list. list.items) lists.items)) (sym c.in-Some.is) ∙ c.in_ok-loads.ensures;
+      all_is = c.deref-in-Some-2.ensures.value ∙ c.in_ok-all.ensures.all
+          ∙ ap (λ l. accesses_on (program_read c.args.test.now) (map (λ list. list.items) l)) c.deref.ensures.value;
+      ends_is = c.deref-in-Some-2-2.ensures.value ∙ c.in_ok-ends.ensures.ends ∙ ap (λ places. ends_given places state.terms) c.places.ensures;
+    } in
+    let same_all : c.deref-2.result.now ≡ all = c.deref-2.ensures.value ∙ sym c.deref-in-Some-2.ensures.value in
+    let same_ends : c.deref-3.result.now ≡ ends = c.deref-3.ensures.value ∙ sym c.deref-in-Some-2-2.ensures.value in
+    let r = subst (λ (z : List (List Access) × List (Option ℕ)). IsRebuilt z.0 z.1 (Some exec)) (λ i. (same_all i, same_ends i))
+    (subst (IsRebuilt c.deref-2.result.now c.deref-3.result.now) c.in-Some-2.is c.in_ok-exec.ensures) in
+    record {
+      threads = thread_count names c.args.test.now state all ends exec k r.1;
+      places = place_count names c.args.test.now state all ends exec k r.1;
+      orders = order_count names c.args.test.now state all ends exec k r.1;
+      few = omega (arith, ap length c.deref-in-Some-2-2.ensures.value, c.in_ok-ends.ensures.few);
+      count = omega (arith, ap length c.deref-in-Some-2.ensures.value, c.in_ok-all.ensures.few);
+      accesses = r.0.few;
+      best = best_rebuilt names c.args.test.now state all ends exec k r.0 r.1;
+    }
+
+pub returns : goal.returns
+returns g c =
+    let names = number_in g.A.Arch.writing.registers in
+    let state = cond_view c.args.state.now in
     let all = c.deref-2.result.now in
     let ends = c.deref-3.result.now in
     let k : AreOfState names c.args.test.now state all ends = record {
@@ -30,24 +58,9 @@ judged-requires g c =
       all_is = c.deref-2.ensures.value ∙ c.in_ok-all.ensures.all ∙ ap (λ l. accesses_on (program_read c.args.test.now) (map (λ list. list.items) l)) c.deref.ensures.value;
       ends_is = c.deref-3.ensures.value ∙ c.in_ok-ends.ensures.ends ∙ ap (λ places. ends_given places state.terms) c.places.ensures;
     } in
-    let r = subst (IsRebuilt all ends) c.in-Some-2.is c.in_ok-exec.ensures in
+    let unfixed = subst (IsRebuilt all ends) c.in-None.is c.in_ok-exec.ensures in
     record {
-      threads = thread_count names c.args.test.now state all ends c.in-Some-2.exec k r.1;
-      places = place_count names c.args.test.now state all ends c.in-Some-2.exec k r.1;
-      only = only_rebuilt names c.args.test.now state all ends c.in-Some-2.exec k r.0 r.1;
+      verdict = tt;
+      decided = λ fixed e. not_fixed names c.args.test.now state all ends k unfixed (reads_too names c.args.test.now state fixed);
+      coherent = λ fixed e. absurd (not_fixed names c.args.test.now state all ends k unfixed fixed);
     }
-
-pub returns : goal.returns
-returns g c = record {
-  verdict = tt;
-  decided = λ fixed e.
-      not_fixed (number_in g.A.Arch.writing.registers) c.args.test.now (cond_view c.args.state.now) c.deref-2.result.now c.deref-3.result.now
-      (record {
-        loads = map (λ list. list.items) c.in-Some.loads.items;
-        given = ap (option_map (λ lists. map (λ list. list.items) lists.items)) (sym c.in-Some.is) ∙ c.in_ok-loads.ensures;
-        all_is = c.deref-2.ensures.value ∙ c.in_ok-all.ensures.all
-            ∙ ap (λ l. accesses_on (program_read c.args.test.now) (map (λ list. list.items) l)) c.deref.ensures.value;
-        ends_is = c.deref-3.ensures.value ∙ c.in_ok-ends.ensures.ends ∙ ap (λ places. ends_given places (cond_view c.args.state.now).terms) c.places.ensures;
-      })
-      (subst (IsRebuilt c.deref-2.result.now c.deref-3.result.now) c.in-None.is c.in_ok-exec.ensures) fixed;
-}

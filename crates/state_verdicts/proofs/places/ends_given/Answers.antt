@@ -1,6 +1,5 @@
 -- There are no more than locations.
 use Rattle.std.proofs.Common.{length, map, ap, arith}
-use Rattle.list_laws.specs.Numbers.{upto}
 use Rattle.list_laws.proofs.Numbers.{length-map-upto}
 use Rattle.final_cond.specs.Conditions.{term_view}
 use Rattle.state_verdicts.specs.StateParts.{end_given}

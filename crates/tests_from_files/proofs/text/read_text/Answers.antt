@@ -22,7 +22,7 @@ returns-then-len-gt-MAX_TEST_TEXT g c = record {
   read =
       reads_long _ _ c.extend_from_slice.new.self.items
       (reads_more _ (g.H.Shelf.seen c.loop-count.shelf) _ c.loop-count.text.items c.read_piece.new.piece c.extend_from_slice.new.self.items c.in-Ok.count
-      c.min-room.result c.loop-count.invariant.read (omega (arith, c.in-Ok.ensures.bound)) c.in-Ok.ensures.gave c.in-Ok-extend_from_slice.ensures.items)
+      c.min-room.result c.loop-count.invariant.read (omega (arith, c.in-Ok.ensures.bound)) c.in-Ok.ensures.gave c.in-Ok-extend_from_slice.ensures.items c.in-Ok.count-test.1)
       (omega (
         arith,
         c.in-Ok.ensures.bound,

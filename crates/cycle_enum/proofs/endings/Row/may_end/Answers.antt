@@ -7,11 +7,11 @@ use Rattle.cycle_enum.proofs.endings.Row.may_end.Goals as goal
 pub returns-in-Some : goal.returns-in-Some
 returns-in-Some c fails relaxes left row =
     let more : c.args.threads < c.in-Some.least + outside_count c.args.list.now =
-    omega (arith, leb-false _ _ fails, c.from.ensures, c.from-in-Some.ensures, c.outside_count.ensures.value) in
+    omega (arith, leb-false _ _ fails, c.from.ensures, c.from-in-Some.ensures, c.requires.crossing.outside) in
     crowded_nowhere relaxes c.args.threads left c.in-Some.least c.args.self.now c.args.list.now _ c.requires.some row
-    (sym (rw (c.at.ensures, c.entered_by.ensures, c.after.ensures) at c.at-in-len1-up.ensures) ∙ c.in-Some.is) more
+    (sym (rw (c.at.ensures, c.entered_by.ensures, c.requires.crossing.spread) at c.at-in-len1-up.ensures) ∙ c.in-Some.is) more
 
 pub returns-in-None : goal.returns-in-None
 returns-in-None c fails relaxes left row =
     ends_nowhere relaxes c.args.threads left c.args.self.now c.args.list.now _ c.requires.some row
-    (sym (rw (c.at.ensures, c.entered_by.ensures, c.after.ensures) at c.at-in-len1-up.ensures) ∙ c.in-None.is)
+    (sym (rw (c.at.ensures, c.entered_by.ensures, c.requires.crossing.spread) at c.at-in-len1-up.ensures) ∙ c.in-None.is)

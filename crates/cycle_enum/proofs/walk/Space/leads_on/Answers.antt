@@ -10,7 +10,7 @@ returns-then-not-may_begin-clause-refused g c _ = λ r l. c.may_begin.ensures.re
 
 pub returns-then-not-is_kept-clause-refused : goal.returns-then-not-is_kept-clause-refused
 returns-then-not-is_kept-clause-refused g c _ =
-    let none : LeadsNowhere (Lists g.P.Fn.post c.args.self.now) c.args.list.now = rw c.edges-2.ensures.value at (c.if-not-is_kept.ensures.refused refl) in
+    let none : LeadsNowhere (Lists g.P.Fn.post c.args.self.now) c.args.list.now = rw c.edges.ensures.value at (c.if-not-is_kept.ensures.refused refl) in
     λ r l. none r l.is
 
 pub returns-clause-refused : goal.returns-clause-refused

@@ -5,12 +5,12 @@ use Rattle.cycles_from_lines.proofs.ReadLaws.{said_last, fault_last, some_if}
 use Rattle.cycles_from_lines.proofs.reader.LineReader.last_line.Goals as goal
 
 pub returns-in-Ok : goal.returns-in-Ok
-returns-in-Ok c = λ first last cycles h e.
-    said_last c.args.form first last c.args.self.now cycles c.read_line.new.cycle h (some_if c.pending_bytes.result.now c.args.self.now.pending c.pending_bytes.ensures.pending c.if-is_empty.ensures) e c.requires
+returns-in-Ok c = λ first last cycles h.
+    said_last c.args.form first last c.args.self.now cycles c.read_line.new.cycle h (some_if c.pending_bytes.result.now c.args.self.now.pending c.pending_bytes.ensures.pending c.if-is_empty.ensures) c.requires
     (c.in-Ok.ensures ∙ ap (line_said c.args.form) c.pending_bytes-2.ensures.pending)
 
 pub returns-in-Err : goal.returns-in-Err
-returns-in-Err c = λ first last cycles h e.
+returns-in-Err c = λ first last cycles h.
     subst (λ n. ReadToFault c.args.form first last cycles n c.in-Err.kind) (ap (λ r. r.line) (sym c.self.view_is))
-    (fault_last c.args.form first last c.args.self.now cycles c.in-Err.kind h (some_if c.pending_bytes.result.now c.args.self.now.pending c.pending_bytes.ensures.pending c.if-is_empty.ensures) e c.requires
+    (fault_last c.args.form first last c.args.self.now cycles c.in-Err.kind h (some_if c.pending_bytes.result.now c.args.self.now.pending c.pending_bytes.ensures.pending c.if-is_empty.ensures) c.requires
     (c.in-Err.ensures ∙ ap (line_said c.args.form) c.pending_bytes-2.ensures.pending))

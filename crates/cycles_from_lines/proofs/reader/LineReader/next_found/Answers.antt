@@ -17,7 +17,7 @@ returns-in-Ok-eq0-clause-reads g c = λ first cycles h.
     let input = g.I.Source.seen c.loop-kind.input in
     let before = subst (λ r. HasRead c.args.form first input r cycles) (sym c.in-Unended.ensures.1) (c.loop-kind.invariant.reads first cycles h) in
     let refilled = c.in-Ok-eq0.ensures.refills c.args.form first cycles before in
-    c.last_found.ensures.reads first _ cycles refilled.0 (refilled.1 c.in-Ok-eq0.field-0-test)
+    c.last_found.ensures.reads first _ cycles (refilled.1 c.in-Ok-eq0.field-0-test)
 
 pub returns-in-Ok-eq0-clause-less : goal.returns-in-Ok-eq0-clause-less
 returns-in-Ok-eq0-clause-less g c = ends_less _ _ c.last_found.result c.last_found.ensures.ends

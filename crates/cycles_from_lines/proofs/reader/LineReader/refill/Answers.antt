@@ -2,7 +2,7 @@
 use Rattle.std.proofs.Common.{ap, sym, subst, ◌∙◌}
 use Rattle.cycles_from_lines.specs.{declared.errors.LineKind.TheVariants.LineTooLong, LineReading.ReadToFault}
 use Rattle.text_parts.specs.Lines.{without_return}
-use Rattle.cycles_from_lines.proofs.{LineLaws.{is_long, is_short}, ReadLaws.{long_given, stopped_there}}
+use Rattle.cycles_from_lines.proofs.{LineLaws.{is_long, is_short}, ReadLaws.{long_given, stopped_there, filled}}
 use Rattle.cycles_from_lines.proofs.reader.LineReader.refill.Goals as goal
 
 pub returns-then-without_return-gt-MAX_CYCLE_LINE-clause-refills : goal.returns-then-without_return-gt-MAX_CYCLE_LINE-clause-refills
@@ -20,3 +20,6 @@ returns-in-Err-clause-refills g c = λ form first cycles h.
     stopped_there form first _ _ c.args.self.now cycles h c.requires
     (is_short (without_return c.args.self.now.pending) c.without_return.result.now (c.without_return.ensures ∙ ap without_return c.pending_bytes.ensures.pending) c.if-without_return-gt-MAX_CYCLE_LINE.false)
     c.in-Err.ensures.stopped.0
+
+pub returns-in-Ok-clause-refills : goal.returns-in-Ok-clause-refills
+returns-in-Ok-clause-refills g c = λ form first cycles h. filled form first _ _ c.args.self.now _ cycles c.in-Ok.count h c.in-Ok.ensures.filled

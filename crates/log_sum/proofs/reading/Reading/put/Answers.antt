@@ -12,7 +12,7 @@ unfolding fact_said
 returns-in-Begins-clause-put c = λ seen text follows said.
     let is : said_read c.args.said ≡ Ok (begins c.in-Begins.name.now c.in-Begins.kind) = ap said_read c.in-Begins.is in
     rw is (put_fact _ c.begin.new.self seen (begins c.in-Begins.name.now c.in-Begins.kind) (a_kind c.in-Begins.kind) c.begin.result refl follows.marked
-    (c.begin.ensures seen.entries follows.reading.tests follows.marked) refl refl
+    (c.begin.ensures.put seen.entries follows.reading.tests follows.marked) refl refl
     (c.place_after-self.ensures _ is ∙ ap (λ p. place_after p (begins c.in-Begins.name.now c.in-Begins.kind)) follows.reading.place) follows.reading.line)
 
 pub returns-in-State-clause-put : goal.returns-in-State-clause-put
@@ -28,7 +28,7 @@ unfolding fact_said
 returns-in-Conditioned-clause-put c = λ seen text follows said.
     let is : said_read c.args.said ≡ Ok (conditioned c.in-Conditioned.text.items c.in-Conditioned.verdict) = ap said_read c.in-Conditioned.is in
     rw is (put_fact _ c.put_condition.new.self seen (conditioned c.in-Conditioned.text.items c.in-Conditioned.verdict) (a_condition c.in-Conditioned.text.items c.in-Conditioned.verdict) c.put_condition.result refl follows.marked
-    (c.put_condition.ensures seen.entries seen.test follows.reading.tests (running_inside seen.place text (conditioned c.in-Conditioned.text.items c.in-Conditioned.verdict) _ _ seen.test (said ∙ is) refl follows.reading.test) follows.marked) refl refl
+    (c.put_condition.ensures.put seen.entries seen.test follows.reading.tests (running_inside seen.place text (conditioned c.in-Conditioned.text.items c.in-Conditioned.verdict) _ _ seen.test (said ∙ is) refl follows.reading.test) follows.marked) refl refl
     (c.place_after-self.ensures _ is ∙ ap (λ p. place_after p (conditioned c.in-Conditioned.text.items c.in-Conditioned.verdict)) follows.reading.place) follows.reading.line)
 
 pub returns-in-Hashed-clause-put : goal.returns-in-Hashed-clause-put
@@ -36,7 +36,7 @@ unfolding fact_said
 returns-in-Hashed-clause-put c = λ seen text follows said.
     let is : said_read c.args.said ≡ Ok (hashed c.in-Hashed.text.now) = ap said_read c.in-Hashed.is in
     rw is (put_fact _ c.put_hash.new.self seen (hashed c.in-Hashed.text.now) (a_hash c.in-Hashed.text.now) c.put_hash.result refl follows.marked
-    (c.put_hash.ensures seen.entries seen.test follows.reading.tests (running_inside seen.place text (hashed c.in-Hashed.text.now) _ _ seen.test (said ∙ is) refl follows.reading.test) follows.marked) refl refl
+    (c.put_hash.ensures.put seen.entries seen.test follows.reading.tests (running_inside seen.place text (hashed c.in-Hashed.text.now) _ _ seen.test (said ∙ is) refl follows.reading.test) follows.marked) refl refl
     (c.place_after-self.ensures _ is ∙ ap (λ p. place_after p (hashed c.in-Hashed.text.now)) follows.reading.place) follows.reading.line)
 
 pub returns-in-PassedOver-clause-put : goal.returns-in-PassedOver-clause-put

@@ -1,6 +1,7 @@
 -- `StateTable::index_or_new` finds a state, or puts it last.
 use Rattle.std.proofs.Common.{refl}
 use Rattle.log_sum.proofs.EntryLaws.{all_written, state_seen, states_seen}
+use Rattle.log_sum.proofs.UndoLaws.{first_stay}
 use Rattle.log_sum.proofs.state_table.StateTable.index_or_new.Goals as goal
 
 pub invariant_of-self : goal.invariant_of-self
@@ -19,3 +20,8 @@ pub returns-clause-states : goal.returns-clause-states
 returns-clause-states c =
     states_seen c.args.self.now.sums.entries.items c.index_or_put.new.self.entries.items c.args.form.now c.in_ok-sum.sum _ c.index_or_put.result refl
     c.index_or_put.ensures.seen c.args.mark c.in_ok-sum.ensures.mark c.in_ok-sum.ensures.count
+
+pub returns-clause-first : goal.returns-clause-first
+returns-clause-first c =
+    first_stay c.args.self.now.sums.entries.items c.index_or_put.new.self.entries.items c.args.form.now c.in_ok-sum.sum _ c.index_or_put.result
+    c.index_or_put.ensures.seen c.index_or_put.ensures.err

@@ -1,6 +1,6 @@
 -- `StateTable::keep_text` keeps a text that is read as the state at the index, and changes no state.
-use Rattle.std.proofs.Common.{◌<◌, length, sym, ap, ◌∙◌, refl, subst, arith}
-use Rattle.log_sum.specs.{declared.state_table.StateSum.StateSum, StateEntries.{EntriesAreWritten, ordered, state_at, states_view}}
+use Rattle.std.proofs.Common.{◌<◌, length, map, sym, ap, ◌∙◌, refl, subst, arith}
+use Rattle.log_sum.specs.{declared.state_table.StateSum.StateSum, StateEntries.{EntriesAreWritten, state_at, state_view}}
 use Rattle.log_sum.proofs.{EntryLaws.{written_again, text_added, text_read, same_view, same_state}, TextPlaceLaws.{written_is, written_apart, written_placed, value_there}}
 use Rattle.log_sum.proofs.state_table.StateTable.keep_text.Goals as goal
 
@@ -26,8 +26,8 @@ returns-clause-states c =
     let entry = c.index_mut.result.now in
     let sum : StateSum = record entry.1 { spelling = c.keep.new.self } in
     let within : c.args.i < length entries.items = omega (arith, c.len.ensures, c.if-i-len.false, entries.ok.0) in
-    ap states_view (written_is entries.items c.args.i _ entry sum within c.index_mut.ensures.value)
-    ∙ ap ordered (same_view entries.items c.args.i entry.1 sum (value_there entries.items c.args.i _ entry within c.index_mut.ensures.value) refl)
+    ap (map state_view) (written_is entries.items c.args.i _ entry sum within c.index_mut.ensures.value)
+    ∙ same_view entries.items c.args.i entry.1 sum (value_there entries.items c.args.i _ entry within c.index_mut.ensures.value) refl
 
 pub returns-clause-same : goal.returns-clause-same
 returns-clause-same c = λ j.

@@ -16,7 +16,7 @@ returns-in_err-judge c = λ files bytes is_fed.
     let there : 0 < length c.args.self.now.held = omega (arith, ap length held) in
     let few : length c.args.self.now.held ≤ 65536 = omega (arith, ap length held) in
     let follows = subst (λ (p : SumProgress). FollowsSeen p is_fed.seen) (sym (ap (λ (k : Kept). k.progress) c.self.view_is)) (fed_follows c.args.self.now files bytes is_fed) in
-    let read = subst (λ (t : List ℕ). JudgedTo (progress_view c.judge.new.self) (text_judged is_fed.seen t) (Err c.in_err-judge.field-0.0)) (c.as_slice.ensures.value ∙ held) (c.in_err-judge.ensures is_fed.seen follows) in
+    let read = subst (λ (t : List ℕ). JudgedTo (progress_view c.judge.new.self) (text_judged is_fed.seen t) (Err c.in_err-judge.field-0.0)) (c.as_slice.ensures.value ∙ held) (c.in_err-judge.ensures.judged is_fed.seen follows) in
     rw (p.1, p.2) (last_answered (record { progress = progress_view c.judge.new.self; held = c.self.inside.held.items; refusal = c.self.inside.refusal }) files bytes c.args.self.now.held is_fed.seen (end_after c.args.self.now files bytes is_fed) (last_text is_fed.seen c.args.self.now.held there few) c.in_err-judge.field-0.0 read)
 
 pub returns : goal.returns
@@ -29,7 +29,7 @@ returns c = λ files bytes is_fed.
           (let some = some_there _ (sym w.if-not-is_empty.ensures) in
           let there : 0 < length c.args.self.now.held = omega (arith, ap length held) in
           let few : length c.args.self.now.held ≤ 65536 = omega (arith, ap length held) in
-          let read = w.in_ok-judge.ensures is_fed.seen follows in
+          let read = w.in_ok-judge.ensures.judged is_fed.seen follows in
           let now = w.self-inside-is in
           end_answered _ files bytes read.seen
           (end_after c.args.self.now files bytes is_fed

@@ -20,7 +20,7 @@ returns-then-is_empty-clause-judged c = λ seen follows.
     let whole : c.args.self.now.held ++ c.args.prefix.now ≡ c.args.prefix.now = ap (λ t. t ++ c.args.prefix.now) empty in
     let few : length (c.args.self.now.held ++ c.args.prefix.now) ≤ 65536 = omega (arith, ap length whole) in
     line_read _ seen _ c.without_return.result.now c.judge.result few (c.without_return.ensures ∙ ap without_return (sym whole))
-    (c.judge.ensures seen (subst (λ (p : SumProgress). FollowsSeen p seen) (sym (ap (λ (k : Kept). k.progress) c.self.view_is)) follows))
+    (c.judge.ensures.judged seen (subst (λ (p : SumProgress). FollowsSeen p seen) (sym (ap (λ (k : Kept). k.progress) c.self.view_is)) follows))
 
 pub returns-in_err-hold-clause-judged : goal.returns-in_err-hold-clause-judged
 returns-in_err-hold-clause-judged c = λ seen follows.
@@ -34,7 +34,7 @@ returns-in_err-judge-clause-judged c = λ seen follows.
     let whole = ap (λ (k : Kept). k.held) now in
     let few : length (c.args.self.now.held ++ c.args.prefix.now) ≤ 65536 = omega (arith, ap length whole) in
     rw (p.1, p.2) (line_read (progress_view c.judge-2.new.self) seen (c.args.self.now.held ++ c.args.prefix.now) c.without_return-2.result.now (Err c.in_err-judge.field-0.0) few (c.without_return-2.ensures ∙ ap without_return (c.as_slice.ensures.value ∙ whole))
-    (c.in_err-judge.ensures seen (subst (λ (p : SumProgress). FollowsSeen p seen) (sym (ap (λ (k : Kept). k.progress) now)) follows)))
+    (c.in_err-judge.ensures.judged seen (subst (λ (p : SumProgress). FollowsSeen p seen) (sym (ap (λ (k : Kept). k.progress) now)) follows)))
 
 pub returns-clause-judged : goal.returns-clause-judged
 returns-clause-judged c = λ seen follows.
@@ -42,4 +42,4 @@ returns-clause-judged c = λ seen follows.
     let whole = ap (λ (k : Kept). k.held) now in
     let few : length (c.args.self.now.held ++ c.args.prefix.now) ≤ 65536 = omega (arith, ap length whole) in
     line_read _ seen _ c.without_return-2.result.now (Ok tt) few (c.without_return-2.ensures ∙ ap without_return (c.as_slice.ensures.value ∙ whole))
-    (c.in_ok-judge.ensures seen (subst (λ (p : SumProgress). FollowsSeen p seen) (sym (ap (λ (k : Kept). k.progress) now)) follows))
+    (c.in_ok-judge.ensures.judged seen (subst (λ (p : SumProgress). FollowsSeen p seen) (sym (ap (λ (k : Kept). k.progress) now)) follows))

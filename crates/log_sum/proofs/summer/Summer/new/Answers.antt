@@ -19,7 +19,7 @@ returns c =
     (record {
       seen = nothing_seen;
       judged = nothing_judged;
-      reading = c.new.ensures.reading;
+      reading = c.new.ensures.seen.reading;
       held = c.in_ok-with_capacity.ensures.items ∙ nothing_held;
       going = refl;
     })

@@ -22,3 +22,5 @@ returns-clause-ok c =
     (ap (λ s. s.faults) c.self-2.view_is)
     (ap (λ s. s.taken) c.self-2.view_is)
     (ap (λ s. s.opened) c.self-2.view_is)
+    (ap (λ s. s.ends) c.self-2.view_is)
+    (ap (λ s. s.faults_at_open) c.self-2.view_is)

@@ -11,7 +11,8 @@ returns-in_err-begin_call-clause-failed c =
     on_err_is _ _ _ c.begin_call.ensures.stopped c.in_err-begin_call.was in
     on_err_any _ _
     (stops_after c.args.self.now c.grow.new.self c.begin_call.new.self _ c.args.bytes.now c.min-fitting.result c.grow.ensures.files
-    (ap (λ s. s.faults) c.grow.ensures.grown) (ap (λ s. s.taken) c.grow.ensures.grown) (ap (λ s. s.opened) c.grow.ensures.grown) stopped)
+    (ap (λ s. s.faults) c.grow.ensures.grown) (ap (λ s. s.taken) c.grow.ensures.grown) (ap (λ s. s.opened) c.grow.ensures.grown)
+    (ap (λ s. s.ends) c.grow.ensures.grown) (ap (λ s. s.faults_at_open) c.grow.ensures.grown) stopped)
 
 pub returns-then-fitting-bytes-clause-failed : goal.returns-then-fitting-bytes-clause-failed
 returns-then-fitting-bytes-clause-failed c =
@@ -22,4 +23,6 @@ returns-then-fitting-bytes-clause-failed c =
     (ap (λ s. s.faults) begun ∙ ap (λ s. s.faults) c.grow.ensures.grown)
     (ap (λ s. s.taken) begun ∙ ap (λ s. s.taken) c.grow.ensures.grown)
     (ap (λ s. s.opened) begun ∙ ap (λ s. s.opened) c.grow.ensures.grown)
+    (ap (λ s. s.ends) begun ∙ ap (λ s. s.ends) c.grow.ensures.grown)
+    (ap (λ s. s.faults_at_open) begun ∙ ap (λ s. s.faults_at_open) c.grow.ensures.grown)
     c.count_fault.ensures.stopped

@@ -25,3 +25,5 @@ returns-in-Some-clause-ok c =
     (ap (λ s. s.faults) (c.self.view_is ∙ begun))
     (ap (λ s. s.taken) (c.self.view_is ∙ begun))
     (ap (λ s. s.opened) (c.self.view_is ∙ begun))
+    (ap (λ s. s.ends) (c.self.view_is ∙ begun))
+    (ap (λ s. s.faults_at_open) (c.self.view_is ∙ begun))

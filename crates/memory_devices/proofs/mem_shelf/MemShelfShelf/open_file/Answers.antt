@@ -16,6 +16,8 @@ the_view inside file opened = record {
   faults = inside.faults;
   taken = 0;
   opened = opened;
+  ends = inside.ends;
+  faults_at_open = inside.faults;
 }
 
 pub invariant_of-self : goal.invariant_of-self
@@ -31,7 +33,8 @@ returns-in-None-clause-missing c = λ same.
     ap (λ h. file_place c.args.name.now h.files) (sym c.begin_call.ensures.held) ∙ ap (λ s. file_place c.args.name.now s.held.files) (sym c.self.view_is)
     ∙ ap (λ n. file_place n c.self.inside.held.files) (sym c.as_bytes.ensures.value) ∙ sym c.place_of.ensures.place ∙ c.in-None.is in
     misses c.args.self.now c.begin_call.new.self c.args.name.now absent c.requires
-    (ap (λ s. s.held) begun) (ap (λ s. s.mode) begun) (ap (λ s. s.faults) begun) (ap (λ s. s.taken) begun) (ap (λ s. s.opened) begun)
+    (ap (λ s. s.held) begun) (ap (λ s. s.mode) begun) (ap (λ s. s.faults) begun) (ap (λ s. s.taken) begun) (ap (λ s. s.opened) begun) (ap (λ s. s.ends) begun)
+    (ap (λ s. s.faults_at_open) begun)
 
 pub returns-in-Some-clause-ok : goal.returns-in-Some-clause-ok
 returns-in-Some-clause-ok c =
@@ -46,3 +49,5 @@ returns-in-Some-clause-ok c =
     (ap (λ s. s.faults) (c.self.view_is ∙ begun))
     refl
     (c.saturating_add-self-inside.ensures ∙ ap (λ s. next_count s.opened) (c.self.view_is ∙ begun))
+    (ap (λ s. s.ends) (c.self.view_is ∙ begun))
+    (ap (λ s. s.faults) (c.self.view_is ∙ begun))

@@ -1,13 +1,11 @@
 -- The word at the rank of an edge is the edge's.
 use Rattle.std.proofs.Common.{◌∙◌}
-use Rattle.relax_edges.proofs.{WordBounds.word_not_short, WordBounds.word_short, WordBounds.word_ascii, WordTable.word_within, WordTable.word_at}
+use Rattle.relax_edges.proofs.{WordBounds.word_not_short, WordBounds.word_short, WordBounds.word_ascii, WordTable.word_at}
 use Rattle.relax_edges.proofs.edge.Edge.text.Goals as goal
 
-pub bounds-words-from : goal.bounds-words-from
-bounds-words-from c = rw (c.from.ensures ∙ c.rank.ensures.value) (word_within (λ word. word.now) c.words.result.now c.args.self c.words.ensures)
-
 pub returns-clause-word : goal.returns-clause-word
-returns-clause-word c = word_at (λ word. word.now) c.words.result.now _ c.args.self _ c.words.ensures (c.from.ensures ∙ c.rank.ensures.value)
+returns-clause-word c =
+    word_at (λ word. word.now) c.words.result.now _ c.args.self _ c.words.ensures.words (c.from.ensures ∙ c.rank.ensures.value)
 
 pub returns-clause-not_short : goal.returns-clause-not_short
 returns-clause-not_short c = rw (returns-clause-word c) (word_not_short c.args.self)

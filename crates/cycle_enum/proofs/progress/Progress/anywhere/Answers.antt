@@ -1,0 +1,8 @@
+-- Before a list that may begin anywhere, each relaxation may be read.
+use Rattle.std.proofs.Common.{refl}
+use Rattle.cycle_enum.proofs.SetPlaces.{row_all}
+use Rattle.cycle_enum.proofs.SetReading.{begun_anywhere}
+use Rattle.cycle_enum.proofs.progress.Progress.anywhere.Goals as goal
+
+pub returns : goal.returns
+returns c relaxes places are = begun_anywhere relaxes places _ are refl (row_all c.all.result c.all.ensures 8)

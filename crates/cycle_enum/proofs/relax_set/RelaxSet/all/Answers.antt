@@ -1,0 +1,6 @@
+-- Each bit of the greatest number is one.
+use Rattle.std.proofs.lemmas.Nat.Bits.{bit_at_ones}
+use Rattle.cycle_enum.proofs.relax_set.RelaxSet.all.Goals as goal
+
+pub returns : goal.returns
+returns c i few = bit_at_ones 64 i few

@@ -1,0 +1,7 @@
+-- A printed name spells the edge with this name.
+use Rattle.std.proofs.Common.{sym, ◌∙◌}
+use Rattle.edges_from_text.proofs.EdgeReadings.{edge_of_named}
+use Rattle.edges_from_text.proofs.edge.spelled.Goals as goal
+
+pub returns-in-Some : goal.returns-in-Some
+returns-in-Some c = sym (edge_of_named c.args.text.now c.in-Some.edge (sym c.requires ∙ c.in-Some.is))

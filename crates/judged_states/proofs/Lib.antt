@@ -1,0 +1,3 @@
+pub mod SaidLaws
+pub mod JudgedPrinting
+pub mod JudgingLaws

@@ -1,0 +1,3 @@
+pub mod SaidStates
+pub mod JudgedStates
+pub mod JudgedText

@@ -1,0 +1,20 @@
+-- `SkippingSummer::write_table` writes the table by way of a page, which is empty at first and is flushed at the end.
+use Rattle.std.proofs.Common.{◌≡◌, ℕ, List, [], Err, subst, arith}
+use Rattle.std.specs.{Prelude.Result, Result.IsErrAnd}
+use Rattle.diy_io.specs.{declared.errors.Failed.Failed, Wrote.{SinkSeen, Wrote}, Page.{Sends, SentAll}, PageLaws.sent_wrote}
+use Rattle.log_sum.proofs.skipping.SkippingSummer.write_table.Goals as goal
+
+-- a text that was sent by way of an empty page, which is handed on at the end; and one that was sent in part
+own_wrote : (a b c : SinkSeen) (held kept text : List ℕ) (result : Result (Unit {0}) Failed)
+    → held ≡ [] → SentAll a held b kept text → Wrote b c kept result → Wrote a c text result
+own_wrote a b c held kept text result e h k = sent_wrote a b c kept text result (subst (λ t. SentAll a t b kept text) e h) k
+
+own_unsent : (Q : Failed → Type 0) (a b : SinkSeen) (held kept text : List ℕ) (error : Failed) (result : Result (Unit {0}) Failed)
+    → held ≡ [] → Sends a held b kept text (Err error) → IsErrAnd result Q → Wrote a b text result
+own_unsent Q a b held kept text error result e h is_err = grind arith
+
+pub returns-in_err-print_lines : goal.returns-in_err-print_lines
+returns-in_err-print_lines g c = own_unsent _ _ _ _ _ _ _ c.from_residual.result c.new-page.ensures c.in_err-print_lines.ensures c.from_residual.ensures.1
+
+pub returns : goal.returns
+returns g c = own_wrote _ _ _ _ _ _ c.flush.result c.new-page.ensures c.in_ok-print_lines.ensures.ok c.flush.ensures.wrote

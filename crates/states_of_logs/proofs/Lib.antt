@@ -1,0 +1,3 @@
+mod TestFileLaws
+mod StatesLaws
+mod EndLaws

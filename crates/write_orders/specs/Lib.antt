@@ -1,0 +1,2 @@
+pub mod WriteOrders
+pub mod OrderLaws
