@@ -28,6 +28,7 @@ pub mod Grammar
 pub mod CarryLaws
 pub mod KeptLaws
 pub mod SiftLaws
+pub mod WrongLines
 pub mod AloneLaws
 pub mod SieveLaws
 pub mod SievedLaws

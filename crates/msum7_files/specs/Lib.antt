@@ -5,6 +5,5 @@ pub mod LogFiles
 pub mod SumForms
 pub mod SumEnds
 pub mod LogsFed
-pub mod RightLogs
 pub mod SkipEnds
 pub mod SkipReading

@@ -12,8 +12,8 @@ use Rattle.msum7_files.specs.declared.feeding.LogFault.TheVariants as log_faults
 use Rattle.msum7_files.specs.declared.feeding.ReadFault.TheVariants as read_faults
 use Rattle.msum7_files.specs.declared.files.FileFault.TheVariants as file_faults
 
--- the arguments from an index on name files that are logs without an error, each of at most 2^40 bytes, and each was read to its end, which
--- was seen once; the shelf didn't fail; and this holds of the logs
+-- the arguments from an index on name files, each of at most 2^40 bytes, and each was read to its end, which was seen once; the shelf didn't
+-- fail; and this holds of them as logs (`Represents`, where a summer was fed: then they have no error)
 pub record LogFilesRead (old new : ShelfSeen) (words : List (List ℕ)) (first : ℕ) (Holds : List (List ℕ) → Type 0) : Type 0 where
   pub logs : List (List ℕ)
   pub all : first + length logs ≡ length words
@@ -39,7 +39,7 @@ abbrev pub LogFilesTo : ShelfSeen → ShelfSeen → List (List ℕ) → ℕ → 
 LogFilesTo old new words first (Ok kept) = LogFilesRead old new words first (λ logs. Represents kept logs [])
 LogFilesTo old new words first (Err fault) = LogFilesUnread old new words first fault
 
--- the input is a log of at most 2^40 bytes without an error, which was read to its end, seen once; it didn't fail; and this holds of the log
+-- the input has at most 2^40 bytes, and was read to its end, which was seen once; it didn't fail; and this holds of it as the only log
 pub record LogInputRead (old new : SourceSeen) (Holds : List (List ℕ) → Type 0) : Type 0 where
   pub log : List ℕ
   pub text : IsText old.left log
