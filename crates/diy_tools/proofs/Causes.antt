@@ -21,9 +21,9 @@ use Rattle.diy_words.specs.declared.request.ExecutionForm.{ExecutionForm}
 use Rattle.diy_words.specs.Requests.{Task, TestTask, WhyTask, ListTask, Sought, asked_of, AsksTest, AsksWhy, AsksCoherence, CoherenceTask, AsksName, AsksList, AsksFamilies, AsksSum, AsksCross, AsksDemo, AsksCheck, AsksExecution, AsksCoherenceExecution, AsksNeeds, AsksLines, AsksLineTests, AsksStates, LineTestsTask, OfEdges, OfName, OfLines, OfNames, CrossTask}
 use Rattle.tests_to_files.specs.{declared.ending.ListingEnd.ListingEnd, ListingEnds.{StopsAtTest, StopsAtAll}, Plans.{IsPlanned, planned_text}}
 use Rattle.tests_to_files.specs.declared.ending.ListingEnd.TheVariants as listings
-use Rattle.msum7_files.specs.declared.sum_form.SumForm.{SumForm}
-use Rattle.msum7_files.specs.declared.sum_end.SumEnd.{SumEnd}
-use Rattle.msum7_files.specs.declared.sum_end.SumEnd.TheVariants as sums
+use Rattle.msum7_files.specs.declared.{sum_form.SumForm.SumForm, wrong_blocks.WrongBlocks.WrongBlocks, wrong_blocks.WrongBlocks.TheVariants.End}
+use Rattle.msum7_files.specs.declared.faults.SumFault.TheVariants.{Unread, Out as OutFault}
+use Rattle.msum7_files.specs.declared.faults.LogsFault.TheVariants as sums
 use Rattle.program_meaning.specs.Executions.{Execution}
 use Rattle.litmus_text.specs.TestReading.{TestRead}
 use Rattle.two_runs.specs.{IntendedRuns.intended_by, CoherenceRuns.incoherent_by}
@@ -35,28 +35,27 @@ use Rattle.diy_tools.specs.{Statuses.{norm_status, classify_status, listing_stat
 use Rattle.diy_tools.specs.{TestAnswers.{asked_text, test_name, test_refused}, WhyAnswers.{AnswersRuns, WritesRuns, why_unshown}}
 use Rattle.diy_tools.specs.{CoherenceAnswers.{coherence_refused, incoherent_text}, NameAnswers.{AnswersName, AnswersSought}}
 use Rattle.diy_tools.specs.{FamilyAnswers.{AnswersClassify, EndsFamilies, files_status}, CrossAnswers.{AnswersCross, EndsCrossed}, DemoAnswers.demo_asked}
-use Rattle.diy_tools.specs.{CheckAnswers.{EndsCheck, check_status}, SumAnswers.{EndsAmong, EndsInput, EndsSum, first_log, name_logs, sum_status}, Answers.{Answers, AnswersAsked}}
+use Rattle.diy_tools.specs.{CheckAnswers.{EndsCheck, check_status}, SumAnswers.{EndsAmong, EndsInput, EndsSum, SumEnd, first_log, name_logs, sum_status, written_status}, Answers.{Answers, AnswersAsked}}
 use Rattle.diy_tools.specs.{Causes.{Causes, CausesAsked, Finishes, LinesStop, OutStops, RoseFar}, LineTestAnswers.{EndsLined, line_tests_status, making_asked}}
 use Rattle.lines_to_files.specs.declared.ending.LineTestsEnd.{LineTestsEnd}
 use Rattle.lines_to_files.specs.declared.ending.LineTestsEnd.TheVariants as tests
-use Rattle.lines_to_files.specs.declared.form.WrongTest.TheVariants as wrong
+use Rattle.lines_to_files.specs.declared.form.WrongTest.TheVariants as wrongs
 use Rattle.test_maker.specs.declared.refusal.Refusal.{Refusal}
-use Rattle.diy_words.specs.declared.request.{States.States, WrongBlocks.TheVariants.{End, LeaveOut}}
+use Rattle.diy_words.specs.declared.request.States.{States}
 use Rattle.states_of_logs.specs.declared.states_end.StatesEnd.{StatesEnd}
 use Rattle.states_of_logs.specs.declared.states_end.StatesEnd.TheVariants as judging
 use Rattle.states_of_logs.specs.declared.states_end.StatesKind.TheVariants as judged
 use Rattle.log_sum.specs.declared.skipping.SkippedBlock.{SkippedBlock}
 use Rattle.std.specs.{declared.vec.Vec.Vec, declared.alloc.Global.Global}
-use Rattle.msum7_files.specs.{SumEnds.SumShelfFailed}
+use Rattle.msum7_files.specs.LogsRead.{SumShelfFailed}
 use Rattle.tests_from_files.specs.FilesRead.{FileFailed}
 use Rattle.states_of_logs.specs.StatesEnds.{AfterTest}
 use Rattle.diy_io.specs.Opened.{name_at}
-use Rattle.diy_tools.specs.SkipAnswers.{EndsKept, EndsKeptAmong, EndsKeptInput, SkipEnd, first_kept, keep_logs, kept_status, skip_status}
 use Rattle.diy_tools.specs.StatesAnswers.{EndsJudged, EndsJudgedAmong, EndsJudgedInput, judge_logs, states_status}
 use Rattle.diy_tools.proofs.StatesCounts.{rose_after}
 use Rattle.run_status.specs.declared.status.Status.TheVariants as statuses
 use Rattle.run_status.specs.declared.status.TextKind.TheVariants as texts
-use Rattle.diy_tools.proofs.{CountedLogs.{file_opened, file_far, input_far, input_over, overfull_taken, stopped_opened, stopped_far}, LineTestAnswers.lined_failed}
+use Rattle.diy_tools.proofs.{CountedLogs.{input_far, long_taken, stopped_opened, stopped_far}, LineTestAnswers.lined_failed}
 
 -- devices that are the same one by one are the same
 same_devices : (old new : Devices) → new.input ≡ old.input → new.out ≡ old.out → new.shelf ≡ old.shelf → new ≡ old
@@ -243,13 +242,13 @@ module _ (old new : Devices) where
   lined_caused words asked tests.ShelfFault status e h =
       of_status words (Ok (AsksLineTests asked)) status (statuses.WriteFault Shelf) e
       (lined_failed (making_asked asked) old.input new.input old.shelf new.shelf h.0, h)
-  lined_caused words asked (tests.Wrong line (wrong.Line kind)) status e h =
+  lined_caused words asked (tests.Wrong line (wrongs.Line kind)) status e h =
       of_status words (Ok (AsksLineTests asked)) status (statuses.BadText None line (texts.Line kind)) e (inr (refl, h))
-  lined_caused words asked (tests.Wrong line (wrong.Refused refusal)) status e h =
+  lined_caused words asked (tests.Wrong line (wrongs.Refused refusal)) status e h =
       of_status words (Ok (AsksLineTests asked)) status (statuses.BadText None line (texts.Refused refusal)) e (refl, h)
-  lined_caused words asked (tests.Wrong line wrong.BadName) status e h =
+  lined_caused words asked (tests.Wrong line wrongs.BadName) status e h =
       of_status words (Ok (AsksLineTests asked)) status (statuses.BadText None line texts.BadName) e (refl, h)
-  lined_caused words asked (tests.Wrong line wrong.NameTaken) status e h =
+  lined_caused words asked (tests.Wrong line wrongs.NameTaken) status e h =
       of_status words (Ok (AsksLineTests asked)) status (statuses.BadText None line texts.NameTaken) e (refl, h)
   lined_caused words asked (tests.TooMuch line) status e h =
       of_status words (Ok (AsksLineTests asked)) status (statuses.BadText None line texts.TooMuch) e
@@ -356,132 +355,84 @@ module _ (old new : Devices) where
   check_caused words asked checking.NoMemory status e h =
       of_status words (Ok (AsksCheck asked)) status statuses.NoMemory e (tt, record { out = h.both.checked; files = h.both.stay })
 
-  files_caused : (form : SumForm) (words : List (List ℕ)) (end : SumEnd) (status : Status) → status ≡ sum_status end
-      → (EndsAmong true form words end old new → EndsSum form words end old new) → EndsAmong true form words end old new
-      → CausesAsked words (Ok (AsksSum form End)) status old new
-  files_caused form words sums.Done status e ends h = of_status words (Ok (AsksSum form End)) status statuses.Done e (ends h)
-  files_caused form words sums.OutFault status e ends h =
-      of_status words (Ok (AsksSum form End)) status (statuses.WriteFault Out) e (h.both.summed.wrote.fault, ends h)
-  files_caused form words (sums.Wrong None line kind) status e ends h = absurd h.both.summed
-  files_caused form words (sums.Wrong (Some file) line kind) status e ends h =
-      of_status words (Ok (AsksSum form End)) status (statuses.BadText (Some file) line (texts.Log kind)) e
-      (inl (ends h, record { out = h.both.summed.1; files = h.both.files }))
-  files_caused form words (sums.TooMuch None line) status e ends h = absurd h.both.summed
-  files_caused form words (sums.TooMuch (Some file) line) status e ends h =
-      of_status words (Ok (AsksSum form End)) status (statuses.BadText (Some file) line texts.TooMuch) e
-      (file_opened old.shelf new.shelf words (first_log form) file line h.both.summed.0, file_far old.shelf new.shelf words (first_log form) file line h.both.summed.0, inl (ends h, record { out = h.both.summed.1; files = h.both.files }))
-  files_caused form words (sums.NoFile word) status e ends h =
-      of_status words (Ok (AsksSum form End)) status (statuses.NoFile word) e
-      (inl (h.both.summed.0, (ends h, record { out = h.both.summed.1; files = h.both.files })))
-  files_caused form words sums.InputFault status e ends h = absurd h.both.summed
-  files_caused form words sums.ShelfFault status e ends h =
-      of_status words (Ok (AsksSum form End)) status (statuses.ReadFault Shelf) e
-      (h.both.summed.0.fault, inl (ends h, record { out = h.both.summed.1; files = h.both.files }))
-  files_caused form words sums.NoMemory status e ends h =
-      of_status words (Ok (AsksSum form End)) status statuses.NoMemory e (tt, record { out = h.both.summed; files = h.both.files })
-
-  input_caused : (form : SumForm) (words : List (List ℕ)) (end : SumEnd) (status : Status) → status ≡ sum_status end
-      → (EndsInput form end old new → EndsSum form words end old new) → EndsInput form end old new → CausesAsked words (Ok (AsksSum form End)) status old new
-  input_caused form words sums.Done status e ends h = of_status words (Ok (AsksSum form End)) status statuses.Done e (ends h)
-  input_caused form words sums.OutFault status e ends h = of_status words (Ok (AsksSum form End)) status (statuses.WriteFault Out) e (h.both.wrote.fault, ends h)
-  input_caused form words (sums.Wrong None line kind) status e ends h =
-      of_status words (Ok (AsksSum form End)) status (statuses.BadText None line (texts.Log kind)) e
-      (inl (ends h, record { out = h.both.1; files = ap (λ (s : ShelfSeen). s.files) h.shelf }))
-  input_caused form words (sums.Wrong (Some file) line kind) status e ends h = absurd h.both
-  input_caused form words (sums.TooMuch None line) status e ends h =
-      of_status words (Ok (AsksSum form End)) status (statuses.BadText None line texts.TooMuch) e (
-        input_far old.input new.input [] h.both.0.log h.both.0.bytes line h.both.0.taken h.both.0.is,
-        inr (inl (ends h, record { out = h.both.1; files = ap (λ (s : ShelfSeen). s.files) h.shelf })),
-      )
-  input_caused form words (sums.TooMuch (Some file) line) status e ends h = absurd h.both
-  input_caused form words (sums.NoFile word) status e ends h = absurd h.both
-  input_caused form words sums.InputFault status e ends h =
-      of_status words (Ok (AsksSum form End)) status (statuses.ReadFault Input) e
-      (h.both.0.fault, inr (inl (ends h, record { out = h.both.1; files = ap (λ (s : ShelfSeen). s.files) h.shelf })))
-  input_caused form words sums.ShelfFault status e ends h = absurd h.both
-  input_caused form words sums.NoMemory status e ends h =
-      of_status words (Ok (AsksSum form End)) status statuses.NoMemory e (tt, record { out = h.both; files = ap (λ (s : ShelfSeen). s.files) h.shelf })
-
-  sum_caused : (form : SumForm) (words : List (List ℕ)) (end : SumEnd) (status : Status) → status ≡ sum_status end → EndsSum form words end old new
-      → CausesAsked words (Ok (AsksSum form End)) status old new
-  sum_caused form words end status e h = among (name_logs form words) refl h
+  -- msum7
+  written_caused : (wrong : WrongBlocks) (form : SumForm) (words : List (List ℕ)) (blocks : Vec SkippedBlock Global) (status : Status)
+      → status ≡ written_status blocks.items → EndsSum wrong form words (Ok blocks) old new → CausesAsked words (Ok (AsksSum form wrong)) status old new
+  written_caused wrong form words blocks status e h = of_items blocks.items refl e
     where
-      among : (b : Bool) → name_logs form words ≡ b → EndsAmong b form words end old new → CausesAsked words (Ok (AsksSum form End)) status old new
-      among true q i = files_caused form words end status e (λ ends. subst (λ b. EndsAmong b form words end old new) (sym q) ends) i
-      among false q i = input_caused form words end status e (λ ends. subst (λ b. EndsAmong b form words end old new) (sym q) ends) i
-
-  -- msum7 -skip
-  kept_written : (form : SumForm) (words : List (List ℕ)) (blocks : Vec SkippedBlock Global) (status : Status) → status ≡ kept_status blocks.items
-      → EndsKept form words (Ok blocks) old new → CausesAsked words (Ok (AsksSum form LeaveOut)) status old new
-  kept_written form words blocks status e h = of_items blocks.items refl e
-    where
-      of_items : (items : List SkippedBlock) → blocks.items ≡ items → status ≡ kept_status items
-          → CausesAsked words (Ok (AsksSum form LeaveOut)) status old new
-      of_items [] f e = of_status words (Ok (AsksSum form LeaveOut)) status statuses.Done e (record { blocks = blocks; ends = h; are = f })
-      of_items (block ∷ rest) f e =
-          of_status words (Ok (AsksSum form LeaveOut)) status statuses.Skipped e
+      of_items : (items : List SkippedBlock) → blocks.items ≡ items → status ≡ written_status items → CausesAsked words (Ok (AsksSum form wrong)) status old new
+      of_items [] f e = of_status words (Ok (AsksSum form wrong)) status statuses.Done e (record { blocks = blocks; ends = h; are = f })
+      of_items (block ∷ items) f e =
+          of_status words (Ok (AsksSum form wrong)) status statuses.Skipped e
           (record { blocks = blocks; ends = h; are = subst (λ (list : List SkippedBlock). 0 < length list) (sym f) (omega arith) })
 
-  kept_files_caused : (form : SumForm) (words : List (List ℕ)) (end : SkipEnd) (status : Status) → status ≡ skip_status end
-      → (EndsKeptAmong true form words end old new → EndsKept form words end old new) → EndsKeptAmong true form words end old new
-      → CausesAsked words (Ok (AsksSum form LeaveOut)) status old new
-  kept_files_caused form words (Ok blocks) status e ends h = kept_written form words blocks status e (ends h)
-  kept_files_caused form words (Err sums.OutFault) status e ends h =
-      of_status words (Ok (AsksSum form LeaveOut)) status (statuses.WriteFault Out) e (h.both.kept.1.wrote.fault, ends h)
-  kept_files_caused form words (Err (sums.TooMuch (Some file) line)) status e ends h =
-      let long : 2 ^ 40 < length h.both.kept.0.bytes = overfull_taken h.both.kept.0.log h.both.kept.0.bytes line h.both.kept.0.is in
-      of_status words (Ok (AsksSum form LeaveOut)) status (statuses.BadText (Some file) line texts.TooMuch) e (
-        stopped_opened old.shelf new.shelf words (first_kept form) file _ h.both.kept.0,
-        stopped_far old.shelf new.shelf words (first_kept form) file _ h.both.kept.0 long,
-        inl (ends h, record { out = h.both.kept.1; files = h.both.files }),
+  files_caused : (wrong : WrongBlocks) (form : SumForm) (words : List (List ℕ)) (end : SumEnd) (status : Status) → status ≡ sum_status end
+      → (EndsAmong true wrong form words end old new → EndsSum wrong form words end old new) → EndsAmong true wrong form words end old new
+      → CausesAsked words (Ok (AsksSum form wrong)) status old new
+  files_caused wrong form words (Ok blocks) status e ends h = written_caused wrong form words blocks status e (ends h)
+  files_caused wrong form words (Err OutFault) status e ends h =
+      of_status words (Ok (AsksSum form wrong)) status (statuses.WriteFault Out) e (h.both.summed.holds.wrote.fault, ends h)
+  files_caused wrong form words (Err (Unread (sums.Wrong None line kind))) status e ends h = absurd h.both.summed.0
+  files_caused wrong form words (Err (Unread (sums.Wrong (Some file) line kind))) status e ends h =
+      of_status words (Ok (AsksSum form wrong)) status (statuses.BadText (Some file) line (texts.Log kind)) e
+      (inl (ends h, record { out = h.both.summed.1; files = h.both.files }))
+  files_caused wrong form words (Err (Unread (sums.TooMuch None line))) status e ends h = absurd h.both.summed.0
+  files_caused wrong form words (Err (Unread (sums.TooMuch (Some file) line))) status e ends h =
+      let w = h.both.summed.0 in
+      of_status words (Ok (AsksSum form wrong)) status (statuses.BadText (Some file) line texts.TooMuch) e (
+        stopped_opened old.shelf new.shelf words (first_log wrong form) file _ w,
+        stopped_far old.shelf new.shelf words (first_log wrong form) file _ w (long_taken wrong w.before w.log w.bytes line w.is),
+        inl (ends h, record { out = h.both.summed.1; files = h.both.files }),
       )
-  kept_files_caused form words (Err (sums.NoFile word)) status e ends h =
-      of_status words (Ok (AsksSum form LeaveOut)) status (statuses.NoFile word) e
-      (inl (h.both.kept.0, (ends h, record { out = h.both.kept.1; files = h.both.files })))
-  kept_files_caused form words (Err sums.ShelfFault) status e ends h =
-      of_status words (Ok (AsksSum form LeaveOut)) status (statuses.ReadFault Shelf) e
-      (h.both.kept.0.fault, inl (ends h, record { out = h.both.kept.1; files = h.both.files }))
-  kept_files_caused form words (Err sums.NoMemory) status e ends h =
-      of_status words (Ok (AsksSum form LeaveOut)) status statuses.NoMemory e (tt, record { out = h.both.kept; files = h.both.files })
-  kept_files_caused form words (Err sums.Done) status e ends h = absurd h.both.kept
-  kept_files_caused form words (Err (sums.Wrong file line kind)) status e ends h = absurd h.both.kept
-  kept_files_caused form words (Err (sums.TooMuch None line)) status e ends h = absurd h.both.kept
-  kept_files_caused form words (Err sums.InputFault) status e ends h = absurd h.both.kept
+  files_caused wrong form words (Err (Unread (sums.NoFile word))) status e ends h =
+      of_status words (Ok (AsksSum form wrong)) status (statuses.NoFile word) e
+      (inl (h.both.summed.0, (ends h, record { out = h.both.summed.1; files = h.both.files })))
+  files_caused wrong form words (Err (Unread sums.InputFault)) status e ends h = absurd h.both.summed.0
+  files_caused wrong form words (Err (Unread sums.ShelfFault)) status e ends h =
+      of_status words (Ok (AsksSum form wrong)) status (statuses.ReadFault Shelf) e
+      (h.both.summed.0.fault, inl (ends h, record { out = h.both.summed.1; files = h.both.files }))
+  files_caused wrong form words (Err (Unread sums.NoMemory)) status e ends h =
+      of_status words (Ok (AsksSum form wrong)) status statuses.NoMemory e (tt, record { out = h.both.summed.1; files = h.both.files })
 
-  kept_input_caused : (form : SumForm) (words : List (List ℕ)) (end : SkipEnd) (status : Status) → status ≡ skip_status end
-      → (EndsKeptInput form end old new → EndsKept form words end old new) → EndsKeptInput form end old new
-      → CausesAsked words (Ok (AsksSum form LeaveOut)) status old new
-  kept_input_caused form words (Ok blocks) status e ends h = kept_written form words blocks status e (ends h)
-  kept_input_caused form words (Err sums.OutFault) status e ends h =
-      of_status words (Ok (AsksSum form LeaveOut)) status (statuses.WriteFault Out) e (h.both.1.wrote.fault, ends h)
-  kept_input_caused form words (Err (sums.TooMuch None line)) status e ends h =
-      of_status words (Ok (AsksSum form LeaveOut)) status (statuses.BadText None line texts.TooMuch) e (
-        input_over old.input new.input h.both.0.log h.both.0.bytes line h.both.0.taken h.both.0.is,
+  input_caused : (wrong : WrongBlocks) (form : SumForm) (words : List (List ℕ)) (end : SumEnd) (status : Status) → status ≡ sum_status end
+      → (EndsInput wrong form end old new → EndsSum wrong form words end old new) → EndsInput wrong form end old new
+      → CausesAsked words (Ok (AsksSum form wrong)) status old new
+  input_caused wrong form words (Ok blocks) status e ends h = written_caused wrong form words blocks status e (ends h)
+  input_caused wrong form words (Err OutFault) status e ends h =
+      of_status words (Ok (AsksSum form wrong)) status (statuses.WriteFault Out) e (h.both.holds.wrote.fault, ends h)
+  input_caused wrong form words (Err (Unread (sums.Wrong None line kind))) status e ends h =
+      of_status words (Ok (AsksSum form wrong)) status (statuses.BadText None line (texts.Log kind)) e
+      (inl (ends h, record { out = h.both.1; files = ap (λ (s : ShelfSeen). s.files) h.shelf }))
+  input_caused wrong form words (Err (Unread (sums.Wrong (Some file) line kind))) status e ends h = absurd h.both.0
+  input_caused wrong form words (Err (Unread (sums.TooMuch None line))) status e ends h =
+      let w = h.both.0.0 in
+      of_status words (Ok (AsksSum form wrong)) status (statuses.BadText None line texts.TooMuch) e (
+        input_far wrong old.input new.input [] w.log w.bytes line w.taken w.is,
         inr (inl (ends h, record { out = h.both.1; files = ap (λ (s : ShelfSeen). s.files) h.shelf })),
       )
-  kept_input_caused form words (Err sums.InputFault) status e ends h =
-      of_status words (Ok (AsksSum form LeaveOut)) status (statuses.ReadFault Input) e
+  input_caused wrong form words (Err (Unread (sums.TooMuch (Some file) line))) status e ends h = absurd h.both.0
+  input_caused wrong form words (Err (Unread (sums.NoFile word))) status e ends h = absurd h.both.0
+  input_caused wrong form words (Err (Unread sums.InputFault)) status e ends h =
+      of_status words (Ok (AsksSum form wrong)) status (statuses.ReadFault Input) e
       (h.both.0.fault, inr (inl (ends h, record { out = h.both.1; files = ap (λ (s : ShelfSeen). s.files) h.shelf })))
-  kept_input_caused form words (Err sums.NoMemory) status e ends h =
-      of_status words (Ok (AsksSum form LeaveOut)) status statuses.NoMemory e (tt, record { out = h.both; files = ap (λ (s : ShelfSeen). s.files) h.shelf })
-  kept_input_caused form words (Err sums.Done) status e ends h = absurd h.both
-  kept_input_caused form words (Err (sums.Wrong file line kind)) status e ends h = absurd h.both
-  kept_input_caused form words (Err (sums.TooMuch (Some file) line)) status e ends h = absurd h.both
-  kept_input_caused form words (Err (sums.NoFile word)) status e ends h = absurd h.both
-  kept_input_caused form words (Err sums.ShelfFault) status e ends h = absurd h.both
+  input_caused wrong form words (Err (Unread sums.ShelfFault)) status e ends h = absurd h.both.0
+  input_caused wrong form words (Err (Unread sums.NoMemory)) status e ends h =
+      of_status words (Ok (AsksSum form wrong)) status statuses.NoMemory e
+      (tt, record { out = h.both.1; files = ap (λ (s : ShelfSeen). s.files) h.shelf })
 
-  kept_caused : (form : SumForm) (words : List (List ℕ)) (end : SkipEnd) (status : Status) → status ≡ skip_status end → EndsKept form words end old new
-      → CausesAsked words (Ok (AsksSum form LeaveOut)) status old new
-  kept_caused form words end status e h = among (keep_logs form words) refl h
+  sum_caused : (wrong : WrongBlocks) (form : SumForm) (words : List (List ℕ)) (end : SumEnd) (status : Status) → status ≡ sum_status end
+      → EndsSum wrong form words end old new → CausesAsked words (Ok (AsksSum form wrong)) status old new
+  sum_caused wrong form words end status e h = among (name_logs wrong form words) refl h
     where
-      among : (b : Bool) → keep_logs form words ≡ b → EndsKeptAmong b form words end old new → CausesAsked words (Ok (AsksSum form LeaveOut)) status old new
-      among true q i = kept_files_caused form words end status e (λ ends. subst (λ b. EndsKeptAmong b form words end old new) (sym q) ends) i
-      among false q i = kept_input_caused form words end status e (λ ends. subst (λ b. EndsKeptAmong b form words end old new) (sym q) ends) i
+      among : (b : Bool) → name_logs wrong form words ≡ b → EndsAmong b wrong form words end old new
+          → CausesAsked words (Ok (AsksSum form wrong)) status old new
+      among true q i = files_caused wrong form words end status e (λ ends. subst (λ b. EndsAmong b wrong form words end old new) (sym q) ends) i
+      among false q i = input_caused wrong form words end status e (λ ends. subst (λ b. EndsAmong b wrong form words end old new) (sym q) ends) i
 
   -- mcheck7 -states
   judged_rose : (words : List (List ℕ)) (asked : States)
       → (FileFailed old.shelf new.shelf (name_at words asked.test)
-      ⊎ AfterTest asked.arch (machine_of asked.arch).writing old.shelf words asked.test (λ read mid. SumShelfFailed mid new.shelf words (asked.test + 1)))
+      ⊎ AfterTest asked.arch (machine_of asked.arch).writing old.shelf words asked.test (λ read mid. SumShelfFailed End mid new.shelf words (asked.test + 1)))
       → Rose old.shelf.faults new.shelf.faults
   judged_rose words asked (inl f) = f.fault
   judged_rose words asked (inr a) = subst (λ n. Rose n new.shelf.faults) a.is_test.no_fault a.holds.fault
@@ -505,8 +456,8 @@ module _ (old new : Devices) where
   judged_files_caused words asked (judging.TooMuch (Some file) line) status e ends h =
       let a = h.both.judged.0 in
       of_status words (Ok (AsksStates asked)) status (statuses.BadText (Some file) line texts.TooMuch) e (
-        rose_after old.shelf a.mid new.shelf a.is_test.text a.is_test.took (file_opened a.mid new.shelf words (asked.test + 1) file line a.holds),
-        file_far a.mid new.shelf words (asked.test + 1) file line a.holds,
+        rose_after old.shelf a.mid new.shelf a.is_test.text a.is_test.took (stopped_opened a.mid new.shelf words (asked.test + 1) file _ a.holds),
+        stopped_far a.mid new.shelf words (asked.test + 1) file _ a.holds (long_taken End a.holds.before a.holds.log a.holds.bytes line a.holds.is),
         inr (ends h, record { out = h.both.judged.1; files = h.both.files }),
       )
   judged_files_caused words asked (judging.TooMuch None line) status e ends h = absurd h.both.judged
@@ -541,9 +492,9 @@ module _ (old new : Devices) where
   judged_input_caused words asked (judging.Wrong None line (judged.Test kind)) status e ends h = absurd h.judged
   judged_input_caused words asked (judging.Wrong None line judged.WrongArch) status e ends h = absurd h.judged
   judged_input_caused words asked (judging.TooMuch None line) status e ends h =
-      let w = h.judged.0.holds in
+      let w = h.judged.0.holds.0 in
       of_status words (Ok (AsksStates asked)) status (statuses.BadText None line texts.TooMuch) e (
-        input_far old.input new.input [] w.log w.bytes line w.taken w.is,
+        input_far End old.input new.input [] w.log w.bytes line w.taken w.is,
         inr (inr (inr (ends h, record { out = h.judged.1; files = h.files }))),
       )
   judged_input_caused words asked (judging.TooMuch (Some file) line) status e ends h = absurd h.judged
@@ -589,8 +540,7 @@ module _ (old new : Devices) where
   asked_caused words (Ok (AsksCross asked)) status h = cross_caused words asked status h.input h.both
   asked_caused words (Ok (AsksDemo asked)) status h = demo_caused words asked status h.input h.shelf h.out
   asked_caused words (Ok (AsksFamilies asked)) status h = classify_caused words asked.arch asked.files status h
-  asked_caused words (Ok (AsksSum form End)) status h = sum_caused form words h.end status h.status_is h.ends
-  asked_caused words (Ok (AsksSum form LeaveOut)) status h = kept_caused form words h.end status h.status_is h.ends
+  asked_caused words (Ok (AsksSum form wrong)) status h = sum_caused wrong form words h.end status h.status_is h.ends
   asked_caused words (Ok (AsksStates asked)) status h = states_caused words asked h.end status h.status_is h.ends
   asked_caused words (Ok (AsksCheck asked)) status h = check_caused words asked h.end status h.status_is h.ends
 

@@ -25,11 +25,12 @@ use Rattle.diy_words.specs.Requests.{Task, ListTask, Sought, asked_of, AsksTest,
 use Rattle.tests_to_files.specs.declared.ending.ListingEnd.{ListingEnd}
 use Rattle.tests_to_files.specs.declared.ending.ListingEnd.TheVariants as listings
 use Rattle.log_sum.specs.{declared.errors.LogError.LogError, Representing.logs_text}
-use Rattle.msum7_files.specs.declared.sum_form.SumForm.{SumForm}
-use Rattle.msum7_files.specs.{declared.sum_end.SumEnd.SumEnd, Logs.{IsText, IsShort, IsTooMuch, AreWholeLogs}}
-use Rattle.msum7_files.specs.SumEnds.{AreLogs, IsAtWord, FilesSummed, InputWrong, FileTooMuch, LogFileMissing}
-use Rattle.msum7_files.specs.declared.sum_end.SumEnd.TheVariants as sums
-use Rattle.msum7_files.specs.SumEnds as summed
+use Rattle.msum7_files.specs.declared.{sum_form.SumForm.SumForm, wrong_blocks.WrongBlocks.WrongBlocks, wrong_blocks.WrongBlocks.TheVariants.{End, Skip}}
+use Rattle.msum7_files.specs.Logs.{IsText, IsShort, IsTooMuch, IsWrongLog, AreRight, AreWholeLogs, EndsAnd, summed_logs}
+use Rattle.log_sum.specs.Sieving.{skipped_view}
+use Rattle.msum7_files.specs.LogsRead.{AreLogs, FileStopped, InputStopped, IsAtWord, LogFileMissing, SumShelfFailed}
+use Rattle.msum7_files.specs.declared.faults.SumFault.TheVariants.{Unread, Out as OutFault}
+use Rattle.msum7_files.specs.declared.faults.LogsFault.TheVariants as sums
 use Rattle.program_meaning.specs.Executions.{Execution}
 use Rattle.litmus_text.specs.TestReading.{TestRead}
 use Rattle.two_runs.specs.{IntendedRuns.intended_by, CoherenceRuns.incoherent_by}
@@ -40,25 +41,22 @@ use Rattle.diy_tools.specs.{Refused.refused_list, Statuses.{norm_status, classif
 use Rattle.diy_tools.specs.{TestAnswers.{asked_text, test_name, test_refused}, WhyAnswers.{AnswersRuns, WritesRuns, why_unshown}}
 use Rattle.diy_tools.specs.{CoherenceAnswers.{coherence_refused, incoherent_text}, FamilyAnswers.{AnswersClassify, files_status, read_on}}
 use Rattle.diy_tools.specs.{NameAnswers.{AnswersName, AnswersSought}, CrossAnswers.{AnswersCross, EndsCrossed}, DemoAnswers.demo_asked}
-use Rattle.diy_tools.specs.{CheckAnswers.{check_status, shown_of}, SumAnswers.{EndsAmong, EndsInput, first_log, name_logs, sum_status}, Answers.{Answers, AnswersAsked}}
+use Rattle.diy_tools.specs.{CheckAnswers.{check_status, shown_of}, SumAnswers.{EndsAmong, EndsInput, SumEnd, first_log, name_logs, sum_status, written_status}, Answers.{Answers, AnswersAsked}}
 use Rattle.diy_tools.specs.Complete.{Complete, CanBeDone, CanName, CanSumAmong, CanClassify, AreRightTests, IsSoundText, IsRightText, IsRightLog, AreRightLogs, OfItsText, OfItsFiles, NoFaults, IsDone}
 use Rattle.test_maker.specs.declared.refusal.Refusal.{Refusal}
-use Rattle.diy_tools.proofs.{CountedLogs.{long_taken, overfull_taken}, Causes.{by_print, listing_failed, crossing_failed, of_files}, LineTestAnswers.lined_failed, RightLines.right_lines}
+use Rattle.diy_tools.proofs.{CountedLogs.{long_taken}, Causes.{by_print, listing_failed, crossing_failed, of_files}, LineTestAnswers.lined_failed, RightLines.right_lines}
 use Rattle.diy_tools.specs.LineTestAnswers.{EndsLined, line_tests_status, making_asked}
 use Rattle.lines_to_files.specs.{TestFiles.Making, LineTestEnds.{StopsAtWrong, StopsAtLimit}, declared.ending.LineTestsEnd.LineTestsEnd, declared.form.WrongTest.WrongTest}
 use Rattle.lines_to_files.specs.declared.ending.LineTestsEnd.TheVariants as tests
-use Rattle.diy_words.specs.declared.request.{States.States, WrongBlocks.TheVariants.{End, LeaveOut}}
+use Rattle.diy_words.specs.declared.request.States.{States}
 use Rattle.states_of_logs.specs.declared.states_end.StatesEnd.{StatesEnd}
 use Rattle.states_of_logs.specs.declared.states_end.StatesEnd.TheVariants as judging
 use Rattle.states_of_logs.specs.declared.states_end.StatesKind.TheVariants as judged
 use Rattle.states_of_logs.specs.{StatesEnds.{AfterTest, FilesJudged, TestIsAbsent, TestIsWrong}, StatesSummed.states_in_logs}
 use Rattle.tests_from_files.specs.{declared.errors.TestFileError.TestFileError, FilesRead.{FileFailed, FileIs}, TestSaid.test_said}
 use Rattle.log_sum.specs.declared.skipping.SkippedBlock.{SkippedBlock}
-use Rattle.msum7_files.specs.SumEnds.{SumShelfFailed}
-use Rattle.msum7_files.specs.SkipEnds.{FileOverfull, IsOverfull, KeepingMissing}
-use Rattle.diy_tools.specs.SkipAnswers.{EndsKeptAmong, EndsKeptInput, SkipEnd, first_kept, keep_logs, kept_status, skip_status}
 use Rattle.diy_tools.specs.StatesAnswers.{EndsJudgedAmong, EndsJudgedInput, judge_logs, states_status}
-use Rattle.diy_tools.specs.Complete.{AreShortLogs, AreTestAndInput, AreTestAndLogs, CanJudgeAmong, CanKeepAmong, HaveBlock, IsDoneSo, IsTestFile}
+use Rattle.diy_tools.specs.Complete.{AreTestAndInput, AreTestAndLogs, CanJudgeAmong, HaveBlock, IsDoneSo, IsTestFile}
 use Rattle.run_status.specs.declared.status.Status.TheVariants as statuses
 
 -- what was taken of a source and what is left of it are a text that it can have
@@ -307,30 +305,50 @@ right_wrong : (logs others : List (List ℕ)) (error : LogError) → AreWholeLog
 right_wrong logs others error right e h =
     let all : Ok right.text ≡ Err error = sym right.is ∙ (ap logs_text e ∙ h) in cc
 
+-- logs with no error that ends the sum have none that does
+right_ended : (wrong : WrongBlocks) (before : List (List ℕ)) (log bytes : List ℕ) (error : LogError) (logs others : List (List ℕ)) → AreRight wrong logs
+    → logs ≡ before ++ log ∷ others → EndsAnd wrong (IsWrongLog before log bytes error) → ⊥
+right_ended End before log bytes error logs others right e h = right_wrong logs (before ++ log ∷ others) error right e (h.wrong others)
+right_ended Skip before log bytes error logs others right e h = absurd h
+
 -- the log of an input that has at most 2^40 bytes and no error
-log_wrong : (old new : SourceSeen) (error : LogError) → OfItsText old.left IsRightLog → InputWrong old new error → ⊥
-log_wrong old new error right h = right_wrong (h.log ∷ []) (h.log ∷ []) error (right h.log h.text).right refl (h.is.wrong [])
+log_wrong : (wrong : WrongBlocks) (old new : SourceSeen) (error : LogError) → OfItsText old.left (IsRightLog wrong)
+    → InputStopped old new (λ log bytes. EndsAnd wrong (IsWrongLog [] log bytes error)) → ⊥
+log_wrong wrong old new error right h = right_ended wrong [] h.0.log h.0.bytes error (h.0.log ∷ []) [] (right h.0.log h.0.text).right refl h.0.is
 
 -- a log of at most 2^40 bytes isn't too long
-short_log : (before : List (List ℕ)) (log bytes : List ℕ) (line : ℕ) → IsShort log → IsTooMuch before log bytes line → ⊥
-short_log before log bytes line short h =
+short_log : (wrong : WrongBlocks) (before : List (List ℕ)) (log bytes : List ℕ) (line : ℕ) → IsShort log → IsTooMuch wrong before log bytes line → ⊥
+short_log wrong before log bytes line short h =
     let len : length log ≤ 2 ^ 40 = short in
-    let more : 2 ^ 40 < length bytes = long_taken before log bytes line h in
+    let more : 2 ^ 40 < length bytes = long_taken wrong before log bytes line h in
     omega (arith, ap length h.up_to.parts, length-append bytes h.up_to.rest)
 
-input_done : (form : SumForm) (status : Status) (old new : Devices) (end : SumEnd) → NoFaults old new → OfItsText old.input.left IsRightLog → status ≡ sum_status end
-    → EndsInput form end old new → IsDone (Ok (AsksSum form End)) status
-input_done form status old new sums.Done none right e h = inl e
-input_done form status old new sums.OutFault none right e h = absurd (none.out h.both.wrote.fault)
-input_done form status old new (sums.Wrong None line kind) none right e h = absurd (log_wrong old.input new.input _ right h.both.0)
-input_done form status old new (sums.Wrong (Some file) line kind) none right e h = absurd h.both
-input_done form status old new (sums.TooMuch None line) none right e h =
-    absurd (short_log [] h.both.0.log h.both.0.bytes line (right h.both.0.log h.both.0.text).short h.both.0.is)
-input_done form status old new (sums.TooMuch (Some file) line) none right e h = absurd h.both
-input_done form status old new (sums.NoFile word) none right e h = absurd h.both
-input_done form status old new sums.InputFault none right e h = absurd (none.input h.both.0.fault)
-input_done form status old new sums.ShelfFault none right e h = absurd h.both
-input_done form status old new sums.NoMemory none right e h = inr (e, tt)
+-- where the sum is written, it is done
+written_done : (wrong : WrongBlocks) (form : SumForm) (blocks : List SkippedBlock) (logs : List (List ℕ)) (status : Status)
+    → map skipped_view blocks ≡ (summed_logs wrong logs).skipped → status ≡ written_status blocks → IsDoneSo (Ok (AsksSum form wrong)) status
+written_done End form [] logs status none e = inl e
+written_done End form (block ∷ blocks) logs status none e = cc none
+written_done Skip form [] logs status same e = inr (inl e)
+written_done Skip form (block ∷ blocks) logs status same e = inl e
+
+-- missing memory is allowed
+unless_memory : (wrong : WrongBlocks) (form : SumForm) (status : Status) → status ≡ statuses.NoMemory → IsDoneSo (Ok (AsksSum form wrong)) status
+unless_memory End form status e = inr (e, tt)
+unless_memory Skip form status e = inr (inr (e, tt))
+
+input_done : (wrong : WrongBlocks) (form : SumForm) (status : Status) (old new : Devices) (end : SumEnd) → NoFaults old new
+    → OfItsText old.input.left (IsRightLog wrong) → status ≡ sum_status end → EndsInput wrong form end old new → IsDoneSo (Ok (AsksSum form wrong)) status
+input_done wrong form status old new (Ok blocks) none right e h = written_done wrong form blocks.items (h.both.log ∷ []) status h.both.holds.blocks_are e
+input_done wrong form status old new (Err OutFault) none right e h = absurd (none.out h.both.holds.wrote.fault)
+input_done wrong form status old new (Err (Unread (sums.Wrong None line kind))) none right e h = absurd (log_wrong wrong old.input new.input _ right h.both.0)
+input_done wrong form status old new (Err (Unread (sums.Wrong (Some file) line kind))) none right e h = absurd h.both.0
+input_done wrong form status old new (Err (Unread (sums.TooMuch None line))) none right e h =
+    let log = h.both.0.0 in absurd (short_log wrong [] log.log log.bytes line (right log.log log.text).short log.is)
+input_done wrong form status old new (Err (Unread (sums.TooMuch (Some file) line))) none right e h = absurd h.both.0
+input_done wrong form status old new (Err (Unread (sums.NoFile word))) none right e h = absurd h.both.0
+input_done wrong form status old new (Err (Unread sums.InputFault)) none right e h = absurd (none.input h.both.0.fault)
+input_done wrong form status old new (Err (Unread sums.ShelfFault)) none right e h = absurd h.both.0
+input_done wrong form status old new (Err (Unread sums.NoMemory)) none right e h = unless_memory wrong form status e
 
 none_some : {X : Type 0} (x : X) → None ≡ Some x → ⊥
 none_some x e = cc e
@@ -356,14 +374,7 @@ same_lists (x ∷ xs) (y ∷ ys) n same =
     let rest = same_lists xs ys (omega (arith, n)) (λ k z h. same (suc k) z h) in
     ap (λ zs. x ∷ zs) rest ∙ ap (λ z. z ∷ ys) (sym first)
 
--- a log of at most 2^40 bytes has no more
-over_log : (log bytes : List ℕ) (line : ℕ) → IsShort log → IsOverfull log bytes line → ⊥
-over_log log bytes line short h =
-    let len : length log ≤ 2 ^ 40 = short in
-    let more : 2 ^ 40 < length bytes = overfull_taken log bytes line h in
-    omega (arith, ap length h.parts, length-append bytes h.rest)
-
-module _ (words : List (List ℕ)) (files : Files) (first : ℕ) (right : AreShortLogs files words first) where
+module _ (wrong : WrongBlocks) (words : List (List ℕ)) (files : Files) (first : ℕ) (right : AreRightLogs wrong files words first) where
   -- at each place after the first word there is a log
   at_word : (k : ℕ) → k < length right.logs → files (get_or words (first + k) []) ≡ Some (get_or right.logs k [])
   at_word k h =
@@ -394,48 +405,30 @@ module _ (words : List (List ℕ)) (files : Files) (first : ℕ) (right : AreSho
             (at_word (length before) inside ∙ sym (slice_get-get_or right.logs (length before) [] inside)),
       )
 
-  files_wrong : (old new : ShelfSeen) (place : ℕ) (error : LogError) → AreWholeLogs right.logs → old.files ≡ Some files → summed.LogFileWrong old new words (first) place error → ⊥
-  files_wrong old new place error whole e h =
+  files_wrong : (old new : ShelfSeen) (place : ℕ) (error : LogError) → old.files ≡ Some files
+      → FileStopped old new words first place (λ before log bytes. EndsAnd wrong (IsWrongLog before log bytes error)) → ⊥
+  files_wrong old new place error e h =
       let spot = word_log old.files place h.before h.name h.place_is in
       let parts = splits h.before right.logs h.log
       (same_logs old.files h.before e h.place_is.are (omega (arith, spot.0)))
       (sym spot.1 ∙ shown_file old.files files h.name h.log e h.text) in
-      right_wrong right.logs (h.before ++ h.log ∷ parts.0) error whole parts.1 (h.is.wrong parts.0)
+      right_ended wrong h.before h.log h.bytes error right.logs parts.0 right.right parts.1 h.is
 
-  files_long : (old new : ShelfSeen) (place line : ℕ) → old.files ≡ Some files → FileTooMuch old new words (first) place line → ⊥
+  files_long : (old new : ShelfSeen) (place line : ℕ) → old.files ≡ Some files
+      → FileStopped old new words first place (λ before log bytes. IsTooMuch wrong before log bytes line) → ⊥
   files_long old new place line e h =
       let spot = word_log old.files place h.before h.name h.place_is in
       let log_at : slice_get right.logs (length h.before) ≡ Some h.log = sym spot.1 ∙ shown_file old.files files h.name h.log e h.text in
       let log_is : get_or right.logs (length h.before) [] ≡ h.log = get_or_from_slice_get right.logs (length h.before) h.log [] log_at in
       let short : IsShort (slice_index_or right.logs (length h.before) []) = right.are.short (length h.before) [] spot.0 in
-      short_log h.before h.log h.bytes line (subst (λ (l : List ℕ). IsShort l) log_is short) h.is
+      short_log wrong h.before h.log h.bytes line (subst (λ (l : List ℕ). IsShort l) log_is short) h.is
 
-  file_there : (old new : ShelfSeen) (place : ℕ) → old.files ≡ Some files → LogFileMissing old new words (first) place → ⊥
+  file_there : (old new : ShelfSeen) (place : ℕ) → old.files ≡ Some files → LogFileMissing wrong old new words (first) place → ⊥
   file_there old new place e h =
       let spot = word_log old.files place h.before h.name h.place_is in
       let found : files h.name ≡ Some (get_or right.logs (length h.before) []) = spot.1 ∙ slice_get-get_or right.logs (length h.before) [] spot.0 in
       let gone : files h.name ≡ None = absent old.files e h.absent in
       let both : None ≡ Some (get_or right.logs (length h.before) []) = sym gone ∙ found in cc
-    where
-      absent : (shown : Option Files) → shown ≡ Some files → MatchOption shown (Rose old.faults new.faults) (λ there. there h.name ≡ None) → files h.name ≡ None
-      absent shown e a =
-          let here : MatchOption (Some files) (Rose old.faults new.faults) (λ there. there h.name ≡ None) =
-          subst (λ (t : Option Files). MatchOption t (Rose old.faults new.faults) (λ there. there h.name ≡ None)) e a in here
-
-  file_over : (old new : ShelfSeen) (place line : ℕ) → old.files ≡ Some files → FileOverfull old new words first place line → ⊥
-  file_over old new place line e h =
-      let spot = word_log old.files place h.before h.name h.place_is in
-      let log_at : slice_get right.logs (length h.before) ≡ Some h.log = sym spot.1 ∙ shown_file old.files files h.name h.log e h.text in
-      let log_is : get_or right.logs (length h.before) [] ≡ h.log = get_or_from_slice_get right.logs (length h.before) h.log [] log_at in
-      let short : IsShort (slice_index_or right.logs (length h.before) []) = right.are.short (length h.before) [] spot.0 in
-      over_log h.log h.bytes line (subst (λ (l : List ℕ). IsShort l) log_is short) h.is
-
-  keeping_there : (old new : ShelfSeen) (place : ℕ) → old.files ≡ Some files → KeepingMissing old new words first place → ⊥
-  keeping_there old new place e h =
-      let spot = word_log old.files place h.before h.name h.place_is in
-      let found : files h.name ≡ Some (get_or right.logs (length h.before) []) = spot.1 ∙ slice_get-get_or right.logs (length h.before) [] spot.0 in
-      let gone : files h.name ≡ None = absent old.files e h.absent in
-      let both : None ≡ Some (get_or right.logs (length h.before) []) = sym gone ∙ found in cc both
     where
       absent : (shown : Option Files) → shown ≡ Some files → MatchOption shown (Rose old.faults new.faults) (λ there. there h.name ≡ None) → files h.name ≡ None
       absent shown e a =
@@ -449,67 +442,24 @@ module _ (words : List (List ℕ)) (files : Files) (first : ℕ) (right : AreSho
       let same : length logs ≡ length right.logs = omega (arith, all, right.all) in
       same_lists logs right.logs same (same_logs shown logs e are (omega arith))
 
--- right logs are short ones
-abbrev short_logs : (files : Files) (words : List (List ℕ)) (first : ℕ) → AreRightLogs files words first → AreShortLogs files words first
-short_logs files words first right = record { logs = right.logs; all = right.all; are = right.are }
-
-module _ (form : SumForm) (words : List (List ℕ)) (files : Files) (right : AreRightLogs files words (first_log form)) where
-  files_done : (status : Status) (old new : ShelfSeen) (before after : SinkSeen) (end : SumEnd) → old.files ≡ Some files
-      → (Rose old.faults new.faults → ⊥) → (Rose before.faults after.faults → ⊥)
-      → status ≡ sum_status end → FilesSummed form old new words (first_log form) before after end → IsDone (Ok (AsksSum form End)) status
-  files_done status old new before after sums.Done shown none none_out e h = inl e
-  files_done status old new before after sums.OutFault shown none none_out e h = absurd (none_out h.wrote.fault)
-  files_done status old new before after (sums.Wrong None line kind) shown none none_out e h = absurd h
-  files_done status old new before after (sums.Wrong (Some file) line kind) shown none none_out e h = absurd (files_wrong words files (first_log form) (short_logs files words (first_log form) right) old new file _ right.right shown h.0)
-  files_done status old new before after (sums.TooMuch None line) shown none none_out e h = absurd h
-  files_done status old new before after (sums.TooMuch (Some file) line) shown none none_out e h = absurd (files_long words files (first_log form) (short_logs files words (first_log form) right) old new file line shown h.0)
-  files_done status old new before after (sums.NoFile word) shown none none_out e h = absurd (file_there words files (first_log form) (short_logs files words (first_log form) right) old new word shown h.0)
-  files_done status old new before after sums.InputFault shown none none_out e h = absurd h
-  files_done status old new before after sums.ShelfFault shown none none_out e h = absurd (none h.0.fault)
-  files_done status old new before after sums.NoMemory shown none none_out e h = inr (e, tt)
-
-summed_done : (form : SumForm) (words : List (List ℕ)) (status : Status) (old new : ShelfSeen) (before after : SinkSeen) (end : SumEnd) (shown : Option Files) → old.files ≡ shown
-    → OfItsFiles shown (λ files. AreRightLogs files words (first_log form)) → (Rose old.faults new.faults → ⊥) → (Rose before.faults after.faults → ⊥)
-    → status ≡ sum_status end → FilesSummed form old new words (first_log form) before after end → IsDone (Ok (AsksSum form End)) status
-summed_done form words status old new before after end None shown right none none_out e h = absurd right
-summed_done form words status old new before after end (Some files) shown right none none_out e h =
-    files_done form words files right status old new before after end shown none none_out e h
-
--- what is kept of logs is summed
-kept_so : (form : SumForm) (blocks : List SkippedBlock) (status : Status) → status ≡ kept_status blocks → IsDoneSo (Ok (AsksSum form LeaveOut)) status
-kept_so form [] status e = inr (inl e)
-kept_so form (block ∷ blocks) status e = inl e
-
-kept_files_done : (form : SumForm) (words : List (List ℕ)) (status : Status) (old new : Devices) (end : SkipEnd) (shown : Option Files) → old.shelf.files ≡ shown
-    → OfItsFiles shown (λ files. AreShortLogs files words (first_kept form)) → NoFaults old new → status ≡ skip_status end
-    → EndsKeptAmong true form words end old new → IsDoneSo (Ok (AsksSum form LeaveOut)) status
-kept_files_done form words status old new end None shown can none e h = absurd can
-kept_files_done form words status old new (Ok blocks) (Some files) shown can none e h = kept_so form blocks.items status e
-kept_files_done form words status old new (Err sums.OutFault) (Some files) shown can none e h = absurd (none.out h.both.kept.1.wrote.fault)
-kept_files_done form words status old new (Err (sums.TooMuch (Some file) line)) (Some files) shown can none e h =
-    absurd (file_over words files (first_kept form) can old.shelf new.shelf file line shown h.both.kept.0)
-kept_files_done form words status old new (Err (sums.NoFile word)) (Some files) shown can none e h =
-    absurd (keeping_there words files (first_kept form) can old.shelf new.shelf word shown h.both.kept.0)
-kept_files_done form words status old new (Err sums.ShelfFault) (Some files) shown can none e h = absurd (none.shelf h.both.kept.0.fault)
-kept_files_done form words status old new (Err sums.NoMemory) (Some files) shown can none e h = inr (inr (e, tt))
-kept_files_done form words status old new (Err sums.Done) (Some files) shown can none e h = absurd h.both.kept
-kept_files_done form words status old new (Err (sums.Wrong file line kind)) (Some files) shown can none e h = absurd h.both.kept
-kept_files_done form words status old new (Err (sums.TooMuch None line)) (Some files) shown can none e h = absurd h.both.kept
-kept_files_done form words status old new (Err sums.InputFault) (Some files) shown can none e h = absurd h.both.kept
-
-kept_input_done : (form : SumForm) (status : Status) (old new : Devices) (end : SkipEnd) → OfItsText old.input.left IsShort → NoFaults old new
-    → status ≡ skip_status end → EndsKeptInput form end old new → IsDoneSo (Ok (AsksSum form LeaveOut)) status
-kept_input_done form status old new (Ok blocks) can none e h = kept_so form blocks.items status e
-kept_input_done form status old new (Err sums.OutFault) can none e h = absurd (none.out h.both.1.wrote.fault)
-kept_input_done form status old new (Err (sums.TooMuch None line)) can none e h =
-    absurd (over_log h.both.0.log h.both.0.bytes line (can h.both.0.log h.both.0.text) h.both.0.is)
-kept_input_done form status old new (Err sums.InputFault) can none e h = absurd (none.input h.both.0.fault)
-kept_input_done form status old new (Err sums.NoMemory) can none e h = inr (inr (e, tt))
-kept_input_done form status old new (Err sums.Done) can none e h = absurd h.both
-kept_input_done form status old new (Err (sums.Wrong file line kind)) can none e h = absurd h.both
-kept_input_done form status old new (Err (sums.TooMuch (Some file) line)) can none e h = absurd h.both
-kept_input_done form status old new (Err (sums.NoFile word)) can none e h = absurd h.both
-kept_input_done form status old new (Err sums.ShelfFault) can none e h = absurd h.both
+files_done : (wrong : WrongBlocks) (form : SumForm) (words : List (List ℕ)) (status : Status) (old new : Devices) (end : SumEnd) (shown : Option Files)
+    → old.shelf.files ≡ shown → OfItsFiles shown (λ files. AreRightLogs wrong files words (first_log wrong form)) → NoFaults old new
+    → status ≡ sum_status end → EndsAmong true wrong form words end old new → IsDoneSo (Ok (AsksSum form wrong)) status
+files_done wrong form words status old new end None shown can none e h = absurd can
+files_done wrong form words status old new (Ok blocks) (Some files) shown can none e h =
+    written_done wrong form blocks.items h.both.summed.logs status h.both.summed.holds.blocks_are e
+files_done wrong form words status old new (Err OutFault) (Some files) shown can none e h = absurd (none.out h.both.summed.holds.wrote.fault)
+files_done wrong form words status old new (Err (Unread (sums.Wrong (Some file) line kind))) (Some files) shown can none e h =
+    absurd (files_wrong wrong words files (first_log wrong form) can old.shelf new.shelf file _ shown h.both.summed.0)
+files_done wrong form words status old new (Err (Unread (sums.Wrong None line kind))) (Some files) shown can none e h = absurd h.both.summed.0
+files_done wrong form words status old new (Err (Unread (sums.TooMuch (Some file) line))) (Some files) shown can none e h =
+    absurd (files_long wrong words files (first_log wrong form) can old.shelf new.shelf file line shown h.both.summed.0)
+files_done wrong form words status old new (Err (Unread (sums.TooMuch None line))) (Some files) shown can none e h = absurd h.both.summed.0
+files_done wrong form words status old new (Err (Unread (sums.NoFile word))) (Some files) shown can none e h =
+    absurd (file_there wrong words files (first_log wrong form) can old.shelf new.shelf word shown h.both.summed.0)
+files_done wrong form words status old new (Err (Unread sums.InputFault)) (Some files) shown can none e h = absurd h.both.summed.0
+files_done wrong form words status old new (Err (Unread sums.ShelfFault)) (Some files) shown can none e h = absurd (none.shelf h.both.summed.0.fault)
+files_done wrong form words status old new (Err (Unread sums.NoMemory)) (Some files) shown can none e h = unless_memory wrong form status e
 
 -- the states of right logs are judged
 module _ (words : List (List ℕ)) (asked : States) (files : Files) (read : TestRead) (test : IsTestFile files words asked read) where
@@ -538,23 +488,20 @@ module _ (words : List (List ℕ)) (asked : States) (files : Files) (read : Test
       let same : h.text ≡ test.text = same_Some h.text test.text (sym there ∙ test.there) in
       let both : Ok other ≡ Ok read = sym h.is ∙ ap (test_said asked.arch (machine_of asked.arch).writing) same ∙ test.is_test in cc both
 
-  judged_files_done : (logs : AreRightLogs files words (asked.test + 1)) → HaveBlock read logs.logs → (status : Status) (old new : Devices) (end : StatesEnd)
+  judged_files_done : (logs : AreRightLogs End files words (asked.test + 1)) → HaveBlock read logs.logs → (status : Status) (old new : Devices) (end : StatesEnd)
       → old.shelf.files ≡ Some files → NoFaults old new → status ≡ states_status end → EndsJudgedAmong true words asked end old new
       → IsDone (Ok (AsksStates asked)) status
   judged_files_done logs block status old new end shown none e h = of_end end e h.both.judged
     where
-      short : AreShortLogs files words (asked.test + 1)
-      short = short_logs files words (asked.test + 1) logs
-
       failed : (FileFailed old.shelf new.shelf (name_at words asked.test)
-          ⊎ AfterTest asked.arch (machine_of asked.arch).writing old.shelf words asked.test (λ read mid. SumShelfFailed mid new.shelf words (asked.test + 1))) → ⊥
+          ⊎ AfterTest asked.arch (machine_of asked.arch).writing old.shelf words asked.test (λ read mid. SumShelfFailed End mid new.shelf words (asked.test + 1))) → ⊥
       failed (inl f) = none.shelf f.fault
       failed (inr a) = none.shelf (subst (λ n. Rose n new.shelf.faults) a.is_test.no_fault a.holds.fault)
 
       missing : (word : ℕ) → (TestIsAbsent old.shelf new.shelf words asked.test word
-          ⊎ AfterTest asked.arch (machine_of asked.arch).writing old.shelf words asked.test (λ read mid. LogFileMissing mid new.shelf words (asked.test + 1) word)) → ⊥
+          ⊎ AfterTest asked.arch (machine_of asked.arch).writing old.shelf words asked.test (λ read mid. LogFileMissing End mid new.shelf words (asked.test + 1) word)) → ⊥
       missing word (inl a) = file_of_test old.shelf new.shelf word shown a
-      missing word (inr a) = file_there words files (asked.test + 1) short a.mid new.shelf word (a.files ∙ shown) a.holds
+      missing word (inr a) = file_there End words files (asked.test + 1) logs a.mid new.shelf word (a.files ∙ shown) a.holds
 
       of_end : (end : StatesEnd) → status ≡ states_status end
           → FilesJudged asked.arch (machine_of asked.arch).writing old.shelf new.shelf words asked.test (asked.test + 1) old.out new.out end
@@ -564,23 +511,23 @@ module _ (words : List (List ℕ)) (asked : States) (files : Files) (read : Test
       of_end (judging.NoBlock word) e b =
           let a = b.1 in
           let same = one_test old.shelf a.mid a.read shown a.is_test in
-          let all = all_logs words files (asked.test + 1) short a.mid.files a.holds.logs (a.files ∙ shown) a.holds.are a.holds.all in
+          let all = all_logs End words files (asked.test + 1) logs a.mid.files a.holds.logs (a.files ∙ shown) a.holds.are a.holds.all in
           absurd (block (subst (λ (t : TestRead). states_in_logs t.name logs.logs ≡ Ok None) same
           (subst (λ (l : List (List ℕ)). states_in_logs a.read.name l ≡ Ok None) all a.holds.holds)))
       of_end (judging.Wrong (Some file) line (judged.Test kind)) e a = absurd (test_right old.shelf new.shelf file _ shown a.0)
       of_end (judging.Wrong (Some file) line judged.WrongArch) e a = absurd (test_right old.shelf new.shelf file _ shown a.0)
       of_end (judging.Wrong (Some file) line (judged.Log kind)) e a =
-          absurd (files_wrong words files (asked.test + 1) short a.0.mid new.shelf file _ logs.right (a.0.files ∙ shown) a.0.holds)
+          absurd (files_wrong End words files (asked.test + 1) logs a.0.mid new.shelf file _ (a.0.files ∙ shown) a.0.holds)
       of_end (judging.Wrong None line kind) e a = absurd a
       of_end (judging.TooMuch (Some file) line) e a =
-          absurd (files_long words files (asked.test + 1) short a.0.mid new.shelf file line (a.0.files ∙ shown) a.0.holds)
+          absurd (files_long End words files (asked.test + 1) logs a.0.mid new.shelf file line (a.0.files ∙ shown) a.0.holds)
       of_end (judging.TooMuch None line) e a = absurd a
       of_end (judging.NoFile word) e a = absurd (missing word a.0)
       of_end judging.ShelfFault e a = absurd (failed a.0)
       of_end judging.NoMemory e a = inr (e, tt)
       of_end judging.InputFault e a = absurd a
 
-  judged_input_done : (status : Status) (old new : Devices) (end : StatesEnd) → OfItsText old.input.left IsRightLog
+  judged_input_done : (status : Status) (old new : Devices) (end : StatesEnd) → OfItsText old.input.left (IsRightLog End)
       → OfItsText old.input.left (λ log. HaveBlock read (log ∷ [])) → old.shelf.files ≡ Some files → NoFaults old new → status ≡ states_status end
       → EndsJudgedInput words asked end old new → IsDone (Ok (AsksStates asked)) status
   judged_input_done status old new judging.Done right block shown none e h = inl e
@@ -595,11 +542,11 @@ module _ (words : List (List ℕ)) (asked : States) (files : Files) (read : Test
       absurd (test_right old.shelf new.shelf file _ shown h.judged.0)
   judged_input_done status old new (judging.Wrong (Some file) line (judged.Log kind)) right block shown none e h = absurd h.judged
   judged_input_done status old new (judging.Wrong None line (judged.Log kind)) right block shown none e h =
-      absurd (log_wrong old.input new.input _ right h.judged.0.holds)
+      absurd (log_wrong End old.input new.input _ right h.judged.0.holds)
   judged_input_done status old new (judging.Wrong None line (judged.Test kind)) right block shown none e h = absurd h.judged
   judged_input_done status old new (judging.Wrong None line judged.WrongArch) right block shown none e h = absurd h.judged
   judged_input_done status old new (judging.TooMuch None line) right block shown none e h =
-      let w = h.judged.0.holds in absurd (short_log [] w.log w.bytes line (right w.log w.text).short w.is)
+      let w = h.judged.0.holds.0 in absurd (short_log End [] w.log w.bytes line (right w.log w.text).short w.is)
   judged_input_done status old new (judging.TooMuch (Some file) line) right block shown none e h = absurd h.judged
   judged_input_done status old new (judging.NoFile word) right block shown none e h = absurd (file_of_test old.shelf new.shelf word shown h.judged.0)
   judged_input_done status old new judging.ShelfFault right block shown none e h = absurd (none.shelf h.judged.0.fault)
@@ -661,17 +608,11 @@ asked_done words (Ok (AsksCheck asked)) status old new h can none =
     check_done words asked status old.shelf new.shelf old.out new.out h.end old.shelf.files refl can none.shelf none.out h.status_is h.ends.both.checked
 asked_done words (Ok (AsksStates asked)) status old new h can none =
     states_done words asked (judge_logs words asked) status old new h.end old.shelf.files refl can none h.status_is h.ends
-asked_done words (Ok (AsksSum form LeaveOut)) status old new h can none = among (keep_logs form words) can h.ends
+asked_done words (Ok (AsksSum form wrong)) status old new h can none = among (name_logs wrong form words) can h.ends
   where
-    among : (b : Bool) → CanKeepAmong b form words old → EndsKeptAmong b form words h.end old new → IsDoneSo (Ok (AsksSum form LeaveOut)) status
-    among true can ends = kept_files_done form words status old new h.end old.shelf.files refl can none h.status_is ends
-    among false can ends = kept_input_done form status old new h.end can none h.status_is ends
-asked_done words (Ok (AsksSum form End)) status old new h can none = among (name_logs form words) can h.ends
-  where
-    among : (b : Bool) → CanSumAmong b form words old → EndsAmong b form words h.end old new → IsDone (Ok (AsksSum form End)) status
-    among true can ends =
-        summed_done form words status old.shelf new.shelf old.out new.out h.end old.shelf.files refl can none.shelf none.out h.status_is ends.both.summed
-    among false can ends = input_done form status old new h.end none can h.status_is ends
+    among : (b : Bool) → CanSumAmong b wrong form words old → EndsAmong b wrong form words h.end old new → IsDoneSo (Ok (AsksSum form wrong)) status
+    among true can ends = files_done wrong form words status old new h.end old.shelf.files refl can none h.status_is ends
+    among false can ends = input_done wrong form status old new h.end none can h.status_is ends
 
 -- where what is asked for can be done and no count of faults rises, it is done
 pub answers_complete : (words : List (List ℕ)) (status : Status) (old new : DevicesSeen) → Answers words status old new → Complete words status old new

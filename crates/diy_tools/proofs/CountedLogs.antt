@@ -2,8 +2,7 @@
 use Rattle.std.proofs.Common.{◌≡◌, ◌≤◌, ◌<◌, ◌+◌, ◌^◌, ℕ, List, [], ◌∷◌, ◌++◌, length, All, suc, ap, ◌∙◌, arith, inl, inr, length-append}
 use Rattle.std.specs.Prelude.{◌⊎◌}
 use Rattle.diy_io.specs.{Count.count_of, Count.Rose, Shelf.ShelfSeen, Taken.SourceSeen, Opened.TookFiles, Opened.last_taken}
-use Rattle.msum7_files.specs.SkipEnds.{IsOverfull, IsTaken, KeepingFailed}
-use Rattle.msum7_files.specs.{SumEnds.FileStopped, Logs.IsShort, Logs.IsTooMuch, Logs.TookCount, SumEnds.FileTooMuch, SumEnds.IsBegun, SumEnds.SumShelfFailed}
+use Rattle.msum7_files.specs.{LogsRead.{FileStopped, IsBegun, SumShelfFailed}, Logs.{IsShort, IsTooMuch, TookCount}, declared.wrong_blocks.WrongBlocks.WrongBlocks}
 use Rattle.diy_io.proofs.OpenedLaws.{last_of}
 use Rattle.diy_tools.specs.Causes.{RoseFar}
 
@@ -28,10 +27,10 @@ last_bytes : (old new : ShelfSeen) (before : List (List ℕ)) (bytes : List ℕ)
 last_bytes old new before bytes took = took.last ∙ ap count_of (last_of old.taken before bytes)
 
 -- a shelf that failed
-pub failed_within : (old new : ShelfSeen) (words : List (List ℕ)) (first : ℕ) → SumShelfFailed old new words first → IsWithin old new
-failed_within old new words first h = either h.took
+pub failed_within : (wrong : WrongBlocks) (old new : ShelfSeen) (words : List (List ℕ)) (first : ℕ) → SumShelfFailed wrong old new words first → IsWithin old new
+failed_within wrong old new words first h = either h.took
   where
-    either : (TookFiles old new h.before ⊎ ((bytes : List ℕ) × IsBegun old.files h.before h.name bytes × TookFiles old new (h.before ++ bytes ∷ []))) → IsWithin old new
+    either : (TookFiles old new h.before ⊎ ((bytes : List ℕ) × IsBegun wrong old.files h.before h.name bytes × TookFiles old new (h.before ++ bytes ∷ []))) → IsWithin old new
     either (inl took) = files_within old new h.before took h.place_is.are.short
     either (inr part) = λ more.
         let last : count_of new.taken ≡ count_of (length part.0) = last_bytes old new h.before part.0 part.2 in
@@ -39,55 +38,17 @@ failed_within old new words first h = either h.took
         omega arith
 
 -- a log of more than 2^40 bytes that were taken
-pub long_taken : (before : List (List ℕ)) (log bytes : List ℕ) (line : ℕ) → IsTooMuch before log bytes line → 2 ^ 40 < length bytes
-long_taken before log bytes line h =
+pub long_taken : (wrong : WrongBlocks) (before : List (List ℕ)) (log bytes : List ℕ) (line : ℕ) → IsTooMuch wrong before log bytes line → 2 ^ 40 < length bytes
+long_taken wrong before log bytes line h =
     let prefix : length h.full.prefix ≡ 2 ^ 40 = h.full.full in
     let more : 0 < length h.full.rest = h.full.more in
     omega (arith, ap length h.full.parts, length-append h.full.prefix h.full.rest)
 
 -- where a log of the input is too long, more than 2^40 bytes were taken of it
-pub input_far : (old new : SourceSeen) (before : List (List ℕ)) (log bytes : List ℕ) (line : ℕ) → TookCount old new (length bytes) → IsTooMuch before log bytes line
-    → RoseFar old.taken new.taken
-input_far old new before log bytes line took h =
-    let long : 2 ^ 40 < length bytes = long_taken before log bytes line h in
-    let count : count_of new.taken ≡ count_of (old.taken + length bytes) = took in
-    omega arith
-
--- where a log is too long, its file was opened
-pub file_opened : (old new : ShelfSeen) (words : List (List ℕ)) (first place line : ℕ) → FileTooMuch old new words first place line → Rose old.opened new.opened
-file_opened old new words first place line h =
-    let count : count_of new.opened ≡ count_of (old.opened + length (h.before ++ h.bytes ∷ [])) = h.took.opened in
-    let some : length (h.before ++ h.bytes ∷ []) ≡ length h.before + 1 = length-append h.before (h.bytes ∷ []) in
-    omega arith
-
--- where a log is too long, more than 2^40 bytes were taken of its file
-pub file_far : (old new : ShelfSeen) (words : List (List ℕ)) (first place line : ℕ) → FileTooMuch old new words first place line → 2 ^ 40 < new.taken
-file_far old new words first place line h =
-    let long : 2 ^ 40 < length h.bytes = long_taken h.before h.log h.bytes line h.is in
-    let last : count_of new.taken ≡ count_of (length h.bytes) = last_bytes old new h.before h.bytes h.took in
-    omega arith
-
--- the same where blocks are left out
-pub keeping_within : (old new : ShelfSeen) (words : List (List ℕ)) (first : ℕ) → KeepingFailed old new words first → IsWithin old new
-keeping_within old new words first h = either h.took
-  where
-    either : (TookFiles old new h.before ⊎ ((bytes : List ℕ) × IsTaken old.files h.name bytes × TookFiles old new (h.before ++ bytes ∷ []))) → IsWithin old new
-    either (inl took) = files_within old new h.before took h.place_is.are.short
-    either (inr part) = λ more.
-        let last : count_of new.taken ≡ count_of (length part.0) = last_bytes old new h.before part.0 part.2 in
-        let few : length part.0 ≤ 2 ^ 40 = part.1.short in
-        omega arith
-
--- of a log of more than 2^40 bytes more were taken
-pub overfull_taken : (log bytes : List ℕ) (line : ℕ) → IsOverfull log bytes line → 2 ^ 40 < length bytes
-overfull_taken log bytes line h =
-    let full : length h.prefix ≡ 2 ^ 40 = h.full in
-    let some : 0 < length h.more = h.some in
-    omega (arith, ap length h.cut, length-append h.prefix h.more)
-
-pub input_over : (old new : SourceSeen) (log bytes : List ℕ) (line : ℕ) → TookCount old new (length bytes) → IsOverfull log bytes line → RoseFar old.taken new.taken
-input_over old new log bytes line took h =
-    let long : 2 ^ 40 < length bytes = overfull_taken log bytes line h in
+pub input_far : (wrong : WrongBlocks) (old new : SourceSeen) (before : List (List ℕ)) (log bytes : List ℕ) (line : ℕ) → TookCount old new (length bytes)
+    → IsTooMuch wrong before log bytes line → RoseFar old.taken new.taken
+input_far wrong old new before log bytes line took h =
+    let long : 2 ^ 40 < length bytes = long_taken wrong before log bytes line h in
     let count : count_of new.taken ≡ count_of (old.taken + length bytes) = took in
     omega arith
 

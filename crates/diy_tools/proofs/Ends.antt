@@ -21,29 +21,28 @@ use Rattle.exec_check.specs.FilesChecked.{CheckShelfFailed, IsAbsent, IsWrongFil
 use Rattle.exec_check.specs.declared.checked_errors.CheckEnd.TheVariants as checking
 use Rattle.exec_check.specs.declared.checked_errors.CheckedKind.TheVariants as checked
 use Rattle.log_sum.specs.declared.errors.LogKind.{LogKind}
-use Rattle.msum7_files.specs.{declared.sum_end.SumEnd.SumEnd, declared.sum_form.SumForm.SumForm, Logs.EndsAt, SumEnds.{InputSummed, FileStopped}}
-use Rattle.msum7_files.specs.declared.sum_end.SumEnd.TheVariants as sums
+use Rattle.msum7_files.specs.{declared.sum_form.SumForm.SumForm, Logs.EndsAt, SumEnds.InputSummed, LogsRead.{FileStopped, LogFileMissing, SumShelfFailed}}
+use Rattle.msum7_files.specs.declared.{wrong_blocks.WrongBlocks.WrongBlocks, wrong_blocks.WrongBlocks.TheVariants.End}
+use Rattle.msum7_files.specs.declared.faults.SumFault.TheVariants.{Unread, Out as OutFault}
+use Rattle.msum7_files.specs.declared.faults.LogsFault.TheVariants as sums
 use Rattle.diy_words.specs.{declared.usage.Usage.Usage, declared.request.Check.Check}
 use Rattle.diy_words.specs.Requests.{Task, Sought, asked_of, AsksTest, AsksWhy, AsksCoherence, AsksName, AsksList, AsksFamilies, AsksSum, AsksCross, AsksDemo, AsksCheck, AsksExecution, AsksCoherenceExecution, AsksNeeds, AsksLines, AsksLineTests, AsksStates, LineTestsTask, OfEdges, OfName, OfLines, OfNames}
 use Rattle.run_status.specs.{declared.status.Status.Status, declared.status.TextKind.TextKind}
-use Rattle.diy_words.specs.declared.request.{States.States, WrongBlocks.TheVariants.{End, LeaveOut}}
+use Rattle.diy_words.specs.declared.request.States.{States}
 use Rattle.states_of_logs.specs.declared.states_end.{StatesEnd.StatesEnd, StatesKind.StatesKind}
 use Rattle.states_of_logs.specs.declared.states_end.StatesEnd.TheVariants as judging
 use Rattle.states_of_logs.specs.declared.states_end.StatesKind.TheVariants as judged
 use Rattle.states_of_logs.specs.StatesEnds.{AfterTest, FilesJudged, TestAlone, TestIsAbsent, TestIsWrong}
 use Rattle.tests_from_files.specs.{declared.errors.TestFileError.TestFileError, FilesRead.FileFailed}
 use Rattle.litmus_text.specs.TestReading.{TestRead}
-use Rattle.msum7_files.specs.SumEnds.{LogFileMissing, SumShelfFailed}
 use Rattle.log_sum.specs.declared.skipping.SkippedBlock.{SkippedBlock}
-use Rattle.msum7_files.specs.SkipEnds.{InputSkipped}
-use Rattle.diy_tools.specs.SkipAnswers.{EndsKept, EndsKeptAmong, EndsKeptInput, SkipEnd, first_kept, keep_logs, kept_status, skip_status}
 use Rattle.diy_tools.specs.StatesAnswers.{EndsJudged, EndsJudgedAmong, EndsJudgedInput, judge_logs, states_status}
 use Rattle.diy_tools.proofs.StatesCounts.{took_both, ends_after, ends_more_after, failed_after}
 use Rattle.run_status.specs.declared.status.Status.TheVariants as statuses
 use Rattle.run_status.specs.declared.status.TextKind.TheVariants as texts
 use Rattle.diy_tools.specs.{Devices.{Devices, DevicesSeen, devices}, Statuses.{norm_status, classify_status}, NameAnswers.AnswersSought}
 use Rattle.diy_tools.specs.{LineTestAnswers.{EndsLined, line_tests_status, making_asked}, ArchMachines.machine_of, TestAnswers.test_name, WhyAnswers.why_unshown}
-use Rattle.diy_tools.specs.{SumAnswers.{EndsAmong, EndsInput, EndsSum, first_log, name_logs, sum_status}, CheckAnswers.{EndsCheck, check_status}}
+use Rattle.diy_tools.specs.{SumAnswers.{EndsAmong, EndsInput, EndsSum, SumEnd, first_log, name_logs, sum_status, written_status}, CheckAnswers.{EndsCheck, check_status}}
 use Rattle.diy_tools.specs.{FamilyAnswers.{AnswersClassify, EndsFamilies, files_status}, Answers.{Answers, AnswersAsked}, Causes.{CausesAsked, FileStops, CheckedStops, StatesStop, SumStops}}
 use Rattle.diy_tools.specs.Ends.{AllEnded, EndedOnceAtMost, EndsBy, NoEarlierFault, NoneEndedTwice, OpenedSo, PassesOverNoFault, ReadsInput, SeeksInput, SeesEndsOnce}
 use Rattle.diy_tools.proofs.{Causes.answers_caused, LineTestAnswers.lined_stays, StayingCounts.{same_counts, listing_stays, cross_stays, why_stays}}
@@ -247,27 +246,30 @@ module _ (old new : Devices) where
       named_end (file ∷ files ≡ []) words arch file files h.end status (λ none. cc none) h.status_is h.ends
 
   -- msum7
-  input_end : (reads : Type 0) (form : SumForm) (end : SumEnd) (status : Status) → reads → status ≡ sum_status end
-      → EndsInput form end old new
-      → EndsBy reads status old new
-  input_end reads form end status wanted e h = of_end end e h.both (same_counts old.shelf new.shelf h.shelf)
+  written_ended : (reads : Type 0) (blocks : List SkippedBlock) → AllEnded reads old new → EndsBy reads (written_status blocks) old new
+  written_ended reads [] all = all
+  written_ended reads (block ∷ blocks) all = all
+
+  input_end : (reads : Type 0) (wrong : WrongBlocks) (form : SumForm) (end : SumEnd) (status : Status) → reads → status ≡ sum_status end
+      → EndsInput wrong form end old new → EndsBy reads status old new
+  input_end reads wrong form end status wanted e h = of_end end e h.both (same_counts old.shelf new.shelf h.shelf)
     where
-      of_end : (end : SumEnd) → status ≡ sum_status end → InputSummed form old.input new.input old.out new.out end
-          → CountsStay old.shelf new.shelf
-          → EndsBy reads status old new
-      of_end sums.Done e n stay = by_status reads status statuses.Done e (input_ended reads wanted n.read.once n.read.at_end stay)
-      of_end sums.OutFault e n stay = by_status reads status _ e (no_more (inr n.read.once) stay)
-      of_end (sums.Wrong None line kind) e n stay =
+      of_end : (end : SumEnd) → status ≡ sum_status end → InputSummed wrong form old.input new.input old.out new.out end
+          → CountsStay old.shelf new.shelf → EndsBy reads status old new
+      of_end (Ok blocks) e n stay =
+          by_status reads status (written_status blocks.items) e (written_ended reads blocks.items (input_ended reads wanted n.once n.at_end stay))
+      of_end (Err OutFault) e n stay = by_status reads status _ e (no_more (inr n.once) stay)
+      of_end (Err (Unread (sums.Wrong None line kind))) e n stay =
+          by_status reads status _ e (no_more (log_at_most old.input new.input n.0.0.bytes n.0.0.log n.0.0.ends) stay)
+      of_end (Err (Unread (sums.Wrong (Some file) line kind))) e n stay = absurd n.0
+      of_end (Err (Unread (sums.TooMuch None line))) e n stay =
+          by_status reads status _ e (no_more (log_at_most old.input new.input n.0.0.bytes n.0.0.log n.0.0.ends) stay)
+      of_end (Err (Unread (sums.TooMuch (Some file) line))) e n stay = absurd n.0
+      of_end (Err (Unread (sums.NoFile word))) e n stay = absurd n.0
+      of_end (Err (Unread sums.InputFault)) e n stay =
           by_status reads status _ e (no_more (log_at_most old.input new.input n.0.bytes n.0.log n.0.ends) stay)
-      of_end (sums.Wrong (Some file) line kind) e n stay = absurd n
-      of_end (sums.TooMuch None line) e n stay =
-          by_status reads status _ e (no_more (log_at_most old.input new.input n.0.bytes n.0.log n.0.ends) stay)
-      of_end (sums.TooMuch (Some file) line) e n stay = absurd n
-      of_end (sums.NoFile word) e n stay = absurd n
-      of_end sums.InputFault e n stay =
-          by_status reads status _ e (no_more (log_at_most old.input new.input n.0.bytes n.0.log n.0.ends) stay)
-      of_end sums.ShelfFault e n stay = absurd n
-      of_end sums.NoMemory e n stay = by_status reads status statuses.NoMemory e tt
+      of_end (Err (Unread sums.ShelfFault)) e n stay = absurd n.0
+      of_end (Err (Unread sums.NoMemory)) e n stay = by_status reads status statuses.NoMemory e tt
 
   -- a log was read up to some byte
   log_stopped : {Is : List (List ℕ) → List ℕ → List ℕ → Type 0} (words : List (List ℕ)) (first place : ℕ) → NotEnded old.input new.input
@@ -279,95 +281,37 @@ module _ (old new : Devices) where
       either (inl none) = inl none
       either (inr one) = inr one.0
 
-  files_end : (reads : Type 0) (form : SumForm) (words : List (List ℕ)) (end : SumEnd) (status : Status) → (reads → ⊥)
-      → status ≡ sum_status end
-      → EndsAmong true form words end old new → EndsBy reads status old new
-  files_end reads form words sums.Done status unwanted e h =
-      let r = h.both.summed.read in
-      by_status reads status statuses.Done e (files_ended reads unwanted (same_input old.input new.input h.input) r.logs r.took r.ends)
-  files_end reads form words sums.OutFault status unwanted e h =
-      let r = h.both.summed.read in
+  files_end : (reads : Type 0) (wrong : WrongBlocks) (form : SumForm) (words : List (List ℕ)) (end : SumEnd) (status : Status) → (reads → ⊥)
+      → status ≡ sum_status end → EndsAmong true wrong form words end old new → EndsBy reads status old new
+  files_end reads wrong form words (Ok blocks) status unwanted e h =
+      let r = h.both.summed in
+      by_status reads status (written_status blocks.items) e
+      (written_ended reads blocks.items (files_ended reads unwanted (same_input old.input new.input h.input) r.logs r.took r.ends))
+  files_end reads wrong form words (Err OutFault) status unwanted e h =
+      let r = h.both.summed in
       by_status reads status _ e (files_more (same_input old.input new.input h.input) r.logs r.took (inl r.ends))
-  files_end reads form words (sums.Wrong (Some file) line kind) status unwanted e h =
-      by_status reads status _ e (log_stopped words (first_log form) file (same_input old.input new.input h.input) h.both.summed.0)
-  files_end reads form words (sums.TooMuch (Some file) line) status unwanted e h =
-      by_status reads status _ e (log_stopped words (first_log form) file (same_input old.input new.input h.input) h.both.summed.0)
-  files_end reads form words (sums.Wrong None line kind) status unwanted e h = absurd h.both.summed
-  files_end reads form words (sums.TooMuch None line) status unwanted e h = absurd h.both.summed
-  files_end reads form words (sums.NoFile word) status unwanted e h =
+  files_end reads wrong form words (Err (Unread (sums.Wrong (Some file) line kind))) status unwanted e h =
+      by_status reads status _ e (log_stopped words (first_log wrong form) file (same_input old.input new.input h.input) h.both.summed.0)
+  files_end reads wrong form words (Err (Unread (sums.TooMuch (Some file) line))) status unwanted e h =
+      by_status reads status _ e (log_stopped words (first_log wrong form) file (same_input old.input new.input h.input) h.both.summed.0)
+  files_end reads wrong form words (Err (Unread (sums.Wrong None line kind))) status unwanted e h = absurd h.both.summed.0
+  files_end reads wrong form words (Err (Unread (sums.TooMuch None line))) status unwanted e h = absurd h.both.summed.0
+  files_end reads wrong form words (Err (Unread (sums.NoFile word))) status unwanted e h =
       let m = h.both.summed.0 in
       by_status reads status _ e (files_more (same_input old.input new.input h.input) m.before m.took (inl m.ends))
-  files_end reads form words sums.InputFault status unwanted e h = absurd h.both.summed
-  files_end reads form words sums.ShelfFault status unwanted e h =
+  files_end reads wrong form words (Err (Unread sums.InputFault)) status unwanted e h = absurd h.both.summed.0
+  files_end reads wrong form words (Err (Unread sums.ShelfFault)) status unwanted e h =
       let f = h.both.summed.0 in
       by_status reads status _ e (shelf_failed (same_input old.input new.input h.input) f.before f.took f.ends)
-  files_end reads form words sums.NoMemory status unwanted e h = by_status reads status statuses.NoMemory e tt
+  files_end reads wrong form words (Err (Unread sums.NoMemory)) status unwanted e h = by_status reads status statuses.NoMemory e tt
 
-  sum_end : (form : SumForm) (words : List (List ℕ)) (end : SumEnd) (status : Status) → status ≡ sum_status end
-      → EndsSum form words end old new
-      → EndsBy (name_logs form words ≡ false) status old new
-  sum_end form words end status e h = among (name_logs form words) h
+  sum_end : (wrong : WrongBlocks) (form : SumForm) (words : List (List ℕ)) (end : SumEnd) (status : Status) → status ≡ sum_status end
+      → EndsSum wrong form words end old new → EndsBy (name_logs wrong form words ≡ false) status old new
+  sum_end wrong form words end status e h = among (name_logs wrong form words) h
     where
-      among : (b : Bool) → EndsAmong b form words end old new → EndsBy (b ≡ false) status old new
-      among true i = files_end (true ≡ false) form words end status (λ none. cc none) e i
-      among false i = input_end (false ≡ false) form end status refl e i
-
-  -- msum7 -skip
-  kept_ended : (reads : Type 0) (blocks : List SkippedBlock) → AllEnded reads old new → EndsBy reads (kept_status blocks) old new
-  kept_ended reads [] all = all
-  kept_ended reads (block ∷ blocks) all = all
-
-  kept_input_end : (reads : Type 0) (form : SumForm) (end : SkipEnd) (status : Status) → reads → status ≡ skip_status end → EndsKeptInput form end old new
-      → EndsBy reads status old new
-  kept_input_end reads form end status wanted e h = of_end end e h.both (same_counts old.shelf new.shelf h.shelf)
-    where
-      of_end : (end : SkipEnd) → status ≡ skip_status end → InputSkipped form old.input new.input old.out new.out end → CountsStay old.shelf new.shelf
-          → EndsBy reads status old new
-      of_end (Ok blocks) e n stay =
-          by_status reads status (kept_status blocks.items) e
-          (kept_ended reads blocks.items (input_ended reads wanted n.read.once n.read.at_end stay))
-      of_end (Err sums.OutFault) e n stay = by_status reads status _ e (no_more (inr n.1.read.once) stay)
-      of_end (Err (sums.TooMuch None line)) e n stay =
-          by_status reads status _ e (no_more (log_at_most old.input new.input n.0.bytes n.0.log n.0.ends) stay)
-      of_end (Err sums.InputFault) e n stay =
-          by_status reads status _ e (no_more (log_at_most old.input new.input n.0.bytes n.0.log n.0.ends) stay)
-      of_end (Err sums.NoMemory) e n stay = by_status reads status statuses.NoMemory e tt
-      of_end (Err sums.Done) e n stay = absurd n
-      of_end (Err (sums.Wrong file line kind)) e n stay = absurd n
-      of_end (Err (sums.TooMuch (Some file) line)) e n stay = absurd n
-      of_end (Err (sums.NoFile word)) e n stay = absurd n
-      of_end (Err sums.ShelfFault) e n stay = absurd n
-
-  kept_files_end : (reads : Type 0) (form : SumForm) (words : List (List ℕ)) (end : SkipEnd) (status : Status) → (reads → ⊥) → status ≡ skip_status end
-      → EndsKeptAmong true form words end old new → EndsBy reads status old new
-  kept_files_end reads form words (Ok blocks) status unwanted e h =
-      let r = h.both.kept.read in
-      by_status reads status (kept_status blocks.items) e
-      (kept_ended reads blocks.items (files_ended reads unwanted (same_input old.input new.input h.input) r.logs r.took r.ends))
-  kept_files_end reads form words (Err sums.OutFault) status unwanted e h =
-      let r = h.both.kept.1.read in
-      by_status reads status _ e (files_more (same_input old.input new.input h.input) r.logs r.took (inl r.ends))
-  kept_files_end reads form words (Err (sums.TooMuch (Some file) line)) status unwanted e h =
-      by_status reads status _ e (log_stopped words (first_kept form) file (same_input old.input new.input h.input) h.both.kept.0)
-  kept_files_end reads form words (Err (sums.NoFile word)) status unwanted e h =
-      let m = h.both.kept.0 in
-      by_status reads status _ e (files_more (same_input old.input new.input h.input) m.before m.took (inl m.ends))
-  kept_files_end reads form words (Err sums.ShelfFault) status unwanted e h =
-      let f = h.both.kept.0 in
-      by_status reads status _ e (shelf_failed (same_input old.input new.input h.input) f.before f.took f.ends)
-  kept_files_end reads form words (Err sums.NoMemory) status unwanted e h = by_status reads status statuses.NoMemory e tt
-  kept_files_end reads form words (Err sums.Done) status unwanted e h = absurd h.both.kept
-  kept_files_end reads form words (Err (sums.Wrong file line kind)) status unwanted e h = absurd h.both.kept
-  kept_files_end reads form words (Err (sums.TooMuch None line)) status unwanted e h = absurd h.both.kept
-  kept_files_end reads form words (Err sums.InputFault) status unwanted e h = absurd h.both.kept
-
-  kept_end : (form : SumForm) (words : List (List ℕ)) (end : SkipEnd) (status : Status) → status ≡ skip_status end → EndsKept form words end old new
-      → EndsBy (keep_logs form words ≡ false) status old new
-  kept_end form words end status e h = among (keep_logs form words) h
-    where
-      among : (b : Bool) → EndsKeptAmong b form words end old new → EndsBy (b ≡ false) status old new
-      among true i = kept_files_end (true ≡ false) form words end status (λ none. cc none) e i
-      among false i = kept_input_end (false ≡ false) form end status refl e i
+      among : (b : Bool) → EndsAmong b wrong form words end old new → EndsBy (b ≡ false) status old new
+      among true i = files_end (true ≡ false) wrong form words end status (λ none. cc none) e i
+      among false i = input_end (false ≡ false) wrong form end status refl e i
 
   -- mcheck7 -states
   test_wrong_end : (words : List (List ℕ)) (asked : States) (file : ℕ) (error : TestFileError) → NotEnded old.input new.input
@@ -383,7 +327,7 @@ module _ (old new : Devices) where
       kept = same_input old.input new.input h.input
 
       absent : (word : ℕ) → (TestIsAbsent old.shelf new.shelf words asked.test word
-          ⊎ AfterTest asked.arch (machine_of asked.arch).writing old.shelf words asked.test (λ read mid. LogFileMissing mid new.shelf words (asked.test + 1) word))
+          ⊎ AfterTest asked.arch (machine_of asked.arch).writing old.shelf words asked.test (λ read mid. LogFileMissing End mid new.shelf words (asked.test + 1) word))
           → NoneEndedTwice old new
       absent word (inl a) = files_more kept [] a.absent.took (inl a.absent.ends)
       absent word (inr a) =
@@ -391,7 +335,7 @@ module _ (old new : Devices) where
           (inl (ends_after old.shelf a.mid new.shelf a.is_test.text a.holds.before a.is_test.ends a.holds.ends))
 
       failed : (FileFailed old.shelf new.shelf (name_at words asked.test)
-          ⊎ AfterTest asked.arch (machine_of asked.arch).writing old.shelf words asked.test (λ read mid. SumShelfFailed mid new.shelf words (asked.test + 1)))
+          ⊎ AfterTest asked.arch (machine_of asked.arch).writing old.shelf words asked.test (λ read mid. SumShelfFailed End mid new.shelf words (asked.test + 1)))
           → NoneEndedTwice old new
       failed (inl f) = shelf_failed kept [] f.took f.ends
       failed (inr a) =
@@ -469,12 +413,12 @@ module _ (old new : Devices) where
       by_status reads status _ e (test_wrong_end words asked file _ (same_input old.input new.input h.judged.1.0) h.judged.0)
   judged_input_end reads words asked (judging.Wrong (Some file) line (judged.Log kind)) status wanted e h = absurd h.judged
   judged_input_end reads words asked (judging.Wrong None line (judged.Log kind)) status wanted e h =
-      let w = h.judged.0.holds in
+      let w = h.judged.0.holds.0 in
       by_status reads status _ e (test_and_input words asked h.judged.0 (log_at_most old.input new.input w.bytes w.log w.ends))
   judged_input_end reads words asked (judging.Wrong None line (judged.Test kind)) status wanted e h = absurd h.judged
   judged_input_end reads words asked (judging.Wrong None line judged.WrongArch) status wanted e h = absurd h.judged
   judged_input_end reads words asked (judging.TooMuch None line) status wanted e h =
-      let w = h.judged.0.holds in
+      let w = h.judged.0.holds.0 in
       by_status reads status _ e (test_and_input words asked h.judged.0 (log_at_most old.input new.input w.bytes w.log w.ends))
   judged_input_end reads words asked (judging.TooMuch (Some file) line) status wanted e h = absurd h.judged
   judged_input_end reads words asked (judging.NoFile word) status wanted e h =
@@ -567,38 +511,29 @@ module _ (old new : Devices) where
   asked_end words (Ok (AsksCross asked)) status h =
       unread ⊥ status (λ r. r) (same_input old.input new.input h.input) (cross_stays asked status old.shelf new.shelf old.out new.out h.both)
   asked_end words (Ok (AsksFamilies asked)) status h = classify_end words asked.arch asked.files status h
-  asked_end words (Ok (AsksSum form End)) status h = sum_end form words h.end status h.status_is h.ends
-  asked_end words (Ok (AsksSum form LeaveOut)) status h = kept_end form words h.end status h.status_is h.ends
+  asked_end words (Ok (AsksSum form wrong)) status h = sum_end wrong form words h.end status h.status_is h.ends
   asked_end words (Ok (AsksStates asked)) status h = states_end words asked h.end status h.status_is h.ends
   asked_end words (Ok (AsksCheck asked)) status h = check_end ⊥ words asked h.end status (λ r. r) h.status_is h.ends
 
   -- the error count at the last opening, where a file has an error
   summed_quiet : (words : List (List ℕ)) (asked : Result Task Usage) (file line : ℕ) (kind : LogKind)
       → SumStops words asked (sums.Wrong (Some file) line kind) old new → new.shelf.faults_at_open ≡ old.shelf.faults
-  summed_quiet words (Ok (AsksSum form End)) file line kind h = among (name_logs form words) h.0
+  summed_quiet words (Ok (AsksSum form wrong)) file line kind h = among (name_logs wrong form words) h.0
     where
-      among : (b : Bool) → EndsAmong b form words (sums.Wrong (Some file) line kind) old new → new.shelf.faults_at_open ≡ old.shelf.faults
+      among : (b : Bool) → EndsAmong b wrong form words (Err (Unread (sums.Wrong (Some file) line kind))) old new
+          → new.shelf.faults_at_open ≡ old.shelf.faults
       among true i = i.both.summed.0.at_open
-      among false i = absurd i.both
-  summed_quiet words (Ok (AsksSum form LeaveOut)) file line kind h = among (keep_logs form words) h.0
-    where
-      among : (b : Bool) → EndsKeptAmong b form words (Err (sums.Wrong (Some file) line kind)) old new → new.shelf.faults_at_open ≡ old.shelf.faults
-      among true i = absurd i.both.kept
-      among false i = absurd i.both
+      among false i = absurd i.both.0
   summed_quiet words asked file line kind h = absurd h
 
   long_quiet : (words : List (List ℕ)) (asked : Result Task Usage) (file line : ℕ)
       → SumStops words asked (sums.TooMuch (Some file) line) old new → new.shelf.faults_at_open ≡ old.shelf.faults
-  long_quiet words (Ok (AsksSum form End)) file line h = among (name_logs form words) h.0
+  long_quiet words (Ok (AsksSum form wrong)) file line h = among (name_logs wrong form words) h.0
     where
-      among : (b : Bool) → EndsAmong b form words (sums.TooMuch (Some file) line) old new → new.shelf.faults_at_open ≡ old.shelf.faults
+      among : (b : Bool) → EndsAmong b wrong form words (Err (Unread (sums.TooMuch (Some file) line))) old new
+          → new.shelf.faults_at_open ≡ old.shelf.faults
       among true i = i.both.summed.0.at_open
-      among false i = absurd i.both
-  long_quiet words (Ok (AsksSum form LeaveOut)) file line h = among (keep_logs form words) h.0
-    where
-      among : (b : Bool) → EndsKeptAmong b form words (Err (sums.TooMuch (Some file) line)) old new → new.shelf.faults_at_open ≡ old.shelf.faults
-      among true i = i.both.kept.0.at_open
-      among false i = absurd i.both
+      among false i = absurd i.both.0
   long_quiet words asked file line h = absurd h
 
   judged_quiet : (words : List (List ℕ)) (asked : Result Task Usage) (file line : ℕ) (kind : StatesKind)

@@ -7,7 +7,6 @@ mod ForcedTests
 pub mod ListingAnswers
 pub mod CrossAnswers
 pub mod SumAnswers
-pub mod SkipAnswers
 pub mod StatesAnswers
 pub mod StatesCounts
 pub mod FamilyAnswers

@@ -19,16 +19,16 @@ use Rattle.exec_check.specs.declared.checked_errors.CheckEnd.TheVariants as chec
 use Rattle.diy_io.specs.{declared.source.TheConstants.MAX_INPUT, Count.count_of, Shelf.{CountsStay, Files, ShelfSeen}, Opened.IsFile, Taken.SourceSeen}
 use Rattle.diy_words.specs.{declared.usage.Usage.Usage, declared.request.Check.Check}
 use Rattle.diy_words.specs.Requests.{Task, Sought, asked_of, AsksTest, AsksWhy, AsksCoherence, AsksName, AsksList, AsksFamilies, AsksSum, AsksCross, AsksDemo, AsksCheck, AsksExecution, AsksCoherenceExecution, AsksNeeds, AsksLines, AsksLineTests, AsksStates, LineTestsTask, OfEdges, OfName, OfLines, OfNames}
-use Rattle.msum7_files.specs.declared.sum_form.SumForm.{SumForm}
-use Rattle.msum7_files.specs.{declared.sum_end.SumEnd.SumEnd, SumEnds.InputSummed}
-use Rattle.msum7_files.specs.declared.sum_end.SumEnd.TheVariants as sums
-use Rattle.run_status.specs.{declared.status.Status.Status, declared.status.TextKind.TextKind}
+use Rattle.msum7_files.specs.declared.{sum_form.SumForm.SumForm, wrong_blocks.WrongBlocks.WrongBlocks, wrong_blocks.WrongBlocks.TheVariants.{End, Skip}}
+use Rattle.msum7_files.specs.{declared.faults.SumFault.TheVariants.{Unread, Out}, SumEnds.InputSummed}
+use Rattle.msum7_files.specs.declared.faults.LogsFault.TheVariants as sums
+use Rattle.run_status.specs.{declared.status.Status.Status}
 use Rattle.diy_tools.specs.{Devices.{Devices, DevicesSeen, devices}, Statuses.{norm_status, classify_status}, NameAnswers.AnswersSought}
-use Rattle.diy_tools.specs.{SumAnswers.{EndsAmong, EndsInput, EndsSum, first_log, name_logs, sum_status}}
+use Rattle.diy_tools.specs.{SumAnswers.{EndsAmong, EndsInput, EndsSum, SumEnd, first_log, name_logs, sum_status}}
 use Rattle.diy_tools.specs.{ArchMachines.{machine_of}, TestAnswers.test_name, WhyAnswers.{why_unshown}}
-use Rattle.diy_tools.specs.{CheckAnswers.{EndsCheck, checked_kind, check_status, shown_of}, Answers.{Answers, AnswersAsked}}
-use Rattle.diy_tools.specs.{Limit.{Limited, ShownWithin, StopsReading, TookTooMuch, logs_from}, FamilyAnswers.{AnswersClassify, EndsFamilies, file_kind, files_status, read_on}}
-use Rattle.diy_words.specs.declared.request.{States.States, WrongBlocks.TheVariants.{End, LeaveOut}}
+use Rattle.diy_tools.specs.{CheckAnswers.{EndsCheck, check_status, shown_of}, Answers.{Answers, AnswersAsked}}
+use Rattle.diy_tools.specs.{Limit.{Limited, ShownWithin, StopsReading, TookTooMuch, logs_from}, FamilyAnswers.{AnswersClassify, EndsFamilies, files_status, read_on}}
+use Rattle.diy_words.specs.declared.request.States.{States}
 use Rattle.states_of_logs.specs.declared.states_end.StatesEnd.{StatesEnd}
 use Rattle.states_of_logs.specs.declared.states_end.StatesEnd.TheVariants as judging
 use Rattle.std.specs.Prelude.{◌⊎◌}
@@ -37,15 +37,13 @@ use Rattle.tests_from_files.specs.FilesRead.{FileFailed, FileFaulty}
 use Rattle.std.proofs.lemmas.List.Elements.{All-append}
 use Rattle.litmus_text.specs.declared.limits.TheConstants.{MAX_TEST_TEXT}
 use Rattle.log_sum.specs.declared.errors.LogKind.{LogKind}
-use Rattle.msum7_files.specs.{Logs.{IsShort, PrefixWrong}, SumEnds.{FileStopped, InputWrong, IsAtWord, LogFileMissing, LogFileWrong, SumShelfFailed, log_error_at}}
+use Rattle.msum7_files.specs.{Logs.{IsShort, IsWrongLog, PrefixWrong}, LogsRead.{FileStopped, IsAtWord, LogFileMissing, LogStopped, SumShelfFailed, log_error_at}}
 use Rattle.lines_to_files.specs.declared.form.WrongTest.{WrongTest}
 use Rattle.lines_to_files.specs.declared.form.WrongTest.TheVariants as wrongs
 use Rattle.states_of_logs.specs.declared.states_end.StatesKind.TheVariants as kinds
-use Rattle.states_of_logs.specs.StatesEnds.{AfterTest, FilesJudged, InputJudged, TestIsAbsent}
-use Rattle.msum7_files.specs.SkipEnds.{InputSkipped}
-use Rattle.diy_tools.specs.SkipAnswers.{EndsKept, EndsKeptAmong, EndsKeptInput, SkipEnd, first_kept, keep_logs, skip_status}
-use Rattle.diy_tools.specs.StatesAnswers.{EndsJudged, EndsJudgedAmong, EndsJudgedInput, judge_logs, states_kind, states_status}
-use Rattle.diy_tools.proofs.{CountedLogs.keeping_within, StatesCounts.{took_both, test_short, none_short, first_short, test_failed_within, log_failed_within}}
+use Rattle.states_of_logs.specs.StatesEnds.{AfterTest, FilesJudged, TestIsAbsent}
+use Rattle.diy_tools.specs.StatesAnswers.{EndsJudged, EndsJudgedAmong, EndsJudgedInput, judge_logs, states_status}
+use Rattle.diy_tools.proofs.{StatesCounts.{took_both, test_short, none_short, first_short, test_failed_within, log_failed_within}}
 use Rattle.run_status.specs.declared.status.Status.TheVariants as statuses
 use Rattle.run_status.specs.declared.status.TextKind.TheVariants as texts
 
@@ -79,7 +77,7 @@ module _ (words : List (List ℕ)) (old new : Devices) (much : TookTooMuch old n
 
   -- an error of a log in a file is shown within the limit, unless at most so many bytes were taken
   shown_in_file : (file line : ℕ) (kind : LogKind) (first : ℕ) (mid : ShelfSeen) → mid.files ≡ old.shelf.files
-      → (h : LogFileWrong mid new.shelf words first file (log_error_at line kind)) → (IsShort h.bytes → ⊥) → ShownWithin old words first (Some file) line kind
+      → (h : FileStopped mid new.shelf words first file (λ before log bytes. IsWrongLog before log bytes (log_error_at line kind))) → (IsShort h.bytes → ⊥) → ShownWithin old words first (Some file) line kind
   shown_in_file file line kind first mid same h long = of_shown h.is.shown
     where
       of_shown : (((h.bytes ≡ h.log) × IsShort h.log) ⊎ PrefixWrong h.before h.bytes (log_error_at line kind)) → ShownWithin old words first (Some file) line kind
@@ -99,7 +97,7 @@ module _ (words : List (List ℕ)) (old new : Devices) (much : TookTooMuch old n
       }
 
   -- and so is one of the input
-  shown_in_input : (first line : ℕ) (kind : LogKind) → (h : InputWrong old.input new.input (log_error_at line kind)) → (IsShort h.bytes → ⊥)
+  shown_in_input : (first line : ℕ) (kind : LogKind) → (h : LogStopped old.input new.input (λ log bytes. IsWrongLog [] log bytes (log_error_at line kind))) → (IsShort h.bytes → ⊥)
       → ShownWithin old words first None line kind
   shown_in_input first line kind h long = of_shown h.is.shown
     where
@@ -209,93 +207,56 @@ module _ (words : List (List ℕ)) (old new : Devices) (much : TookTooMuch old n
       absurd (neither (same_input old.input new.input h.input)
       (λ more. omega (arith, checked_few (shown_of asked.form) asked.arch (machine_of asked.arch).writing old.shelf new.shelf words asked.test asked.execution old.out new.out end h.both.checked (λ none. cc none) more)))
 
-  files_limit : (form : SumForm) (end : SumEnd) (status : Status) → status ≡ sum_status end
-      → EndsAmong true form words end old new → StopsReading words old (Ok (AsksSum form End)) status
-  files_limit form sums.Done status e h = absurd (neither (same_input old.input new.input h.input) (files_within old.shelf new.shelf h.both.summed.read.logs h.both.summed.read.took h.both.summed.read.are.short))
-  files_limit form sums.OutFault status e h = absurd (neither (same_input old.input new.input h.input) (files_within old.shelf new.shelf h.both.summed.read.logs h.both.summed.read.took h.both.summed.read.are.short))
-  files_limit form (sums.Wrong None line kind) status e h = absurd h.both.summed
-  files_limit form (sums.Wrong (Some file) line kind) status e h =
+  -- msum7
+  files_limit : (wrong : WrongBlocks) (form : SumForm) (end : SumEnd) (status : Status) → status ≡ sum_status end
+      → EndsAmong true wrong form words end old new → StopsReading words old (Ok (AsksSum form wrong)) status
+  files_limit wrong form (Ok blocks) status e h =
+      let r = h.both.summed in absurd (neither (same_input old.input new.input h.input) (files_within old.shelf new.shelf r.logs r.took r.are.short))
+  files_limit wrong form (Err Out) status e h =
+      let r = h.both.summed in absurd (neither (same_input old.input new.input h.input) (files_within old.shelf new.shelf r.logs r.took r.are.short))
+  files_limit wrong form (Err (Unread (sums.Wrong None line kind))) status e h = absurd h.both.summed.0
+  files_limit End form (Err (Unread (sums.Wrong (Some file) line kind))) status e h =
       wrong_log (Ok (AsksSum form End)) status (Some file) line kind e
-      (shown_in_file file line kind (first_log form) old.shelf refl h.both.summed.0
-      (λ short. neither (same_input old.input new.input h.input) (stopped_within old.shelf new.shelf (first_log form) file _ h.both.summed.0 short)))
-  files_limit form (sums.TooMuch file line) status e h = too_much (Ok (AsksSum form End)) status file line e
-  files_limit form (sums.NoFile word) status e h =
-      absurd (neither (same_input old.input new.input h.input)
-      (files_within old.shelf new.shelf h.both.summed.0.before h.both.summed.0.took h.both.summed.0.place_is.are.short))
-  files_limit form sums.InputFault status e h = absurd h.both.summed
-  files_limit form sums.ShelfFault status e h =
-      absurd (neither (same_input old.input new.input h.input) (failed_within old.shelf new.shelf words (first_log form) h.both.summed.0))
-  files_limit form sums.NoMemory status e h = subst (λ (s : Status). StopsReading words old (Ok (AsksSum form End)) s) (sym e) tt
-
-  input_limit : (form : SumForm) (end : SumEnd) (status : Status) → status ≡ sum_status end → EndsInput form end old new → StopsReading words old (Ok (AsksSum form End)) status
-  input_limit form end status e h = of_end end e h.both (same_shelf old.shelf new.shelf (same_counts old.shelf new.shelf h.shelf))
-    where
-      of_end : (end : SumEnd) → status ≡ sum_status end
-          → InputSummed form old.input new.input old.out new.out end → IsWithin old.shelf new.shelf → StopsReading words old (Ok (AsksSum form End)) status
-      of_end sums.Done e n shelf = absurd (neither (kept_within old.input.taken new.input.taken (length n.read.log) n.read.taken n.read.short) shelf)
-      of_end sums.OutFault e n shelf = absurd (neither (kept_within old.input.taken new.input.taken (length n.read.log) n.read.taken n.read.short) shelf)
-      of_end (sums.Wrong (Some file) line kind) e n shelf = absurd n
-      of_end (sums.Wrong None line kind) e n shelf =
-          wrong_log (Ok (AsksSum form End)) status None line kind e
-          (shown_in_input (first_log form) line kind n.0
-          (λ short. neither (kept_within old.input.taken new.input.taken (length n.0.bytes) n.0.taken short) shelf))
-      of_end (sums.TooMuch file line) e n shelf = too_much (Ok (AsksSum form End)) status file line e
-      of_end (sums.NoFile word) e n shelf = absurd n
-      of_end sums.InputFault e n shelf = absurd (neither (kept_within old.input.taken new.input.taken (length n.0.bytes) n.0.taken n.0.short) shelf)
-      of_end sums.ShelfFault e n shelf = absurd n
-      of_end sums.NoMemory e n shelf = subst (λ (s : Status). StopsReading words old (Ok (AsksSum form End)) s) (sym e) tt
-
-  sum_limit : (form : SumForm) (end : SumEnd) (status : Status) → status ≡ sum_status end → EndsSum form words end old new
-      → StopsReading words old (Ok (AsksSum form End)) status
-  sum_limit form end status e h = among (name_logs form words) h
-    where
-      among : (b : Bool) → EndsAmong b form words end old new → StopsReading words old (Ok (AsksSum form End)) status
-      among true i = files_limit form end status e i
-      among false i = input_limit form end status e i
-
-  -- msum7 -skip
-  kept_files_limit : (form : SumForm) (end : SkipEnd) (status : Status) → status ≡ skip_status end
-      → EndsKeptAmong true form words end old new → StopsReading words old (Ok (AsksSum form LeaveOut)) status
-  kept_files_limit form (Ok blocks) status e h =
-      let r = h.both.kept.read in absurd (neither (same_input old.input new.input h.input) (files_within old.shelf new.shelf r.logs r.took r.are.short))
-  kept_files_limit form (Err sums.OutFault) status e h =
-      let r = h.both.kept.1.read in absurd (neither (same_input old.input new.input h.input) (files_within old.shelf new.shelf r.logs r.took r.are.short))
-  kept_files_limit form (Err (sums.TooMuch file line)) status e h = too_much (Ok (AsksSum form LeaveOut)) status file line e
-  kept_files_limit form (Err (sums.Wrong file line kind)) status e h = absurd h.both.kept
-  kept_files_limit form (Err (sums.NoFile word)) status e h =
-      let m = h.both.kept.0 in
+      (shown_in_file file line kind (first_log End form) old.shelf refl h.both.summed.0
+      (λ short. neither (same_input old.input new.input h.input) (stopped_within old.shelf new.shelf (first_log End form) file _ h.both.summed.0 short)))
+  files_limit Skip form (Err (Unread (sums.Wrong (Some file) line kind))) status e h = absurd h.both.summed.0.is
+  files_limit wrong form (Err (Unread (sums.TooMuch file line))) status e h = too_much (Ok (AsksSum form wrong)) status file line e
+  files_limit wrong form (Err (Unread (sums.NoFile word))) status e h =
+      let m = h.both.summed.0 in
       absurd (neither (same_input old.input new.input h.input) (files_within old.shelf new.shelf m.before m.took m.place_is.are.short))
-  kept_files_limit form (Err sums.ShelfFault) status e h =
-      absurd (neither (same_input old.input new.input h.input) (keeping_within old.shelf new.shelf words (first_kept form) h.both.kept.0))
-  kept_files_limit form (Err sums.NoMemory) status e h = subst (λ (s : Status). StopsReading words old (Ok (AsksSum form LeaveOut)) s) (sym e) tt
-  kept_files_limit form (Err sums.Done) status e h = absurd h.both.kept
-  kept_files_limit form (Err sums.InputFault) status e h = absurd h.both.kept
+  files_limit wrong form (Err (Unread sums.InputFault)) status e h = absurd h.both.summed.0
+  files_limit wrong form (Err (Unread sums.ShelfFault)) status e h =
+      absurd (neither (same_input old.input new.input h.input) (failed_within wrong old.shelf new.shelf words (first_log wrong form) h.both.summed.0))
+  files_limit wrong form (Err (Unread sums.NoMemory)) status e h = subst (λ (s : Status). StopsReading words old (Ok (AsksSum form wrong)) s) (sym e) tt
 
-  kept_input_limit : (form : SumForm) (end : SkipEnd) (status : Status) → status ≡ skip_status end → EndsKeptInput form end old new
-      → StopsReading words old (Ok (AsksSum form LeaveOut)) status
-  kept_input_limit form end status e h = of_end end e h.both (same_shelf old.shelf new.shelf (same_counts old.shelf new.shelf h.shelf))
+  input_limit : (wrong : WrongBlocks) (form : SumForm) (end : SumEnd) (status : Status) → status ≡ sum_status end → EndsInput wrong form end old new
+      → StopsReading words old (Ok (AsksSum form wrong)) status
+  input_limit wrong form end status e h = of_end wrong end e h.both (same_shelf old.shelf new.shelf (same_counts old.shelf new.shelf h.shelf))
     where
-      of_end : (end : SkipEnd) → status ≡ skip_status end → InputSkipped form old.input new.input old.out new.out end
-          → IsWithin old.shelf new.shelf → StopsReading words old (Ok (AsksSum form LeaveOut)) status
-      of_end (Ok blocks) e n shelf = absurd (neither (kept_within old.input.taken new.input.taken (length n.read.log) n.read.taken n.read.short) shelf)
-      of_end (Err sums.OutFault) e n shelf =
-          absurd (neither (kept_within old.input.taken new.input.taken (length n.1.read.log) n.1.read.taken n.1.read.short) shelf)
-      of_end (Err (sums.TooMuch file line)) e n shelf = too_much (Ok (AsksSum form LeaveOut)) status file line e
-      of_end (Err (sums.Wrong file line kind)) e n shelf = absurd n
-      of_end (Err sums.InputFault) e n shelf =
+      of_end : (wrong : WrongBlocks) (end : SumEnd) → status ≡ sum_status end → InputSummed wrong form old.input new.input old.out new.out end
+          → IsWithin old.shelf new.shelf → StopsReading words old (Ok (AsksSum form wrong)) status
+      of_end wrong (Ok blocks) e n shelf = absurd (neither (kept_within old.input.taken new.input.taken (length n.log) n.taken n.short) shelf)
+      of_end wrong (Err Out) e n shelf = absurd (neither (kept_within old.input.taken new.input.taken (length n.log) n.taken n.short) shelf)
+      of_end wrong (Err (Unread (sums.Wrong (Some file) line kind))) e n shelf = absurd n.0
+      of_end End (Err (Unread (sums.Wrong None line kind))) e n shelf =
+          wrong_log (Ok (AsksSum form End)) status None line kind e
+          (shown_in_input (first_log End form) line kind n.0.0
+          (λ short. neither (kept_within old.input.taken new.input.taken (length n.0.0.bytes) n.0.0.taken short) shelf))
+      of_end Skip (Err (Unread (sums.Wrong None line kind))) e n shelf = absurd n.0.0.is
+      of_end wrong (Err (Unread (sums.TooMuch file line))) e n shelf = too_much (Ok (AsksSum form wrong)) status file line e
+      of_end wrong (Err (Unread (sums.NoFile word))) e n shelf = absurd n.0
+      of_end wrong (Err (Unread sums.InputFault)) e n shelf =
           absurd (neither (kept_within old.input.taken new.input.taken (length n.0.bytes) n.0.taken n.0.short) shelf)
-      of_end (Err sums.NoMemory) e n shelf = subst (λ (s : Status). StopsReading words old (Ok (AsksSum form LeaveOut)) s) (sym e) tt
-      of_end (Err sums.Done) e n shelf = absurd n
-      of_end (Err (sums.NoFile word)) e n shelf = absurd n
-      of_end (Err sums.ShelfFault) e n shelf = absurd n
+      of_end wrong (Err (Unread sums.ShelfFault)) e n shelf = absurd n.0
+      of_end wrong (Err (Unread sums.NoMemory)) e n shelf = subst (λ (s : Status). StopsReading words old (Ok (AsksSum form wrong)) s) (sym e) tt
 
-  kept_limit : (form : SumForm) (end : SkipEnd) (status : Status) → status ≡ skip_status end → EndsKept form words end old new
-      → StopsReading words old (Ok (AsksSum form LeaveOut)) status
-  kept_limit form end status e h = among (keep_logs form words) h
+  sum_limit : (wrong : WrongBlocks) (form : SumForm) (end : SumEnd) (status : Status) → status ≡ sum_status end → EndsSum wrong form words end old new
+      → StopsReading words old (Ok (AsksSum form wrong)) status
+  sum_limit wrong form end status e h = among (name_logs wrong form words) h
     where
-      among : (b : Bool) → EndsKeptAmong b form words end old new → StopsReading words old (Ok (AsksSum form LeaveOut)) status
-      among true i = kept_files_limit form end status e i
-      among false i = kept_input_limit form end status e i
+      among : (b : Bool) → EndsAmong b wrong form words end old new → StopsReading words old (Ok (AsksSum form wrong)) status
+      among true i = files_limit wrong form end status e i
+      among false i = input_limit wrong form end status e i
 
   -- mcheck7 -states
   judged_files_limit : (asked : States) (end : StatesEnd) (status : Status) → status ≡ states_status end
@@ -306,7 +267,7 @@ module _ (words : List (List ℕ)) (old new : Devices) (much : TookTooMuch old n
       stop shelf = absurd (neither (same_input old.input new.input h.input) shelf)
 
       absent : (word : ℕ) → (TestIsAbsent old.shelf new.shelf words asked.test word
-          ⊎ AfterTest asked.arch (machine_of asked.arch).writing old.shelf words asked.test (λ read mid. LogFileMissing mid new.shelf words (asked.test + 1) word))
+          ⊎ AfterTest asked.arch (machine_of asked.arch).writing old.shelf words asked.test (λ read mid. LogFileMissing End mid new.shelf words (asked.test + 1) word))
           → IsWithin old.shelf new.shelf
       absent word (inl a) = files_within old.shelf new.shelf [] a.absent.took none_short
       absent word (inr a) =
@@ -315,7 +276,7 @@ module _ (words : List (List ℕ)) (old new : Devices) (much : TookTooMuch old n
           (first_short a.is_test.text a.holds.before (test_short asked.arch (machine_of asked.arch).writing a.is_test.text a.read a.is_test.is) a.holds.place_is.are.short)
 
       failed : (FileFailed old.shelf new.shelf (name_at words asked.test)
-          ⊎ AfterTest asked.arch (machine_of asked.arch).writing old.shelf words asked.test (λ read mid. SumShelfFailed mid new.shelf words (asked.test + 1)))
+          ⊎ AfterTest asked.arch (machine_of asked.arch).writing old.shelf words asked.test (λ read mid. SumShelfFailed End mid new.shelf words (asked.test + 1)))
           → IsWithin old.shelf new.shelf
       failed (inl f) = test_failed_within old.shelf new.shelf (name_at words asked.test) f
       failed (inr a) =
@@ -381,8 +342,8 @@ module _ (words : List (List ℕ)) (old new : Devices) (much : TookTooMuch old n
   judged_input_limit asked (judging.Wrong None line (kinds.Log kind)) status e h =
       let a = h.judged.0 in
       wrong_log (Ok (AsksStates asked)) status None line kind e
-      (shown_in_input (asked.test + 1) line kind a.holds
-      (λ short. neither (kept_within old.input.taken new.input.taken (length a.holds.bytes) a.holds.taken short)
+      (shown_in_input (asked.test + 1) line kind a.holds.0
+      (λ short. neither (kept_within old.input.taken new.input.taken (length a.holds.0.bytes) a.holds.0.taken short)
       (files_within old.shelf new.shelf (a.is_test.text ∷ []) a.is_test.took
       (first_short a.is_test.text [] (test_short asked.arch (machine_of asked.arch).writing a.is_test.text a.read a.is_test.is) none_short))))
   judged_input_limit asked (judging.Wrong (Some file) line (kinds.Log kind)) status e h = absurd h.judged
@@ -440,8 +401,7 @@ module _ (words : List (List ℕ)) (old new : Devices) (much : TookTooMuch old n
   asked_limit (Ok (AsksDemo asked)) status h =
       absurd (neither (same_input old.input new.input h.input) (same_shelf old.shelf new.shelf (same_counts old.shelf new.shelf h.shelf)))
   asked_limit (Ok (AsksFamilies asked)) status h = classify_limit asked.arch asked.files status h
-  asked_limit (Ok (AsksSum form End)) status h = sum_limit form h.end status h.status_is h.ends
-  asked_limit (Ok (AsksSum form LeaveOut)) status h = kept_limit form h.end status h.status_is h.ends
+  asked_limit (Ok (AsksSum form wrong)) status h = sum_limit wrong form h.end status h.status_is h.ends
   asked_limit (Ok (AsksStates asked)) status h = states_limit asked h.end status h.status_is h.ends
   asked_limit (Ok (AsksCheck asked)) status h = check_limit asked h.end status h.status_is h.ends
 

@@ -7,7 +7,7 @@ use Rattle.arch_trait.specs.Writing.{Writing}
 use Rattle.litmus_text.specs.{declared.limits.TheConstants.MAX_TEST_TEXT, TestReading.TestRead}
 use Rattle.diy_io.specs.{Count.{count_of, Rose}, Shelf.{Files, ShelfSeen}, Opened.{EndsSeen, EndsSeenOrOneMore, TookFiles}}
 use Rattle.diy_io.proofs.OpenedLaws.{took_no_more}
-use Rattle.msum7_files.specs.{Logs.IsShort, SumEnds.{IsBegun, SumShelfFailed}}
+use Rattle.msum7_files.specs.{Logs.IsShort, LogsRead.{IsBegun, SumShelfFailed}, declared.wrong_blocks.WrongBlocks.TheVariants.End}
 use Rattle.tests_from_files.specs.{FilesRead.{Begins, FileFailed}, FirstBytes.tests_by_first_bytes, TestSaid.test_said}
 use Rattle.diy_tools.proofs.CountedLogs.{IsWithin, files_within}
 
@@ -56,17 +56,17 @@ test_failed_within old new name h = either h.took
 
 -- what was taken of files, after one
 pub failed_after : (a b c : ShelfSeen) (x : List ℕ) (files : Option Files) (name : List ℕ) (before : List (List ℕ)) → TookFiles a b (x ∷ [])
-    → (TookFiles b c before ⊎ ((bytes : List ℕ) × IsBegun files before name bytes × TookFiles b c (before ++ bytes ∷ [])))
-    → (TookFiles a c (x ∷ before) ⊎ ((bytes : List ℕ) × IsBegun files before name bytes × TookFiles a c (x ∷ before ++ bytes ∷ [])))
+    → (TookFiles b c before ⊎ ((bytes : List ℕ) × IsBegun End files before name bytes × TookFiles b c (before ++ bytes ∷ [])))
+    → (TookFiles a c (x ∷ before) ⊎ ((bytes : List ℕ) × IsBegun End files before name bytes × TookFiles a c (x ∷ before ++ bytes ∷ [])))
 failed_after a b c x files name before p (inl none) = inl (took_both a b c x before p none)
 failed_after a b c x files name before p (inr part) = inr (part.0, part.1, took_both a b c x (before ++ part.0 ∷ []) p part.2)
 
 -- the shelf failed at a log after the file of a test
 pub log_failed_within : (a b c : ShelfSeen) (words : List (List ℕ)) (first : ℕ) (x : List ℕ) → TookFiles a b (x ∷ []) → IsShort x
-    → SumShelfFailed b c words first → IsWithin a c
+    → SumShelfFailed End b c words first → IsWithin a c
 log_failed_within a b c words first x p short h = either (failed_after a b c x b.files h.name h.before p h.took)
   where
-    either : (TookFiles a c (x ∷ h.before) ⊎ ((bytes : List ℕ) × IsBegun b.files h.before h.name bytes × TookFiles a c (x ∷ h.before ++ bytes ∷ []))) → IsWithin a c
+    either : (TookFiles a c (x ∷ h.before) ⊎ ((bytes : List ℕ) × IsBegun End b.files h.before h.name bytes × TookFiles a c (x ∷ h.before ++ bytes ∷ []))) → IsWithin a c
     either (inl took) = files_within a c (x ∷ h.before) took (first_short x h.before short h.place_is.are.short)
     either (inr part) =
         files_within a c (x ∷ h.before ++ part.0 ∷ []) part.2

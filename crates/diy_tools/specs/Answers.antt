@@ -3,13 +3,12 @@
 use Rattle.std.specs.Prelude.{ℕ, ◌≡◌, List, Result, Ok, Err}
 use Rattle.diy_words.specs.declared.usage.Usage.{Usage}
 use Rattle.diy_words.specs.Requests.{Task, AsksTest, AsksWhy, AsksCoherence, AsksName, AsksList, AsksFamilies, AsksSum, AsksCross, AsksDemo, AsksCheck, AsksExecution, AsksCoherenceExecution, AsksNeeds, AsksLines, AsksLineTests, AsksStates, asked_of}
-use Rattle.diy_words.specs.declared.request.WrongBlocks.TheVariants.{End, LeaveOut}
 use Rattle.run_status.specs.{declared.status.Status.Status}
 use Rattle.diy_tools.specs.{Devices.{Devices, OutAlone, InputAndOut, ShelfAndOut, DevicesSeen, devices}, TestAnswers.AnswersTest}
 use Rattle.diy_tools.specs.{NameAnswers.AnswersSought, FamilyAnswers.AnswersClassify, ListAnswers.{AnswersList, AnswersListed}, CrossAnswers.AnswersCross}
 use Rattle.diy_tools.specs.{DemoAnswers.demo_asked, CheckAnswers.AnswersCheck, PrintAnswers.Prints, SumAnswers.AnswersSum, WhyAnswers.AnswersWhy}
 use Rattle.diy_tools.specs.{CoherenceAnswers.AnswersCoherence, ExecutionAnswers.{AnswersExecution, AnswersCoherenceExecution}, NeedsAnswers.AnswersNeeds}
-use Rattle.diy_tools.specs.{LineTestAnswers.AnswersLineTests, SkipAnswers.AnswersKeptSum, StatesAnswers.AnswersStates}
+use Rattle.diy_tools.specs.{LineTestAnswers.AnswersLineTests, StatesAnswers.AnswersStates}
 use Rattle.run_status.specs.declared.status.Status.TheVariants as statuses
 
 -- the arguments make no request, the status says why, and no device changes; or the tool does what it is asked for, and the devices that it
@@ -23,8 +22,7 @@ AnswersAsked words (Ok (AsksName asked)) status old new = InputAndOut (AnswersSo
 AnswersAsked words (Ok (AsksList asked)) status old new = ShelfAndOut (AnswersList asked status) old new
 AnswersAsked words (Ok (AsksCross asked)) status old new = ShelfAndOut (AnswersCross asked status) old new
 AnswersAsked words (Ok (AsksFamilies asked)) status old new = AnswersClassify words asked.arch asked.files status old new
-AnswersAsked words (Ok (AsksSum form End)) status old new = AnswersSum form words status old new
-AnswersAsked words (Ok (AsksSum form LeaveOut)) status old new = AnswersKeptSum form words status old new
+AnswersAsked words (Ok (AsksSum form wrong)) status old new = AnswersSum wrong form words status old new
 AnswersAsked words (Ok (AsksDemo asked)) status old new = OutAlone (Prints (demo_asked asked) status) old new
 AnswersAsked words (Ok (AsksCheck asked)) status old new = AnswersCheck words asked status old new
 AnswersAsked words (Ok (AsksStates asked)) status old new = AnswersStates words asked status old new

@@ -17,24 +17,22 @@ use Rattle.diy_io.specs.{Count.{Rose, count_of}, Taken.SourceSeen, Wrote.{SinkSe
 use Rattle.diy_words.specs.{declared.usage.Usage.Usage, declared.usage.UsageKind.UsageKind, declared.usage.UsageKind.TheVariants.UnknownName}
 use Rattle.diy_words.specs.declared.request.ExecutionForm.{ExecutionForm}
 use Rattle.diy_words.specs.Requests.{Task, TestTask, CoherenceTask, Sought, WhyTask, AsksTest, AsksWhy, AsksCoherence, AsksName, AsksList, AsksFamilies, AsksSum, AsksCross, AsksDemo, AsksCheck, AsksExecution, AsksCoherenceExecution, AsksNeeds, AsksLines, AsksLineTests, AsksStates, OfEdges, OfName, OfLines, OfNames, asked_of}
-use Rattle.diy_words.specs.declared.request.WrongBlocks.TheVariants.{End, LeaveOut}
 use Rattle.states_of_logs.specs.declared.states_end.{StatesEnd.StatesEnd}
 use Rattle.states_of_logs.specs.declared.states_end.StatesEnd.TheVariants as judging
 use Rattle.states_of_logs.specs.declared.states_end.StatesKind.TheVariants as judged
-use Rattle.msum7_files.specs.SkipEnds.{KeepingMissing}
-use Rattle.diy_tools.specs.{SkipAnswers.{EndsKept, WritesKept, first_kept}, StatesAnswers.EndsJudged}
+use Rattle.diy_tools.specs.StatesAnswers.{EndsJudged}
 use Rattle.tests_to_files.specs.declared.ending.ListingEnd.TheVariants as listings
-use Rattle.msum7_files.specs.{declared.sum_end.SumEnd.SumEnd, SumEnds.LogFileMissing}
-use Rattle.msum7_files.specs.declared.sum_end.SumEnd.TheVariants as sums
+use Rattle.msum7_files.specs.{declared.faults.LogsFault.LogsFault, declared.faults.SumFault.TheVariants.{Unread, Out as OutFault}, LogsRead.LogFileMissing}
+use Rattle.msum7_files.specs.declared.faults.LogsFault.TheVariants as sums
 use Rattle.two_runs.specs.{IntendedRuns.intended_by, CoherenceRuns.incoherent_by}
 use Rattle.test_maker.specs.declared.refusal.Refusal.{Refusal}
 use Rattle.lines_to_files.specs.declared.{ending.LineTestsEnd.LineTestsEnd, form.WrongTest.WrongTest}
 use Rattle.lines_to_files.specs.declared.ending.LineTestsEnd.TheVariants as tests
-use Rattle.lines_to_files.specs.declared.form.WrongTest.TheVariants as wrong
+use Rattle.lines_to_files.specs.declared.form.WrongTest.TheVariants as wrongs
 use Rattle.run_status.specs.{declared.status.Status.Status, declared.status.Device.TheVariants.{Input, Out, Shelf}}
 use Rattle.diy_tools.specs.{Devices.{Devices, OutAlone, InputAndOut, ShelfAndOut, DevicesSeen, devices}, CheckAnswers.EndsCheck, CrossAnswers.EndsCrossed}
 use Rattle.diy_tools.specs.{DemoAnswers.demo_asked, FamilyAnswers.EndsFamilies, ListAnswers.{EndsAsked, AnswersListed}, Memory.MayWantMemory}
-use Rattle.diy_tools.specs.{NameAnswers.PrintsNamed, Refused.refused_list, SumAnswers.{EndsSum, first_log}, TestAnswers.{asked_text, test_name, test_refused}}
+use Rattle.diy_tools.specs.{NameAnswers.PrintsNamed, Refused.refused_list, SumAnswers.{EndsSum, WritesSum, first_log}, TestAnswers.{asked_text, test_name, test_refused}}
 use Rattle.diy_tools.specs.{ArchMachines.machine_of, WhyAnswers.{WritesRuns, why_unshown}, CoherenceAnswers.{coherence_refused, incoherent_text}}
 use Rattle.diy_tools.specs.{ExecutionAnswers.PrintsRun, LineTestAnswers.EndsLined, NeedsAnswers.needs_asked}
 use Rattle.run_status.specs.declared.status.Status.TheVariants as statuses
@@ -109,18 +107,16 @@ abbrev pub CheckedStops : List (List ℕ) → Result Task Usage → Option ℕ �
 CheckedStops words asked (Some file) line kind old new = CheckStops words asked (checking.Wrong file line kind) old new
 CheckedStops words asked None line kind old new = ⊥
 
--- the reading of logs by msum7 ends in this way, and nothing is written
-abbrev pub SumStops : List (List ℕ) → Result Task Usage → SumEnd → Devices → Devices → Type 0
-SumStops words (Ok (AsksSum form End)) end old new = EndsSum form words end old new × NothingWritten old new
-SumStops words (Ok (AsksSum form LeaveOut)) end old new = EndsKept form words (Err end) old new × NothingWritten old new
-SumStops words _ end old new = ⊥
+-- the reading of logs by msum7 ends for this reason, and nothing is written
+abbrev pub SumStops : List (List ℕ) → Result Task Usage → LogsFault → Devices → Devices → Type 0
+SumStops words (Ok (AsksSum form wrong)) fault old new = EndsSum wrong form words (Err (Unread fault)) old new × NothingWritten old new
+SumStops words _ fault old new = ⊥
 
 -- msum7 doesn't find the log that the argument at an index names, and nothing is written
 abbrev pub SumMisses : List (List ℕ) → Result Task Usage → ℕ → Devices → Devices → Type 0
-SumMisses words (Ok (AsksSum form End)) word old new =
-    LogFileMissing old.shelf new.shelf words (first_log form) word × SumStops words (Ok (AsksSum form End)) (sums.NoFile word) old new
-SumMisses words (Ok (AsksSum form LeaveOut)) word old new =
-    KeepingMissing old.shelf new.shelf words (first_kept form) word × SumStops words (Ok (AsksSum form LeaveOut)) (sums.NoFile word) old new
+SumMisses words (Ok (AsksSum form wrong)) word old new =
+    LogFileMissing wrong old.shelf new.shelf words (first_log wrong form) word
+    × SumStops words (Ok (AsksSum form wrong)) (sums.NoFile word) old new
 SumMisses words _ word old new = ⊥
 
 -- the reading of the test and the logs by mcheck7 -states ends in this way, and nothing is written
@@ -207,8 +203,7 @@ Finishes words (Ok (AsksList asked)) old new = ShelfAndOut (EndsAsked asked list
 Finishes words (Ok (AsksCross asked)) old new = ShelfAndOut (EndsCrossed asked listings.Done) old new
 Finishes words (Ok (AsksDemo asked)) old new = OutAlone (λ out out'. WroteAll out out' (demo_asked asked)) old new
 Finishes words (Ok (AsksFamilies asked)) old new = FamiliesAll words asked.arch asked.files old new
-Finishes words (Ok (AsksSum form End)) old new = EndsSum form words sums.Done old new
-Finishes words (Ok (AsksSum form LeaveOut)) old new = WritesKept form words (λ blocks. blocks ≡ []) old new
+Finishes words (Ok (AsksSum form wrong)) old new = WritesSum wrong form words (λ blocks. blocks ≡ []) old new
 Finishes words (Ok (AsksStates asked)) old new = EndsJudged words asked judging.Done old new
 Finishes words (Ok (AsksCheck asked)) old new = EndsCheck words asked checking.Done old new
 Finishes words (Ok (AsksExecution form asked)) old new = ExecutionStops form asked statuses.Done old new
@@ -239,8 +234,7 @@ OutStops words (Ok (AsksList asked)) old new = ShelfAndOut (EndsAsked asked list
 OutStops words (Ok (AsksCross asked)) old new = ShelfAndOut (EndsCrossed asked listings.OutFault) old new
 OutStops words (Ok (AsksDemo asked)) old new = OutAlone (λ out out'. WrotePart out out' (demo_asked asked)) old new
 OutStops words (Ok (AsksFamilies asked)) old new = FamiliesPart words asked.arch asked.files old new
-OutStops words (Ok (AsksSum form End)) old new = EndsSum form words sums.OutFault old new
-OutStops words (Ok (AsksSum form LeaveOut)) old new = EndsKept form words (Err sums.OutFault) old new
+OutStops words (Ok (AsksSum form wrong)) old new = EndsSum wrong form words (Err OutFault) old new
 OutStops words (Ok (AsksStates asked)) old new = EndsJudged words asked judging.OutFault old new
 OutStops words (Ok (AsksCheck asked)) old new = EndsCheck words asked checking.OutFault old new
 OutStops words (Ok (AsksExecution form asked)) old new = ExecutionStops form asked (statuses.WriteFault Out) old new
@@ -250,17 +244,17 @@ OutStops words (Ok (AsksNeeds asked)) old new =
 OutStops words (Ok (AsksLines asked)) old new = OutAlone (AnswersListed asked (statuses.WriteFault Out)) old new
 OutStops words (Ok (AsksLineTests asked)) old new = EndsLined asked tests.OutFault old new
 
--- msum7 -skip has written the sum, and left out at least one block
-abbrev pub LeavesSome : List (List ℕ) → Result Task Usage → Devices → Devices → Type 0
-LeavesSome words (Ok (AsksSum form LeaveOut)) old new = WritesKept form words (λ blocks. 0 < length blocks) old new
-LeavesSome words _ old new = ⊥
+-- msum7 -skip has written the sum, and skipped at least one block
+abbrev pub SkipsSome : List (List ℕ) → Result Task Usage → Devices → Devices → Type 0
+SkipsSome words (Ok (AsksSum form wrong)) old new = WritesSum wrong form words (λ blocks. 0 < length blocks) old new
+SkipsSome words _ old new = ⊥
 
 -- the cause of a status, and what is left on the devices
 abbrev pub CausesAsked : List (List ℕ) → Result Task Usage → Status → Devices → Devices → Type 0
 -- everything is done
 CausesAsked words asked statuses.Done old new = Finishes words asked old new
--- msum7 -skip left out a block
-CausesAsked words asked statuses.Skipped old new = LeavesSome words asked old new
+-- msum7 -skip skipped a block
+CausesAsked words asked statuses.Skipped old new = SkipsSome words asked old new
 -- no log of mcheck7 -states has a block of the test
 CausesAsked words asked (statuses.NoBlock word) old new = StatesStop words asked (judging.NoBlock word) old new
 -- the edges of diyone7 or of norm7 are refused for this reason, the first that holds; no device changed
@@ -269,11 +263,11 @@ CausesAsked words asked (statuses.Refused refusal) old new = (asked_refused aske
 CausesAsked words asked (statuses.Usage word kind) old new = IsUsage asked word kind × (new ≡ old)
 -- a line of cycles of norm7, classify7 or diyone7 -lines has this error, the first such
 CausesAsked words asked (statuses.BadText file line (texts.Line kind)) old new =
-    ((file ≡ None) × LinesStop asked (lines.Wrong line kind) old new) ⊎ LineTestWrong asked file line (wrong.Line kind) old new
+    ((file ≡ None) × LinesStop asked (lines.Wrong line kind) old new) ⊎ LineTestWrong asked file line (wrongs.Line kind) old new
 -- the cycle of a line of diyone7 -lines has no test, or its test has no name of its form or that of a line before, the first such
-CausesAsked words asked (statuses.BadText file line (texts.Refused refusal)) old new = LineTestWrong asked file line (wrong.Refused refusal) old new
-CausesAsked words asked (statuses.BadText file line texts.BadName) old new = LineTestWrong asked file line wrong.BadName old new
-CausesAsked words asked (statuses.BadText file line texts.NameTaken) old new = LineTestWrong asked file line wrong.NameTaken old new
+CausesAsked words asked (statuses.BadText file line (texts.Refused refusal)) old new = LineTestWrong asked file line (wrongs.Refused refusal) old new
+CausesAsked words asked (statuses.BadText file line texts.BadName) old new = LineTestWrong asked file line wrongs.BadName old new
+CausesAsked words asked (statuses.BadText file line texts.NameTaken) old new = LineTestWrong asked file line wrongs.NameTaken old new
 -- a log of msum7 or mcheck7 -states has this error, the first such
 CausesAsked words asked (statuses.BadText file line (texts.Log kind)) old new =
     SumStops words asked (sums.Wrong file line kind) old new ⊎ StatesStop words asked (judging.Wrong file line (judged.Log kind)) old new

@@ -11,16 +11,17 @@ use Rattle.diy_io.specs.{declared.source.TheConstants.MAX_INPUT, Count.Rose, She
 use Rattle.diy_words.specs.{declared.usage.Usage.Usage, declared.request.Check.Check}
 use Rattle.diy_words.specs.Requests.{Task, Sought, AsksTest, AsksWhy, AsksCoherence, AsksName, AsksList, AsksFamilies, AsksSum, AsksCross, AsksDemo, AsksCheck, AsksExecution, AsksCoherenceExecution, AsksNeeds, AsksLines, AsksLineTests, AsksStates, OfEdges, OfName, OfLines, OfNames, asked_of}
 use Rattle.msum7_files.specs.declared.sum_form.SumForm.{SumForm}
-use Rattle.msum7_files.specs.{Logs.{IsText, IsShort, AreWholeLogs}, SumEnds.AreLogs}
+use Rattle.msum7_files.specs.{Logs.{IsText, IsShort, AreRight}, LogsRead.AreLogs, declared.wrong_blocks.WrongBlocks.WrongBlocks}
+use Rattle.msum7_files.specs.declared.wrong_blocks.WrongBlocks.TheVariants.{End, Skip}
 use Rattle.litmus_text.specs.TestReading.{TestRead}
 use Rattle.tests_from_files.specs.TestSaid.{test_said}
 use Rattle.states_of_logs.specs.StatesSummed.{states_in_logs}
-use Rattle.diy_words.specs.declared.request.{States.States, WrongBlocks.TheVariants.{End, LeaveOut}}
+use Rattle.diy_words.specs.declared.request.States.{States}
 use Rattle.run_status.specs.{declared.status.Status.Status, declared.status.Status.TheVariants.{Done, Skipped, NoMemory}}
 use Rattle.diy_tools.specs.{Devices.{Devices, DevicesSeen, devices}}
 use Rattle.diy_tools.specs.{FamilyAnswers.read_on, ArchMachines.machine_of, Memory.MayWantMemory, Refused.refused_list, TestAnswers.test_refused, SumAnswers.{first_log, name_logs}}
 use Rattle.diy_tools.specs.{WhyAnswers.why_unshown, CoherenceAnswers.coherence_refused, LineTestAnswers.making_asked}
-use Rattle.diy_tools.specs.{SkipAnswers.{first_kept, keep_logs}, StatesAnswers.judge_logs}
+use Rattle.diy_tools.specs.StatesAnswers.{judge_logs}
 use Rattle.lines_to_files.specs.{TestFiles.Making, LineTestEnds.AreRightLines}
 
 -- a text has at most 2^40 bytes, and none of its lines of cycles has an error
@@ -33,17 +34,17 @@ pub record IsRightText (making : Making) (text : List ℕ) : Type 0 where
   pub short : length text ≤ MAX_INPUT
   pub right : AreRightLines making (lines_of text)
 
--- a log has at most 2^40 bytes and no error
-pub record IsRightLog (log : List ℕ) : Type 0 where
+-- a log has at most 2^40 bytes and no error, if one ends the sum
+pub record IsRightLog (wrong : WrongBlocks) (log : List ℕ) : Type 0 where
   pub short : IsShort log
-  pub right : AreWholeLogs (log ∷ [])
+  pub right : AreRight wrong (log ∷ [])
 
--- the arguments from this index on name files that exist, each of at most 2^40 bytes, and as logs they have no error
-pub record AreRightLogs (files : Files) (words : List (List ℕ)) (first : ℕ) : Type 0 where
+-- the arguments from this index on name files that exist, each of at most 2^40 bytes, and as logs they have no error, if one ends the sum
+pub record AreRightLogs (wrong : WrongBlocks) (files : Files) (words : List (List ℕ)) (first : ℕ) : Type 0 where
   pub logs : List (List ℕ)
   pub all : first + length logs ≡ length words
   pub are : AreLogs (Some files) words first logs
-  pub right : AreWholeLogs logs
+  pub right : AreRight wrong logs
 
 -- this holds of every text that a device may have: of the one that it shows, or of every text if it shows none
 abbrev pub OfItsText : Option (List ℕ) → (List ℕ → Type 0) → Type 0
@@ -63,28 +64,13 @@ CanName arch OfLines old = OfItsText old.input.left (IsSoundText (Edges arch))
 CanName arch OfNames old = OfItsText old.input.left (IsSoundText (Names arch))
 
 -- msum7 can sum the logs that the arguments name if they do, or else the input
-abbrev pub CanSumAmong : Bool → SumForm → List (List ℕ) → Devices → Type 0
-CanSumAmong true form words old = OfItsFiles old.shelf.files (λ files. AreRightLogs files words (first_log form))
-CanSumAmong false form words old = OfItsText old.input.left IsRightLog
+abbrev pub CanSumAmong : Bool → WrongBlocks → SumForm → List (List ℕ) → Devices → Type 0
+CanSumAmong true wrong form words old = OfItsFiles old.shelf.files (λ files. AreRightLogs wrong files words (first_log wrong form))
+CanSumAmong false wrong form words old = OfItsText old.input.left (IsRightLog wrong)
 
 -- so it can for these arguments
-abbrev pub CanSum : SumForm → List (List ℕ) → Devices → Type 0
-CanSum form words old = CanSumAmong (name_logs form words) form words old
-
--- the arguments from this index on name files that exist, each of at most 2^40 bytes
-pub record AreShortLogs (files : Files) (words : List (List ℕ)) (first : ℕ) : Type 0 where
-  pub logs : List (List ℕ)
-  pub all : first + length logs ≡ length words
-  pub are : AreLogs (Some files) words first logs
-
--- msum7 can sum what is kept of the logs that the arguments name if they do, or else of the input, whatever errors these have
-abbrev pub CanKeepAmong : Bool → SumForm → List (List ℕ) → Devices → Type 0
-CanKeepAmong true form words old = OfItsFiles old.shelf.files (λ files. AreShortLogs files words (first_kept form))
-CanKeepAmong false form words old = OfItsText old.input.left IsShort
-
--- so it can for these arguments
-abbrev pub CanKeep : SumForm → List (List ℕ) → Devices → Type 0
-CanKeep form words old = CanKeepAmong (keep_logs form words) form words old
+abbrev pub CanSum : WrongBlocks → SumForm → List (List ℕ) → Devices → Type 0
+CanSum wrong form words old = CanSumAmong (name_logs wrong form words) wrong form words old
 
 -- the argument of mcheck7 -states names the file of this test
 pub record IsTestFile (files : Files) (words : List (List ℕ)) (asked : States) (read : TestRead) : Type 0 where
@@ -100,14 +86,14 @@ HaveBlock read logs = states_in_logs read.name logs ≡ Ok None → ⊥
 pub record AreTestAndLogs (files : Files) (words : List (List ℕ)) (asked : States) : Type 0 where
   pub read : TestRead
   pub test : IsTestFile files words asked read
-  pub logs : AreRightLogs files words (asked.test + 1)
+  pub logs : AreRightLogs End files words (asked.test + 1)
   pub block : HaveBlock read logs.logs
 
 -- the argument names the file of a test, and the input is a log without an error, which has a block of the test
 pub record AreTestAndInput (words : List (List ℕ)) (asked : States) (left : Option (List ℕ)) (files : Files) : Type 0 where
   pub read : TestRead
   pub test : IsTestFile files words asked read
-  pub log : OfItsText left IsRightLog
+  pub log : OfItsText left (IsRightLog End)
   pub block : OfItsText left (λ log. HaveBlock read (log ∷ []))
 
 -- mcheck7 -states can judge the states in the logs that the arguments name if they do, or else in the input
@@ -146,8 +132,7 @@ CanBeDone words (Ok (AsksList asked)) old = ⊤
 CanBeDone words (Ok (AsksCross asked)) old = ⊤
 CanBeDone words (Ok (AsksDemo asked)) old = ⊤
 CanBeDone words (Ok (AsksFamilies asked)) old = CanClassify words asked.arch asked.files old
-CanBeDone words (Ok (AsksSum form End)) old = CanSum form words old
-CanBeDone words (Ok (AsksSum form LeaveOut)) old = CanKeep form words old
+CanBeDone words (Ok (AsksSum form wrong)) old = CanSum wrong form words old
 CanBeDone words (Ok (AsksStates asked)) old = CanJudge words asked old
 CanBeDone words (Ok (AsksCheck asked)) old = CanCheck words asked old
 CanBeDone words (Ok (AsksExecution form asked)) old = test_refused asked ≡ None
@@ -166,9 +151,9 @@ pub record NoFaults (old new : Devices) : Type 0 where
 abbrev pub IsDone : Result Task Usage → Status → Type 0
 IsDone asked status = (status ≡ Done) ⊎ ((status ≡ NoMemory) × MayWantMemory asked)
 
--- the same, where a sum that leaves out blocks with errors can also have left out some
+-- the same, where msum7 -skip can also have skipped some blocks
 abbrev pub IsDoneSo : Result Task Usage → Status → Type 0
-IsDoneSo (Ok (AsksSum form LeaveOut)) status = (status ≡ Skipped) ⊎ IsDone (Ok (AsksSum form LeaveOut)) status
+IsDoneSo (Ok (AsksSum form Skip)) status = (status ≡ Skipped) ⊎ IsDone (Ok (AsksSum form Skip)) status
 IsDoneSo asked status = IsDone asked status
 
 -- if the arguments make a request that can be done, and no error count rises or is at its maximum, it is done, or there is no memory for a

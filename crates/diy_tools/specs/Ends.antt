@@ -4,9 +4,8 @@ use Rattle.std.specs.{Prelude.{◌≡◌, ◌⊎◌, ◌+◌, ⊤, ℕ, false, L
 use Rattle.diy_io.specs.{Count.count_of, Opened.{EndsSeen, EndsSeenOrOneMore}, Shelf.ShelfSeen, Taken.{SourceSeen, EndedOnce, NotEnded}}
 use Rattle.diy_words.specs.declared.usage.Usage.{Usage}
 use Rattle.diy_words.specs.Requests.{Task, Sought, AsksName, AsksFamilies, AsksSum, AsksLineTests, AsksStates, OfLines, OfNames, asked_of}
-use Rattle.diy_words.specs.declared.request.WrongBlocks.TheVariants.{End, LeaveOut}
 use Rattle.run_status.specs.declared.status.{Status.Status, Status.TheVariants.{Done, Skipped, BadText, NoMemory}}
-use Rattle.diy_tools.specs.{Devices.{Devices, DevicesSeen, devices}, SumAnswers.name_logs, SkipAnswers.keep_logs, StatesAnswers.judge_logs}
+use Rattle.diy_tools.specs.{Devices.{Devices, DevicesSeen, devices}, SumAnswers.name_logs, StatesAnswers.judge_logs}
 
 -- norm7 reads the input: it is given no cycle, neither by its edges nor by its name
 abbrev pub SeeksInput : Sought → Type 0
@@ -19,8 +18,7 @@ SeeksInput _ = ⊥
 abbrev pub ReadsInput : List (List ℕ) → Result Task Usage → Type 0
 ReadsInput words (Ok (AsksName asked)) = SeeksInput asked.cycle
 ReadsInput words (Ok (AsksFamilies asked)) = asked.files ≡ []
-ReadsInput words (Ok (AsksSum form End)) = name_logs form words ≡ false
-ReadsInput words (Ok (AsksSum form LeaveOut)) = keep_logs form words ≡ false
+ReadsInput words (Ok (AsksSum form wrong)) = name_logs wrong form words ≡ false
 ReadsInput words (Ok (AsksStates asked)) = judge_logs words asked ≡ false
 ReadsInput words (Ok (AsksLineTests asked)) = ⊤
 ReadsInput words _ = ⊥

@@ -19,10 +19,9 @@ use Rattle.diy_tools.specs.{ExecutionAnswers.{AnswersRun, Shows}, PrintAnswers.{
 use Rattle.run_status.specs.{declared.status.Status.Status}
 use Rattle.diy_tools.specs.{CheckAnswers.{EndsChecked, check_status, shown_of}, CrossAnswers.{AnswersCross, AnswersChoices}}
 use Rattle.diy_tools.specs.{FamilyAnswers.{EndsNamed, files_status}, ArchMachines.{Machine, machine, machine_of}, NameAnswers.{AnswersLines, AnswersName}}
-use Rattle.diy_tools.specs.{TestAnswers.test_name, Devices.{Devices, DevicesSeen, devices}, SumAnswers.{sum_status, AnswersSum, first_log}, Refused.refused_list}
+use Rattle.diy_tools.specs.{TestAnswers.test_name, Devices.{Devices, DevicesSeen, devices}, SumAnswers.{EndsSum, SumEnd, first_named, skipped_in, sum_asked, sum_status}, Refused.refused_list}
 use Rattle.diy_tools.specs.{WhyAnswers.{WritesFiles, AnswersRuns, why_files, why_line}, LineTestAnswers.{AnswersLineTests, making_asked}}
-use Rattle.msum7_files.specs.declared.sum_form.SumForm.{SumForm}
-use Rattle.msum7_files.specs.{declared.sum_end.SumEnd.SumEnd, SumEnds.{InputSummed, FilesSummed}}
+use Rattle.msum7_files.specs.declared.{sum_form.SumForm.SumForm, wrong_blocks.WrongBlocks.WrongBlocks}
 use Rattle.test_maker.specs.{CycleText.cycle_text, Refusals.refusal_of, declared.refusal.Refusal.Refusal}
 use Rattle.test_maker.specs.declared.refusal.Refusal.TheVariants as refusals
 use Rattle.tests_from_files.specs.declared.classified_errors.FilesEnd.{FilesEnd}
@@ -35,9 +34,9 @@ use Rattle.needed_links.specs.Needs.{needs_text}
 use Rattle.co_tests.specs.CoRefusals.{coherence_refusal_of, coherence_text}
 use Rattle.log_sum.specs.Sieving.{skipped_view}
 use Rattle.run_status.specs.{declared.outcome.Outcome.Outcome}
-use Rattle.diy_words.specs.{Requests.asked_of, declared.request.Request.Request, declared.request.WrongBlocks.TheVariants.LeaveOut}
+use Rattle.diy_words.specs.{Requests.asked_of, declared.request.Request.Request}
 use Rattle.diy_words.specs.declared.request.Request.TheVariants as requests
-use Rattle.diy_tools.specs.{Answers.Answers, SkipAnswers.{EndsKept, SkipEnd, first_named, left_out, skip_status, skipped_form}}
+use Rattle.diy_tools.specs.Answers.{Answers}
 use Rattle.run_status.specs.declared.status.Status.TheVariants as statuses
 
 -- the edges that are kept; none if there are too many
@@ -251,46 +250,30 @@ abbrev pub CheckEndsFor : List (List ℕ) → Check → CheckEnd → ShelfSeen �
 CheckEndsFor words request end old new before after =
     FilesChecked (shown_of request.form) request.arch (machine_of request.arch).writing old new words request.test request.execution before after end
 
--- the input is summed as one log, in a form, or there is a reason why it can't be
-pub record SumsInput (form : SumForm) (status : Status) (old new : SourceSeen) (before after : SinkSeen) : Type 0 where
+-- what msum7 does, its outcome says
+pub record GivesSum (wrong : WrongBlocks) (form : SumForm) (words : List (List ℕ)) (outcome : Outcome) (old new : Devices) : Type 0 where
   pub end : SumEnd
-  pub summed : InputSummed form old new before after end
-  pub status_is : status ≡ sum_status end
+  pub ends : EndsSum wrong form words end old new
+  pub status_is : outcome.status ≡ sum_status end
+  pub first_is : outcome.first_log ≡ first_named wrong form words
+  pub blocks_are : map skipped_view outcome.skipped.items ≡ skipped_in end
 
--- the logs that the arguments name are summed, in a form, or there is a reason why they can't be; no file changes
-pub record SumsFiles (form : SumForm) (words : List (List ℕ)) (status : Status) (old new : ShelfSeen) (before after : SinkSeen) : Type 0 where
-  pub end : SumEnd
-  pub summed : FilesSummed form old new words (first_log form) before after end
-  pub files : new.files ≡ old.files
-  pub status_is : status ≡ sum_status end
+-- what is done with wrong blocks, and the form of the sum, if a request is one for a sum
+abbrev pub sum_requested : Request → Option (WrongBlocks × SumForm)
+sum_requested (requests.Sum form wrong) = Some (wrong, form)
+sum_requested _ = None
 
--- what msum7 does with the logs that the arguments name, or with the input if they name none, by what is seen of the devices
-abbrev pub AnswersSumOf : SumForm → List (List ℕ) → Status → DevicesSeen → DevicesSeen → Type 0
-AnswersSumOf form words status old new = AnswersSum form words status (devices old) (devices new)
-
--- what msum7 -skip does, its outcome says
-pub record GivesKept (form : SumForm) (words : List (List ℕ)) (outcome : Outcome) (old new : Devices) : Type 0 where
-  pub end : SkipEnd
-  pub ends : EndsKept form words end old new
-  pub status_is : outcome.status ≡ skip_status end
-  pub first_is : outcome.first_log ≡ first_named form words
-  pub blocks_are : map skipped_view outcome.skipped.items ≡ left_out end
-
--- the form of the sum, if a request is one for a sum without the blocks that have errors
-abbrev pub skipped_request : Request → Option SumForm
-skipped_request (requests.Sum form LeaveOut) = Some form
-skipped_request _ = None
-
--- the status says what was done, and no block was left out
+-- the status says what was done, and no block was skipped
 pub record GivesWhole (words : List (List ℕ)) (outcome : Outcome) (old new : DevicesSeen) : Type 0 where
   pub answers : Answers words outcome.status old new
   pub none : outcome.skipped.items ≡ []
 
--- an outcome says what was done, given the form of a sum that leaves out blocks if one was asked for
-abbrev pub GivesFor : Option SumForm → List (List ℕ) → Outcome → DevicesSeen → DevicesSeen → Type 0
-GivesFor (Some form) words outcome old new = (asked_of words ≡ Ok (AsksSum form LeaveOut)) × GivesKept form words outcome (devices old) (devices new)
+-- an outcome says what was done, given whether a sum was asked for
+abbrev pub GivesFor : Option (WrongBlocks × SumForm) → List (List ℕ) → Outcome → DevicesSeen → DevicesSeen → Type 0
+GivesFor (Some asked) words outcome old new =
+    (asked_of words ≡ Ok (AsksSum asked.1 asked.0)) × GivesSum asked.0 asked.1 words outcome (devices old) (devices new)
 GivesFor None words outcome old new = GivesWhole words outcome old new
 
 -- an outcome says what a call with these arguments did
 abbrev pub Gives : List (List ℕ) → Outcome → DevicesSeen → DevicesSeen → Type 0
-Gives words outcome old new = GivesFor (skipped_form (asked_of words)) words outcome old new
+Gives words outcome old new = GivesFor (sum_asked (asked_of words)) words outcome old new

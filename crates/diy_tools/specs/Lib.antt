@@ -24,6 +24,5 @@ pub mod Limit
 pub mod Ends
 pub mod ExecutionAnswers
 pub mod Headline
-pub mod SkipAnswers
 pub mod StatesAnswers
 pub mod Reported

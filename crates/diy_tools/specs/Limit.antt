@@ -3,11 +3,10 @@
 use Rattle.std.specs.Prelude.{◌≡◌, ℕ, ◌+◌, ◌^◌, ◌<◌, ◌⊎◌, ⊤, List, [], ◌++◌, Option, Some, None, Result, Ok}
 use Rattle.diy_io.specs.{Count.count_of, Opened.IsFile, Shelf.ShelfSeen}
 use Rattle.log_sum.specs.declared.errors.LogKind.{LogKind}
-use Rattle.msum7_files.specs.{Logs.{IsText, PrefixWrong}, SumEnds.{IsAtWord, log_error_at}}
+use Rattle.msum7_files.specs.{Logs.{IsText, PrefixWrong}, LogsRead.{IsAtWord, log_error_at}}
 use Rattle.diy_words.specs.{declared.usage.Usage.Usage, Requests.{Task, AsksLineTests, AsksStates, AsksSum, asked_of}}
 use Rattle.run_status.specs.{declared.status.Status.Status, declared.status.Status.TheVariants.{BadText, WriteFault, NoMemory}, declared.status.Device.TheVariants.Shelf}
 use Rattle.run_status.specs.declared.status.TextKind.TheVariants as texts
-use Rattle.diy_words.specs.declared.request.WrongBlocks.TheVariants.{End}
 use Rattle.diy_tools.specs.{Devices.{Devices, DevicesSeen, devices}, SumAnswers.first_log}
 use Rattle.diy_tools.specs.Memory.{MayWantMemory}
 
@@ -38,9 +37,9 @@ pub record ShownWithin (old : Devices) (words : List (List ℕ)) (first : ℕ) (
   pub parts : log ≡ bytes ++ rest
   pub wrong : PrefixWrong before bytes (log_error_at line kind)
 
--- the index of the first argument that can name a log, if logs are read without leaving out blocks; 0 for other requests
+-- the index of the first argument that can name a log; 0 for other requests
 abbrev pub logs_from : Result Task Usage → ℕ
-logs_from (Ok (AsksSum form End)) = first_log form
+logs_from (Ok (AsksSum form wrong)) = first_log wrong form
 logs_from (Ok (AsksStates asked)) = asked.test + 1
 logs_from _ = 0
 

@@ -13,7 +13,6 @@ mod listing;
 mod machines;
 mod naming;
 mod needs;
-mod skips;
 mod states;
 mod sums;
 mod testing;

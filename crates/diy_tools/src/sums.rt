@@ -1,91 +1,116 @@
-ghost use Rattle.std.specs.Prelude.{◌≡◌, ◌<◌, length};
+ghost use Rattle.std.specs.Prelude.{◌≡◌, map};
 ghost use Rattle.diy_io.specs.Shelf.{Idle};
+ghost use Rattle.log_sum.specs.Sieving.{skipped_view};
 ghost use Rattle.run_status.specs.{Report.{StatusNamesLocation}};
-ghost use Rattle.diy_tools.specs.{SumAnswers.{first_log, sum_status}, KeptRequests.{AnswersSumOf, SumsFiles, SumsInput}};
+ghost use Rattle.diy_tools.specs.{Devices.{devices}, KeptRequests.{GivesSum}, SumAnswers.{first_log, skipped_in, sum_status, unread_status, written_status}};
 
 use diy_io::{Shelf, Sink, Source, Words};
-use msum7_files::{SumEnd, SumForm, sum_files, sum_input};
-use run_status::{Device, Status, TextKind};
+use log_sum::SkippedBlock;
+use msum7_files::{LogsFault, SumFault, SumForm, WrongBlocks, sum_files, sum_input};
+use run_status::{Device, Outcome, Status, TextKind};
 use std::alloc::Global;
 
 /// Sums the logs that the arguments name, or the input if they name none, and prints the sum in a form.
-#[tactic(auto, using(crate::proofs::SumAnswers::files_answered, crate::proofs::SumAnswers::input_answered))]
+#[tactic(auto, using(crate::proofs::SumAnswers::files_given, crate::proofs::SumAnswers::input_given))]
 #[inline(never)]
 pub(crate) fn sum<I: Source, O: Sink, H: Shelf>(
     alloc: Global,
+    wrong: WrongBlocks,
     form: SumForm,
     words: &Words,
     input: &mut I,
     shelf: &mut H,
     out: &mut O,
-) -> Status
+) -> Outcome
     requires { (H.seen shelf.old).mode ≡ Idle }
-    ensures answers { AnswersSumOf form words.now result (I.seen input.old, O.seen out.old, H.seen shelf.old) (I.seen input.new, O.seen out.new, H.seen shelf.new) }
+    ensures gives { GivesSum wrong form words.now result (devices (I.seen input.old, O.seen out.old, H.seen shelf.old)) (devices (I.seen input.new, O.seen out.new, H.seen shelf.new)) }
     ensures idle { (H.seen shelf.new).mode ≡ Idle }
-    ensures location { StatusNamesLocation result }
+    ensures location { StatusNamesLocation result.status }
 {
-    if first_log(form) < words.len() {
-        sum_logs(alloc, form, words, shelf, out)
+    let first = first_log(wrong, form);
+    if first < words.len() {
+        outcome_of(
+            alloc,
+            Some(first),
+            sum_files(alloc, wrong, form, words, first, shelf, out),
+        )
     } else {
-        sum_one(alloc, form, input, out)
+        outcome_of(alloc, None, sum_input(alloc, wrong, form, input, out))
     }
 }
 
 /// The index of the first argument that can name a log.
-pub(crate) fn first_log(form: SumForm) -> usize
-    ensures { result ≡ first_log form }
+fn first_log(wrong: WrongBlocks, form: SumForm) -> usize
+    ensures { result ≡ first_log wrong form }
 {
-    match form {
-        SumForm::Log => 1,
-        SumForm::Table => 2,
+    match (wrong, form) {
+        (WrongBlocks::End, SumForm::Log) => 1,
+        (WrongBlocks::End, SumForm::Table) => 2,
+        (WrongBlocks::Skip, SumForm::Log) => 2,
+        (WrongBlocks::Skip, SumForm::Table) => 3,
     }
 }
 
-/// Sums the logs that the arguments name.
-fn sum_logs<H: Shelf, O: Sink>(
+/// The outcome of a sum that ended in this way, by the index of the argument that names the first log, if one does.
+fn outcome_of(
     alloc: Global,
-    form: SumForm,
-    words: &Words,
-    shelf: &mut H,
-    out: &mut O,
-) -> Status
-    requires idle { (H.seen shelf.old).mode ≡ Idle }
-    requires some { first_log form < length words.now }
-    ensures sums { SumsFiles form words.now result (H.seen shelf.old) (H.seen shelf.new) (O.seen out.old) (O.seen out.new) }
-    ensures idle { (H.seen shelf.new).mode ≡ Idle }
-    ensures location { StatusNamesLocation result }
-{
-    sum_status(sum_files(alloc, form, words, first_log(form), shelf, out))
-}
-
-/// Sums the input.
-fn sum_one<I: Source, O: Sink>(alloc: Global, form: SumForm, input: &mut I, out: &mut O) -> Status
-    ensures sums { SumsInput form result (I.seen input.old) (I.seen input.new) (O.seen out.old) (O.seen out.new) }
-    ensures location { StatusNamesLocation result }
-{
-    sum_status(sum_input(alloc, form, input, out))
-}
-
-pub(crate) fn sum_status(end: SumEnd) -> Status
-    ensures status { result ≡ sum_status end }
-    ensures location { StatusNamesLocation result }
+    first_log: Option<usize>,
+    end: Result<Vec<SkippedBlock>, SumFault>,
+) -> Outcome
+    ensures status { result.status ≡ sum_status end }
+    ensures first { result.first_log ≡ first_log }
+    ensures blocks { map skipped_view result.skipped.items ≡ skipped_in end }
+    ensures location { StatusNamesLocation result.status }
 {
     match end {
-        SumEnd::Done => Status::Done,
-        SumEnd::Wrong { file, line, kind } => Status::BadText {
+        Ok(skipped) => Outcome {
+            status: written_status(skipped.as_slice()),
+            first_log,
+            skipped,
+        },
+        Err(SumFault::Out) => Outcome {
+            status: Status::WriteFault { of: Device::Out },
+            first_log,
+            skipped: Vec::new(alloc),
+        },
+        Err(SumFault::Unread(fault)) => Outcome {
+            status: unread_status(fault),
+            first_log,
+            skipped: Vec::new(alloc),
+        },
+    }
+}
+
+/// The status where the sum was written, by the blocks that were skipped.
+fn written_status(blocks: &[SkippedBlock]) -> Status
+    ensures status { result ≡ written_status blocks.now }
+    ensures location { StatusNamesLocation result }
+{
+    match blocks {
+        [] => Status::Done,
+        [_, ..] => Status::Skipped,
+    }
+}
+
+/// The status where the logs weren't all read.
+fn unread_status(fault: LogsFault) -> Status
+    ensures status { result ≡ unread_status fault }
+    ensures location { StatusNamesLocation result }
+{
+    match fault {
+        LogsFault::Wrong { file, line, kind } => Status::BadText {
             file,
             line,
             kind: TextKind::Log(kind),
         },
-        SumEnd::TooMuch { file, line } => Status::BadText {
+        LogsFault::TooMuch { file, line } => Status::BadText {
             file,
             line,
             kind: TextKind::TooMuch,
         },
-        SumEnd::NoFile { word } => Status::NoFile { word },
-        SumEnd::InputFault => Status::ReadFault { of: Device::Input },
-        SumEnd::ShelfFault => Status::ReadFault { of: Device::Shelf },
-        SumEnd::OutFault => Status::WriteFault { of: Device::Out },
-        SumEnd::NoMemory => Status::NoMemory,
+        LogsFault::NoFile { word } => Status::NoFile { word },
+        LogsFault::InputFault => Status::ReadFault { of: Device::Input },
+        LogsFault::ShelfFault => Status::ReadFault { of: Device::Shelf },
+        LogsFault::NoMemory => Status::NoMemory,
     }
 }

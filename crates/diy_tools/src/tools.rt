@@ -3,7 +3,7 @@ ghost use Rattle.diy_io.specs.Shelf.{Idle};
 ghost use Rattle.diy_tools.specs.{Answers.{Answers}, Causes.{Causes}, Complete.{Complete}, Ends.{SeesEndsOnce, PassesOverNoFault}, Headline.{Headline}, Limit.{Limited}, Memory.{NeverWantsMemory}};
 ghost use Rattle.run_status.specs.Report.{StatusNamesLocation};
 ghost use Rattle.diy_words.specs.{Given.{GivesTask, HasForm, WithinWords}, Requests.{asked_of}};
-ghost use Rattle.diy_tools.specs.{KeptRequests.{Gives, skipped_request}, Reported.{Reports}};
+ghost use Rattle.diy_tools.specs.{KeptRequests.{Gives, sum_requested}, Reported.{Reports}};
 
 use crate::checking::check;
 use crate::coherence::coherence;
@@ -15,14 +15,13 @@ use crate::lined::line_tests;
 use crate::listing::{list, list_lines};
 use crate::naming::norm;
 use crate::needs::needs;
-use crate::skips::skip;
 use crate::states::states;
 use crate::sums::sum;
 use crate::testing::diyone;
 use crate::why::why;
 use diy_io::{Shelf, Sink, Source, Words};
-use diy_words::{Request, WrongBlocks, read_request};
-use msum7_files::SumForm;
+use diy_words::{Request, read_request};
+use msum7_files::{SumForm, WrongBlocks};
 use run_status::{Outcome, Status, report};
 use std::alloc::Global;
 
@@ -42,7 +41,7 @@ use std::alloc::Global;
 /// files as are opened to be read (`SeesEndsOnce`); an error in a file is reported only if the shelf hadn't
 /// failed when that file was opened (`PassesOverNoFault`). No file of the shelf may be open, and none is open
 /// afterwards. The line of the status is written to `err`, and before it those of the blocks of logs that were
-/// left out (`Reports`); if this fails, the status stays the same.
+/// skipped (`Reports`); if this fails, the status stays the same.
 pub fn run<I: Source, O: Sink, E: Sink, H: Shelf>(
     alloc: Global,
     words: &Words,
@@ -89,8 +88,8 @@ fn answer<I: Source, O: Sink, H: Shelf>(
                 kind: usage.kind,
             },
         ),
-        Ok(request) => match skipped_form(&request) {
-            Some(form) => skip(alloc, form, words, input, shelf, out),
+        Ok(request) => match sum_requested(&request) {
+            Some((wrong, form)) => sum(alloc, wrong, form, words, input, shelf, out),
             None => Outcome::of(
                 alloc,
                 answer_whole(alloc, words, request, input, out, shelf),
@@ -99,17 +98,17 @@ fn answer<I: Source, O: Sink, H: Shelf>(
     }
 }
 
-/// The form of the sum, if a request is one for a sum without the blocks that have errors.
-fn skipped_form(request: &Request<'_>) -> Option<SumForm>
-    ensures { result ≡ skipped_request request.now }
+/// What is done with wrong blocks, and the form of the sum, if a request is one for a sum.
+fn sum_requested(request: &Request<'_>) -> Option<(WrongBlocks, SumForm)>
+    ensures { result ≡ sum_requested request.now }
 {
     match request {
-        Request::Sum(form, WrongBlocks::LeaveOut) => Some(*form),
+        Request::Sum(form, wrong) => Some((*wrong, *form)),
         _ => None,
     }
 }
 
-/// Does what a request asks for that leaves out no block.
+/// Does what a request asks for that isn't one for a sum.
 ///
 /// Each tool is a function of its own in the program too (`inline(never)`), so that a call needs only the
 /// stack of its tool.
@@ -125,7 +124,7 @@ fn answer_whole<I: Source, O: Sink, H: Shelf>(
     requires given { GivesTask (Ok request) (asked_of words.now) }
     requires form { HasForm request }
     requires within { WithinWords (length words.now) request }
-    requires whole { skipped_request request ≡ None }
+    requires whole { sum_requested request ≡ None }
     ensures answers { Answers words.now result (I.seen input.old, O.seen out.old, H.seen shelf.old) (I.seen input.new, O.seen out.new, H.seen shelf.new) }
     ensures idle { (H.seen shelf.new).mode ≡ Idle }
     ensures location { StatusNamesLocation result }
@@ -147,8 +146,7 @@ fn answer_whole<I: Source, O: Sink, H: Shelf>(
         Request::Cross(request) => cross(alloc, words, request, shelf, out),
         Request::Demo(request) => demo(&request, out),
         Request::Check(request) => check(alloc, words, request, shelf, out),
-        Request::Sum(form, WrongBlocks::End) => sum(alloc, form, words, input, shelf, out),
-        Request::Sum(_, WrongBlocks::LeaveOut) => unreachable!(),
+        Request::Sum(_, _) => unreachable!(),
         Request::States(request) => states(alloc, words, request, input, shelf, out),
     }
 }

@@ -8,7 +8,7 @@ use Rattle.msum7_files.specs.{declared.sum_form.SumForm.SumForm, declared.sum_fo
 use Rattle.diy_words.specs.{declared.request.CheckForm.CheckForm, declared.request.CheckForm.TheVariants.{Verdict, Graph}, declared.usage.Usage.Usage}
 use Rattle.diy_words.specs.{declared.request.ExecutionForm.ExecutionForm, declared.request.ExecutionForm.TheVariants.{Text, Drawn}}
 use Rattle.diy_words.specs.{declared.request.LineTestForm.LineTestForm, declared.request.LineTestForm.TheVariants.{Observed, Coherence}}
-use Rattle.diy_words.specs.{declared.request.WrongBlocks.WrongBlocks, declared.request.WrongBlocks.TheVariants.{End, LeaveOut}}
+use Rattle.msum7_files.specs.{declared.wrong_blocks.WrongBlocks.WrongBlocks, declared.wrong_blocks.WrongBlocks.TheVariants.{End, Skip}}
 use Rattle.diy_words.specs.declared.request.States.{States}
 use Rattle.diy_words.specs.{declared.request.Check.Check, declared.request.Demo.Demo, declared.request.TheConstants.MAX_CHOICES, declared.options.Tool.Tool}
 use Rattle.diy_words.specs.declared.usage.UsageKind.TheVariants.{UnknownTool, UnknownName, StrayWord, MissingArch, MissingEdges, MissingNumber, MissingFile, MissingWhy, TooManyChoices}
@@ -313,9 +313,9 @@ check_or_states count given = if given.states then asks AsksStates (states_asked
 abbrev pub form_asked : Bool → SumForm
 form_asked table = if table then Table else Log
 
--- what becomes of blocks with an error, whether `-skip` is given or not
+-- what is done with blocks that have an error, whether `-skip` is given or not
 abbrev pub blocks_asked : Bool → WrongBlocks
-blocks_asked skip = if skip then LeaveOut else End
+blocks_asked skip = if skip then Skip else End
 
 -- the request of diycross7
 abbrev pub cross_asked : ℕ → Gathered → Result CrossTask Usage

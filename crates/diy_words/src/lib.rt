@@ -18,6 +18,5 @@ pub use read::read_request;
 pub use request::{
     Check, CheckForm, Coherence, Cross, Demo, Diy, DiyOne, ExecutionForm, LineTestForm, LineTests,
     MAX_CHOICES, MAX_GIVEN_NAME, MAX_TESTS, Norm, Request, Sought, Source, States, TestName, Why,
-    WrongBlocks,
 };
 pub use usage::{Usage, UsageKind};

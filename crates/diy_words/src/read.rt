@@ -7,12 +7,12 @@ use crate::notes::{Notes, missing_value};
 use crate::options::{OptionName, Tool, option_named, tool_named};
 use crate::request::{
     Check, CheckForm, Coherence, Cross, Demo, Diy, DiyOne, ExecutionForm, LineTestForm, LineTests,
-    MAX_CHOICES, Norm, Request, Sought, States, Why, WrongBlocks,
+    MAX_CHOICES, Norm, Request, Sought, States, Why,
 };
 use crate::strict::unless_idle;
 use crate::usage::{Usage, UsageKind, usage_at};
 use diy_io::{MAX_FOLDER, Words};
-use msum7_files::SumForm;
+use msum7_files::{SumForm, WrongBlocks};
 use relax_edges::ObsMode;
 
 /// The request that the arguments make, or the first error among them: they are judged from left to
@@ -132,12 +132,12 @@ fn sum_form(table: bool) -> SumForm
     if table { SumForm::Table } else { SumForm::Log }
 }
 
-/// What becomes of blocks with an error, by whether `-skip` was given.
+/// What is done with blocks that have an error, by whether `-skip` was given.
 fn wrong_blocks(skip: bool) -> WrongBlocks
     ensures { result ≡ blocks_asked skip }
 {
     if skip {
-        WrongBlocks::LeaveOut
+        WrongBlocks::Skip
     } else {
         WrongBlocks::End
     }

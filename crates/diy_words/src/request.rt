@@ -3,7 +3,7 @@ use cycle_enum::Limits;
 use diy_io::MAX_FOLDER;
 use edge_algebra::Cycle;
 use edges_from_text::{EdgeList, Relaxes};
-use msum7_files::SumForm;
+use msum7_files::{SumForm, WrongBlocks};
 use relax_edges::{ArchName, ObsMode};
 
 /// The most bytes that a given name of a test can have.
@@ -186,15 +186,6 @@ pub struct Cross<'a> {
     pub mode: ObsMode,
     /// The folder of the files, if one is given.
     pub folder: Option<&'a str>,
-}
-
-/// What msum7 does with the blocks of logs that have an error.
-#[derive(Clone, Copy)]
-pub enum WrongBlocks {
-    /// The first error ends the sum.
-    End,
-    /// They are left out of the sum, with `-skip`.
-    LeaveOut,
 }
 
 /// What demo is asked for.

@@ -1,17 +1,19 @@
 -- A block with an error costs itself alone.
-use Rattle.std.proofs.Common.{◌≡◌, ℕ, ◌+◌, List, [], ◌∷◌, ◌++◌, true, false, refl, sym, ap, ◌∙◌, subst, arith, append_assoc, append-nil}
+use Rattle.std.proofs.Common.{◌≡◌, ℕ, ◌+◌, List, [], ◌∷◌, ◌++◌, length, true, false, inl, inr, refl, sym, ap, ◌∙◌, subst, arith, append_assoc, append-nil}
 use Rattle.std.proofs.{lemmas.List.Sums.fold-append, lemmas.List.map-append}
-use Rattle.std.specs.{Prelude.{map, fold, Result, Ok, Err}, List.{AllByRecursion, list_any, slice_split}}
+use Rattle.std.specs.{Prelude.{◌⊎◌, map, fold, Result, Ok, Err}, List.{AllByRecursion, list_any, slice_split}}
 use Rattle.list_laws.proofs.Cases.{by_test}
+use Rattle.diy_io.specs.Sink.{line_feed_count}
 use Rattle.text_parts.specs.{Lines.{is_line_feed, but_last, last_of, whole_lines, unended, last_line}, ReadingSteps.◌>>=◌}
 use Rattle.text_parts.proofs.PieceLaws.{first_piece, split_append, but_last_append, last_append}
 use Rattle.log_sum.specs.declared.{errors.LogError.LogError, kinds.Place.TheVariants.Outside}
 use Rattle.log_sum.specs.{Facts.Entry, LogGrammar.all_judged, Representing.logs_text}
 use Rattle.log_sum.specs.LogReading.{LogSeen, nothing_seen, line_judged, lines_judged, last_judged, end_judged, file_judged, files_judged}
-use Rattle.log_sum.specs.Skipping.{lines_with_ends, opens, Piece, with_line, begun_after, pieces_from, pieces_of, all_pieces, Skipped, Sifted, nothing_sifted, sifted_by, with_piece, sifted, IsBlock, BeginsBlock, IsWrong, CostsItself, SkippingLaws}
-use Rattle.log_sum.proofs.ReadingLaws.{is_one_line}
-use Rattle.log_sum.proofs.Grammar.{between, judged_text}
-use Rattle.log_sum.proofs.SiftLaws.{Right, right_text, judged_right, Keeps, InPiece, piece_ends, begun_in, line_in, line_opens, last_opens, lines_sifted, whole_are_lines, unended_is_line, begins_in, log_sifted, logs_sifted, end_entries, kept_none, whole_kept}
+use Rattle.log_sum.specs.Skipping.{lines_with_ends, opens, Piece, with_line, begun_after, pieces_from, pieces_of, all_pieces, Skipped, Sifted, nothing_sifted, sifted_by, with_piece, skipped_at, sifted, IsBlock, BeginsBlock, IsWrong, IsOfPiece, CostsItself, SkippingLaws}
+use Rattle.log_sum.proofs.ReadingLaws.{is_one_line, read_on}
+use Rattle.log_sum.proofs.Grammar.{between, files_by_blocks, judged_text}
+use Rattle.log_sum.proofs.SiftLaws.{Right, right_text, judged_right, Keeps, InPiece, piece_ends, begun_in, line_in, line_opens, last_opens, lines_sifted, whole_are_lines, unended_is_line, begins_in, log_sifted, logs_sifted, end_entries, kept_none, whole_kept, none_whole, none_unended}
+use Rattle.log_sum.proofs.{LineLaws.whole_count, SieveLaws.feeds_line, WrongLines.{IsUpTo, file_wrong_within}}
 
 -- ===== the lines of two texts, of which the first ends with a line feed
 abbrev concat : List (List ℕ) → List ℕ
@@ -88,23 +90,41 @@ other_lines piece (line ∷ others) ls h =
     (λ o. rw (o, sym (append_assoc piece.bytes line (concat others))) (other_lines (with_line piece line) others ls (rw o at h)))
 
 -- ===== one piece is left out, and all others are kept
-pub record KeepsBut (s s' : Sifted) (entries : List Entry) : Type 0 where
+pub record KeepsBut (s s' : Sifted) (piece : Piece) (entries : List Entry) : Type 0 where
   pub one : Skipped
   pub skipped : s'.skipped ≡ s.skipped ++ one ∷ []
+  pub is : IsOfPiece one piece
   pub right : Right s'.kept entries
 
-left_out : (s : Sifted) (p : Piece) (entries : List Entry) → Right s.kept entries → IsWrong p.bytes → KeepsBut s (with_piece s p) entries
+-- an error of a piece after logs without one
+wrong_line : (logs : List (List ℕ)) (bytes : List ℕ) (entries : List Entry) (error : LogError) → Right logs entries
+    → all_judged (logs ++ bytes ∷ []) ≡ Err error → IsUpTo (length (lines_with_ends bytes) + 1) error.line
+wrong_line logs bytes entries error r e =
+    let both : files_judged nothing_seen (logs ++ bytes ∷ []) ≡ (files_judged nothing_seen logs >>= λ next. file_judged next bytes) = read_on nothing_seen logs bytes in
+    let whole : files_judged nothing_seen (logs ++ bytes ∷ []) ≡ Err error =
+    files_by_blocks (logs ++ bytes ∷ []) ∙ ap (λ j. j >>= λ all. Ok (between all)) e in
+    let one : file_judged (between entries) bytes ≡ Err error = ap (λ j. j >>= λ next. file_judged next bytes) (sym r) ∙ sym both ∙ whole in
+    file_wrong_within (between entries) bytes error refl one
+
+left_out : (s : Sifted) (p : Piece) (entries : List Entry) → Right s.kept entries → IsWrong p.bytes → KeepsBut s (with_piece s p) p entries
 left_out s p entries r w = by_judged (all_judged (s.kept ++ p.bytes ∷ [])) refl
   where
-    by_judged : (j : Result (List Entry) LogError) → all_judged (s.kept ++ p.bytes ∷ []) ≡ j → KeepsBut s (sifted_by s p j) entries
+    by_judged : (j : Result (List Entry) LogError) → all_judged (s.kept ++ p.bytes ∷ []) ≡ j → KeepsBut s (sifted_by s p j) p entries
     by_judged (Ok more) e = absurd (w s.kept _ (right_text (s.kept ++ p.bytes ∷ []) more (judged_right (s.kept ++ p.bytes ∷ []) more e)))
-    by_judged (Err error) e = record { one = _; skipped = refl; right = r }
+    by_judged (Err error) e =
+        let u = wrong_line s.kept p.bytes entries error r e in
+        record {
+          one = skipped_at p error;
+          skipped = refl;
+          is = record { line = error.line; from_first = u.0; to_next = u.1; at_line = refl; in_log = refl };
+          right = r;
+        }
 
-but_then : (s s' s'' : Sifted) (entries more : List Entry) → KeepsBut s s' entries → Keeps s' s'' more → KeepsBut s s'' more
-but_then s s' s'' entries more a b = record { one = a.one; skipped = b.skipped ∙ a.skipped; right = b.right }
+but_then : (s s' s'' : Sifted) (q : Piece) (entries more : List Entry) → KeepsBut s s' q entries → Keeps s' s'' more → KeepsBut s s'' q more
+but_then s s' s'' q entries more a b = record { one = a.one; skipped = b.skipped ∙ a.skipped; is = a.is; right = b.right }
 
-then_but : (s s' s'' : Sifted) (entries more : List Entry) → Keeps s s' entries → KeepsBut s' s'' more → KeepsBut s s'' more
-then_but s s' s'' entries more a b = record { one = b.one; skipped = b.skipped ∙ ap (λ x. x ++ b.one ∷ []) a.skipped; right = b.right }
+then_but : (s s' s'' : Sifted) (q : Piece) (entries more : List Entry) → Keeps s s' entries → KeepsBut s' s'' q more → KeepsBut s s'' q more
+then_but s s' s'' q entries more a b = record { one = b.one; skipped = b.skipped ∙ ap (λ x. x ++ b.one ∷ []) a.skipped; is = b.is; right = b.right }
 
 -- the rest of a log begins with a block, or is empty, so the piece before it ends outside the blocks
 rest_outside : (ws : List (List ℕ)) (last : List ℕ) (m n t : LogSeen) → AllByRecursion (λ line. is_one_line line ≡ true) ws → is_one_line last ≡ true
@@ -123,118 +143,153 @@ rest_outside (w ∷ ws) last m n t a h b e f = by_read (line_judged m w) refl e
 rest_sifted : (ws : List (List ℕ)) (last : List ℕ) (s : Sifted) (q : Piece) (m n t : LogSeen) → AllByRecursion (λ line. is_one_line line ≡ true) ws → is_one_line last ≡ true
     → Right s.kept m.entries → m.place ≡ Outside → IsWrong q.bytes → BeginsBlock (map (λ line. line ++ 10 ∷ []) ws ++ last_line last)
     → (lines_judged m ws >>= λ x. last_judged x last) ≡ Ok n → end_judged n ≡ Ok t
-    → KeepsBut s (fold with_piece s (pieces_from q (map (λ line. line ++ 10 ∷ []) ws ++ last_line last))) n.entries
+    → KeepsBut s (fold with_piece s (pieces_from q (map (λ line. line ++ 10 ∷ []) ws ++ last_line last))) q n.entries
 unfolding last_judged
-rest_sifted [] [] s q m n t a h r o w b e f = let same : m ≡ n = cc in subst (λ x. KeepsBut s (with_piece s q) x.entries) same (left_out s q m.entries r w)
+rest_sifted [] [] s q m n t a h r o w b e f = let same : m ≡ n = cc in subst (λ x. KeepsBut s (with_piece s q) q x.entries) same (left_out s q m.entries r w)
 rest_sifted [] (byte ∷ last) s q m n t a h r o w b e f = absurd (last_opens m n t byte last h b e f)
 rest_sifted (line ∷ ws) last s q m n t a h r o w b e f = by_read (line_judged m line) refl e
   where
     by_read : (read : Result LogSeen LogError) → line_judged m line ≡ read → ((read >>= λ x. lines_judged x ws) >>= λ x. last_judged x last) ≡ Ok n
-        → KeepsBut s (fold with_piece s (pieces_from q (map (λ line. line ++ 10 ∷ []) (line ∷ ws) ++ last_line last))) n.entries
+        → KeepsBut s (fold with_piece s (pieces_from q (map (λ line. line ++ 10 ∷ []) (line ∷ ws) ++ last_line last))) q n.entries
     by_read (Err error) g k = absurd (cc)
     by_read (Ok m') g k =
         let out = left_out s q m.entries r w in
         let further = lines_sifted ws last (with_piece s q) (begun_after q (line ++ 10 ∷ [])) m.entries m' n t a.1 h out.right (begun_in s q m m' line a.0 o g) k f in
-        rw b (but_then s (with_piece s q) _ m.entries n.entries out further)
+        rw b (but_then s (with_piece s q) _ q m.entries n.entries out further)
+
+-- the lines of a log before the next piece, where the rest of them is before a block
+abbrev lines_to : Piece → List (List ℕ) → ℕ
+lines_to p hs = p.lines_before + line_feed_count p.bytes + length hs
 
 -- the rest of the lines of a log before a block, the block, and the lines after it
-but_block : (hs ws : List (List ℕ)) (last block : List ℕ) (b : IsBlock block) (s : Sifted) (p : Piece) (entries : List Entry) (m n t : LogSeen)
+but_block : (hs ws : List (List ℕ)) (last block : List ℕ) (b : IsBlock block) (k lines : ℕ) (s : Sifted) (p : Piece) (entries : List Entry) (m n t : LogSeen)
     → AllByRecursion (λ line. is_one_line line ≡ true) hs → AllByRecursion (λ line. is_one_line line ≡ true) ws → is_one_line last ≡ true
+    → p.log ≡ k → lines_to p hs ≡ lines
     → Right s.kept entries → InPiece p entries m → IsWrong block → BeginsBlock (map (λ line. line ++ 10 ∷ []) ws ++ last_line last)
     → (lines_judged m (hs ++ ws) >>= λ x. last_judged x last) ≡ Ok n → end_judged n ≡ Ok t
-    → KeepsBut s (fold with_piece s (pieces_from p (map (λ line. line ++ 10 ∷ []) hs ++ (lines_with_ends block ++ (map (λ line. line ++ 10 ∷ []) ws ++ last_line last))))) n.entries
-but_block [] ws last block b s p entries m n t a c h r i w g e f =
+    → KeepsBut s (fold with_piece s (pieces_from p (map (λ line. line ++ 10 ∷ []) hs ++ (lines_with_ends block ++ (map (λ line. line ++ 10 ∷ []) ws ++ last_line last)))))
+    (record { log = k; lines_before = lines; bytes = block }) n.entries
+but_block [] ws last block b k lines s p entries m n t a c h log at r i w g e f =
     let rest : List (List ℕ) = map (λ line. line ++ 10 ∷ []) ws ++ last_line last in
     let out : m.place ≡ Outside = rest_outside ws last m n t c h g e f in
     let kept : Keeps s (with_piece s p) m.entries = piece_ends s p entries m (between m.entries) r i (grind arith) in
     let q : Piece = record (begun_after p b.first) { bytes = b.first ++ concat b.others } in
     let whole : b.first ++ concat b.others ≡ block = ap concat (sym b.lines) ∙ lines_are block in
-    let further : KeepsBut (with_piece s p) (fold with_piece (with_piece s p) (pieces_from q rest)) n.entries =
+    let number : p.lines_before + line_feed_count p.bytes ≡ lines = omega (arith, at) in
+    let same : q ≡ record { log = k; lines_before = lines; bytes = block } =
+    ap (λ (x : ℕ). record { log = x; lines_before = p.lines_before + line_feed_count p.bytes; bytes = b.first ++ concat b.others }) log
+    ∙ ap (λ (x : ℕ). record { log = k; lines_before = x; bytes = b.first ++ concat b.others }) number
+    ∙ ap (λ (x : List ℕ). record { log = k; lines_before = lines; bytes = x }) whole in
+    let further : KeepsBut (with_piece s p) (fold with_piece (with_piece s p) (pieces_from q rest)) q n.entries =
     rest_sifted ws last (with_piece s p) q m n t c h kept.right out (subst IsWrong (sym whole) w) g e f in
-    rw (b.lines, b.begins, other_lines (begun_after p b.first) b.others rest b.no_other) (then_but s (with_piece s p) _ m.entries n.entries kept further)
-but_block (line ∷ hs) ws last block b s p entries m n t a c h r i w g e f =
-    by_read (λ s' p' entries' m' r' i' k'. but_block hs ws last block b s' p' entries' m' n t a.1 c h r' i' w g k' f) (line_judged m line) refl e
+    let named : KeepsBut (with_piece s p) (fold with_piece (with_piece s p) (pieces_from q rest)) (record { log = k; lines_before = lines; bytes = block }) n.entries =
+    subst (λ (x : Piece). KeepsBut (with_piece s p) (fold with_piece (with_piece s p) (pieces_from q rest)) x n.entries) same further in
+    rw (b.lines, b.begins, other_lines (begun_after p b.first) b.others rest b.no_other) (then_but s (with_piece s p) _ (record { log = k; lines_before = lines; bytes = block }) m.entries n.entries kept named)
+but_block (line ∷ hs) ws last block b k lines s p entries m n t a c h log at r i w g e f =
+    by_read (λ s' p' entries' m' log' at' r' i' k'. but_block hs ws last block b k lines s' p' entries' m' n t a.1 c h log' at' r' i' w g k' f) (line_judged m line) refl e
   where
-    by_read : ((s' : Sifted) (p' : Piece) (entries' : List Entry) (m' : LogSeen) → Right s'.kept entries' → InPiece p' entries' m'
+    by_read : ((s' : Sifted) (p' : Piece) (entries' : List Entry) (m' : LogSeen) → p'.log ≡ k → lines_to p' hs ≡ lines → Right s'.kept entries' → InPiece p' entries' m'
         → (lines_judged m' (hs ++ ws) >>= λ x. last_judged x last) ≡ Ok n
-        → KeepsBut s' (fold with_piece s' (pieces_from p' (map (λ line. line ++ 10 ∷ []) hs ++ (lines_with_ends block ++ (map (λ line. line ++ 10 ∷ []) ws ++ last_line last))))) n.entries)
+        → KeepsBut s' (fold with_piece s' (pieces_from p' (map (λ line. line ++ 10 ∷ []) hs ++ (lines_with_ends block ++ (map (λ line. line ++ 10 ∷ []) ws ++ last_line last)))))
+        (record { log = k; lines_before = lines; bytes = block }) n.entries)
         → (read : Result LogSeen LogError) → line_judged m line ≡ read → ((read >>= λ x. lines_judged x (hs ++ ws)) >>= λ x. last_judged x last) ≡ Ok n
-        → KeepsBut s (fold with_piece s (pieces_from p (map (λ line. line ++ 10 ∷ []) (line ∷ hs) ++ (lines_with_ends block ++ (map (λ line. line ++ 10 ∷ []) ws ++ last_line last))))) n.entries
-    by_read on (Err error) j k = absurd (cc)
-    by_read on (Ok m') j k =
+        → KeepsBut s (fold with_piece s (pieces_from p (map (λ line. line ++ 10 ∷ []) (line ∷ hs) ++ (lines_with_ends block ++ (map (λ line. line ++ 10 ∷ []) ws ++ last_line last)))))
+        (record { log = k; lines_before = lines; bytes = block }) n.entries
+    by_read on (Err error) j v = absurd (cc)
+    by_read on (Ok m') j v =
         by_test (opens (line ++ 10 ∷ []))
         (λ o.
         let out : m.place ≡ Outside = line_opens m m' line a.0 o j in
         let kept : Keeps s (with_piece s p) m.entries = piece_ends s p entries m (between m.entries) r i (grind arith) in
-        let further = on (with_piece s p) (begun_after p (line ++ 10 ∷ [])) m.entries m' kept.right (begun_in s p m m' line a.0 out j) k in
-        rw o (then_but s (with_piece s p) _ m.entries n.entries kept further))
-        (λ o. rw o (on s (with_line p (line ++ 10 ∷ [])) entries m' r (line_in p entries m m' line a.0 i j) k))
+        let number : lines_to (begun_after p (line ++ 10 ∷ [])) hs ≡ lines = omega (arith, at, feeds_line [] line a.0) in
+        let further = on (with_piece s p) (begun_after p (line ++ 10 ∷ [])) m.entries m' log number kept.right (begun_in s p m m' line a.0 out j) v in
+        rw o (then_but s (with_piece s p) _ (record { log = k; lines_before = lines; bytes = block }) m.entries n.entries kept further))
+        (λ o.
+        let number : lines_to (with_line p (line ++ 10 ∷ [])) hs ≡ lines = omega (arith, at, feeds_line p.bytes line a.0) in
+        rw o (on s (with_line p (line ++ 10 ∷ [])) entries m' log number r (line_in p entries m m' line a.0 i j) v))
+
+-- the lines of a block, and those after it
+lines_after : (block rest : List ℕ) → (unended block ≡ []) ⊎ (rest ≡ []) → lines_with_ends (block ++ rest) ≡ lines_with_ends block ++ lines_with_ends rest
+lines_after block rest (inl ended) = lines_two block rest ended
+lines_after block rest (inr none) =
+    let no_lines : lines_with_ends [] ≡ [] = rw (none_whole, none_unended) refl in
+    ap (λ (x : List ℕ). lines_with_ends (block ++ x)) none ∙ ap lines_with_ends (append-nil block) ∙ sym (append-nil (lines_with_ends block))
+    ∙ ap (λ (ls : List (List ℕ)). lines_with_ends block ++ ls) (sym no_lines) ∙ ap (λ (x : List ℕ). lines_with_ends block ++ lines_with_ends x) (sym none)
 
 -- a log with a block between two parts
-log_but : (head block rest : List ℕ) (k : ℕ) (s : Sifted) (entries : List Entry) (t : LogSeen) → unended head ≡ [] → IsBlock block → IsWrong block → BeginsBlock (lines_with_ends rest)
-    → Right s.kept entries → file_judged (between entries) (head ++ rest) ≡ Ok t
-    → KeepsBut s (fold with_piece s (pieces_of k (head ++ (block ++ rest)))) t.entries
+log_but : (head block rest : List ℕ) (k : ℕ) (s : Sifted) (entries : List Entry) (t : LogSeen) → unended head ≡ [] → IsBlock block → (unended block ≡ []) ⊎ (rest ≡ []) → IsWrong block
+    → BeginsBlock (lines_with_ends rest) → Right s.kept entries → file_judged (between entries) (head ++ rest) ≡ Ok t
+    → KeepsBut s (fold with_piece s (pieces_of k (head ++ (block ++ rest)))) (record { log = k; lines_before = line_feed_count head; bytes = block }) t.entries
 unfolding file_judged
-log_but head block rest k s entries t h b w g r e =
+log_but head block rest k s entries t h b d w g r e =
     by_read (lines_judged (between entries) (whole_lines head ++ whole_lines rest) >>= λ x. last_judged x (unended rest)) refl
     (ap (λ ls. (lines_judged (between entries) ls >>= λ x. last_judged x (unended rest)) >>= end_judged) (sym (whole_two head rest h))
     ∙ ap (λ u. (lines_judged (between entries) (whole_lines (head ++ rest)) >>= λ x. last_judged x u) >>= end_judged) (sym (unended_two head rest h)) ∙ e)
   where
     cut : lines_with_ends (head ++ (block ++ rest)) ≡ map (λ line. line ++ 10 ∷ []) (whole_lines head) ++ (lines_with_ends block ++ lines_with_ends rest)
-    cut = lines_two head (block ++ rest) h ∙ ap (λ x. lines_with_ends head ++ x) (lines_two block rest b.ended)
+    cut = lines_two head (block ++ rest) h ∙ ap (λ x. lines_with_ends head ++ x) (lines_after block rest d)
         ∙ ap (λ x. (map (λ line. line ++ 10 ∷ []) (whole_lines head) ++ last_line x) ++ (lines_with_ends block ++ lines_with_ends rest)) h
         ∙ ap (λ x. x ++ (lines_with_ends block ++ lines_with_ends rest)) (append-nil (map (λ line. line ++ 10 ∷ []) (whole_lines head)))
 
     by_read : (read : Result LogSeen LogError) → (lines_judged (between entries) (whole_lines head ++ whole_lines rest) >>= λ x. last_judged x (unended rest)) ≡ read → (read >>= end_judged) ≡ Ok t
-        → KeepsBut s (fold with_piece s (pieces_of k (head ++ (block ++ rest)))) t.entries
+        → KeepsBut s (fold with_piece s (pieces_of k (head ++ (block ++ rest)))) (record { log = k; lines_before = line_feed_count head; bytes = block }) t.entries
     by_read (Err error) j f = absurd (cc)
     by_read (Ok n) j f =
         rw (end_entries n t f, cut)
-        (but_block (whole_lines head) (whole_lines rest) (unended rest) block b s (record { log = k; lines_before = 0; bytes = [] }) entries (between entries) n t
-        (whole_are_lines head) (whole_are_lines rest) (unended_is_line rest) r (begins_in k entries) w g j f)
+        (but_block (whole_lines head) (whole_lines rest) (unended rest) block b k (line_feed_count head) s (record { log = k; lines_before = 0; bytes = [] }) entries (between entries) n t
+        (whole_are_lines head) (whole_are_lines rest) (unended_is_line rest) refl (omega (arith, whole_count head)) r (begins_in k entries) w g j f)
 
 -- logs, one of which has a block between two parts
-logs_but : (before after : List (List ℕ)) (head block rest : List ℕ) (k : ℕ) (s : Sifted) (entries : List Entry) (t : LogSeen) → unended head ≡ [] → IsBlock block → IsWrong block
-    → BeginsBlock (lines_with_ends rest) → Right s.kept entries → files_judged (between entries) (before ++ (head ++ rest) ∷ after) ≡ Ok t
-    → KeepsBut s (fold with_piece s (all_pieces k (before ++ (head ++ (block ++ rest)) ∷ after))) t.entries
-logs_but [] after head block rest k s entries t h b w g r e = by_read (file_judged (between entries) (head ++ rest)) refl e
+logs_but : (before after : List (List ℕ)) (head block rest : List ℕ) (k at : ℕ) (s : Sifted) (entries : List Entry) (t : LogSeen) → k + length before ≡ at → unended head ≡ []
+    → IsBlock block → (unended block ≡ []) ⊎ (rest ≡ []) → IsWrong block → BeginsBlock (lines_with_ends rest) → Right s.kept entries → files_judged (between entries) (before ++ (head ++ rest) ∷ after) ≡ Ok t
+    → KeepsBut s (fold with_piece s (all_pieces k (before ++ (head ++ (block ++ rest)) ∷ after))) (record { log = at; lines_before = line_feed_count head; bytes = block }) t.entries
+logs_but [] after head block rest k at s entries t x h b d w g r e = by_read (file_judged (between entries) (head ++ rest)) refl e
   where
     by_read : (read : Result LogSeen LogError) → file_judged (between entries) (head ++ rest) ≡ read → (read >>= λ x. files_judged x after) ≡ Ok t
-        → KeepsBut s (fold with_piece s (all_pieces k ((head ++ (block ++ rest)) ∷ after))) t.entries
+        → KeepsBut s (fold with_piece s (all_pieces k ((head ++ (block ++ rest)) ∷ after))) (record { log = at; lines_before = line_feed_count head; bytes = block }) t.entries
     by_read (Err error) j f = absurd (cc)
     by_read (Ok m) j f =
         let same = (log_sifted (head ++ rest) k s entries m r j).1 in
-        let one = log_but head block rest k s entries m h b w g r j in
+        let here : k ≡ at = omega (arith, x) in
+        let one : KeepsBut s (fold with_piece s (pieces_of k (head ++ (block ++ rest)))) (record { log = at; lines_before = line_feed_count head; bytes = block }) m.entries =
+        subst
+        (λ (l : ℕ). KeepsBut s (fold with_piece s (pieces_of k (head ++ (block ++ rest)))) (record { log = l; lines_before = line_feed_count head; bytes = block }) m.entries)
+        here (log_but head block rest k s entries m h b d w g r j) in
         let mid : Sifted = fold with_piece s (pieces_of k (head ++ (block ++ rest))) in
         let further : Keeps mid (fold with_piece mid (all_pieces (k + 1) after)) t.entries =
         logs_sifted after (k + 1) mid m.entries t one.right (ap (λ x. files_judged x after) (sym same) ∙ f) in
-        rw (fold-append with_piece s (pieces_of k (head ++ (block ++ rest))) (all_pieces (k + 1) after)) (but_then s mid _ m.entries t.entries one further)
-logs_but (log ∷ before) after head block rest k s entries t h b w g r e =
-    by_read (λ s' entries' r' e'. logs_but before after head block rest (k + 1) s' entries' t h b w g r' e') (file_judged (between entries) log) refl e
+        rw (fold-append with_piece s (pieces_of k (head ++ (block ++ rest))) (all_pieces (k + 1) after)) (but_then s mid _ (record { log = at; lines_before = line_feed_count head; bytes = block }) m.entries t.entries one further)
+logs_but (log ∷ before) after head block rest k at s entries t x h b d w g r e =
+    by_read (λ s' entries' r' e'. logs_but before after head block rest (k + 1) at s' entries' t (omega (arith, x)) h b d w g r' e') (file_judged (between entries) log) refl e
   where
     by_read : ((s' : Sifted) (entries' : List Entry) → Right s'.kept entries' → files_judged (between entries') (before ++ (head ++ rest) ∷ after) ≡ Ok t
-        → KeepsBut s' (fold with_piece s' (all_pieces (k + 1) (before ++ (head ++ (block ++ rest)) ∷ after))) t.entries)
+        → KeepsBut s' (fold with_piece s' (all_pieces (k + 1) (before ++ (head ++ (block ++ rest)) ∷ after)))
+        (record { log = at; lines_before = line_feed_count head; bytes = block }) t.entries)
         → (read : Result LogSeen LogError) → file_judged (between entries) log ≡ read → (read >>= λ x. files_judged x (before ++ (head ++ rest) ∷ after)) ≡ Ok t
-        → KeepsBut s (fold with_piece s (all_pieces k ((log ∷ before) ++ (head ++ (block ++ rest)) ∷ after))) t.entries
+        → KeepsBut s (fold with_piece s (all_pieces k ((log ∷ before) ++ (head ++ (block ++ rest)) ∷ after)))
+        (record { log = at; lines_before = line_feed_count head; bytes = block }) t.entries
     by_read on (Err error) j f = absurd (cc)
     by_read on (Ok m) j f =
         let one = log_sifted log k s entries m r j in
         let mid : Sifted = fold with_piece s (pieces_of k log) in
         let further = on mid m.entries one.0.right (ap (λ x. files_judged x (before ++ (head ++ rest) ∷ after)) (sym one.1) ∙ f) in
-        rw (fold-append with_piece s (pieces_of k log) (all_pieces (k + 1) (before ++ (head ++ (block ++ rest)) ∷ after))) (then_but s mid _ m.entries t.entries one.0 further)
+        rw (fold-append with_piece s (pieces_of k log) (all_pieces (k + 1) (before ++ (head ++ (block ++ rest)) ∷ after))) (then_but s mid _ (record { log = at; lines_before = line_feed_count head; bytes = block }) m.entries t.entries one.0 further)
 
 -- a block with an error costs itself alone
-pub costs_itself : (before after : List (List ℕ)) (head block rest text : List ℕ) → unended head ≡ [] → IsBlock block → BeginsBlock (lines_with_ends rest)
-    → IsWrong block → logs_text (before ++ (head ++ rest) ∷ after) ≡ Ok text → CostsItself (before ++ (head ++ (block ++ rest)) ∷ after) text
-costs_itself before after head block rest text h b g w e = by_read (files_judged nothing_seen (before ++ (head ++ rest) ∷ after)) refl
+pub costs_itself : (before after : List (List ℕ)) (head block rest text : List ℕ) → unended head ≡ [] → IsBlock block → (unended block ≡ []) ⊎ (rest ≡ [])
+    → BeginsBlock (lines_with_ends rest) → IsWrong block → logs_text (before ++ (head ++ rest) ∷ after) ≡ Ok text
+    → CostsItself (before ++ (head ++ (block ++ rest)) ∷ after) (record { log = length before; lines_before = line_feed_count head; bytes = block }) text
+costs_itself before after head block rest text h b d g w e = by_read (files_judged nothing_seen (before ++ (head ++ rest) ∷ after)) refl
   where
-    by_read : (read : Result LogSeen LogError) → files_judged nothing_seen (before ++ (head ++ rest) ∷ after) ≡ read → CostsItself (before ++ (head ++ (block ++ rest)) ∷ after) text
+    by_read : (read : Result LogSeen LogError) → files_judged nothing_seen (before ++ (head ++ rest) ∷ after) ≡ read
+        → CostsItself (before ++ (head ++ (block ++ rest)) ∷ after) (record { log = length before; lines_before = line_feed_count head; bytes = block }) text
     by_read (Err error) j = absurd (grind (arith, (judged_text (before ++ (head ++ rest) ∷ after))))
     by_read (Ok t) j =
-        let k = logs_but before after head block rest 0 nothing_sifted [] t h b w g refl j in
+        let k = logs_but before after head block rest 0 (length before) nothing_sifted [] t (omega arith) h b d w g refl j in
         record {
           one = k.one;
           skipped = k.skipped;
+          is = k.is;
           sum = right_text (sifted (before ++ (head ++ (block ++ rest)) ∷ after)).kept t.entries k.right ∙ grind (arith, (judged_text (before ++ (head ++ rest) ∷ after)));
         }
 

@@ -8,7 +8,7 @@ use Rattle.std.specs.{declared.alloc.Global.Global, declared.cmp.Ordering.TheVar
 use Rattle.list_laws.proofs.Cases.{by_test}
 use Rattle.log_sum.specs.{declared.kinds.Mark.Mark, declared.spelling.Spelling.Spelling, declared.state_table.StateSum.StateSum, Summed.StateSummed}
 use Rattle.log_sum.specs.{LogStates.form_read, SummingSteps.known_state, StateSpelling.{is_spelled, IsSpelled, AddsText}}
-use Rattle.log_sum.specs.StateEntries.{sum_view, sum_in, is_kept, has_text, state_view, state_at, states_view, and_state, placed_state, EntriesAreWritten, HasState}
+use Rattle.log_sum.specs.StateEntries.{sum_view, sum_in, is_kept, has_text, is_state, state_view, state_at, states_view, and_state, placed_state, EntriesAreWritten, HasState}
 use Rattle.log_sum.specs.TextPlaces.{set_value_at, index_among, places_view, ArePlaced, IsSeenAt}
 use Rattle.diy_io.specs.Count.{last_count}
 use Rattle.log_sum.proofs.TextPlaceLaws.{last_text, text_at}
@@ -173,6 +173,16 @@ known_some text es i h = ordered_known (map state_view es) text ∙ known_index 
 -- a state that has an index is among the states
 state_stays : (es : List (Vec ℕ Global × StateSum)) (text : List ℕ) (mark : Mark) (i : ℕ) → index_among text es ≡ Some i → and_state es text mark ≡ states_view es
 state_stays es text mark i h = rw (known_some text es i h) refl
+
+-- and so is one that is at an index
+pub state_kept : (es : List (Vec ℕ Global × StateSum)) (text : List ℕ) (mark : Mark) (i : ℕ) → IsDistinct (λ (x y : Vec ℕ Global). bytes_eq x.items y.items) (keys_of es) → state_at es i ≡ Some text
+    → states_view es ≡ and_state es text mark
+state_kept es text mark i d h = rw (sum_known es i text d h) refl
+
+-- a state with this printed form
+pub state_found : (state : Option (List ℕ)) (form : List ℕ) → is_state state form ≡ true → state ≡ Some form
+state_found None form h = absurd (cc)
+state_found (Some state) form h = ap (λ text. Some text) ((bytes_eq-Decides state form).0 h)
 
 -- a state without an index is put to the others
 state_put : (es : List (Vec ℕ Global × StateSum)) (key : Vec ℕ Global) (w : StateSum) (text : List ℕ) (mark : Mark) → key.items ≡ text → w.mark ≡ mark → w.count ≡ 0 → index_among text es ≡ None

@@ -28,9 +28,11 @@ pub mod Grammar
 pub mod CarryLaws
 pub mod KeptLaws
 pub mod SiftLaws
+pub mod WrongLines
 pub mod AloneLaws
 pub mod SieveLaws
 pub mod SievedLaws
+pub mod LetterLaws
 pub mod OpeningLaws
 pub mod FollowSieve
 pub mod HoldLaws

@@ -26,7 +26,7 @@ files_line seen next [] first h = grind arith
 files_line seen next (file ∷ files) first h = grind (arith, (λ (s : LogSeen). files_line s next files))
 
 -- as many lines have ended as there are line feeds
-whole_count : (bytes : List ℕ) → length (whole_lines bytes) ≡ line_feed_count bytes
+pub whole_count : (bytes : List ℕ) → length (whole_lines bytes) ≡ line_feed_count bytes
 unfolding whole_lines
 whole_count bytes = grind (arith, (first_piece is_line_feed bytes), (length-slice_split is_line_feed bytes), length-but_last)
 

@@ -10,7 +10,7 @@ use Rattle.log_sum.specs.{Summed.summed, Representing.logs_text}
 use Rattle.log_sum.specs.SumText.{state_line, head_text, sum_verdict_text, condition_text, claim_text, hash_text, observation_text, summed_text, sum_text}
 use Rattle.log_sum.specs.declared.errors.LogKind.{LogKind}
 use Rattle.log_sum.specs.declared.errors.LogKind.TheVariants.{Truncated, ConditionDiffers, BadState}
-use Rattle.log_sum.specs.Skipping.{Skipped, sifted, kept_sum}
+use Rattle.log_sum.specs.Skipping.{Skipped, IsBlock, sifted, kept_sum}
 
 abbrev nl : List ℕ → List ℕ
 nl line = line ++ 10 ∷ []
@@ -77,6 +77,31 @@ cut_is_named = refl
 cut_at_the_end : (sifted ((first_log ++ take 60 cut) ∷ second_log ∷ [])).skipped ≡ left_out 0 14 BadState ∷ []
 unfolding skipping
 cut_at_the_end = refl
+
+-- it costs itself alone too
+others_summed : kept_sum ((first_log ++ take 60 cut) ∷ second_log ∷ []) ≡ Ok sum_of_both
+unfolding skipping
+others_summed = refl
+
+-- the same at the end of the second log
+cut_in_the_second : (sifted (first_log ∷ (second_log ++ take 60 cut) ∷ [])).skipped ≡ left_out 1 14 BadState ∷ []
+unfolding skipping
+cut_in_the_second = refl
+
+-- what the law on such blocks asks holds of it: it is one block, though its last line has no line feed
+one_block : IsBlock (take 60 cut)
+unfolding skipping
+one_block = record {
+  first = nl (codes "Test SB Allowed");
+  others = nl (codes "Histogram (2 states)") ∷ codes "52    *>0:EAX=0; 1:EAX=" ∷ [];
+  lines = refl;
+  begins = refl;
+  no_other = refl;
+}
+
+stops_in_a_line : unended (take 60 cut) ≡ codes "52    *>0:EAX=0; 1:EAX="
+unfolding skipping
+stops_in_a_line = refl
 
 -- blocks that contradict one that was kept; the other way round the first one would be kept
 other_is_named : (sifted (first_log ∷ other_claim ∷ second_log ∷ [])).skipped ≡ left_out 1 5 ConditionDiffers ∷ []

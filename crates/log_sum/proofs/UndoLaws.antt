@@ -63,7 +63,7 @@ pub first_written : (n : ℕ) (es new : List (Vec ℕ Global × StateSum)) → n
 first_written n es new e h i key sum there = h i key sum (get_first n es i (key, sum) (ap (λ entries. slice_get entries i) (sym e) ∙ there))
 
 -- all states are their first
-first_own : (es : List (Vec ℕ Global × StateSum)) → take (length es) (map state_view es) ≡ map state_view es
+pub first_own : (es : List (Vec ℕ Global × StateSum)) → take (length es) (map state_view es) ≡ map state_view es
 first_own es = take-map state_view (length es) es ∙ ap (map state_view) (take_all (length es) es (omega arith))
 
 first_pushed : (es : List (Vec ℕ Global × StateSum)) (e : Vec ℕ Global × StateSum) → take (length es) (map state_view (es ++ e ∷ [])) ≡ map state_view es

@@ -1,12 +1,12 @@
 -- What a line of a log says by its position in its block, as the code reads it; `LogGrammar` says it by blocks.
 -- Source: own.
-use Rattle.std.specs.Prelude.{ℕ, zero, suc, cond, List, Option, Some, None, Result, Ok, Err}
+use Rattle.std.specs.Prelude.{ℕ, zero, suc, Bool, false, ◌||◌, ◌==◌, cond, List, [], ◌∷◌, get_or, Option, Some, None, Result, Ok, Err}
 use Rattle.log_sum.specs.{declared.errors.LogKind.LogKind, declared.kinds.Kind.Kind, declared.kinds.Kind.TheVariants.Allowed, declared.kinds.Verdict.Verdict}
 use Rattle.log_sum.specs.{declared.kinds.Place.Place, declared.errors.LogKind.TheVariants.{Truncated, BadState, KindDiffers}}
 use Rattle.log_sum.specs.{declared.kinds.Place.TheVariants.{Outside, Histogram, States, Judgement, Rest, Conditioned}, Texts.begins_with}
 use Rattle.log_sum.specs.Facts.{Row, Fact, a_kind, a_row, a_condition, a_hash}
 use Rattle.log_sum.specs.LogLines.{test_line, histogram_line, log_row, is_judgement, condition_line, quantifier, hash_line, is_observation}
-use Rattle.text_parts.specs.Words.{words}
+use Rattle.text_parts.specs.{Words.{words}, Blanks.{is_blank, unblanked}}
 
 -- what a line says
 pub data Said : Type 0 where
@@ -18,6 +18,15 @@ pub data Said : Type 0 where
   conditioned : (text : List ℕ) (verdict : Verdict) → Said
   hashed : (text : List ℕ) → Said
   ends : Said
+
+-- the first byte of a line after its blanks; 0 if there is none
+abbrev pub first_letter : List ℕ → ℕ
+first_letter text = get_or (unblanked text) 0 0
+
+-- a line begins with the first letter of one that opens a block, or with a blank
+abbrev pub may_open : List ℕ → Bool
+may_open [] = false
+may_open (byte ∷ text) = byte == 84 || is_blank byte
 
 -- what a line outside the blocks says
 abbrev pub outside_said : Option (List ℕ × Kind) → Said

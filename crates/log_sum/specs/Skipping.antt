@@ -1,6 +1,6 @@
 -- Logs of which the blocks with errors are left out.
 -- Source: own.
-use Rattle.std.specs.{Prelude.{◌≡◌, ℕ, ◌+◌, Bool, true, false, cond, List, [], ◌∷◌, ◌++◌, map, fold, Option, Some, None, Result, Ok, Err, IfErr}, List.list_any, Option.is_some}
+use Rattle.std.specs.{Prelude.{◌≡◌, ◌≤◌, ◌⊎◌, ℕ, ◌+◌, Bool, true, false, cond, List, [], ◌∷◌, ◌++◌, length, map, fold, Option, Some, None, Result, Ok, Err, IfErr}, List.list_any, Option.is_some}
 use Rattle.diy_io.specs.{Count.count_of, Sink.line_feed_count}
 use Rattle.text_parts.specs.{Words.words, Lines.{whole_lines, unended, last_line}}
 use Rattle.log_sum.specs.{declared.errors.LogError.LogError, Facts.Entry, LogLines.test_line}
@@ -87,14 +87,14 @@ kept_sum logs = logs_text (sifted logs).kept
 abbrev pub kept_sum_table : List (List ℕ) → Result (List ℕ) LogError
 kept_sum_table logs = logs_table (sifted logs).kept
 
--- bytes are one block, whole or cut off, and what stands after it: whole lines, of which the first and no other opens a block
+-- bytes are one block, whole or cut off, and what stands after it: lines, of which the first and no other opens a block; the last line may
+-- have no line feed
 pub record IsBlock (bytes : List ℕ) : Type 0 where
   pub first : List ℕ
   pub others : List (List ℕ)
   pub lines : lines_with_ends bytes ≡ first ∷ others
   pub begins : opens first ≡ true
   pub no_other : list_any opens others ≡ false
-  pub ended : unended bytes ≡ []
 
 -- bytes are empty, or begin with a line that opens a block
 abbrev pub BeginsBlock : List (List ℕ) → Type 0
@@ -105,17 +105,28 @@ BeginsBlock (line ∷ lines) = opens line ≡ true
 abbrev pub IsWrong : List ℕ → Type 0
 IsWrong bytes = (logs : List (List ℕ)) (text : List ℕ) → logs_text (logs ++ bytes ∷ []) ≡ Ok text → ⊥
 
--- one piece of logs is left out, and the sum of all others is this text
-pub record CostsItself (logs : List (List ℕ)) (text : List ℕ) : Type 0 where
+-- what is left out is this piece: the index is that of its log, and the error is at one of its lines, or at the line right after its last one,
+-- as the lines of the log are numbered; both stop at the greatest count
+pub record IsOfPiece (skipped : Skipped) (piece : Piece) : Type 0 where
+  pub line : ℕ
+  pub from_first : 1 ≤ line
+  pub to_next : line ≤ length (lines_with_ends piece.bytes) + 1
+  pub at_line : skipped.error.line ≡ count_of (piece.lines_before + line)
+  pub in_log : skipped.log ≡ count_of piece.log
+
+-- one piece of logs is left out, which is this one, and the sum of all others is this text
+pub record CostsItself (logs : List (List ℕ)) (piece : Piece) (text : List ℕ) : Type 0 where
   pub one : Skipped
   pub skipped : (sifted logs).skipped ≡ one ∷ []
+  pub is : IsOfPiece one piece
   pub sum : kept_sum logs ≡ Ok text
 
 -- what is kept of logs has no error; logs without an error are kept whole, and their sum is the same; and a block with an error,
--- anywhere between the blocks of logs without an error, costs itself alone
+-- anywhere between the blocks of logs without an error, costs itself alone: it is a whole number of lines, or stands at the end of its log
 pub record SkippingLaws : Type 0 where
   pub right : (logs : List (List ℕ)) → IfErr (kept_sum logs) (λ error. ⊥)
   pub whole : (logs : List (List ℕ)) (text : List ℕ) → logs_text logs ≡ Ok text → ((sifted logs).skipped ≡ []) × (kept_sum logs ≡ Ok text)
   pub alone :
-      (before after : List (List ℕ)) (head block rest text : List ℕ) → unended head ≡ [] → IsBlock block → BeginsBlock (lines_with_ends rest)
-      → IsWrong block → logs_text (before ++ (head ++ rest) ∷ after) ≡ Ok text → CostsItself (before ++ (head ++ (block ++ rest)) ∷ after) text
+      (before after : List (List ℕ)) (head block rest text : List ℕ) → unended head ≡ [] → IsBlock block → (unended block ≡ []) ⊎ (rest ≡ [])
+      → BeginsBlock (lines_with_ends rest) → IsWrong block → logs_text (before ++ (head ++ rest) ∷ after) ≡ Ok text
+      → CostsItself (before ++ (head ++ (block ++ rest)) ∷ after) (record { log = length before; lines_before = line_feed_count head; bytes = block }) text

@@ -1,7 +1,7 @@
 -- States with their sums, as a table keeps them.
 -- Source: own.
 use Rattle.std.specs.Prelude.{◌≡◌, ◌+◌, ℕ, zero, suc, Bool, false, cond, min, List, [], ◌∷◌, Option, Some, None, map, take, option_map, slice_get, is_some, Ok}
-use Rattle.std.specs.{Ordering.nat_cmp, Cmp.Lexicographic.slice_cmp, BTreeMap.insert_entry}
+use Rattle.std.specs.{Str.bytes_eq, Ordering.nat_cmp, Cmp.Lexicographic.slice_cmp, BTreeMap.insert_entry}
 use Rattle.std.specs.{declared.vec.Vec.Vec, declared.alloc.Global.Global}
 use Rattle.log_sum.specs.{declared.kinds.Mark.Mark, declared.kinds.Mark.TheVariants.Plain, declared.state_table.StateSum.StateSum, LogStates.form_read, StateSpelling.{IsSpelled, is_spelled}}
 use Rattle.log_sum.specs.{SummingSteps.known_state, Summed.StateSummed}
@@ -40,6 +40,11 @@ states_view entries = ordered (map state_view entries)
 -- the state at an index
 abbrev pub state_at : List (Vec ℕ Global × StateSum) → ℕ → Option (List ℕ)
 state_at entries i = option_map (λ entry. entry.0.items) (slice_get entries i)
+
+-- a state, if there is one, has this printed form
+abbrev pub is_state : Option (List ℕ) → List ℕ → Bool
+is_state None form = false
+is_state (Some state) form = bytes_eq state form
 
 -- the mark and count of a state, if it is among the entries
 abbrev pub known_in : List (Vec ℕ Global × StateSum) → List ℕ → Option (Mark × ℕ)

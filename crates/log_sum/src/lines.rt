@@ -1,7 +1,7 @@
 ghost use Rattle.std.specs.{Prelude.{◌≡◌, option_map, take, IfOk}, Borrow.{Bor}, Option.{is_some}};
 ghost use Rattle.log_sum.specs.SumViews.{GivesParsed, ReadsBy, ReadsOr, row_code_said, said_read, condition_view};
 ghost use Rattle.log_sum.specs.LogLines.{kind_named, test_line, is_states, are_states, after_histogram, histogram_line, mark_written, mark_read, log_row, is_judgement, verdict_cut, condition_line, quantifier, hash_line, is_observation};
-ghost use Rattle.log_sum.specs.{LineReading.{hash_said, condition_said, rest_said, log_line_said}, Texts.{joined_words}};
+ghost use Rattle.log_sum.specs.{LineReading.{first_letter, may_open, passed_over, condition_said, rest_said, log_line_said}, Texts.{joined_words}};
 ghost use Rattle.text_parts.specs.Words.{words};
 
 use crate::counts::read_count;
@@ -9,7 +9,7 @@ use crate::errors::{Fault, LogKind};
 use crate::kinds::{Kind, Mark, Place, Verdict};
 use diy_io::NoMemory;
 use std::alloc::Global;
-use text_parts::{next_word, trim_blanks, without_blanks};
+use text_parts::{Class, next_word, trim_blanks, without_blanks};
 
 /// What a line says.
 #[derive(Drop)]
@@ -63,11 +63,32 @@ fn read_test(line: &[u8]) -> Option<(&[u8], Kind)>
     }
 }
 
-/// Whether a line opens a block: it is `Test NAME KIND`. Few others begin with its first letters.
+/// The first byte of a line after its blanks; 0 if there is none.
+fn first_letter(line: &[u8]) -> u8
+    ensures { result ≡ first_letter line.now }
+{
+    match without_blanks(line) {
+        [letter, ..] => *letter,
+        [] => 0,
+    }
+}
+
+/// Whether a line begins with the first letter of one that opens a block, or with a blank.
+fn may_open(line: &[u8]) -> bool
+    ensures { result ≡ may_open line.now }
+{
+    match line {
+        [byte, ..] => *byte == b'T' || Class::Blank.has(*byte),
+        [] => false,
+    }
+}
+
+/// Whether a line opens a block: it is `Test NAME KIND`.
+#[tactic(auto, using(crate::proofs::LetterLaws::not_opened))]
 pub(crate) fn opens_block(line: &[u8]) -> bool
     ensures { result ≡ is_some (test_line (words line.now)) }
 {
-    without_blanks(line).starts_with(b"Test") && read_test(line).is_some()
+    may_open(line) && read_test(line).is_some()
 }
 
 /// Whether the only word of a text is `states)` or `state)`.
@@ -240,9 +261,9 @@ fn read_hash(line: &[u8]) -> Option<&[u8]>
     }
 }
 
-/// What a line in the rest of a block says, if it begins no block.
-fn read_other(alloc: Global, kind: Kind, line: &[u8]) -> Result<Said<'_>, Fault>
-    ensures { ReadsOr said_read result (condition_said kind (condition_line (words line.now)) (hash_said (hash_line line.now))) }
+/// What a condition's line says, or any other that begins with its first letter.
+fn read_conditioned(alloc: Global, kind: Kind, line: &[u8]) -> Result<Said<'_>, Fault>
+    ensures { ReadsOr said_read result (condition_said kind (condition_line (words line.now)) passed_over) }
 {
     match read_condition(alloc, line)? {
         Some((text, verdict)) => {
@@ -252,27 +273,41 @@ fn read_other(alloc: Global, kind: Kind, line: &[u8]) -> Result<Said<'_>, Fault>
                 Err(Fault::Wrong(LogKind::KindDiffers))
             }
         }
-        None => match read_hash(line) {
-            Some(text) => Ok(Said::Hashed(text)),
-            None => Ok(Said::PassedOver),
-        },
+        None => Ok(Said::PassedOver),
     }
 }
 
-/// What a line in the rest of a block says; `Truncated` if it begins a block.
+/// What a line in the rest of a block says, by its first letter; `Truncated` if it begins a block.
+#[tactic(auto, using(crate::proofs::LetterLaws::rest_by_condition, crate::proofs::LetterLaws::rest_by_hash, crate::proofs::LetterLaws::rest_by_test, crate::proofs::LetterLaws::rest_by_none))]
 fn read_rest(alloc: Global, kind: Kind, line: &[u8]) -> Result<Said<'_>, Fault>
     ensures { ReadsOr said_read result (rest_said kind line.now) }
 {
-    match read_test(line) {
-        Some(_) => Err(Fault::Wrong(LogKind::Truncated)),
-        None => read_other(alloc, kind, line),
+    let letter = first_letter(line);
+    if letter == b'C' {
+        read_conditioned(alloc, kind, line)
+    } else if letter == b'H' {
+        match read_hash(line) {
+            Some(text) => Ok(Said::Hashed(text)),
+            None => Ok(Said::PassedOver),
+        }
+    } else if letter == b'T' {
+        match read_test(line) {
+            Some(_) => Err(Fault::Wrong(LogKind::Truncated)),
+            None => Ok(Said::PassedOver),
+        }
+    } else {
+        Ok(Said::PassedOver)
     }
 }
 
-/// Whether a line ends its block.
+/// Whether a line ends its block. Few others begin with its first letter.
+#[tactic(auto, using(crate::proofs::LetterLaws::no_observation))]
 fn is_observation(line: &[u8]) -> bool
     ensures { result ≡ is_observation (words line.now) }
 {
+    if first_letter(line) != b'O' {
+        return false;
+    }
     match next_word(line) {
         Some((first, _)) => first == b"Observation".as_slice(),
         None => false,

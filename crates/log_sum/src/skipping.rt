@@ -1,4 +1,4 @@
-ghost use Rattle.std.specs.Prelude.{◌≡◌, ℕ, true, List, [], ◌∷◌, ◌++◌, Some, map, OnOk, IfOk};
+ghost use Rattle.std.specs.Prelude.{◌≡◌, ℕ, true, false, List, [], ◌∷◌, ◌++◌, Some, map, OnOk, IfOk};
 ghost use Rattle.diy_io.specs.{Page.{Sends}, Wrote.{Wrote}};
 ghost use Rattle.log_sum.specs.Sieving.{KeptPieces, RepresentsPieces, AreBetweenLogs, pieces_text, pieces_table, skipped_view};
 ghost use Rattle.log_sum.specs.Sieving.{Sieved, FollowsSieved, FollowsEnded, LeftOutFrom, sieve_view, nothing_sieved, piece_ended, text_sieved};
@@ -71,22 +71,32 @@ impl Sieve {
         }
     }
 
-    /// Reads a line, which is given without its end.
+    /// Reads a line, which is given without its end. Nearly all lines go on with a piece that isn't left out.
     fn take(&mut self, text: &[u8]) -> Result<(), NoMemory>
+        ensures { (sieved : Sieved) → FollowsSieved (sieve_view self.old) sieved → OnOk result (FollowsSieved (sieve_view self.new) (text_sieved sieved text.now)) }
+    {
+        if !self.is_left_out && (self.reading.is_outside() || !opens_block(text)) {
+            return self.judge(text);
+        }
+        self.take_apart(text)
+    }
+
+    /// Reads a line that opens a block, or passes over one of a piece that is left out.
+    #[inline(never)]
+    fn take_apart(&mut self, text: &[u8]) -> Result<(), NoMemory>
+        requires { is_opening (Some text.now) ≡ false → self.old.is_left_out ≡ true }
         ensures { (sieved : Sieved) → FollowsSieved (sieve_view self.old) sieved → OnOk result (FollowsSieved (sieve_view self.new) (text_sieved sieved text.now)) }
     {
         if opens_block(text) {
             self.end_piece()?;
             return self.judge(text);
         }
-        if self.is_left_out {
-            self.reading.pass_line();
-            return Ok(());
-        }
-        self.judge(text)
+        self.reading.pass_line();
+        Ok(())
     }
 
     /// Reads a line of a piece that isn't left out.
+    #[inline(never)]
     fn judge(&mut self, text: &[u8]) -> Result<(), NoMemory>
         ensures { (sieved : Sieved) (seen : LogSeen) → IsReady (sieve_view self.old) sieved seen (is_opening (Some text.now))
             → OnOk result (FollowsSieved (sieve_view self.new) (judged_by sieved (text_judged seen text.now))) }
@@ -113,6 +123,7 @@ impl Sieve {
     }
 
     /// Leaves the running piece out, which has its first error in the running line.
+    #[inline(never)]
     fn leave_out(&mut self, kind: LogKind) -> Result<(), NoMemory>
         ensures { OnOk result (LeftOutFrom (sieve_view self.old) (sieve_view self.new) kind) }
     {

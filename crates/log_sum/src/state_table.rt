@@ -1,6 +1,6 @@
 ghost use Rattle.std.specs.{Prelude.{◌≡◌, ℕ, [], map, take, length, Some, None, Ok, OnOk, IfOk, IfSome}, Bool.{OnTrue}};
 ghost use Rattle.log_sum.specs.{LogStates.{form_read}, StateSpelling.{IsSpelled}};
-ghost use Rattle.log_sum.specs.StateEntries.{EntriesAreWritten, ForStateAt, HasState, SeenMore, and_state, has_text, known_in, state_at, state_view, states_view, sum_in, with_count, count_in, states_undone};
+ghost use Rattle.log_sum.specs.StateEntries.{EntriesAreWritten, ForStateAt, HasState, is_state, SeenMore, and_state, has_text, known_in, state_at, state_view, states_view, sum_in, with_count, count_in, states_undone};
 
 use crate::first_seen::FirstSeen;
 use crate::kinds::Mark;
@@ -134,6 +134,16 @@ impl StateTable {
         }
     }
 
+    /// Whether the state at an index has this printed form.
+    fn is_state_at(&self, i: usize, form: &[u8]) -> bool
+        ensures { result ≡ is_state (state_at self.now.sums.entries.items i) form.now }
+    {
+        match self.sums.entries.get(i) {
+            Some((state, _)) => state.as_slice() == form,
+            None => false,
+        }
+    }
+
     /// The index of the state with this printed form, which a log wrote by `text`. A new state goes last, with this mark and
     /// no count.
     pub(crate) fn index_or_new(
@@ -148,6 +158,9 @@ impl StateTable {
         ensures states { OnOk result (states_view self.new.sums.entries.items ≡ and_state self.old.sums.entries.items form.now mark) }
         ensures first { take (length self.old.sums.entries.items) (map state_view self.new.sums.entries.items) ≡ map state_view self.old.sums.entries.items }
     {
+        if self.is_state_at(self.next, form) {
+            return Ok(self.next);
+        }
         let sum = new_sum(alloc, form, text, mark)?;
         self.sums.index_or_put(alloc, form, sum)
     }

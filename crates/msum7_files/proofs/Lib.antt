@@ -1,8 +1,4 @@
-pub mod FeedingLaws
-pub mod FileLaws
-pub mod LogLaws
-pub mod EndLaws
-pub mod FilesLaws
-mod LogsFedLaws
-pub mod SkipLaws
-pub mod SkipFilesLaws
+mod SummerFaults
+mod FeedingLaws
+mod FileLaws
+mod FilesLaws

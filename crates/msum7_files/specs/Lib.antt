@@ -1,10 +1,8 @@
 pub mod Logs
-pub mod FileFeeding
-pub mod FileFaults
-pub mod LogFiles
+pub mod Summers
+pub mod SummerLaws
 pub mod SumForms
+pub mod LogsRead
 pub mod SumEnds
-pub mod LogsFed
-pub mod RightLogs
-pub mod SkipEnds
-pub mod SkipReading
+pub mod Faults
+pub mod Feeding

@@ -1,22 +1,17 @@
 //! Reads a log that is the input, or the logs in files that arguments name, and writes their sum or its table.
 #![tactic(auto)]
 
+mod faults;
 mod feeding;
 mod files;
-mod input;
-mod logs_fault;
 mod reading;
-mod sift_files;
-mod sift_input;
-mod sifting;
-mod sum_end;
 mod sum_form;
+mod summers;
+mod summing;
+mod wrong_blocks;
 
-pub use files::sum_files;
-pub use input::sum_input;
-pub use logs_fault::LogsFault;
+pub use faults::{LogsFault, SumFault};
 pub use reading::{read_files, read_input};
-pub use sift_files::skip_files;
-pub use sift_input::skip_input;
-pub use sum_end::SumEnd;
 pub use sum_form::SumForm;
+pub use summing::{sum_files, sum_input};
+pub use wrong_blocks::WrongBlocks;

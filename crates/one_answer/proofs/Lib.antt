@@ -8,6 +8,5 @@ pub mod Checked
 pub mod LongLogs
 pub mod SummedInput
 pub mod SummedFiles
-pub mod SkippedSums
 pub mod StatesAlike
 pub mod OneAnswer

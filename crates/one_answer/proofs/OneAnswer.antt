@@ -8,20 +8,18 @@ use Rattle.diy_words.specs.declared.{usage.Usage.Usage, request.Check.Check}
 use Rattle.diy_words.specs.Requests.{Task, Sought, AsksTest, AsksWhy, AsksCoherence, AsksName, AsksList, AsksFamilies, AsksSum, AsksCross, AsksDemo, AsksCheck, AsksExecution, AsksCoherenceExecution, AsksNeeds, AsksLines, OfEdges, OfName, OfLines, OfNames, AsksLineTests, AsksStates, LineTestsTask, asked_of}
 use Rattle.two_runs.specs.{IntendedRuns.intended_by, CoherenceRuns.incoherent_by}
 use Rattle.cycles_from_lines.specs.Normed.{name_line}
-use Rattle.msum7_files.specs.declared.{sum_end.SumEnd.SumEnd, sum_form.SumForm.SumForm}
+use Rattle.msum7_files.specs.declared.{sum_form.SumForm.SumForm, wrong_blocks.WrongBlocks.WrongBlocks}
 use Rattle.run_status.specs.{declared.status.Status.Status}
 use Rattle.diy_tools.specs.{ArchMachines.machine_of, Complete.NoFaults, Devices.{Devices, ShelfAndOut, devices}}
 use Rattle.diy_tools.specs.{TestAnswers.{asked_text, test_name, test_refused}, CoherenceAnswers.{coherence_refused, incoherent_text}, NeedsAnswers.needs_asked, DemoAnswers.demo_asked, Refused.refused_list, WhyAnswers.why_unshown}
-use Rattle.diy_tools.specs.{NameAnswers.{AnswersLines, AnswersSought}, FamilyAnswers.{AnswersFamilies, AnswersClassify, files_status, read_on}, CheckAnswers.{AnswersCheck, check_status, shown_of}, SumAnswers.{AnswersSum, EndsAmong, EndsFiles, EndsInput, first_log, name_logs, sum_status}, Statuses.{norm_status, classify_status}}
-use Rattle.diy_words.specs.declared.request.WrongBlocks.TheVariants.{End, LeaveOut}
+use Rattle.diy_tools.specs.{NameAnswers.{AnswersLines, AnswersSought}, FamilyAnswers.{AnswersFamilies, AnswersClassify, files_status, read_on}, CheckAnswers.{AnswersCheck, check_status, shown_of}, SumAnswers.{AnswersSum, EndsAmong, EndsFiles, EndsInput, SumEnd, first_log, name_logs, sum_status}, Statuses.{norm_status, classify_status}}
 use Rattle.diy_tools.specs.LineTestAnswers.{AnswersLineTests, making_asked, line_tests_status}
-use Rattle.diy_tools.specs.SkipAnswers.{AnswersKeptSum, EndsKeptAmong, EndsKeptFiles, EndsKeptInput, SkipEnd, first_kept, keep_logs, skip_status}
 use Rattle.diy_words.specs.declared.request.States.{States}
 use Rattle.run_status.specs.declared.status.Status.TheVariants as statuses
 use Rattle.diy_tools.specs.StatesAnswers.{AnswersStates, EndsJudgedAmong, judge_logs, states_seen, states_status}
 use Rattle.one_answer.specs.OneAnswer.{Alike, AlikeFor, ShowsAll, EndAlike, OneAnswer}
 use Rattle.one_answer.proofs.Printed.{shown_in, SameOut, AlikeOut, SameBoth, AlikeBoth, edges_alike, prints_alike, executions_alike, names_alike, listed_alike, listings_alike, crossings_alike, whys_alike}
-use Rattle.one_answer.proofs.{ReadLines.{norms_alike, families_alike}, ReadFiles.files_alike, SummedInput.input_alike, SummedFiles.sums_alike, LineTests.lined_alike, Checked.checks_alike, SkippedSums.{kept_files_alike, kept_inputs_alike}, StatesAlike.{judged_files_alike, judged_inputs_alike}}
+use Rattle.one_answer.proofs.{ReadLines.{norms_alike, families_alike}, ReadFiles.files_alike, SummedInput.input_alike, SummedFiles.sums_alike, LineTests.lined_alike, Checked.checks_alike, StatesAlike.{judged_files_alike, judged_inputs_alike}}
 
 files_stay : (old one two : ShelfSeen) → one ≡ old → two ≡ old → one.files ≡ two.files
 files_stay old one two p q = ap (λ (shelf : ShelfSeen). shelf.files) (p ∙ sym q)
@@ -124,12 +122,12 @@ check_end words asked s t old one two all none nothing h k =
     of_alike (inr (inl e)) = inr (inl (k.status_is ∙ e))
     of_alike (inr (inr both)) = inr (inr (same_statuses s _ t _ one.out two.out h.status_is k.status_is both))
 
-input_end : (form : SumForm) (s t : Status) (old one two : Devices) (end other : SumEnd) → ShowsAll old → NoFaults old one
+input_end : (wrong : WrongBlocks) (form : SumForm) (s t : Status) (old one two : Devices) (end other : SumEnd) → ShowsAll old → NoFaults old one
     → NoFaults old two
-    → s ≡ sum_status end → t ≡ sum_status other → EndsInput form end old one → EndsInput form other old two → Alike s t one two
-input_end form s t old one two end other all none nothing e f h k =
+    → s ≡ sum_status end → t ≡ sum_status other → EndsInput wrong form end old one → EndsInput wrong form other old two → Alike s t one two
+input_end wrong form s t old one two end other all none nothing e f h k =
     by_alike s t old one two h.shelf k.shelf
-    (of_alike (input_alike form all.left old.input one.input two.input old.out one.out two.out
+    (of_alike (input_alike wrong form all.left old.input one.input two.input old.out one.out two.out
     end other all.input none.out nothing.out none.input nothing.input h.both k.both))
   where
     of_alike : AlikeOut (sum_status end) (sum_status other) one.out two.out → AlikeOut s t one.out two.out
@@ -137,14 +135,14 @@ input_end form s t old one two end other all none nothing e f h k =
     of_alike (inr (inl d)) = inr (inl (f ∙ d))
     of_alike (inr (inr both)) = inr (inr (same_statuses s _ t _ one.out two.out e f both))
 
-files_end : (form : SumForm) (words : List (List ℕ)) (s t : Status) (old one two : Devices) (end other : SumEnd) → ShowsAll old
+files_end : (wrong : WrongBlocks) (form : SumForm) (words : List (List ℕ)) (s t : Status) (old one two : Devices) (end other : SumEnd) → ShowsAll old
     → NoFaults old one → NoFaults old two
-    → s ≡ sum_status end → t ≡ sum_status other → ShelfAndOut (EndsFiles form words end) old one
-    → ShelfAndOut (EndsFiles form words other) old two → Alike s t one two
-files_end form words s t old one two end other all none nothing e f h k =
+    → s ≡ sum_status end → t ≡ sum_status other → ShelfAndOut (EndsFiles wrong form words end) old one
+    → ShelfAndOut (EndsFiles wrong form words other) old two → Alike s t one two
+files_end wrong form words s t old one two end other all none nothing e f h k =
     by_stay s t old one two h.both.files k.both.files
-    (of_alike (sums_alike form all.there words
-    (first_log form) old.shelf one.shelf two.shelf old.out one.out two.out end other
+    (of_alike (sums_alike wrong form all.there words
+    (first_log wrong form) old.shelf one.shelf two.shelf old.out one.out two.out end other
     all.files none.out nothing.out none.shelf nothing.shelf h.both.summed k.both.summed))
   where
     of_alike : AlikeOut (sum_status end) (sum_status other) one.out two.out → AlikeOut s t one.out two.out
@@ -152,52 +150,14 @@ files_end form words s t old one two end other all none nothing e f h k =
     of_alike (inr (inl d)) = inr (inl (f ∙ d))
     of_alike (inr (inr both)) = inr (inr (same_statuses s _ t _ one.out two.out e f both))
 
-sum_end : (form : SumForm) (words : List (List ℕ)) (s t : Status) (old one two : Devices) → ShowsAll old → NoFaults old one
+sum_end : (wrong : WrongBlocks) (form : SumForm) (words : List (List ℕ)) (s t : Status) (old one two : Devices) → ShowsAll old → NoFaults old one
     → NoFaults old two
-    → AnswersSum form words s old one → AnswersSum form words t old two → Alike s t one two
-sum_end form words s t old one two all none nothing h k = among (name_logs form words) h.ends k.ends
+    → AnswersSum wrong form words s old one → AnswersSum wrong form words t old two → Alike s t one two
+sum_end wrong form words s t old one two all none nothing h k = among (name_logs wrong form words) h.ends k.ends
   where
-    among : (named : Bool) → EndsAmong named form words h.end old one → EndsAmong named form words k.end old two → Alike s t one two
-    among true p q = files_end form words s t old one two h.end k.end all none nothing h.status_is k.status_is p q
-    among false p q = input_end form s t old one two h.end k.end all none nothing h.status_is k.status_is p q
-
--- msum7 -skip
-kept_input_end : (form : SumForm) (s t : Status) (old one two : Devices) (end other : SkipEnd) → ShowsAll old → NoFaults old one
-    → NoFaults old two
-    → s ≡ skip_status end → t ≡ skip_status other → EndsKeptInput form end old one → EndsKeptInput form other old two → Alike s t one two
-kept_input_end form s t old one two end other all none nothing e f h k =
-    by_alike s t old one two h.shelf k.shelf
-    (of_alike (kept_inputs_alike form all.left old.input one.input two.input old.out one.out two.out
-    end other all.input none.out nothing.out none.input nothing.input h.both k.both))
-  where
-    of_alike : AlikeOut (skip_status end) (skip_status other) one.out two.out → AlikeOut s t one.out two.out
-    of_alike (inl d) = inl (e ∙ d)
-    of_alike (inr (inl d)) = inr (inl (f ∙ d))
-    of_alike (inr (inr both)) = inr (inr (same_statuses s _ t _ one.out two.out e f both))
-
-kept_files_end : (form : SumForm) (words : List (List ℕ)) (s t : Status) (old one two : Devices) (end other : SkipEnd) → ShowsAll old
-    → NoFaults old one → NoFaults old two
-    → s ≡ skip_status end → t ≡ skip_status other → ShelfAndOut (EndsKeptFiles form words end) old one
-    → ShelfAndOut (EndsKeptFiles form words other) old two → Alike s t one two
-kept_files_end form words s t old one two end other all none nothing e f h k =
-    by_stay s t old one two h.both.files k.both.files
-    (of_alike (kept_files_alike form all.there words
-    (first_kept form) old.shelf one.shelf two.shelf old.out one.out two.out end other
-    all.files none.out nothing.out none.shelf nothing.shelf h.both.kept k.both.kept))
-  where
-    of_alike : AlikeOut (skip_status end) (skip_status other) one.out two.out → AlikeOut s t one.out two.out
-    of_alike (inl d) = inl (e ∙ d)
-    of_alike (inr (inl d)) = inr (inl (f ∙ d))
-    of_alike (inr (inr both)) = inr (inr (same_statuses s _ t _ one.out two.out e f both))
-
-kept_end : (form : SumForm) (words : List (List ℕ)) (s t : Status) (old one two : Devices) → ShowsAll old → NoFaults old one
-    → NoFaults old two
-    → AnswersKeptSum form words s old one → AnswersKeptSum form words t old two → Alike s t one two
-kept_end form words s t old one two all none nothing h k = among (keep_logs form words) h.ends k.ends
-  where
-    among : (named : Bool) → EndsKeptAmong named form words h.end old one → EndsKeptAmong named form words k.end old two → Alike s t one two
-    among true p q = kept_files_end form words s t old one two h.end k.end all none nothing h.status_is k.status_is p q
-    among false p q = kept_input_end form s t old one two h.end k.end all none nothing h.status_is k.status_is p q
+    among : (named : Bool) → EndsAmong named wrong form words h.end old one → EndsAmong named wrong form words k.end old two → Alike s t one two
+    among true p q = files_end wrong form words s t old one two h.end k.end all none nothing h.status_is k.status_is p q
+    among false p q = input_end wrong form s t old one two h.end k.end all none nothing h.status_is k.status_is p q
 
 -- mcheck7 -states
 states_end : (words : List (List ℕ)) (asked : States) (s t : Status) (old one two : Devices) → ShowsAll old → NoFaults old one
@@ -279,9 +239,7 @@ asked_alike words (Ok (AsksWhy asked)) s t old one two all none nothing h k =
 asked_alike words (Ok (AsksFamilies asked)) s t old one two all none nothing h k =
     families_end words asked.arch asked.files s t old one two all none nothing h k
 asked_alike words (Ok (AsksCheck asked)) s t old one two all none nothing h k = check_end words asked s t old one two all none nothing h k
-asked_alike words (Ok (AsksSum form End)) s t old one two all none nothing h k = sum_end form words s t old one two all none nothing h k
-asked_alike words (Ok (AsksSum form LeaveOut)) s t old one two all none nothing h k =
-    kept_end form words s t old one two all none nothing h k
+asked_alike words (Ok (AsksSum form wrong)) s t old one two all none nothing h k = sum_end wrong form words s t old one two all none nothing h k
 asked_alike words (Ok (AsksStates asked)) s t old one two all none nothing h k = states_end words asked s t old one two all none nothing h k
 asked_alike words (Ok (AsksLineTests asked)) s t old one two all none nothing h k = lined_end asked s t old one two all none nothing h k
 

@@ -8,7 +8,7 @@ use Rattle.arch_trait.specs.Writing.{Writing}
 use Rattle.litmus_text.specs.TestReading.{TestRead}
 use Rattle.text_parts.specs.ReadingSteps.{◌>>=◌}
 use Rattle.log_sum.specs.{declared.errors.LogError.LogError, Facts.Entry, LogGrammar.all_judged, SumText.sum_text, Representing.logs_text, Summed.StateSummed}
-use Rattle.msum7_files.specs.{Logs.{IsShort, IsTooMuch, IsWrongLog, AreWholeLogs}, SumEnds.{AreLogs, IsAtWord, log_error_at}}
+use Rattle.msum7_files.specs.{Logs.{IsShort, IsTooMuch, IsWrongLog, AreWholeLogs}, LogsRead.{AreLogs, IsAtWord, log_error_at}, declared.wrong_blocks.WrongBlocks.TheVariants.End}
 use Rattle.tests_from_files.specs.{declared.errors.TestFileError.TestFileError, declared.errors.TestFileKind.TestFileKind, TestSaid.test_said}
 use Rattle.tests_from_files.specs.declared.errors.TestFileKind.TheVariants as tests
 use Rattle.states_of_logs.specs.declared.states_end.StatesEnd.{StatesEnd}
@@ -108,8 +108,8 @@ pub record ReadFiles (arch : ArchName) (w : Writing) (files : Files) (words : Li
 -- a call stopped at a log
 pub record StoppedFiles (arch : ArchName) (w : Writing) (files : Files) (words : List (List ℕ)) (test first : ℕ) (s : Status) : Type 0 where
   pub tested : Tested arch w files words test
-  pub spot : Spot files words first
-  pub why : Why files first spot.before spot.name s
+  pub spot : Spot End files words first
+  pub why : Why End files first spot.before spot.name s
 
 abbrev DidFiles : ArchName → Writing → Files → List (List ℕ) → ℕ → ℕ → Status → Type 0
 DidFiles arch w files words test first s =
@@ -178,7 +178,7 @@ module _ (arch : ArchName) (w : Writing) (files : Files) (words : List (List ℕ
       let there = file_is old a.mid e a.files in
       inr (inr (inr record {
         tested = record { read = a.read; text = a.is_test.text; there = file_on old.files files (name_at words test) a.is_test.text e a.is_test.named; is = a.is_test.is };
-        spot = spot_of files words first a.holds.before a.holds.name file a.mid.files there a.holds.place_is a.holds.is.right_before;
+        spot = spot_of End files words first a.holds.before a.holds.name file a.mid.files there a.holds.place_is a.holds.is.right_before;
         why = inl record {
           log = a.holds.log;
           there = file_on a.mid.files files a.holds.name a.holds.log there a.holds.text;
@@ -193,7 +193,7 @@ module _ (arch : ArchName) (w : Writing) (files : Files) (words : List (List ℕ
       let there = file_is old a.mid e a.files in
       inr (inr (inr record {
         tested = record { read = a.read; text = a.is_test.text; there = file_on old.files files (name_at words test) a.is_test.text e a.is_test.named; is = a.is_test.is };
-        spot = spot_of files words first a.holds.before a.holds.name file a.mid.files there a.holds.place_is a.holds.is.right_before;
+        spot = spot_of End files words first a.holds.before a.holds.name file a.mid.files there a.holds.place_is a.holds.is.right_before;
         why = inr (inl record {
           log = a.holds.log;
           there = file_on a.mid.files files a.holds.name a.holds.log there a.holds.text;
@@ -212,7 +212,7 @@ module _ (arch : ArchName) (w : Writing) (files : Files) (words : List (List ℕ
       let there = file_is old a.mid e a.files in
       inr (inr (inr record {
         tested = record { read = a.read; text = a.is_test.text; there = file_on old.files files (name_at words test) a.is_test.text e a.is_test.named; is = a.is_test.is };
-        spot = spot_of files words first a.holds.before a.holds.name word a.mid.files there a.holds.place_is a.holds.right_before;
+        spot = spot_of End files words first a.holds.before a.holds.name word a.mid.files there a.holds.place_is a.holds.right_before;
         why = inr (inr record {
           there = none_there a.mid a.holds.name (Rose a.mid.faults new.faults) there a.holds.absent;
           status = ap statuses.NoFile a.holds.place_is.count;
@@ -221,7 +221,7 @@ module _ (arch : ArchName) (w : Writing) (files : Files) (words : List (List ℕ
 
   read_or_stopped : (s t : Status) → ReadFiles arch w files words test first s → StoppedFiles arch w files words test first t → ⊥
   read_or_stopped s t h k =
-      none_before files words first k.spot t h.logs k.why
+      none_before End files words first k.spot t h.logs k.why
       (omega (arith, h.all, slice_get_within words (first + length k.spot.before) k.spot.name k.spot.word)) h.are
       (whole_logs h.tested.read.name h.logs h.states h.summed)
 
@@ -233,7 +233,7 @@ module _ (arch : ArchName) (w : Writing) (files : Files) (words : List (List ℕ
   did_same s t (inr (inr h)) (inl k) = absurd (never_tested arch w files words test t k h.tested)
   did_same s t (inr (inl h)) (inr (inr k)) = absurd (read_or_stopped s t h k)
   did_same s t (inr (inr h)) (inr (inl k)) = absurd (read_or_stopped t s k h)
-  did_same s t (inr (inr h)) (inr (inr k)) = stops_same files words first h.spot k.spot s t h.why k.why
+  did_same s t (inr (inr h)) (inr (inr k)) = stops_same End files words first h.spot k.spot s t h.why k.why
   did_same s t (inr (inl h)) (inr (inl k)) =
       let logs : h.logs ≡ k.logs =
       same_list h.logs k.logs (omega (arith, h.all, k.all))
@@ -278,7 +278,7 @@ pub record LongInput (arch : ArchName) (w : Writing) (files : Files) (words : Li
   pub tested : Tested arch w files words test
   pub bytes : List ℕ
   pub line : ℕ
-  pub is : IsTooMuch [] all bytes line
+  pub is : IsTooMuch End [] all bytes line
   pub status : s ≡ statuses.BadText None line texts.TooMuch
 
 abbrev DidInput : ArchName → Writing → Files → List (List ℕ) → ℕ → List ℕ → Status → Type 0
@@ -341,22 +341,22 @@ module _ (arch : ArchName) (w : Writing) (files : Files) (words : List (List ℕ
       )))
   input_ended old new (ends.Wrong None line (kinds.Log kind)) e f none sound safe h =
       let a = h.0 in
-      let text : all ≡ a.holds.log = text_on old.input.left all a.holds.log f a.holds.text in
+      let text : all ≡ a.holds.0.log = text_on old.input.left all a.holds.0.log f a.holds.0.text in
       inr (inr (inr (inl record {
         tested = record { read = a.read; text = a.is_test.text; there = file_on old.shelf.files files (name_at words test) a.is_test.text e a.is_test.named; is = a.is_test.is };
-        bytes = a.holds.bytes;
+        bytes = a.holds.0.bytes;
         error = log_error_at line kind;
-        is = subst (λ (t : List ℕ). IsWrongLog [] t a.holds.bytes (log_error_at line kind)) (sym text) a.holds.is;
+        is = subst (λ (t : List ℕ). IsWrongLog [] t a.holds.0.bytes (log_error_at line kind)) (sym text) a.holds.0.is;
         status = refl;
       })))
   input_ended old new (ends.TooMuch None line) e f none sound safe h =
       let a = h.0 in
-      let text : all ≡ a.holds.log = text_on old.input.left all a.holds.log f a.holds.text in
+      let text : all ≡ a.holds.0.log = text_on old.input.left all a.holds.0.log f a.holds.0.text in
       inr (inr (inr (inr record {
         tested = record { read = a.read; text = a.is_test.text; there = file_on old.shelf.files files (name_at words test) a.is_test.text e a.is_test.named; is = a.is_test.is };
-        bytes = a.holds.bytes;
+        bytes = a.holds.0.bytes;
         line = line;
-        is = subst (λ (t : List ℕ). IsTooMuch [] t a.holds.bytes line) (sym text) a.holds.is;
+        is = subst (λ (t : List ℕ). IsTooMuch End [] t a.holds.0.bytes line) (sym text) a.holds.0.is;
         status = refl;
       })))
   input_ended old new (ends.NoFile word) e f none sound safe h =
@@ -372,7 +372,7 @@ module _ (arch : ArchName) (w : Writing) (files : Files) (words : List (List ℕ
     where
       ok_err : (r : Result (List ℕ) LogError) (text : List ℕ) (error : LogError) → r ≡ Ok text → r ≡ Err error → ⊥
       ok_err r text error p q = cc (p, q)
-  read_only s t h (inr k) = omega (arith, h.short, long_log [] all k.bytes k.line k.is)
+  read_only s t h (inr k) = omega (arith, h.short, long_log End [] all k.bytes k.line k.is)
 
   inputs_same : (s t : Status) → DidInput arch w files words test all s → DidInput arch w files words test all t → s ≡ t
   inputs_same s t (inl h) (inl k) = untested_same arch w files words test s t h k
@@ -384,8 +384,8 @@ module _ (arch : ArchName) (w : Writing) (files : Files) (words : List (List ℕ
   inputs_same s t (inr (inr (inr h))) (inl k) = absurd (never_tested arch w files words test t k h.tested)
   inputs_same s t (inr (inl h)) (inr (inr k)) = absurd (read_only s t h k)
   inputs_same s t (inr (inr h)) (inr (inl k)) = absurd (read_only t s k h)
-  inputs_same s t (inr (inr (inl h))) (inr (inr (inr k))) = absurd (wrong_long [] all h.bytes k.bytes h.error k.line h.is k.is)
-  inputs_same s t (inr (inr (inr h))) (inr (inr (inl k))) = absurd (wrong_long [] all k.bytes h.bytes k.error h.line k.is h.is)
+  inputs_same s t (inr (inr (inl h))) (inr (inr (inr k))) = absurd (wrong_long End [] all h.bytes k.bytes h.error k.line h.is k.is)
+  inputs_same s t (inr (inr (inr h))) (inr (inr (inl k))) = absurd (wrong_long End [] all k.bytes h.bytes k.error h.line k.is h.is)
   inputs_same s t (inr (inr (inl h))) (inr (inr (inl k))) =
       let error : h.error ≡ k.error = same_error (logs_text (all ∷ [])) h.error k.error (h.is.wrong []) (k.is.wrong []) in
       h.status ∙ ap (λ (x : LogError). statuses.BadText None x.line (texts.Log x.kind)) error ∙ sym k.status
@@ -393,7 +393,7 @@ module _ (arch : ArchName) (w : Writing) (files : Files) (words : List (List ℕ
       same_error : (r : Result (List ℕ) LogError) (x y : LogError) → r ≡ Err x → r ≡ Err y → x ≡ y
       same_error r x y p q = cc (p, q)
   inputs_same s t (inr (inr (inr h))) (inr (inr (inr k))) =
-      h.status ∙ ap (λ (n : ℕ). statuses.BadText None n texts.TooMuch) (same_line [] all h.bytes k.bytes h.line k.line h.is k.is) ∙ sym k.status
+      h.status ∙ ap (λ (n : ℕ). statuses.BadText None n texts.TooMuch) (same_line End [] all h.bytes k.bytes h.line k.line h.is k.is) ∙ sym k.status
   inputs_same s t (inr (inl h)) (inr (inl k)) =
       let read : h.tested.read ≡ k.tested.read = same_read arch w files words test h.tested k.tested in
       h.status

@@ -1,4 +1,4 @@
--- The lines of blocks that were left out, as they are sent one after another.
+-- The lines of blocks that were skipped, as they are sent one after another.
 use Rattle.std.proofs.Common.{◌≡◌, ℕ, ◌+◌, ◌<◌, ◌≤◌, List, [], ◌∷◌, ◌++◌, ap, ◌∙◌, arith, length, get_or, take, refl, sym, subst}
 use Rattle.std.proofs.lemmas.List.{take_all}
 use Rattle.std.proofs.lemmas.{Bool.Decides.{nat_tests}, Option.{slice_get_past}}
@@ -30,7 +30,7 @@ pub no_blocks : (sent blocks : List SkippedBlock) → sent ≡ blocks → true �
 no_blocks [] blocks same e = sym same
 no_blocks (block ∷ sent) blocks same e = absurd (grind (arith, nat_tests, e))
 
--- an outcome that is done and left out nothing has no line
+-- an outcome that is done and skipped nothing has no line
 pub silent_lines : (words : List (List ℕ)) (first : Option ℕ) (blocks : List SkippedBlock) (status : Status) → blocks ≡ [] → status ≡ Done
     → report_lines words first (map skipped_view blocks) status ≡ []
 silent_lines words first blocks status none done =

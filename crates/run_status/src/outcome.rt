@@ -9,19 +9,19 @@ use diy_io::{Failed, Page, Sink, Words};
 use log_sum::{LogError, LogKind, SkippedBlock};
 use std::alloc::Global;
 
-/// How a call of `run` ended, and what it left out.
+/// How a call of `run` ended, and what it skipped.
 #[derive(Drop)]
 pub struct Outcome {
     /// How it ended.
     pub status: Status,
     /// The index of the argument that names the first log, or `None` if the log is the input.
     pub first_log: Option<usize>,
-    /// The blocks of the logs that were left out of the sum, in order.
+    /// The blocks of the logs that were skipped of the sum, in order.
     pub skipped: Vec<SkippedBlock>,
 }
 
 impl Outcome {
-    /// The outcome of a call that left out no block. It takes no memory.
+    /// The outcome of a call that skipped no block. It takes no memory.
     pub fn of(alloc: Global, status: Status) -> Outcome
         ensures status { result.status ≡ status }
         ensures input { result.first_log ≡ None }
@@ -35,7 +35,7 @@ impl Outcome {
     }
 }
 
-/// Writes the lines of the blocks that were left out, and then the line of the status, if it has one. If the sink fails, it
+/// Writes the lines of the blocks that were skipped, and then the line of the status, if it has one. If the sink fails, it
 /// has taken a prefix of these lines.
 #[inline(never)]
 pub fn report<E: Sink>(outcome: &Outcome, words: &Words, err: &mut E) -> Result<(), Failed>
@@ -72,7 +72,7 @@ fn send_lines<E: Sink>(
     send_line(outcome.status, words, page, err)
 }
 
-/// Sends the lines of blocks that were left out.
+/// Sends the lines of blocks that were skipped.
 fn send_blocks<E: Sink>(
     blocks: &[SkippedBlock],
     first: Option<usize>,
@@ -88,7 +88,7 @@ fn send_blocks<E: Sink>(
     Ok(())
 }
 
-/// Sends the line of a block that was left out.
+/// Sends the line of a block that was skipped.
 fn send_block<E: Sink>(
     block: SkippedBlock,
     first: Option<usize>,
@@ -114,7 +114,7 @@ fn send_error<E: Sink>(
     send_skipped(error.kind, page, err)
 }
 
-/// Sends what is wrong with a block that was left out, and the end of the line.
+/// Sends what is wrong with a block that was skipped, and the end of the line.
 fn send_skipped<E: Sink>(kind: LogKind, page: &mut Page, err: &mut E) -> Result<(), Failed>
     ensures { Sends (E.seen err.old) page.old (E.seen err.new) page.new (line_end (codes "skipped " ++ log_text kind)) result }
 {

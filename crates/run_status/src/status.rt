@@ -13,7 +13,7 @@ use test_maker::Refusal;
 pub enum Status {
     /// Everything that was asked for is written.
     Done,
-    /// The sum is written, but blocks with an error were left out of it, with `-skip`.
+    /// The sum is written, but blocks with an error were skipped, with `-skip`.
     Skipped,
     /// The edges make no cycle of the architecture, the cycle has no test of the kind that was asked for,
     /// or nothing can be shown of it with `-why`.
@@ -91,7 +91,7 @@ pub enum TextKind {
 impl Status {
     /// The exit status of the program: 0 if everything is done, 1 for a refusal, an error in a text, a file that doesn't
     /// exist and logs without a block of the test, 2 for a usage error, 3 if a device failed, 4 if the tool ran out of
-    /// memory, and 5 if all is done but for blocks of logs that were left out.
+    /// memory, and 5 if all is done but for blocks of logs that were skipped.
     pub fn exit(self) -> u8
         ensures { result ≡ exit_of self }
     {

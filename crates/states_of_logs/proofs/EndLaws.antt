@@ -1,15 +1,15 @@
 -- How the judging of states ends, once the test was read.
-use Rattle.std.proofs.Common.{◌≡◌, ℕ, List, [], Some, None, inr, refl}
-use Rattle.diy_io.specs.{Shelf.ShelfSeen, Wrote.{SinkSeen, WroteAll, WrotePart}, Opened.name_at}
+use Rattle.std.proofs.Common.{◌≡◌, ℕ, List, [], ◌∷◌, Some, None, inr, refl}
+use Rattle.diy_io.specs.{Taken.SourceSeen, Shelf.ShelfSeen, Wrote.{SinkSeen, WroteAll, WrotePart}, Opened.name_at}
 use Rattle.relax_edges.specs.declared.kinds.ArchName.{ArchName}
 use Rattle.arch_trait.specs.{PlaceNames.number_in, Writing.Writing}
 use Rattle.litmus_text.specs.TestReading.{TestRead}
 use Rattle.log_sum.specs.Representing.{Kept, Represents}
 use Rattle.tests_from_files.specs.{FilesRead.FileIs, TestSaid.test_said}
-use Rattle.msum7_files.specs.{declared.logs_fault.LogsFault.LogsFault, LogsFed.{LogFilesRead, LogFilesUnread, LogInputRead}}
+use Rattle.msum7_files.specs.{declared.faults.LogsFault.LogsFault, LogsRead.{LogFilesRead, LogFilesUnread, LogRead}, declared.wrong_blocks.WrongBlocks.TheVariants.End}
 use Rattle.states_of_logs.specs.{declared.states_end.StatesEnd.StatesEnd, JudgingSteps.{StatesTo, log_end}}
 use Rattle.states_of_logs.specs.{StatesEnds.{AfterTest, FilesJudged, InputJudged, StatesSeen}}
-use Rattle.msum7_files.specs.declared.logs_fault.LogsFault.TheVariants as logs
+use Rattle.msum7_files.specs.declared.faults.LogsFault.TheVariants as logs
 use Rattle.states_of_logs.specs.declared.states_end.StatesEnd.TheVariants as ends
 use Rattle.states_of_logs.proofs.StatesLaws.{none_are, states_said}
 
@@ -20,9 +20,7 @@ files_hold old new words first P Q h more =
     record { logs = h.logs; all = h.all; are = h.are; no_fault = h.no_fault; took = h.took; ends = h.ends; holds = more h.logs h.holds }
 
 -- the same for the input
-input_holds : (old new : StatesSeen) (P Q : List (List ℕ) → Type 0) → LogInputRead old.input new.input P
-    → ((logs : List (List ℕ)) → P logs → Q logs)
-    → LogInputRead old.input new.input Q
+input_holds : (old new : SourceSeen) (P Q : List ℕ → Type 0) → LogRead old new P → ((log : List ℕ) → P log → Q log) → LogRead old new Q
 input_holds old new P Q h more = record {
   log = h.log;
   text = h.text;
@@ -31,7 +29,7 @@ input_holds old new P Q h more = record {
   short = h.short;
   taken = h.taken;
   no_fault = h.no_fault;
-  holds = more _ h.holds;
+  holds = more h.log h.holds;
 }
 
 -- the logs in files were read
@@ -85,7 +83,7 @@ after_test arch w old mid words test read Holds is same holds = record { read = 
 -- the logs in files weren't all read
 pub files_unread : (arch : ArchName) (w : Writing) (old mid new : ShelfSeen) (words : List (List ℕ)) (test first : ℕ) (a : SinkSeen) (read : TestRead)
     (fault : LogsFault) → FileIs (test_said arch w) old mid (name_at words test) read → mid.files ≡ old.files
-    → LogFilesUnread mid new words first fault → FilesJudged arch w old new words test first a a (log_end fault)
+    → LogFilesUnread End mid new words first fault → FilesJudged arch w old new words test first a a (log_end fault)
 files_unread arch w old mid new words test first a read (logs.Wrong (Some file) line kind) is same h =
     (after_test arch w old mid words test read _ is same h, refl)
 files_unread arch w old mid new words test first a read (logs.TooMuch (Some file) line) is same h =
@@ -102,28 +100,28 @@ files_unread arch w old mid new words test first a read logs.InputFault is same 
 -- the input was read
 pub input_judged : (arch : ArchName) (w : Writing) (old new : StatesSeen) (words : List (List ℕ)) (test : ℕ) (read : TestRead) (kept : Kept) (end : StatesEnd)
     → FileIs (test_said arch w) old.shelf new.shelf (name_at words test) read
-    → LogInputRead old.input new.input (λ logs. Represents kept logs [])
+    → LogRead old.input new.input (λ log. Represents kept (log ∷ []) [])
     → StatesTo (number_in w.registers) read kept test old.out new.out end → InputJudged arch w old new words test end
 input_judged arch w old new words test read kept ends.Done is fed h = record {
   read = read;
   is_test = is;
   holds =
-      input_holds old new _ _ fed
-      (λ (logs : List (List ℕ)) (f : Represents kept logs []). states_said (number_in w.registers) read kept (WroteAll old.out new.out) logs h f);
+      input_holds old.input new.input _ _ fed
+      (λ (log : List ℕ) (f : Represents kept (log ∷ []) []). states_said (number_in w.registers) read kept (WroteAll old.out new.out) (log ∷ []) h f);
 }
 input_judged arch w old new words test read kept ends.OutFault is fed h = record {
   read = read;
   is_test = is;
   holds =
-      input_holds old new _ _ fed
-      (λ (logs : List (List ℕ)) (f : Represents kept logs []). states_said (number_in w.registers) read kept (WrotePart old.out new.out) logs h f);
+      input_holds old.input new.input _ _ fed
+      (λ (log : List ℕ) (f : Represents kept (log ∷ []) []). states_said (number_in w.registers) read kept (WrotePart old.out new.out) (log ∷ []) h f);
 }
 input_judged arch w old new words test read kept (ends.NoBlock word) is fed h = (
   h.0,
   record {
     read = read;
     is_test = is;
-    holds = input_holds old new _ _ fed (λ (logs : List (List ℕ)) (f : Represents kept logs []). none_are read.name kept logs h.1 f);
+    holds = input_holds old.input new.input _ _ fed (λ (log : List ℕ) (f : Represents kept (log ∷ []) []). none_are read.name kept (log ∷ []) h.1 f);
   },
   h.2,
 )

@@ -9,13 +9,13 @@ use Rattle.log_sum.specs.{KeptStates.states_kept, Representing.Kept, Summed.Stat
 use Rattle.tests_from_files.specs.{declared.errors.FileFault.FileFault, declared.errors.NoTest.NoTest}
 use Rattle.tests_from_files.specs.{declared.errors.TestFileKind.TestFileKind}
 use Rattle.tests_from_files.specs.{FilesRead.{FileFailed, FileIs, FileFaulty}, TestSaid.test_said}
-use Rattle.msum7_files.specs.declared.logs_fault.LogsFault.{LogsFault}
+use Rattle.msum7_files.specs.declared.faults.LogsFault.{LogsFault}
 use Rattle.judged_states.specs.{JudgedStates.{AreJudged, StateJudged}, JudgedText.judged_text}
 use Rattle.states_of_logs.specs.declared.{states_end.StatesEnd.StatesEnd, states_end.StatesKind.StatesKind, test_file.TestFault.TestFault}
 use Rattle.tests_from_files.specs.declared.errors.FileFault.TheVariants as reads
 use Rattle.tests_from_files.specs.declared.errors.NoTest.TheVariants as no_tests
 use Rattle.tests_from_files.specs.declared.errors.TestFileKind.TheVariants as tests
-use Rattle.msum7_files.specs.declared.logs_fault.LogsFault.TheVariants as logs
+use Rattle.msum7_files.specs.declared.faults.LogsFault.TheVariants as logs
 use Rattle.states_of_logs.specs.declared.states_end.StatesEnd.TheVariants as ends
 use Rattle.states_of_logs.specs.declared.states_end.StatesKind.TheVariants as kinds
 use Rattle.states_of_logs.specs.declared.test_file.TestFault.TheVariants as faults

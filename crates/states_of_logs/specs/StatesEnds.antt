@@ -1,14 +1,15 @@
 -- How a call that judges the states of logs ended, and what it did to its devices.
 -- Source: own.
-use Rattle.std.specs.Prelude.{◌≡◌, ◌⊎◌, ℕ, List, [], None, Some, Ok}
+use Rattle.std.specs.Prelude.{◌≡◌, ◌⊎◌, ℕ, List, [], ◌∷◌, None, Some, Ok}
 use Rattle.diy_io.specs.{Shelf.ShelfSeen, Taken.SourceSeen, Wrote.{SinkSeen, WroteAll, WrotePart}, Opened.{FileAbsent, name_at}}
 use Rattle.relax_edges.specs.declared.kinds.ArchName.{ArchName}
 use Rattle.arch_trait.specs.{PlaceNames.number_in, Writing.Writing}
 use Rattle.litmus_text.specs.TestReading.{TestRead}
 use Rattle.tests_from_files.specs.{declared.errors.TestFileError.TestFileError, declared.errors.TestFileKind.TestFileKind}
 use Rattle.tests_from_files.specs.{FilesRead.{FileFailed, FileFaulty, FileIs}, TestSaid.test_said}
-use Rattle.msum7_files.specs.{Logs.ReadFailed, LogsFed.{LogFilesRead, LogInputRead}}
-use Rattle.msum7_files.specs.SumEnds.{FileTooMuch, InputTooMuch, InputWrong, LogFileMissing, LogFileWrong, SumShelfFailed, log_error_at}
+use Rattle.msum7_files.specs.LogsRead.{LogFilesRead, LogFilesUnread, LogInputUnread, LogRead}
+use Rattle.msum7_files.specs.declared.wrong_blocks.WrongBlocks.TheVariants.{End}
+use Rattle.msum7_files.specs.declared.faults.LogsFault.TheVariants as logs
 use Rattle.states_of_logs.specs.{declared.states_end.StatesEnd.StatesEnd, StatesSummed.{StatesSaid, states_in_logs}}
 use Rattle.tests_from_files.specs.declared.errors.TestFileKind.TheVariants as tests
 use Rattle.states_of_logs.specs.declared.states_end.StatesEnd.TheVariants as ends
@@ -57,23 +58,21 @@ FilesJudged arch w old new words test first before after (ends.Wrong (Some file)
 FilesJudged arch w old new words test first before after (ends.Wrong (Some file) line kinds.WrongArch) =
     TestIsWrong arch w old new words test file (test_error_at line tests.WrongArch) × (after ≡ before)
 FilesJudged arch w old new words test first before after (ends.Wrong (Some file) line (kinds.Log kind)) =
-    AfterTest arch w old words test (λ read mid. LogFileWrong mid new words first file (log_error_at line kind)) × (after ≡ before)
+    AfterTest arch w old words test (λ read mid. LogFilesUnread End mid new words first (logs.Wrong (Some file) line kind)) × (after ≡ before)
 FilesJudged arch w old new words test first before after (ends.TooMuch (Some file) line) =
-    AfterTest arch w old words test (λ read mid. FileTooMuch mid new words first file line) × (after ≡ before)
+    AfterTest arch w old words test (λ read mid. LogFilesUnread End mid new words first (logs.TooMuch (Some file) line)) × (after ≡ before)
 FilesJudged arch w old new words test first before after (ends.NoFile word) =
     (TestIsAbsent old new words test word
-    ⊎ AfterTest arch w old words test (λ read mid. LogFileMissing mid new words first word)) × (after ≡ before)
+    ⊎ AfterTest arch w old words test (λ read mid. LogFilesUnread End mid new words first (logs.NoFile word))) × (after ≡ before)
 FilesJudged arch w old new words test first before after ends.ShelfFault =
     (FileFailed old new (name_at words test)
-    ⊎ AfterTest arch w old words test (λ read mid. SumShelfFailed mid new words first)) × (after ≡ before)
+    ⊎ AfterTest arch w old words test (λ read mid. LogFilesUnread End mid new words first logs.ShelfFault)) × (after ≡ before)
 FilesJudged arch w old new words test first before after (ends.NoBlock word) =
     (word ≡ test)
     × AfterTest arch w old words test (λ read mid. LogFilesRead mid new words first (λ logs. states_in_logs read.name logs ≡ Ok None))
     × (after ≡ before)
 FilesJudged arch w old new words test first before after ends.NoMemory = after ≡ before
-FilesJudged arch w old new words test first before after ends.InputFault = ⊥
-FilesJudged arch w old new words test first before after (ends.Wrong None line kind) = ⊥
-FilesJudged arch w old new words test first before after (ends.TooMuch None line) = ⊥
+FilesJudged arch w old new words test first before after _ = ⊥
 
 -- the file of the test is this test, in the same way, and this holds of the test; no other file was opened
 pub record TestAlone (arch : ArchName) (w : Writing) (old new : ShelfSeen) (words : List (List ℕ)) (test : ℕ)
@@ -92,7 +91,7 @@ pub record StatesSeen : Type 0 where
 abbrev pub InputStatesSaid : ArchName → Writing → StatesSeen → StatesSeen → List (List ℕ) → ℕ → (List ℕ → Type 0) → Type 0
 InputStatesSaid arch w old new words test done =
     TestAlone arch w old.shelf new.shelf words test
-    (λ read. LogInputRead old.input new.input (λ logs. StatesSaid (number_in w.registers) read logs done))
+    (λ read. LogRead old.input new.input (λ log. StatesSaid (number_in w.registers) read (log ∷ []) done))
 
 -- nothing was read from the input, and nothing was written
 abbrev pub OnlyShelf : StatesSeen → StatesSeen → Type 0
@@ -107,20 +106,17 @@ InputJudged arch w old new words test (ends.Wrong (Some file) line (kinds.Test k
 InputJudged arch w old new words test (ends.Wrong (Some file) line kinds.WrongArch) =
     TestIsWrong arch w old.shelf new.shelf words test file (test_error_at line tests.WrongArch) × OnlyShelf old new
 InputJudged arch w old new words test (ends.Wrong None line (kinds.Log kind)) =
-    TestAlone arch w old.shelf new.shelf words test (λ read. InputWrong old.input new.input (log_error_at line kind)) × (new.out ≡ old.out)
+    TestAlone arch w old.shelf new.shelf words test (λ read. LogInputUnread End old.input new.input (logs.Wrong None line kind)) × (new.out ≡ old.out)
 InputJudged arch w old new words test (ends.TooMuch None line) =
-    TestAlone arch w old.shelf new.shelf words test (λ read. InputTooMuch old.input new.input line) × (new.out ≡ old.out)
+    TestAlone arch w old.shelf new.shelf words test (λ read. LogInputUnread End old.input new.input (logs.TooMuch None line)) × (new.out ≡ old.out)
 InputJudged arch w old new words test (ends.NoFile word) = TestIsAbsent old.shelf new.shelf words test word × OnlyShelf old new
 InputJudged arch w old new words test ends.ShelfFault = FileFailed old.shelf new.shelf (name_at words test) × OnlyShelf old new
 InputJudged arch w old new words test ends.InputFault =
-    TestAlone arch w old.shelf new.shelf words test (λ read. ReadFailed old.input new.input []) × (new.out ≡ old.out)
+    TestAlone arch w old.shelf new.shelf words test (λ read. LogInputUnread End old.input new.input logs.InputFault) × (new.out ≡ old.out)
 InputJudged arch w old new words test (ends.NoBlock word) =
     (word ≡ test)
     × TestAlone arch w old.shelf new.shelf words test
-    (λ read. LogInputRead old.input new.input (λ logs. states_in_logs read.name logs ≡ Ok None))
+    (λ read. LogRead old.input new.input (λ log. states_in_logs read.name (log ∷ []) ≡ Ok None))
     × (new.out ≡ old.out)
 InputJudged arch w old new words test ends.NoMemory = new.out ≡ old.out
-InputJudged arch w old new words test (ends.Wrong (Some file) line (kinds.Log kind)) = ⊥
-InputJudged arch w old new words test (ends.Wrong None line (kinds.Test kind)) = ⊥
-InputJudged arch w old new words test (ends.Wrong None line kinds.WrongArch) = ⊥
-InputJudged arch w old new words test (ends.TooMuch (Some file) line) = ⊥
+InputJudged arch w old new words test _ = ⊥

@@ -1,56 +1,14 @@
--- `read_file` reads the open file to its end, or until an error is seen, and feeds what it reads.
-use Rattle.std.proofs.{Common.{take, refl, arith, ◌∙◌}, lemmas.Result.err_from_is_err_and}
-use Rattle.msum7_files.specs.LogFiles.{log_seen}
-use Rattle.msum7_files.proofs.{FeedingLaws.{reads_nothing, reads_more, reads_part, reads_failed, short_piece}, FileLaws.{gave_took, gave_whole, gave_mode, gave_more}}
+-- `read_file` opens a file, feeds it and closes it.
+use Rattle.msum7_files.proofs.FilesLaws.{opened_fed, opened_refused}
 use Rattle.msum7_files.proofs.files.read_file.Goals as goal
 
-pub loop-count-init : goal.loop-count-init
-loop-count-init g c = record {
-  read = λ logs reads. reads_nothing _ c.args.feeding.now logs reads;
-  mode = c.requires.reading;
-  files = refl;
-  opened = refl;
-  at_open = refl;
-}
+pub returns-in-Ok-feed_open-clause-read : goal.returns-in-Ok-feed_open-clause-read
+returns-in-Ok-feed_open-clause-read g c = λ logs fed.
+    opened_fed _ (g.H.Shelf.seen c.open_file.new.self) (g.H.Shelf.seen c.feed_open.new.shelf) (g.S.LogSummer.is_fed c.feed_open.new.summer) logs c.args.name.now
+    c.in-Ok.ensures.ok (c.in-Ok-feed_open.ensures.read logs fed) c.feed_open.ensures.opened
 
-pub returns-then-count-eq0-clause-read : goal.returns-then-count-eq0-clause-read
-returns-then-count-eq0-clause-read g c = λ logs reads.
-    gave_whole _ (g.H.Shelf.seen c.loop-count.shelf) (g.H.Shelf.seen c.read.new.self) c.loop-count.feeding logs c.read.new.buf c.in_ok-count.count
-    (c.loop-count.invariant.read logs reads) c.in_ok-count.ensures.bound c.in_ok-count.ensures.ok c.if-count-eq0.true (omega arith)
-
-pub returns-in_err-count-clause-read : goal.returns-in_err-count-clause-read
-returns-in_err-count-clause-read g c = λ logs reads.
-    let p = err_from_is_err_and c.from_residual.result c.from_residual.ensures.1 in
-    rw (p.1, p.2)
-    (reads_failed _ (log_seen (g.H.Shelf.seen c.loop-count.shelf)) (log_seen (g.H.Shelf.seen c.read.new.self))
-    c.loop-count.feeding logs (c.loop-count.invariant.read logs reads) c.loop-count.feeding.in_range
-    c.in_err-count.ensures.failed.counts.taken c.in_err-count.ensures.failed.counts.ends c.in_err-count.ensures.failed.faulted.fault c.in_err-count.ensures.failed.faulted.never_falls)
-
-pub loop-count-preserved : goal.loop-count-preserved
-loop-count-preserved g c = record {
-  read = λ logs reads.
-      let so_far = c.loop-count.invariant.read logs reads in
-      reads_more _ (log_seen (g.H.Shelf.seen c.loop-count.shelf)) (log_seen (g.H.Shelf.seen c.read.new.self)) c.loop-count.feeding c.feed.new.self logs
-      (take c.in_ok-count.count c.read.new.buf) so_far
-      (gave_took _ _ _ _ c.in_ok-count.ensures.ok)
-      (gave_more _ _ c.read.new.buf c.in_ok-count.count _ c.in_ok-count.ensures.ok c.in_ok-count.ensures.bound c.if-count-eq0.false)
-      c.in_ok-count.ensures.ok.no_fault
-      (c.in_ok-feed.ensures.fed logs so_far.bytes so_far.reads);
-  mode = gave_mode _ _ _ _ c.in_ok-count.ensures.ok;
-  files = c.in_ok-count.ensures.ok.files ∙ c.loop-count.invariant.files;
-  opened = c.in_ok-count.ensures.ok.opened ∙ c.loop-count.invariant.opened;
-  at_open = c.in_ok-count.ensures.ok.at_open ∙ c.loop-count.invariant.at_open;
-}
-
-pub returns-in_err-feed-clause-read : goal.returns-in_err-feed-clause-read
-returns-in_err-feed-clause-read g c = λ logs reads.
-    let p = err_from_is_err_and c.from_residual-in_err-feed.result c.from_residual-in_err-feed.ensures.1 in
-    let so_far = c.loop-count.invariant.read logs reads in
-    rw (p.1, p.2)
-    (reads_part _ (log_seen (g.H.Shelf.seen c.loop-count.shelf)) (log_seen (g.H.Shelf.seen c.read.new.self)) c.loop-count.feeding logs
-    (take c.in_ok-count.count c.read.new.buf) c.in_err-feed.field-0.0 so_far c.loop-count.feeding.in_range
-    (short_piece c.read.new.buf c.in_ok-count.count c.in_ok-count.ensures.bound (omega arith))
-    (gave_took _ _ _ _ c.in_ok-count.ensures.ok)
-    (gave_more _ _ c.read.new.buf c.in_ok-count.count _ c.in_ok-count.ensures.ok c.in_ok-count.ensures.bound c.if-count-eq0.false)
-    c.in_ok-count.ensures.ok.no_fault
-    (c.in_err-feed.ensures.fed logs so_far.bytes so_far.reads))
+pub returns-in-Err-clause-read : goal.returns-in-Err-clause-read
+returns-in-Err-clause-read g c = λ logs fed.
+    opened_refused g.S.LogSummer.wrong _ (g.H.Shelf.seen c.open_file.new.self) (g.H.Shelf.seen c.feed_open.new.shelf)
+    (g.S.LogSummer.is_fed c.feed_open.new.summer) logs c.args.name.now c.in-Err.fault
+    c.in-Ok.ensures.ok (c.in-Err.ensures.read logs fed) c.feed_open.ensures.opened c.feed_open.ensures.at_open
