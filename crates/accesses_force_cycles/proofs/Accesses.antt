@@ -1,7 +1,8 @@
 -- Where each event of a cycle and each load of an observer is among the accesses of the cycle's test, and that these are
 -- all its accesses.
-use Rattle.accesses_force_cycles.proofs.Vocabulary.{◌≡◌, ℕ, ◌+◌, ◌-◌, ◌<◌, List, length, map, Some, slice_get, refl, sym, ◌∙◌, ap, arith, slice_get_within, ObsMode, Edge, upto, by_less, length-map-upto, slice_get-map-upto, slice_get-upto, length-upto, external_count, thread_of, slot_of, events_in, write_count, WriteAt, Access, read, at_name, event_name, observed_locations, event_access, observer_accesses, cycle_accesses, GotFrom, got_from_list}
-use Rattle.accesses_force_cycles.proofs.{Lists.{slice_get-append_left, slice_get-append_right, image_of, got_map}, Resolves.Resolves}
+use Rattle.accesses_force_cycles.proofs.Vocabulary.{◌≡◌, ℕ, ◌+◌, ◌-◌, ◌<◌, List, length, map, Some, slice_get, refl, sym, ◌∙◌, ap, arith, slice_get_within, ObsMode, Edge, upto, by_less, length-map-upto, slice_get-map-upto, slice_get-upto, length-upto}
+use Rattle.accesses_force_cycles.proofs.Vocabulary.{external_count, thread_of, slot_of, events_in, write_count, WriteAt, Access, read, at_name, event_name, observed_locations, event_access, observer_accesses, cycle_accesses, GotFrom, got_from_list}
+use Rattle.accesses_force_cycles.proofs.{Lists.{slice_get-append_left, slice_get-append_right, image_of, got_map}, Resolves.LaysOut}
 
 -- a thread of the cycle has its events
 pub thread_accesses : (es : List Edge) (mode : ObsMode) (number : ℕ → ℕ) (k : ℕ) → k < external_count es → slice_get (cycle_accesses es mode number) k ≡ Some (map (event_access es number) (events_in es k))
@@ -14,7 +15,7 @@ unfolding cycle_accesses
 observer_thread es mode number k o h = grind (arith, slice_get-append_right, length-map-upto)
 
 -- event i is the access under its name
-pub event_at_name : (es : List Edge) (mode : ObsMode) (number : ℕ → ℕ) (i : ℕ) → Resolves es → i < length es → at_name (cycle_accesses es mode number) (event_name es i) ≡ Some (event_access es number i)
+pub event_at_name : (es : List Edge) (mode : ObsMode) (number : ℕ → ℕ) (i : ℕ) → LaysOut es → i < length es → at_name (cycle_accesses es mode number) (event_name es i) ≡ Some (event_access es number i)
 event_at_name es mode number i r h = grind (arith, thread_accesses, got_map)
 
 -- load number k of an observer, from 0, reads the value k + 1
@@ -48,7 +49,7 @@ pub record LoadAt (es : List Edge) (mode : ObsMode) (number : ℕ → ℕ) (name
   pub access_is : read (number spot) (name.access + 1) ≡ access
 
 -- each access is an event or an observer's load
-pub by_origin : {G : Type 0} (es : List Edge) (mode : ObsMode) (number : ℕ → ℕ) (name : WriteAt) (access : Access) → Resolves es → at_name (cycle_accesses es mode number) name ≡ Some access → (EventAt es number name access → G) → (LoadAt es mode number name access → G) → G
+pub by_origin : {G : Type 0} (es : List Edge) (mode : ObsMode) (number : ℕ → ℕ) (name : WriteAt) (access : Access) → LaysOut es → at_name (cycle_accesses es mode number) name ≡ Some access → (EventAt es number name access → G) → (LoadAt es mode number name access → G) → G
 by_origin {G} es mode number name access r h event load =
     by_less name.thread (external_count es)
     (λ l. event (as_event l))

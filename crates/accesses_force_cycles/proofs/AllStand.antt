@@ -1,8 +1,9 @@
 -- All edges of a cycle stand in a program that makes its accesses and marks and ties them as the edges say.
-use Rattle.accesses_force_cycles.proofs.Vocabulary.{◌≡◌, ℕ, suc, ◌+◌, ◌-◌, ◌<◌, ◌≤◌, List, [], ◌∷◌, length, map, Some, slice_get, refl, sym, ◌∙◌, ap, subst, arith, length-append, length-map, ObsMode, Edge, upto, length-map-upto, edge_at, external_count, event_after, events_in, after_below, write_count, WriteAt, Access, Visit, read, accesses_of, got_from, at_name, Execution, Program, visits_in, accesses_in, AccessAt, NamedAccess, access_at, IsEvent, Observes, HasEvents, AllStand, EdgeStands, Stands, Joins, event_name, IsNumbering, event_access, event_at, observer_accesses, observed_locations, cycle_accesses, got_from_list, accesses-count, MeetsCondition, AreFree, IsTiedUp, AllJoin}
+use Rattle.accesses_force_cycles.proofs.Vocabulary.{◌≡◌, ℕ, suc, ◌+◌, ◌-◌, ◌<◌, ◌≤◌, List, [], ◌∷◌, length, map, Some, slice_get, refl, sym, ◌∙◌, ap, subst, arith, length-append, length-map, ObsMode, Edge, upto, length-map-upto, edge_at, external_count}
+use Rattle.accesses_force_cycles.proofs.Vocabulary.{event_after, events_in, after_below, write_count, WriteAt, Access, Visit, read, accesses_of, got_from, at_name, Execution, Program, visits_in, accesses_in, AccessAt, NamedAccess, access_at, IsEvent}
+use Rattle.accesses_force_cycles.proofs.Vocabulary.{Observes, HasEvents, AllStand, EdgeStands, Stands, Joins, event_name, IsNumbering, event_access, event_at, observer_accesses, observed_locations, cycle_accesses, got_from_list, accesses-count}
+use Rattle.accesses_force_cycles.proofs.{Vocabulary.{MeetsCondition, AreFree, IsTiedUp, AllJoin}, Lists.{image_of, got_map}, Accesses.{thread_accesses, observer_thread, event_at_name}, EdgesJoin.edges_join, Resolves.{LaysOut, Resolves, EntersLast}}
 use Rattle.relax_edges.specs.declared.kinds.Dir.TheVariants as dirs
-use Rattle.accesses_force_cycles.proofs.{Lists.image_of, Lists.got_map, Accesses.thread_accesses, Accesses.observer_thread, Accesses.event_at_name}
-use Rattle.accesses_force_cycles.proofs.{EdgesJoin.edges_join, Resolves.Resolves, Resolves.EntersLast}
 
 -- a visit at a name gives the access at that name
 pub access_of_visit : (visits : List (List Visit)) (name : WriteAt) (visit : Visit) → at_name visits name ≡ Some visit → at_name (map accesses_of visits) name ≡ Some visit.access
@@ -22,7 +23,7 @@ visit_of_access visits name access h =
     record { visit = j.element; got = ap (λ o. got_from o name.access) i.got ∙ j.got; access_is = j.image }
 
 -- an event of a program that makes these accesses is the event's access
-pub is_event_at : (es : List Edge) (mode : ObsMode) (number : ℕ → ℕ) (p : Program) (x : Execution) (i : ℕ) (e : NamedAccess) → Resolves es → accesses_in p x ≡ cycle_accesses es mode number → i < length es → IsEvent es (visits_in p x) i e → access_at e ≡ event_at es number i
+pub is_event_at : (es : List Edge) (mode : ObsMode) (number : ℕ → ℕ) (p : Program) (x : Execution) (i : ℕ) (e : NamedAccess) → LaysOut es → accesses_in p x ≡ cycle_accesses es mode number → i < length es → IsEvent es (visits_in p x) i e → access_at e ≡ event_at es number i
 is_event_at es mode number p x i e r m h v = grind (arith, access_of_visit, event_at_name)
 
 -- free reads observe
@@ -42,7 +43,7 @@ loads_read es number l accesses j access e h =
     ap (λ c. c.dir) (sym w.image)
 
 -- a program that makes these accesses, tied up, has the events of the cycle
-pub has_events : (es : List Edge) (mode : ObsMode) (number : ℕ → ℕ) (p : Program) (x : Execution) → Resolves es → accesses_in p x ≡ cycle_accesses es mode number → IsTiedUp es p x → HasEvents es p x
+pub has_events : (es : List Edge) (mode : ObsMode) (number : ℕ → ℕ) (p : Program) (x : Execution) → LaysOut es → accesses_in p x ≡ cycle_accesses es mode number → IsTiedUp es p x → HasEvents es p x
 has_events es mode number p x r m f = record {
   threads = omega (arith, threads-count es mode number, accesses-count p x, ap length m);
   counts = λ k visits h g. counted k visits h g;
@@ -69,7 +70,7 @@ has_events es mode number p x r m f = record {
         loads_read es number i.element (accesses_of visits) j visit.access i.image (got_map (λ v. v.access) visits j visit q)
 
 -- an edge stands between its events in such a program, where it joins them
-joined_between : (es : List Edge) (mode : ObsMode) (number : ℕ → ℕ) (p : Program) (x : Execution) (i : ℕ) (e g : NamedAccess) → Resolves es
+joined_between : (es : List Edge) (mode : ObsMode) (number : ℕ → ℕ) (p : Program) (x : Execution) (i : ℕ) (e g : NamedAccess) → LaysOut es
     → accesses_in p x ≡ cycle_accesses es mode number → IsTiedUp es p x → i < length es → IsEvent es (visits_in p x) i e
     → IsEvent es (visits_in p x) (event_after es i) g
     → Joins (cycle_accesses es mode number) x (edge_at es i) (event_at es number i) (event_at es number (event_after es i))
@@ -84,14 +85,14 @@ joined_between es mode number p x i e g r m f h u v j = record {
 }
 
 -- all edges stand in such a program, where each joins its events
-pub joined_stand : (es : List Edge) (mode : ObsMode) (number : ℕ → ℕ) (p : Program) (x : Execution) → Resolves es → accesses_in p x ≡ cycle_accesses es mode number → AllJoin es mode number x → IsTiedUp es p x → AllStand es p x
+pub joined_stand : (es : List Edge) (mode : ObsMode) (number : ℕ → ℕ) (p : Program) (x : Execution) → LaysOut es → accesses_in p x ≡ cycle_accesses es mode number → AllJoin es mode number x → IsTiedUp es p x → AllStand es p x
 joined_stand es mode number p x r m j f = record {
   events = has_events es mode number p x r m f;
   stand = λ i e g h u v. joined_between es mode number p x i e g r m f h u v (j i h);
 }
 
 -- an edge stands in such a program, where it joins its events
-pub joined_edge : (es : List Edge) (mode : ObsMode) (number : ℕ → ℕ) (p : Program) (x : Execution) (i : ℕ) → Resolves es
+pub joined_edge : (es : List Edge) (mode : ObsMode) (number : ℕ → ℕ) (p : Program) (x : Execution) (i : ℕ) → LaysOut es
     → accesses_in p x ≡ cycle_accesses es mode number → IsTiedUp es p x → i < length es
     → Joins (cycle_accesses es mode number) x (edge_at es i) (event_at es number i) (event_at es number (event_after es i)) → EdgeStands es p x i
 joined_edge es mode number p x i r m f h j =
@@ -102,4 +103,4 @@ joined_edge es mode number p x i r m f h j =
 
 -- all edges stand in such a program, where the execution meets the condition
 pub all_stand : (es : List Edge) (mode : ObsMode) (number : ℕ → ℕ) (p : Program) (x : Execution) → Resolves es → EntersLast es mode → IsNumbering es number → accesses_in p x ≡ cycle_accesses es mode number → MeetsCondition es mode number x → IsTiedUp es p x → AllStand es p x
-all_stand es mode number p x r q n m c f = joined_stand es mode number p x r m (λ i h. edges_join es mode number x i r q n c h) f
+all_stand es mode number p x r q n m c f = joined_stand es mode number p x r.laid m (λ i h. edges_join es mode number x i r q n c h) f

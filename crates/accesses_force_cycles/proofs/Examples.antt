@@ -1,5 +1,6 @@
 -- The definitions tried on small cycles, by computing.
-use Rattle.accesses_force_cycles.proofs.Vocabulary.{◌≡◌, ℕ, List, [], ◌∷◌, Some, None, refl, Accept, Edge, pod, wse, wsi, fre, thread_of, slot_of, location_of, moves_before, events_in, value_of, way_place, write_count, write_at, is_observed, read, write, name, cycle_accesses, intended, location_order, location_numbered}
+use Rattle.accesses_force_cycles.proofs.Vocabulary.{◌≡◌, ℕ, List, [], ◌∷◌, Some, None, refl, Accept, Edge, pod, wse, wsi, fre, thread_of, slot_of, location_of, moves_before, events_in, value_of, way_place, write_count, write_at, is_observed, read, write}
+use Rattle.accesses_force_cycles.proofs.Vocabulary.{name, cycle_accesses, intended, location_order, location_numbered}
 use Rattle.relax_edges.specs.declared.kinds.Dir.TheVariants as dirs
 
 -- two threads that each write both of two locations, in opposite orders

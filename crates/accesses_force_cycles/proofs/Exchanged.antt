@@ -1,11 +1,13 @@
 -- Where an external edge enters an inner write of a location without an observer, the exchanged execution is coherent and
 -- has the reads and the final values of the intended one, and joins the events of all edges but this one.
-use Rattle.accesses_force_cycles.proofs.Vocabulary.{◌≡◌, ℕ, zero, suc, ◌+◌, ◌<◌, ◌≤◌, true, false, List, [], length, Some, slice_get, refl, sym, ◌∙◌, ap, subst, arith, add-one, ◌==◌, filter_map, option_and_then, cond-true, cond-false, eq-eqb, ne_eqb, slice_get_within, Dir, Same, Internal, External, Avoid, Edge, source_of, sd_of, reach_of, upto, by_same, by_less, unrank_upto, length-map-upto, length-upto, slice_get-upto, slice_get-map-upto, edge_at, kind_of, target_of, source_at, move_count, thread_of, location_of, event_after, event_before, by_after, after_below, before_below, after_before, value_of, write_count, is_observed, edge_into, WriteAt, Access, at_name, IsExecutionOf, IsOrderOf, Joins, CommunicatesBy, ComesBefore, Kind, event_name, MayFollow, IsCoherent, order_at, coherence_place, last_write, value_of_access, final_value, IsNumbering, event_access, event_at, cycle_accesses, ordered_write, location_order, location_numbered, intended, MeetsCondition, swapped, exchanged_value, exchanged_order, exchanged}
-use Rattle.accesses_force_cycles.proofs.{Lists.image_of, Numbering.{Numbers, numbering_onto, location_of_number}, Accesses.{EventAt, by_origin, event_at_name}}
-use Rattle.accesses_force_cycles.proofs.{IntendedOrders.{intended_order, placed_write}, IntendedExists.{values_follow, last_of_order, intended_meets}}
-use Rattle.accesses_force_cycles.proofs.{EdgesJoin.{intended_joins, reads_from, value_along}, Swaps.{swapped_here, swapped_before, rises_still, follows_still}, IntendedReads.{IsPlaced, placed, reads-count, intended_are_reads}}
-use Rattle.accesses_force_cycles.proofs.Rearranged.{Exchanges, order_under, place_under, order_under_is, last_under, empty_under}
-use Rattle.accesses_force_cycles.proofs.Resolves.{Resolves, InnerEntry, later_slot, written_by}
+use Rattle.accesses_force_cycles.proofs.Vocabulary.{◌≡◌, ℕ, zero, suc, ◌+◌, ◌<◌, ◌≤◌, true, false, List, [], length, Some, slice_get, refl, sym, ◌∙◌, ap, subst, arith, add-one, ◌==◌, filter_map, option_and_then, cond-true, cond-false, eq-eqb, ne_eqb}
+use Rattle.accesses_force_cycles.proofs.Vocabulary.{slice_get_within, Dir, Same, Internal, External, Avoid, Edge, source_of, sd_of, reach_of, upto, by_same, by_less, unrank_upto, length-map-upto, length-upto, slice_get-upto, slice_get-map-upto, edge_at}
+use Rattle.accesses_force_cycles.proofs.Vocabulary.{kind_of, target_of, source_at, move_count, thread_of, location_of, event_after, event_before, by_after, after_below, before_below, after_before, value_of, write_count, is_observed, edge_into, WriteAt}
+use Rattle.accesses_force_cycles.proofs.Vocabulary.{Access, at_name, IsExecutionOf, IsOrderOf, Joins, CommunicatesBy, ComesBefore, Kind, event_name, MayFollow, IsCoherent, order_at, coherence_place, last_write, value_of_access, final_value, IsNumbering}
+use Rattle.accesses_force_cycles.proofs.{Vocabulary.{event_access, event_at, cycle_accesses, ordered_write, location_order, location_numbered, intended, MeetsCondition, swapped, exchanged_value, exchanged_order, exchanged}, Lists.image_of}
+use Rattle.accesses_force_cycles.proofs.{Numbering.{Numbers, numbering_onto, location_of_number}, Accesses.{EventAt, by_origin, event_at_name}, IntendedOrders.{intended_order, placed_write}, IntendedExists.{values_follow, last_of_order, intended_meets}}
+use Rattle.accesses_force_cycles.proofs.{EdgesJoin.{intended_joins, reads_from, value_along}, Swaps.{swapped_here, swapped_before, rises_still, follows_still}, IntendedReads.{IsPlaced, placed, reads-count, intended_are_reads}, Rearranged.Exchanges}
+use Rattle.accesses_force_cycles.proofs.{Rearranged.{order_under, place_under, order_under_is, last_under, empty_under}, Resolves.{LaysOut, Resolves, InnerEntry, later_slot, written_by}}
 use Rattle.cycle_events.proofs.CycleRound.{before_after}
 use Rattle.relax_edges.specs.EdgeTable.{kind_place, kind_source, kind_target}
 use Rattle.relax_edges.specs.declared.kinds.Dir.TheVariants as dirs
@@ -36,7 +38,7 @@ orders_exchanged-count : (es : List Edge) (number : ℕ → ℕ) (event : ℕ) �
 unfolding exchanged
 orders_exchanged-count es number event = length-map-upto (λ place. exchanged_order es event (location_numbered es number place)) (move_count es)
 
-orders_exchanged : (es : List Edge) (number : ℕ → ℕ) (event place : ℕ) (order : List WriteAt) → Resolves es → IsNumbering es number → InnerEntry es event → slice_get (exchanged es number event).orders place ≡ Some order → IsOrderOf (cycle_accesses es Avoid number) place order
+orders_exchanged : (es : List Edge) (number : ℕ → ℕ) (event place : ℕ) (order : List WriteAt) → LaysOut es → IsNumbering es number → InnerEntry es event → slice_get (exchanged es number event).orders place ≡ Some order → IsOrderOf (cycle_accesses es Avoid number) place order
 unfolding exchanged exchanged_order
 orders_exchanged es number event place order r n q h =
     let i = image_of (λ p. exchanged_order es event (location_numbered es number p)) (upto (move_count es)) place order h in
@@ -49,11 +51,11 @@ orders_exchanged es number event place order r n q h =
     (order_under_is es Avoid number w.spot (exchanged_value es event w.spot) r n w.below (exchanges es event w.spot q)))
 
 -- the exchanged execution is an execution of the test's accesses
-pub exchanged_is_execution : (es : List Edge) (number : ℕ → ℕ) (event : ℕ) → Resolves es → IsNumbering es number → InnerEntry es event → IsExecutionOf (cycle_accesses es Avoid number) (move_count es) (exchanged es number event)
+pub exchanged_is_execution : (es : List Edge) (number : ℕ → ℕ) (event : ℕ) → LaysOut es → IsNumbering es number → InnerEntry es event → IsExecutionOf (cycle_accesses es Avoid number) (move_count es) (exchanged es number event)
 exchanged_is_execution es number event r n q = grind (arith, reads_exchanged, reads-count, orders_exchanged-count, intended_are_reads, orders_exchanged)
 
 -- the coherence place of an access in the exchanged execution
-place_exchanged : (es : List Edge) (number : ℕ → ℕ) (event : ℕ) (name : WriteAt) (access : Access) → Resolves es → IsNumbering es number → InnerEntry es event → at_name (cycle_accesses es Avoid number) name ≡ Some access → (p : IsPlaced es number access) → coherence_place (cycle_accesses es Avoid number) (exchanged es number event) name access ≡ exchanged_value es event p.spot access.value
+place_exchanged : (es : List Edge) (number : ℕ → ℕ) (event : ℕ) (name : WriteAt) (access : Access) → LaysOut es → IsNumbering es number → InnerEntry es event → at_name (cycle_accesses es Avoid number) name ≡ Some access → (p : IsPlaced es number access) → coherence_place (cycle_accesses es Avoid number) (exchanged es number event) name access ≡ exchanged_value es event p.spot access.value
 place_exchanged es number event name access r n q h p =
     grind (
       arith,
@@ -66,7 +68,7 @@ place_exchanged es number event name access r n q h p =
     )
 
 -- without observers each access is an event
-avoid_event : (es : List Edge) (number : ℕ → ℕ) (name : WriteAt) (access : Access) → Resolves es → at_name (cycle_accesses es Avoid number) name ≡ Some access → EventAt es number name access
+avoid_event : (es : List Edge) (number : ℕ → ℕ) (name : WriteAt) (access : Access) → LaysOut es → at_name (cycle_accesses es Avoid number) name ≡ Some access → EventAt es number name access
 unfolding is_observed
 avoid_event es number name access r h =
     by_origin es Avoid number name access r h (λ e. e)
@@ -110,13 +112,13 @@ rises_at es i (suc m) v r h b t l below above =
     after = by_after es m (omega arith) (λ k e. e ∙ add-one m) (λ k e. absurd (omega (arith, k, b)))
 
     counts : value_of es (suc m) ≡ value_of es m + written_by (source_of (edge_at es (suc m)))
-    counts = sym (ap (value_of es) after) ∙ r.counts m (omega arith) run.0 ∙ ap (λ k. value_of es m + written_by (source_of (edge_at es k))) after
+    counts = sym (ap (value_of es) after) ∙ r.laid.counts m (omega arith) run.0 ∙ ap (λ k. value_of es m + written_by (source_of (edge_at es k))) after
 
     thread : thread_of es (suc m) ≡ thread_of es m
-    thread = let s = r.stays m (omega arith) run.1 in sym (ap (thread_of es) after) ∙ s.0
+    thread = let s = r.laid.stays m (omega arith) run.1 in sym (ap (thread_of es) after) ∙ s.0
 
     place : location_of es (suc m) ≡ location_of es m
-    place = sym (ap (location_of es) after) ∙ r.keeps m (omega arith) run.0
+    place = sym (ap (location_of es) after) ∙ r.laid.keeps m (omega arith) run.0
 
 -- no thread has the write before an inner entry and then the entry's value
 apart : (es : List Edge) (event i j : ℕ) → Resolves es → InnerEntry es event → i < j → j < length es → thread_of es i ≡ thread_of es j → location_of es i ≡ location_of es j → location_of es i ≡ location_of es event → value_of es i + 1 ≡ value_of es event → value_of es j ≡ value_of es event → ⊥
@@ -127,8 +129,8 @@ apart es event i j r q h b t l s u v =
     by_value : RisesAt es (location_of es i) (value_of es event) → (n : ℕ) → value_of es event ≡ n → ⊥
     by_value w zero e = omega (arith, e, q.second)
     by_value w (suc k) e =
-        let a = r.found (location_of es event) k w.write (record { below = w.below; writes = w.writes; location = w.location ∙ s; value = w.value ∙ e }) in
-        let c = r.found (location_of es event) k event (record { below = q.below; writes = q.writes; location = refl; value = e }) in
+        let a = r.laid.found (location_of es event) k w.write (record { below = w.below; writes = w.writes; location = w.location ∙ s; value = w.value ∙ e }) in
+        let c = r.laid.found (location_of es event) k event (record { below = q.below; writes = q.writes; location = refl; value = e }) in
         let m : w.write ≡ event = cc (a, c) in
         let x : Internal ≡ External = sym w.inside ∙ ap (λ z. reach_of (edge_into es z)) m ∙ q.outside in
         cc
@@ -137,32 +139,32 @@ apart es event i j r q h b t l s u v =
 pub exchanged_is_coherent : (es : List Edge) (number : ℕ → ℕ) (event : ℕ) → Resolves es → IsNumbering es number → InnerEntry es event → IsCoherent (cycle_accesses es Avoid number) (exchanged es number event)
 exchanged_is_coherent es number event r n q thread e f a b less h k same =
     subst (λ (z : ℕ × ℕ). MayFollow b.dir z.0 z.1)
-    (λ t. (sym (place_exchanged es number event (record { thread = thread; access = e }) a r n q h p) t, sym (place_exchanged es number event (record { thread = thread; access = f }) b r n q k o) t))
+    (λ t. (sym (place_exchanged es number event (record { thread = thread; access = e }) a r.laid n q h p) t, sym (place_exchanged es number event (record { thread = thread; access = f }) b r.laid n q k o) t))
     (subst (λ (l : ℕ). MayFollow b.dir (exchanged_value es event p.spot a.value) (exchanged_value es event l b.value)) spots follow)
   where
     p : IsPlaced es number a
-    p = placed es Avoid number (record { thread = thread; access = e }) a r h
+    p = placed es Avoid number (record { thread = thread; access = e }) a r.laid h
 
     o : IsPlaced es number b
-    o = placed es Avoid number (record { thread = thread; access = f }) b r k
+    o = placed es Avoid number (record { thread = thread; access = f }) b r.laid k
 
     spots : p.spot ≡ o.spot
     spots = n.injective p.spot o.spot p.below o.below (p.place_is ∙ same ∙ sym o.place_is)
 
     i : EventAt es number (record { thread = thread; access = e }) a
-    i = avoid_event es number (record { thread = thread; access = e }) a r h
+    i = avoid_event es number (record { thread = thread; access = e }) a r.laid h
 
     j : EventAt es number (record { thread = thread; access = f }) b
-    j = avoid_event es number (record { thread = thread; access = f }) b r k
+    j = avoid_event es number (record { thread = thread; access = f }) b r.laid k
 
     threads : thread_of es i.event ≡ thread_of es j.event
     threads = sym i.thread ∙ j.thread
 
     at_spot : location_of es i.event ≡ p.spot
-    at_spot = n.injective (location_of es i.event) p.spot (r.location i.event) p.below (ap (λ c. c.place) i.access_is ∙ sym p.place_is)
+    at_spot = n.injective (location_of es i.event) p.spot (r.laid.location i.event) p.below (ap (λ c. c.place) i.access_is ∙ sym p.place_is)
 
     at_other : location_of es j.event ≡ o.spot
-    at_other = n.injective (location_of es j.event) o.spot (r.location j.event) o.below (ap (λ c. c.place) j.access_is ∙ sym o.place_is)
+    at_other = n.injective (location_of es j.event) o.spot (r.laid.location j.event) o.below (ap (λ c. c.place) j.access_is ∙ sym o.place_is)
 
     values : MayFollow b.dir a.value b.value
     values = values_follow es Avoid number thread e f a b r n less h k same
@@ -172,7 +174,7 @@ exchanged_is_coherent es number event r n q thread e f a b less h k same =
         let x : value_of es i.event ≡ a.value = ap (λ c. c.value) i.access_is in
         let y : value_of es j.event ≡ b.value = ap (λ c. c.value) j.access_is in
         apart es event i.event j.event r q
-        (later_slot es i.event j.event r i.below threads (omega (arith, i.slot, j.slot, less)))
+        (later_slot es i.event j.event r.laid i.below threads (omega (arith, i.slot, j.slot, less)))
         j.below threads (at_spot ∙ spots ∙ sym at_other) (at_spot ∙ s) (omega (arith, x, u)) (y ∙ v)
 
     follow : MayFollow b.dir (exchanged_value es event p.spot a.value) (exchanged_value es event p.spot b.value)
@@ -188,7 +190,7 @@ unfolding location_order
 empty_order es l h = ap (λ n. filter_map (ordered_write es l) (upto n)) h
 
 -- the exchanged execution has the final values of the intended one
-pub exchanged_ends : (es : List Edge) (number : ℕ → ℕ) (event place : ℕ) → Resolves es → IsNumbering es number → InnerEntry es event → place < move_count es → final_value (cycle_accesses es Avoid number) (exchanged es number event) place ≡ final_value (cycle_accesses es Avoid number) (intended es Avoid number) place
+pub exchanged_ends : (es : List Edge) (number : ℕ → ℕ) (event place : ℕ) → LaysOut es → IsNumbering es number → InnerEntry es event → place < move_count es → final_value (cycle_accesses es Avoid number) (exchanged es number event) place ≡ final_value (cycle_accesses es Avoid number) (intended es Avoid number) place
 exchanged_ends es number event place r n q h =
     ap (λ w. value_of_access (option_and_then (at_name (cycle_accesses es Avoid number)) w)) lasts
   where
@@ -208,7 +210,7 @@ exchanged_ends es number event place r n q h =
         ∙ ap (λ z. last_write (order_at (intended es Avoid number) z)) w.number_is
 
 -- the coherence place of an event at the entry's location
-event_exchanged : (es : List Edge) (number : ℕ → ℕ) (event i : ℕ) → Resolves es → IsNumbering es number → InnerEntry es event → i < length es → location_of es i ≡ location_of es event → coherence_place (cycle_accesses es Avoid number) (exchanged es number event) (event_name es i) (event_access es number i) ≡ swapped (value_of es event) (value_of es i)
+event_exchanged : (es : List Edge) (number : ℕ → ℕ) (event i : ℕ) → LaysOut es → IsNumbering es number → InnerEntry es event → i < length es → location_of es i ≡ location_of es event → coherence_place (cycle_accesses es Avoid number) (exchanged es number event) (event_name es i) (event_access es number i) ≡ swapped (value_of es event) (value_of es i)
 event_exchanged es number event i r n q h l =
     cc (
       (place_exchanged es number event (event_name es i) (event_access es number i) r n q (event_at_name es Avoid number i r h) (record { spot = location_of es i; below = r.location i; place_is = refl; within = r.within i h })),
@@ -217,15 +219,15 @@ event_exchanged es number event i r n q h l =
     )
 
 -- the event before the entry comes after it in the coherence order
-falls_back : (es : List Edge) (number : ℕ → ℕ) (event : ℕ) → Resolves es → IsNumbering es number → InnerEntry es event → sd_of (edge_at es (event_before es event)) ≡ Same → coherence_place (cycle_accesses es Avoid number) (exchanged es number event) (event_name es (event_before es event)) (event_access es number (event_before es event)) < coherence_place (cycle_accesses es Avoid number) (exchanged es number event) (event_name es event) (event_access es number event) → ⊥
+falls_back : (es : List Edge) (number : ℕ → ℕ) (event : ℕ) → LaysOut es → IsNumbering es number → InnerEntry es event → sd_of (edge_at es (event_before es event)) ≡ Same → coherence_place (cycle_accesses es Avoid number) (exchanged es number event) (event_name es (event_before es event)) (event_access es number (event_before es event)) < coherence_place (cycle_accesses es Avoid number) (exchanged es number event) (event_name es event) (event_access es number event) → ⊥
 falls_back es number event r n q p less = grind (arith, before_below, after_before, event_exchanged, swapped_before, swapped_here)
 
 -- in the exchanged execution the edge into the write doesn't join its events
-pub exchanged_breaks : (es : List Edge) (number : ℕ → ℕ) (event : ℕ) → Resolves es → IsNumbering es number → InnerEntry es event → Joins (cycle_accesses es Avoid number) (exchanged es number event) (edge_at es (event_before es event)) (event_at es number (event_before es event)) (event_at es number event) → ⊥
+pub exchanged_breaks : (es : List Edge) (number : ℕ → ℕ) (event : ℕ) → LaysOut es → IsNumbering es number → InnerEntry es event → Joins (cycle_accesses es Avoid number) (exchanged es number event) (edge_at es (event_before es event)) (event_at es number (event_before es event)) (event_at es number event) → ⊥
 exchanged_breaks es number event r n q j = grind (arith, (falls_back es number event r n q))
 
 -- the coherence place of an event at another location than the entry's
-event_elsewhere : (es : List Edge) (number : ℕ → ℕ) (event i : ℕ) → Resolves es → IsNumbering es number → InnerEntry es event → i < length es
+event_elsewhere : (es : List Edge) (number : ℕ → ℕ) (event i : ℕ) → LaysOut es → IsNumbering es number → InnerEntry es event → i < length es
     → (location_of es i ≡ location_of es event → ⊥)
     → coherence_place (cycle_accesses es Avoid number) (exchanged es number event) (event_name es i) (event_access es number i) ≡ value_of es i
 event_elsewhere es number event i r n q h l =
@@ -234,7 +236,7 @@ event_elsewhere es number event i r n q h l =
     ∙ ap (λ (f : ℕ → ℕ). f (value_of es i)) (elsewhere es event (location_of es i) l)
 
 -- an edge other than the one into the entry leads to no write of the entry's value at its location
-others_apart : (es : List Edge) (event i : ℕ) → Resolves es → InnerEntry es event → i < length es → (i ≡ event_before es event → ⊥)
+others_apart : (es : List Edge) (event i : ℕ) → LaysOut es → InnerEntry es event → i < length es → (i ≡ event_before es event → ⊥)
     → source_of (edge_at es (event_after es i)) ≡ dirs.W → location_of es (event_after es i) ≡ location_of es event
     → value_of es (event_after es i) ≡ value_of es event → ⊥
 others_apart es event i r q h other writes l v = by_value (value_of es event) refl
@@ -248,7 +250,7 @@ others_apart es event i r q h other writes l v = by_value (value_of es event) re
         other (sym (before_after es i h) ∙ ap (event_before es) m)
 
 -- along such an edge into a write at the same location the coherence place grows
-others_before : (es : List Edge) (number : ℕ → ℕ) (event i : ℕ) → Resolves es → IsNumbering es number → InnerEntry es event → i < length es
+others_before : (es : List Edge) (number : ℕ → ℕ) (event i : ℕ) → LaysOut es → IsNumbering es number → InnerEntry es event → i < length es
     → (i ≡ event_before es event → ⊥) → target_of (edge_at es i) ≡ dirs.W → sd_of (edge_at es i) ≡ Same
     → ComesBefore (cycle_accesses es Avoid number) (exchanged es number event) (event_at es number i) (event_at es number (event_after es i))
 others_before es number event i r n q h other target same =
@@ -268,13 +270,13 @@ others_before es number event i r n q h other target same =
     grows = omega (arith, value_along es i r h same, ap written_by target)
 
 -- along a reads-from edge the read reads the write
-reads_still : (es : List Edge) (number : ℕ → ℕ) (event i : ℕ) → Resolves es → IsNumbering es number → i < length es → source_of (edge_at es i) ≡ dirs.W
+reads_still : (es : List Edge) (number : ℕ → ℕ) (event i : ℕ) → LaysOut es → IsNumbering es number → i < length es → source_of (edge_at es i) ≡ dirs.W
     → target_of (edge_at es i) ≡ dirs.R → sd_of (edge_at es i) ≡ Same
     → source_at (cycle_accesses es Avoid number) (exchanged es number event) (event_name es (event_after es i)) ≡ Some (event_name es i)
 unfolding exchanged
 reads_still es number event i r n h d t p = reads_from es Avoid number i r n h d t p
 
-others_communicate : (es : List Edge) (number : ℕ → ℕ) (event i : ℕ) → Resolves es → IsNumbering es number → InnerEntry es event → i < length es
+others_communicate : (es : List Edge) (number : ℕ → ℕ) (event i : ℕ) → LaysOut es → IsNumbering es number → InnerEntry es event → i < length es
     → (i ≡ event_before es event → ⊥) → (k : Kind) → kind_of (edge_at es i) ≡ k
     → CommunicatesBy k (cycle_accesses es Avoid number) (exchanged es number event) (event_at es number i) (event_at es number (event_after es i))
 others_communicate es number event i r n q h other (kinds.Com coms.Rf reach) e =
@@ -297,7 +299,7 @@ others_join es number event i r n q h other =
       leaves = j.leaves;
       enters = j.enters;
       places = j.places;
-      communicates = others_communicate es number event i r n q h other (kind_of (edge_at es i)) refl;
+      communicates = others_communicate es number event i r.laid n q h other (kind_of (edge_at es i)) refl;
       reaches = j.reaches;
     }
 
@@ -305,9 +307,9 @@ others_join es number event i r n q h other =
 pub exchanged_meets : (es : List Edge) (number : ℕ → ℕ) (event : ℕ) → Resolves es → IsNumbering es number → InnerEntry es event → MeetsCondition es Avoid number (exchanged es number event)
 exchanged_meets es number event r n q =
     record {
-      execution = exchanged_is_execution es number event r n q;
+      execution = exchanged_is_execution es number event r.laid n q;
       coherent = exchanged_is_coherent es number event r n q;
-      ends = λ l h u c. exchanged_ends es number event (number l) r n q (n.below l h) ∙ first.ends l h u c;
+      ends = λ l h u c. exchanged_ends es number event (number l) r.laid n q (n.below l h) ∙ first.ends l h u c;
     }
   where
     first : MeetsCondition es Avoid number (intended es Avoid number)

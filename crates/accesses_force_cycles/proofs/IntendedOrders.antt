@@ -1,17 +1,17 @@
 -- The coherence order of a location's place: in an execution it holds the location's writes, and in the intended one
 -- they come in the order of their values, so that the coherence place of each access is its value.
-use Rattle.accesses_force_cycles.proofs.Vocabulary.{◌≡◌, ℕ, zero, suc, ◌<◌, ◌≤◌, List, length, Some, slice_get, refl, sym, ◌∙◌, ap, subst, arith, add-one, Dir, ObsMode, Edge, slice_get-map-upto, move_count, write_count, WriteAt, Access, at_name, Execution, IsExecutionOf, IsOrderOf, event_name, order_place, order_at, placed_by, coherence_place, IsNumbering, cycle_accesses, ordered_write, write_of, location_order, location_numbered, intended, GotFrom, got_from_list}
-use Rattle.accesses_force_cycles.proofs.{Lists.got_below, Orders.{Holds, Gives, place_given}, Numbering.location_of_number, ReadLists.source_given}
-use Rattle.accesses_force_cycles.proofs.{Resolves.Resolves, WriteEvents.{nth_write, write_event, write_at_name, ordered_write-is, rank_below, source_fixed}}
-use Rattle.accesses_force_cycles.proofs.IntendedReads.{IsPlaced, placed, source_for, intended_reads}
+use Rattle.accesses_force_cycles.proofs.Vocabulary.{◌≡◌, ℕ, zero, suc, ◌<◌, ◌≤◌, List, length, Some, slice_get, refl, sym, ◌∙◌, ap, subst, arith, add-one, Dir, ObsMode, Edge, slice_get-map-upto, move_count, write_count, WriteAt, Access, at_name}
+use Rattle.accesses_force_cycles.proofs.Vocabulary.{Execution, IsExecutionOf, IsOrderOf, event_name, order_place, order_at, placed_by, coherence_place, IsNumbering, cycle_accesses, ordered_write, write_of, location_order, location_numbered, intended}
+use Rattle.accesses_force_cycles.proofs.{Vocabulary.{GotFrom, got_from_list}, Lists.got_below, Orders.{Holds, Gives, place_given}, Numbering.location_of_number, ReadLists.source_given, Resolves.LaysOut, WriteEvents.{nth_write, write_event}}
+use Rattle.accesses_force_cycles.proofs.{WriteEvents.{write_at_name, ordered_write-is, rank_below, source_fixed}, IntendedReads.{IsPlaced, placed, source_for, intended_reads}}
 use Rattle.relax_edges.specs.declared.kinds.Dir.TheVariants as dirs
 
 -- events of one name are one event
-pub same_event : (es : List Edge) (i j : ℕ) → Resolves es → i < length es → j < length es → event_name es i ≡ event_name es j → i ≡ j
+pub same_event : (es : List Edge) (i j : ℕ) → LaysOut es → i < length es → j < length es → event_name es i ≡ event_name es j → i ≡ j
 same_event es i j r h k e = grind arith
 
 -- no two writes of a location have one name
-pub gives_writes : (es : List Edge) (l : ℕ) → Resolves es → Gives (ordered_write es l) (write_count es l)
+pub gives_writes : (es : List Edge) (l : ℕ) → LaysOut es → Gives (ordered_write es l) (write_count es l)
 gives_writes es l r = record {
   some = λ k h. let w = nth_write es l k r h in (event_name es w.event, w.name_is);
   once = λ j k w h g p q. grind (arith, nth_write es l j r h, nth_write es l k r g, same_event);
@@ -30,7 +30,7 @@ pub order_got : (threads : List (List Access)) (places place : ℕ) (x : Executi
 order_got threads places place x c h = let o = order_of threads places place x c h in o.got
 
 -- the order of a location's place holds the location's writes
-pub order_holds : (es : List Edge) (mode : ObsMode) (number : ℕ → ℕ) (l : ℕ) (x : Execution) → Resolves es → IsNumbering es number → IsExecutionOf (cycle_accesses es mode number) (move_count es) x → l < move_count es → Holds (order_at x (number l)) (ordered_write es l) (write_count es l)
+pub order_holds : (es : List Edge) (mode : ObsMode) (number : ℕ → ℕ) (l : ℕ) (x : Execution) → LaysOut es → IsNumbering es number → IsExecutionOf (cycle_accesses es mode number) (move_count es) x → l < move_count es → Holds (order_at x (number l)) (ordered_write es l) (write_count es l)
 order_holds es mode number l x r n c h =
     record {
       some = g.some;
@@ -59,13 +59,13 @@ unfolding intended
 intended_order es mode number l n h = grind (arith, slice_get-map-upto, location_of_number)
 
 -- the write of value v is in place v of that order
-pub place_of_value : (es : List Edge) (l v : ℕ) → Resolves es → v ≤ write_count es l → order_place (location_order es l) (write_of es l v) ≡ v
+pub place_of_value : (es : List Edge) (l v : ℕ) → LaysOut es → v ≤ write_count es l → order_place (location_order es l) (write_of es l v) ≡ v
 unfolding location_order
 place_of_value es l zero r h = refl
 place_of_value es l (suc k) r h = place_given (ordered_write es l) (write_count es l) k (gives_writes es l r) (omega arith) ∙ add-one k
 
 -- where an execution reads as the intended one does, an access has the coherence place of the write of its value
-pub placed_write : (es : List Edge) (mode : ObsMode) (number : ℕ → ℕ) (x : Execution) (name : WriteAt) (access : Access) → Resolves es → IsNumbering es number → x.reads ≡ (intended es mode number).reads → at_name (cycle_accesses es mode number) name ≡ Some access → placed_by access.dir (cycle_accesses es mode number) x name ≡ source_for es number access
+pub placed_write : (es : List Edge) (mode : ObsMode) (number : ℕ → ℕ) (x : Execution) (name : WriteAt) (access : Access) → LaysOut es → IsNumbering es number → x.reads ≡ (intended es mode number).reads → at_name (cycle_accesses es mode number) name ≡ Some access → placed_by access.dir (cycle_accesses es mode number) x name ≡ source_for es number access
 placed_write es mode number x name access r n s h =
     by_dir access.dir refl
   where
@@ -85,7 +85,7 @@ placed_write es mode number x name access r n s h =
         ∙ ap (λ l. write_of es l access.value) (sym (location_of_number es number p.spot n p.below) ∙ ap (location_numbered es number) p.place_is)
 
 -- in the intended execution the coherence place of an access is its value
-pub place_is_value : (es : List Edge) (mode : ObsMode) (number : ℕ → ℕ) (name : WriteAt) (access : Access) → Resolves es → IsNumbering es number → at_name (cycle_accesses es mode number) name ≡ Some access → coherence_place (cycle_accesses es mode number) (intended es mode number) name access ≡ access.value
+pub place_is_value : (es : List Edge) (mode : ObsMode) (number : ℕ → ℕ) (name : WriteAt) (access : Access) → LaysOut es → IsNumbering es number → at_name (cycle_accesses es mode number) name ≡ Some access → coherence_place (cycle_accesses es mode number) (intended es mode number) name access ≡ access.value
 place_is_value es mode number name access r n h =
     grind (
       arith,

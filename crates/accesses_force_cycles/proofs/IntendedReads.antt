@@ -1,9 +1,9 @@
 -- What each thread reads in the intended execution, and that in each execution of these accesses it reads the same.
-use Rattle.accesses_force_cycles.proofs.Vocabulary.{◌≡◌, ℕ, ◌+◌, ◌-◌, ◌<◌, ◌≤◌, List, length, map, Option, Some, slice_get, refl, sym, ◌∙◌, ap, subst, arith, add-one, length-append, filter, length-map, ObsMode, Edge, by_less, length-map-upto, slice_get-map-upto, unrank_upto, external_count, move_count, location_of, events_in, value_of, write_count, is_observed, WriteAt, Access, got_from, at_name, is_read, Execution, IsExecutionOf, AreReadsOf, CanRead, IsNumbering, observed_locations, event_access, observer_accesses, cycle_accesses, write_of, event_read, observer_reads, reads_in, location_numbered, intended}
-use Rattle.accesses_force_cycles.proofs.Lists.{slice_get-append_left, slice_get-append_right, same_below, got_below, image_of, got_map, map_same, map-map, filter-map, filter_all, kept}
-use Rattle.accesses_force_cycles.proofs.{Numbering.location_of_number, WriteEvents.source_fixed, WriteEvents.can_read, ReadLists.reads_by_source}
-use Rattle.accesses_force_cycles.proofs.{ReadLists.reads_given, ReadLists.reads_fixed, Resolves.Resolves}
-use Rattle.accesses_force_cycles.proofs.Accesses.{EventAt, LoadAt, by_origin, thread_accesses, observer_thread}
+use Rattle.accesses_force_cycles.proofs.Vocabulary.{◌≡◌, ℕ, ◌+◌, ◌-◌, ◌<◌, ◌≤◌, List, length, map, Option, Some, slice_get, refl, sym, ◌∙◌, ap, subst, arith, add-one, length-append, filter, length-map, ObsMode, Edge, by_less, length-map-upto}
+use Rattle.accesses_force_cycles.proofs.Vocabulary.{slice_get-map-upto, unrank_upto, external_count, move_count, location_of, events_in, value_of, write_count, is_observed, WriteAt, Access, got_from, at_name, is_read, Execution, IsExecutionOf}
+use Rattle.accesses_force_cycles.proofs.Vocabulary.{AreReadsOf, CanRead, IsNumbering, observed_locations, event_access, observer_accesses, cycle_accesses, write_of, event_read, observer_reads, reads_in, location_numbered, intended}
+use Rattle.accesses_force_cycles.proofs.{Lists.{slice_get-append_left, slice_get-append_right, same_below, got_below, image_of, got_map, map_same, map-map, filter-map, filter_all, kept}, Numbering.location_of_number, WriteEvents.{source_fixed, can_read}}
+use Rattle.accesses_force_cycles.proofs.{ReadLists.{reads_by_source, reads_given, reads_fixed}, Resolves.LaysOut, Accesses.{EventAt, LoadAt, by_origin, thread_accesses, observer_thread}}
 
 -- the write that an access reads in the intended execution: that of its value at its place's location
 abbrev pub source_for : List Edge → (ℕ → ℕ) → Access → Option WriteAt
@@ -17,7 +17,7 @@ pub record IsPlaced (es : List Edge) (number : ℕ → ℕ) (access : Access) : 
   pub within : access.value ≤ write_count es spot
 
 -- each access is at the place of a location, and its value is one of that location's
-pub placed : (es : List Edge) (mode : ObsMode) (number : ℕ → ℕ) (name : WriteAt) (access : Access) → Resolves es → at_name (cycle_accesses es mode number) name ≡ Some access → IsPlaced es number access
+pub placed : (es : List Edge) (mode : ObsMode) (number : ℕ → ℕ) (name : WriteAt) (access : Access) → LaysOut es → at_name (cycle_accesses es mode number) name ≡ Some access → IsPlaced es number access
 placed es mode number name access r h =
     by_origin es mode number name access r h
     (λ (e : EventAt es number name access). record {
@@ -38,7 +38,7 @@ pub stands_at : (threads : List (List Access)) (k s : ℕ) (accesses : List Acce
 stands_at threads k s accesses access t a = ap (λ o. got_from o s) t ∙ a
 
 -- a read access of a thread can read what it reads in the intended execution
-can_read_source : (es : List Edge) (mode : ObsMode) (number : ℕ → ℕ) (name : WriteAt) (access : Access) → Resolves es → IsNumbering es number → at_name (cycle_accesses es mode number) name ≡ Some access → CanRead (cycle_accesses es mode number) access (source_for es number access)
+can_read_source : (es : List Edge) (mode : ObsMode) (number : ℕ → ℕ) (name : WriteAt) (access : Access) → LaysOut es → IsNumbering es number → at_name (cycle_accesses es mode number) name ≡ Some access → CanRead (cycle_accesses es mode number) access (source_for es number access)
 can_read_source es mode number name access r n h =
     let p = placed es mode number name access r h in
     let e : p.spot ≡ location_numbered es number access.place = sym (location_of_number es number p.spot n p.below) ∙ ap (location_numbered es number) p.place_is in
@@ -46,12 +46,12 @@ can_read_source es mode number name access r n h =
     (can_read es mode number p.spot access.value access r p.place_is refl p.within)
 
 -- a read access of a thread can read nothing else
-reads_source : (es : List Edge) (mode : ObsMode) (number : ℕ → ℕ) (name : WriteAt) (access : Access) (w : Option WriteAt) → Resolves es → IsNumbering es number → at_name (cycle_accesses es mode number) name ≡ Some access → CanRead (cycle_accesses es mode number) access w → w ≡ source_for es number access
+reads_source : (es : List Edge) (mode : ObsMode) (number : ℕ → ℕ) (name : WriteAt) (access : Access) (w : Option WriteAt) → LaysOut es → IsNumbering es number → at_name (cycle_accesses es mode number) name ≡ Some access → CanRead (cycle_accesses es mode number) access w → w ≡ source_for es number access
 reads_source es mode number name access w r n h c =
     grind (arith, (placed es mode number name access r h), (source_fixed es mode number), (location_of_number es number))
 
 -- the reads of a thread of the cycle, by its accesses
-event_reads : (es : List Edge) (number : ℕ → ℕ) (k : ℕ) → Resolves es → IsNumbering es number → map (event_read es) (reads_in es k) ≡ reads_by_source (source_for es number) (filter is_read (map (event_access es number) (events_in es k)))
+event_reads : (es : List Edge) (number : ℕ → ℕ) (k : ℕ) → LaysOut es → IsNumbering es number → map (event_read es) (reads_in es k) ≡ reads_by_source (source_for es number) (filter is_read (map (event_access es number) (events_in es k)))
 event_reads es number k r n = grind (arith, map_same, location_of_number, map-map, filter-map)
 
 -- the reads of an observer, by its accesses
@@ -72,7 +72,7 @@ unfolding intended
 back_reads es mode number k o h = grind (arith, slice_get-append_right, length-map-upto)
 
 -- each thread reads what its accesses are given
-pub intended_reads : (es : List Edge) (mode : ObsMode) (number : ℕ → ℕ) (k : ℕ) (accesses : List Access) → Resolves es → IsNumbering es number → slice_get (cycle_accesses es mode number) k ≡ Some accesses → slice_get (intended es mode number).reads k ≡ Some (reads_by_source (source_for es number) (filter is_read accesses))
+pub intended_reads : (es : List Edge) (mode : ObsMode) (number : ℕ → ℕ) (k : ℕ) (accesses : List Access) → LaysOut es → IsNumbering es number → slice_get (cycle_accesses es mode number) k ≡ Some accesses → slice_get (intended es mode number).reads k ≡ Some (reads_by_source (source_for es number) (filter is_read accesses))
 intended_reads es mode number k accesses r n h =
     by_less k (external_count es) prefix (λ g. back (k - external_count es) (omega arith))
   where
@@ -88,7 +88,7 @@ intended_reads es mode number k accesses r n h =
         ∙ ap Some (load_reads es number i.element n q.below ∙ ap (λ l. reads_by_source (source_for es number) (filter is_read l)) i.image)
 
 -- the reads of the intended execution are reads of these accesses
-pub intended_are_reads : (es : List Edge) (mode : ObsMode) (number : ℕ → ℕ) (k : ℕ) (accesses : List Access) (reads : List (ℕ × Option WriteAt)) → Resolves es → IsNumbering es number → slice_get (cycle_accesses es mode number) k ≡ Some accesses → slice_get (intended es mode number).reads k ≡ Some reads → AreReadsOf (cycle_accesses es mode number) (filter is_read accesses) reads
+pub intended_are_reads : (es : List Edge) (mode : ObsMode) (number : ℕ → ℕ) (k : ℕ) (accesses : List Access) (reads : List (ℕ × Option WriteAt)) → LaysOut es → IsNumbering es number → slice_get (cycle_accesses es mode number) k ≡ Some accesses → slice_get (intended es mode number).reads k ≡ Some reads → AreReadsOf (cycle_accesses es mode number) (filter is_read accesses) reads
 intended_are_reads es mode number k accesses reads r n t h =
     let e : reads_by_source (source_for es number) (filter is_read accesses) ≡ reads = cc (intended_reads es mode number k accesses r n t, h) in
     subst (AreReadsOf (cycle_accesses es mode number) (filter is_read accesses)) e
@@ -97,7 +97,7 @@ intended_are_reads es mode number k accesses reads r n t h =
     can_read_source es mode number (record { thread = k; access = w.index }) access r n (stands_at (cycle_accesses es mode number) k w.index accesses access t w.got)))
 
 -- each execution of these accesses reads the same
-pub reads_are_intended : (es : List Edge) (mode : ObsMode) (number : ℕ → ℕ) (x : Execution) → Resolves es → IsNumbering es number → IsExecutionOf (cycle_accesses es mode number) (move_count es) x → x.reads ≡ (intended es mode number).reads
+pub reads_are_intended : (es : List Edge) (mode : ObsMode) (number : ℕ → ℕ) (x : Execution) → LaysOut es → IsNumbering es number → IsExecutionOf (cycle_accesses es mode number) (move_count es) x → x.reads ≡ (intended es mode number).reads
 reads_are_intended es mode number x r n c =
     same_below x.reads (intended es mode number).reads (length (cycle_accesses es mode number)) c.read_lists (reads-count es mode number) here
   where

@@ -1,5 +1,6 @@
 -- Lists by their elements: joined lists, equal lists, what a map and a filter hold, and the place of an element.
-use Rattle.accesses_force_cycles.proofs.Vocabulary.{◌≡◌, ℕ, zero, suc, ◌+◌, ◌<◌, Bool, true, cond, List, [], ◌∷◌, ◌++◌, length, map, Option, Some, None, slice_get, take, refl, sym, ◌∙◌, ap, arith, count_by, filter, filter_map, option_map, cond-true, cond-false, slice_get-map, slice_get_past, filter_map-append, sum_by-cons, length_push, upto, by_test, by_less}
+use Rattle.accesses_force_cycles.proofs.Vocabulary.{◌≡◌, ℕ, zero, suc, ◌+◌, ◌<◌, Bool, true, cond, List, [], ◌∷◌, ◌++◌, length, map, Option, Some, None, slice_get, take, refl, sym, ◌∙◌, ap, arith, count_by, filter, filter_map, option_map, cond-true}
+use Rattle.accesses_force_cycles.proofs.Vocabulary.{cond-false, slice_get-map, slice_get_past, filter_map-append, sum_by-cons, length_push, upto, by_test, by_less}
 
 -- an element of the first of two joined lists
 pub slice_get-append_left : {X : Type 0} (xs ys : List X) (i : ℕ) → i < length xs → slice_get (xs ++ ys) i ≡ slice_get xs i

@@ -1,7 +1,9 @@
 -- Where a mode serves a cycle, a write of a location without an observer that an external edge enters is its first or its
 -- last; and what the mode avoid refuses is an inner one.
-use Rattle.accesses_force_cycles.proofs.Vocabulary.{◌≡◌, ℕ, zero, suc, ◌<◌, Bool, true, false, List, [], ◌∷◌, length, Option, Some, None, slice_get, refl, sym, ◌∙◌, ap, arith, Ok, find, filter_map, leb-false, cond-true, cond-false, slice_get_within, External, ObsMode, Accept, Avoid, Force, Edge, source_of, reach_of, upto, by_test, slice_get-upto, any_upto_fails, edge_at, move_count, location_of, NeedsObserver, value_of, write_at, write_count, edge_into, is_inner_entry, is_observed, first_inner_entry, first_need, observer_need, Valuation, valuation_of, IsServed}
-use Rattle.accesses_force_cycles.proofs.{Lists.{length-filter_map-upto, slice_get-filter_map-upto, Kept}, Resolves.{IsWrite, Resolves, EntersLast, InnerEntry}}
+use Rattle.accesses_force_cycles.proofs.Vocabulary.{◌≡◌, ℕ, zero, suc, ◌<◌, Bool, true, false, List, [], ◌∷◌, length, Option, Some, None, slice_get, refl, sym, ◌∙◌, ap, arith, Ok, find, filter_map, leb-false, cond-true, cond-false, slice_get_within}
+use Rattle.accesses_force_cycles.proofs.Vocabulary.{External, ObsMode, Accept, Avoid, Force, Edge, source_of, reach_of, upto, by_test, slice_get-upto, any_upto_fails, edge_at, move_count, location_of, NeedsObserver, value_of, write_at, write_count}
+use Rattle.accesses_force_cycles.proofs.{Vocabulary.{edge_into, is_inner_entry, is_observed, first_inner_entry, first_need, observer_need, Valuation, valuation_of, IsServed}, Lists.{length-filter_map-upto, slice_get-filter_map-upto, Kept}}
+use Rattle.accesses_force_cycles.proofs.Resolves.{IsWrite, LaysOut, EntersLast, InnerEntry}
 use Rattle.relax_edges.specs.declared.kinds.Dir.TheVariants as dirs
 
 -- an inner write that an external edge enters passes the test
@@ -37,16 +39,16 @@ some_entry es [] need h = cc
 some_entry es (m ∷ ls) need h = grind (arith, (some_entry es ls need))
 
 -- the writes of a location, in the order of their values
-write_listed : (es : List Edge) (l k i : ℕ) → Resolves es → k < write_count es l → write_at es l k ≡ Some i → slice_get (filter_map (write_at es l) (upto (write_count es l))) k ≡ Some i
+write_listed : (es : List Edge) (l k i : ℕ) → LaysOut es → k < write_count es l → write_at es l k ≡ Some i → slice_get (filter_map (write_at es l) (upto (write_count es l))) k ≡ Some i
 write_listed es l k i r h w = slice_get-filter_map-upto (write_at es l) (write_count es l) k (λ j b. r.written l j b) h ∙ w
 
-listed_write : (es : List Edge) (l k i : ℕ) → Resolves es → slice_get (filter_map (write_at es l) (upto (write_count es l))) k ≡ Some i → write_at es l k ≡ Some i
+listed_write : (es : List Edge) (l k i : ℕ) → LaysOut es → slice_get (filter_map (write_at es l) (upto (write_count es l))) k ≡ Some i → write_at es l k ≡ Some i
 listed_write es l k i r h =
     let b : k < write_count es l = omega (arith, slice_get_within (filter_map (write_at es l) (upto (write_count es l))) k i h, length-filter_map-upto (write_at es l) (write_count es l) (λ j b. r.written l j b)) in
     sym (slice_get-filter_map-upto (write_at es l) (write_count es l) k (λ j b. r.written l j b) b) ∙ h
 
 -- where the mode avoid refuses nothing, no write is an inner entry
-avoided : (es : List Edge) (l i k : ℕ) → Resolves es → observer_need es ≡ None → l < move_count es → IsWrite es l k i → is_inner_entry es l i ≡ false
+avoided : (es : List Edge) (l i k : ℕ) → LaysOut es → observer_need es ≡ None → l < move_count es → IsWrite es l k i → is_inner_entry es l i ≡ false
 unfolding first_inner_entry
 avoided es l i k r n h w =
     let b : k < write_count es l = omega (arith, r.within i w.below, w.value, ap (write_count es) w.location) in
@@ -55,7 +57,7 @@ avoided es l i k r n h w =
     (write_listed es l k i r b (r.found l k i w))
 
 -- what the mode avoid refuses is an inner entry
-pub refused_entry : (es : List Edge) (need : NeedsObserver) → Resolves es → observer_need es ≡ Some need → InnerEntry es need.event
+pub refused_entry : (es : List Edge) (need : NeedsObserver) → LaysOut es → observer_need es ≡ Some need → InnerEntry es need.event
 unfolding first_inner_entry
 refused_entry es need r n =
     let f = one_found (is_inner_entry es need.location) (filter_map (write_at es need.location) (upto (write_count es need.location))) need.event (some_entry es (upto (move_count es)) need n) in
@@ -72,7 +74,7 @@ unfolding is_observed
 force_few es l u = leb-false 2 (write_count es l) u
 
 -- where a mode serves a cycle, external edges enter first or last writes, or the location has an observer
-pub enters_last : (es : List Edge) (mode : ObsMode) → Resolves es → IsServed es mode → EntersLast es mode
+pub enters_last : (es : List Edge) (mode : ObsMode) → LaysOut es → IsServed es mode → EntersLast es mode
 enters_last es mode r s = record { last = λ i h w u e v. by_mode mode s i h w u e v }
   where
     not_inner : (i : ℕ) → i < length es → source_of (edge_at es i) ≡ dirs.W → reach_of (edge_into es i) ≡ External → 1 < value_of es i → is_inner_entry es (location_of es i) i ≡ false → value_of es i ≡ write_count es (location_of es i)

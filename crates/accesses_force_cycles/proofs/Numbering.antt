@@ -1,5 +1,6 @@
 -- A numbering of the places can be read back: it takes each number below the count of the locations.
-use Rattle.accesses_force_cycles.proofs.Vocabulary.{◌≡◌, ℕ, zero, suc, ◌<◌, ◌≤◌, Bool, true, false, ◌||◌, List, [], ◌∷◌, refl, sym, ◌∙◌, ap, arith, ◌==◌, unwrap_or, count_by, list_any, list_any-append, eqb-true, eq-eqb, ne_eqb, Edge, upto, by_test, count_upto-le, count_upto_one_more, count_upto_less, count_upto_none, find_upto_only, any_upto, any_upto_none, any_upto_passing, move_count, IsNumbering, location_numbered}
+use Rattle.accesses_force_cycles.proofs.Vocabulary.{◌≡◌, ℕ, zero, suc, ◌<◌, ◌≤◌, Bool, true, false, ◌||◌, List, [], ◌∷◌, refl, sym, ◌∙◌, ap, arith, ◌==◌, unwrap_or, count_by, list_any, list_any-append, eqb-true, eq-eqb, ne_eqb, Edge, upto, by_test}
+use Rattle.accesses_force_cycles.proofs.Vocabulary.{count_upto-le, count_upto_one_more, count_upto_less, count_upto_none, find_upto_only, any_upto, any_upto_none, any_upto_passing, move_count, IsNumbering, location_numbered}
 
 -- where all numbers below n are counted, each passes
 all_pass : (p : ℕ → Bool) (n i : ℕ) → count_by p (upto n) ≡ n → i < n → p i ≡ true

@@ -1,15 +1,14 @@
 -- An execution that meets the condition is the intended one: its reads are fixed by their values, and its orders by the
 -- edges into the writes.
-use Rattle.accesses_force_cycles.proofs.Vocabulary.{◌≡◌, ℕ, suc, ◌+◌, ◌-◌, ◌<◌, ◌≤◌, true, false, List, length, Option, Some, slice_get, refl, sym, ◌∙◌, ap, subst, arith, add-one, count_by, slice_get_within, Dir, Sd, Same, Diff, Reach, Internal, External, ObsMode, Edge, source_of, sd_of, reach_of, by_test, rank_upto, upto, edge_at, external_count, move_count, thread_of, slot_of, location_of, event_after, value_of, write_count, is_observed, edge_into, WriteAt, read, at_name, Execution, event_name, MayFollow, order_place, order_at, coherence_place, last_write, final_value, IsNumbering, observed_locations, event_access, cycle_accesses, ordered_write, write_of, location_order, intended, MeetsCondition}
-use Rattle.accesses_force_cycles.proofs.{Lists.same_below, Lists.got_below, Orders.Holds, Orders.place_held, Orders.order_by_steps}
-use Rattle.accesses_force_cycles.proofs.{Numbering.numbering_onto, Numbering.location_of_number, Accesses.event_at_name, Accesses.observer_at_name}
-use Rattle.accesses_force_cycles.proofs.{WriteEvents.NthWrite, WriteEvents.nth_write, WriteEvents.write_at_name, IntendedReads.reads_are_intended}
-use Rattle.accesses_force_cycles.proofs.{IntendedExists.orders-count, IntendedExists.intended_is_execution}
-use Rattle.accesses_force_cycles.proofs.IntendedOrders.{gives_writes, order_got, order_holds, intended_order, placed_write}
-use Rattle.accesses_force_cycles.proofs.Resolves.{IsWrite, Resolves, EntersLast, Entered, entered, written_by}
+use Rattle.accesses_force_cycles.proofs.Vocabulary.{◌≡◌, ℕ, suc, ◌+◌, ◌-◌, ◌<◌, ◌≤◌, true, false, List, length, Option, Some, slice_get, refl, sym, ◌∙◌, ap, subst, arith, add-one, count_by, slice_get_within, Dir, Sd, Same, Diff, Reach, Internal}
+use Rattle.accesses_force_cycles.proofs.Vocabulary.{External, ObsMode, Edge, source_of, sd_of, reach_of, by_test, rank_upto, upto, edge_at, external_count, move_count, thread_of, slot_of, location_of, event_after, value_of, write_count, is_observed}
+use Rattle.accesses_force_cycles.proofs.Vocabulary.{edge_into, WriteAt, read, at_name, Execution, IsExecutionOf, event_name, MayFollow, order_place, order_at, coherence_place, last_write, final_value, IsNumbering, observed_locations, event_access}
+use Rattle.accesses_force_cycles.proofs.{Vocabulary.{cycle_accesses, ordered_write, write_of, location_order, intended, MeetsCondition}, Lists.{same_below, got_below}, Orders.{Holds, place_held, order_by_steps}, Numbering.numbering_onto}
+use Rattle.accesses_force_cycles.proofs.{Numbering.location_of_number, Accesses.{event_at_name, observer_at_name}, WriteEvents.{NthWrite, nth_write, write_at_name}, IntendedReads.reads_are_intended, IntendedExists.{orders-count, intended_is_execution}}
+use Rattle.accesses_force_cycles.proofs.{IntendedOrders.{gives_writes, order_got, order_holds, intended_order, placed_write}, Resolves.{IsWrite, LaysOut, EntersLast, Entered, entered, written_by}}
 
 -- where an execution reads as the intended one does, the coherence place of an event is that of the write of its value
-pub event_place : (es : List Edge) (mode : ObsMode) (number : ℕ → ℕ) (x : Execution) (i : ℕ) → Resolves es → IsNumbering es number → x.reads ≡ (intended es mode number).reads → i < length es → coherence_place (cycle_accesses es mode number) x (event_name es i) (event_access es number i) ≡ order_place (order_at x (number (location_of es i))) (write_of es (location_of es i) (value_of es i))
+pub event_place : (es : List Edge) (mode : ObsMode) (number : ℕ → ℕ) (x : Execution) (i : ℕ) → LaysOut es → IsNumbering es number → x.reads ≡ (intended es mode number).reads → i < length es → coherence_place (cycle_accesses es mode number) x (event_name es i) (event_access es number i) ≡ order_place (order_at x (number (location_of es i))) (write_of es (location_of es i) (value_of es i))
 event_place es mode number x i r n s h =
     cc (
       (placed_write es mode number x (event_name es i) (event_access es number i) r n s (event_at_name es mode number i r h)),
@@ -18,7 +17,7 @@ event_place es mode number x i r n s h =
     )
 
 -- the coherence place of an observer's load is that of the write that it reads
-load_place : (es : List Edge) (mode : ObsMode) (number : ℕ → ℕ) (x : Execution) (o l k : ℕ) → Resolves es → IsNumbering es number → x.reads ≡ (intended es mode number).reads → l < move_count es → slice_get (observed_locations es mode) o ≡ Some l → k < write_count es l → coherence_place (cycle_accesses es mode number) x (record { thread = external_count es + o; access = k }) (read (number l) (k + 1)) ≡ order_place (order_at x (number l)) (ordered_write es l k)
+load_place : (es : List Edge) (mode : ObsMode) (number : ℕ → ℕ) (x : Execution) (o l k : ℕ) → LaysOut es → IsNumbering es number → x.reads ≡ (intended es mode number).reads → l < move_count es → slice_get (observed_locations es mode) o ≡ Some l → k < write_count es l → coherence_place (cycle_accesses es mode number) x (record { thread = external_count es + o; access = k }) (read (number l) (k + 1)) ≡ order_place (order_at x (number l)) (ordered_write es l k)
 load_place es mode number x o l k r n s h g b =
     cc (
       (placed_write es mode number x (record { thread = external_count es + o; access = k }) (read (number l) (k + 1)) r n s (observer_at_name es mode number o l k g b)),
@@ -39,7 +38,7 @@ pub record FromBefore (es : List Edge) (l k : ℕ) : Type 0 where
   pub value : value_of es from ≡ suc k
 
 -- the edge into a write that isn't the first of its location comes from the value before
-pub from_before : (es : List Edge) (l k i : ℕ) → Resolves es → IsWrite es l (suc k) i → FromBefore es l k
+pub from_before : (es : List Edge) (l k i : ℕ) → LaysOut es → IsWrite es l (suc k) i → FromBefore es l k
 from_before es l k i r w =
     by_place (sd_of (edge_at es e.before)) refl
   where
@@ -66,7 +65,7 @@ from_before es l k i r w =
     by_place Diff p = absurd (omega (arith, r.begins e.before e.below p, one, reached))
 
 -- an internal edge into a write: by coherence in its thread the write comes after the one before
-internal_step : (es : List Edge) (mode : ObsMode) (number : ℕ → ℕ) (x : Execution) (l k : ℕ) → Resolves es → IsNumbering es number → x.reads ≡ (intended es mode number).reads → MeetsCondition es mode number x → (b : FromBefore es l k) → reach_of (edge_at es b.from) ≡ Internal → order_place (order_at x (number l)) (ordered_write es l k) < order_place (order_at x (number l)) (ordered_write es l (suc k))
+internal_step : (es : List Edge) (mode : ObsMode) (number : ℕ → ℕ) (x : Execution) (l k : ℕ) → LaysOut es → IsNumbering es number → x.reads ≡ (intended es mode number).reads → MeetsCondition es mode number x → (b : FromBefore es l k) → reach_of (edge_at es b.from) ≡ Internal → order_place (order_at x (number l)) (ordered_write es l k) < order_place (order_at x (number l)) (ordered_write es l (suc k))
 internal_step es mode number x l k r n s c b h =
     subst (λ (z : ℕ × ℕ). z.0 < z.1) (λ t. (source t, target t)) follows
   where
@@ -107,7 +106,7 @@ record TwoPlaces (order : List WriteAt) (w v : Option WriteAt) : Type 0 where
   second_got : slice_get order second ≡ v
   apart : first ≡ second → ⊥
 
-two_places : (es : List Edge) (l k : ℕ) (order : List WriteAt) → Resolves es → Holds order (ordered_write es l) (write_count es l) → suc k < write_count es l → TwoPlaces order (ordered_write es l k) (ordered_write es l (suc k))
+two_places : (es : List Edge) (l k : ℕ) (order : List WriteAt) → LaysOut es → Holds order (ordered_write es l) (write_count es l) → suc k < write_count es l → TwoPlaces order (ordered_write es l k) (ordered_write es l (suc k))
 two_places es l k order r o h =
     let a = nth_write es l k r (omega arith) in
     let b = nth_write es l (suc k) r h in
@@ -127,7 +126,7 @@ two_places es l k order r o h =
     }
 
 -- where a location is observed: the observer reads the write after the one before
-observed_step : (es : List Edge) (mode : ObsMode) (number : ℕ → ℕ) (x : Execution) (l k : ℕ) → Resolves es → IsNumbering es number → x.reads ≡ (intended es mode number).reads → MeetsCondition es mode number x → l < move_count es → suc k < write_count es l → is_observed es mode l ≡ true → order_place (order_at x (number l)) (ordered_write es l k) < order_place (order_at x (number l)) (ordered_write es l (suc k))
+observed_step : (es : List Edge) (mode : ObsMode) (number : ℕ → ℕ) (x : Execution) (l k : ℕ) → LaysOut es → IsNumbering es number → x.reads ≡ (intended es mode number).reads → MeetsCondition es mode number x → l < move_count es → suc k < write_count es l → is_observed es mode l ≡ true → order_place (order_at x (number l)) (ordered_write es l k) < order_place (order_at x (number l)) (ordered_write es l (suc k))
 observed_step es mode number x l k r n s c h b t =
     let p = two_places es l k (order_at x (number l)) r (order_holds es mode number l x r n c.execution h) b in
     omega (arith, follows, load_place es mode number x o l k r n s h seen (omega arith), load_place es mode number x o l (suc k) r n s h seen b, p.first_is, p.second_is, p.apart)
@@ -146,10 +145,10 @@ observed_step es mode number x l k r n s c h b t =
         refl
 
 -- the last write of a place's order is the location's write of the value that the place has at the end
-ends_with : (es : List Edge) (mode : ObsMode) (number : ℕ → ℕ) (x : Execution) (l k : ℕ) → Resolves es → IsNumbering es number → MeetsCondition es mode number x → l < move_count es → 0 < length (order_at x (number l)) → final_value (cycle_accesses es mode number) x (number l) ≡ suc k → slice_get (order_at x (number l)) (length (order_at x (number l)) - 1) ≡ ordered_write es l k
+ends_with : (es : List Edge) (mode : ObsMode) (number : ℕ → ℕ) (x : Execution) (l k : ℕ) → LaysOut es → IsNumbering es number → IsExecutionOf (cycle_accesses es mode number) (move_count es) x → l < move_count es → 0 < length (order_at x (number l)) → final_value (cycle_accesses es mode number) x (number l) ≡ suc k → slice_get (order_at x (number l)) (length (order_at x (number l)) - 1) ≡ ordered_write es l k
 ends_with es mode number x l k r n c h z v =
     let e = got_below (order_at x (number l)) (length (order_at x (number l)) - 1) (omega arith) in
-    let q = order_holds es mode number l x r n c.execution h in
+    let q = order_holds es mode number l x r n c h in
     let j = q.only (length (order_at x (number l)) - 1) e.element e.got in
     let a = nth_write es l j.0 r j.1 in
     let t : last_write (order_at x (number l)) ≡ Some (event_name es a.event) = e.got ∙ sym j.2 ∙ a.name_is in
@@ -157,19 +156,19 @@ ends_with es mode number x l k r n c h z v =
     let d : j.0 ≡ k = omega (arith, f, v) in
     e.got ∙ sym j.2 ∙ ap (ordered_write es l) d
 
--- where it isn't observed: the write is the last, and the final value says so
-last_step : (es : List Edge) (mode : ObsMode) (number : ℕ → ℕ) (x : Execution) (l k : ℕ) → Resolves es → IsNumbering es number → MeetsCondition es mode number x → l < move_count es → write_count es l ≡ suc (suc k) → is_observed es mode l ≡ false → order_place (order_at x (number l)) (ordered_write es l k) < order_place (order_at x (number l)) (ordered_write es l (suc k))
-last_step es mode number x l k r n c h m u =
+-- where the write is the last, and the location's place ends with its value
+last_step : (es : List Edge) (mode : ObsMode) (number : ℕ → ℕ) (x : Execution) (l k : ℕ) → LaysOut es → IsNumbering es number → IsExecutionOf (cycle_accesses es mode number) (move_count es) x → l < move_count es → write_count es l ≡ suc (suc k) → final_value (cycle_accesses es mode number) x (number l) ≡ write_count es l → order_place (order_at x (number l)) (ordered_write es l k) < order_place (order_at x (number l)) (ordered_write es l (suc k))
+last_step es mode number x l k r n c h m v =
     grind (
       arith,
-      (order_holds es mode number l x r n c.execution h),
+      (order_holds es mode number l x r n c h),
       (two_places es l k (order_at x (number l)) r),
       (nth_write es l (suc k) r (omega arith)),
       (ends_with es mode number x l (suc k) r n c h),
     )
 
 -- each write of a location comes before the next in the order of values
-write_step : (es : List Edge) (mode : ObsMode) (number : ℕ → ℕ) (x : Execution) (l k : ℕ) → Resolves es → EntersLast es mode → IsNumbering es number → x.reads ≡ (intended es mode number).reads → MeetsCondition es mode number x → l < move_count es → suc k < write_count es l → order_place (order_at x (number l)) (ordered_write es l k) < order_place (order_at x (number l)) (ordered_write es l (suc k))
+write_step : (es : List Edge) (mode : ObsMode) (number : ℕ → ℕ) (x : Execution) (l k : ℕ) → LaysOut es → EntersLast es mode → IsNumbering es number → x.reads ≡ (intended es mode number).reads → MeetsCondition es mode number x → l < move_count es → suc k < write_count es l → order_place (order_at x (number l)) (ordered_write es l k) < order_place (order_at x (number l)) (ordered_write es l (suc k))
 write_step es mode number x l k r q n s c h b =
     by_reach (reach_of (edge_at es f.from)) refl
   where
@@ -192,34 +191,49 @@ write_step es mode number x l k r q n s c h b =
     by_reach External e =
         by_test (is_observed es mode l)
         (λ t. observed_step es mode number x l k r n s c h b t)
-        (λ u. last_step es mode number x l k r n c h (is_last e u) u)
+        (λ u. last_step es mode number x l k r n c.execution h (is_last e u) (c.ends l h u (omega (arith, b))))
 
--- the order of a location's place is that of the values
-order_is_intended : (es : List Edge) (mode : ObsMode) (number : ℕ → ℕ) (x : Execution) (l : ℕ) → Resolves es → EntersLast es mode → IsNumbering es number → MeetsCondition es mode number x → l < move_count es → order_at x (number l) ≡ location_order es l
+-- the writes of each location come in the order of their values
+abbrev InOrder : List Edge → (ℕ → ℕ) → Execution → Type 0
+InOrder es number x =
+    (l k : ℕ) → l < move_count es → suc k < write_count es l →
+    order_place (order_at x (number l)) (ordered_write es l k) < order_place (order_at x (number l)) (ordered_write es l (suc k))
+
+-- then the order of a location's place is that of the values
+order_is_intended : (es : List Edge) (mode : ObsMode) (number : ℕ → ℕ) (x : Execution) (l : ℕ) → LaysOut es → IsNumbering es number → IsExecutionOf (cycle_accesses es mode number) (move_count es) x → InOrder es number x → l < move_count es → order_at x (number l) ≡ location_order es l
 unfolding location_order
-order_is_intended es mode number x l r q n c h =
-    grind (
-      arith,
-      (order_by_steps (order_at x (number l)) (ordered_write es l) (write_count es l) (order_holds es mode number l x r n c.execution h)),
-      (order_holds es mode number l x r n c.execution h),
-      add-one,
-      (write_step es mode number x l),
-      (reads_are_intended es mode number x r n c.execution),
-    )
+order_is_intended es mode number x l r n c o h =
+    order_by_steps (order_at x (number l)) (ordered_write es l) (write_count es l) (order_holds es mode number l x r n c h) (λ k b. rw (add-one k) (o l k h (omega (arith, b))))
 
-orders_are_intended : (es : List Edge) (mode : ObsMode) (number : ℕ → ℕ) (x : Execution) → Resolves es → EntersLast es mode → IsNumbering es number → MeetsCondition es mode number x → x.orders ≡ (intended es mode number).orders
-orders_are_intended es mode number x r q n c =
-    same_below x.orders (intended es mode number).orders (move_count es) c.execution.write_lists (orders-count es mode number) here
+orders_are_intended : (es : List Edge) (mode : ObsMode) (number : ℕ → ℕ) (x : Execution) → LaysOut es → IsNumbering es number → IsExecutionOf (cycle_accesses es mode number) (move_count es) x → InOrder es number x → x.orders ≡ (intended es mode number).orders
+orders_are_intended es mode number x r n c o =
+    same_below x.orders (intended es mode number).orders (move_count es) c.write_lists (orders-count es mode number) here
   where
     here : (place : ℕ) → place < move_count es → slice_get x.orders place ≡ slice_get (intended es mode number).orders place
     here place b =
         let p = numbering_onto es number place n b in
         ap (slice_get x.orders) (sym p.number_is)
-        ∙ order_got (cycle_accesses es mode number) (move_count es) (number p.spot) x c.execution (n.below p.spot p.below)
-        ∙ ap Some (order_is_intended es mode number x p.spot r q n c p.below ∙ sym (intended_order es mode number p.spot n p.below))
+        ∙ order_got (cycle_accesses es mode number) (move_count es) (number p.spot) x c (n.below p.spot p.below)
+        ∙ ap Some (order_is_intended es mode number x p.spot r n c o p.below ∙ sym (intended_order es mode number p.spot n p.below))
         ∙ sym (order_got (cycle_accesses es mode number) (move_count es) (number p.spot) (intended es mode number) (intended_is_execution es mode number r n) (n.below p.spot p.below))
         ∙ ap (slice_get (intended es mode number).orders) p.number_is
 
+-- an execution with such orders is the intended one
+only_in_order : (es : List Edge) (mode : ObsMode) (number : ℕ → ℕ) (x : Execution) → LaysOut es → IsNumbering es number → IsExecutionOf (cycle_accesses es mode number) (move_count es) x → InOrder es number x → x ≡ intended es mode number
+only_in_order es mode number x r n c o = grind (arith, reads_are_intended, orders_are_intended)
+
 -- an execution that meets the condition is the intended one
-pub only_the_intended : (es : List Edge) (mode : ObsMode) (number : ℕ → ℕ) (x : Execution) → Resolves es → EntersLast es mode → IsNumbering es number → MeetsCondition es mode number x → x ≡ intended es mode number
-only_the_intended es mode number x r q n c = grind (arith, reads_are_intended, orders_are_intended)
+pub only_the_intended : (es : List Edge) (mode : ObsMode) (number : ℕ → ℕ) (x : Execution) → LaysOut es → EntersLast es mode → IsNumbering es number → MeetsCondition es mode number x → x ≡ intended es mode number
+only_the_intended es mode number x r q n c =
+    only_in_order es mode number x r n c.execution (λ l k h b. write_step es mode number x l k r q n (reads_are_intended es mode number x r n c.execution) c h b)
+
+-- an execution, coherent or not, is the intended one where each location has at most two writes and ends with the last of two
+pub only_of_few : (es : List Edge) (mode : ObsMode) (number : ℕ → ℕ) (x : Execution) → LaysOut es → IsNumbering es number → IsExecutionOf (cycle_accesses es mode number) (move_count es) x
+    → ((l : ℕ) → l < move_count es → write_count es l ≤ 2)
+    → ((l : ℕ) → l < move_count es → write_count es l ≡ 2 → final_value (cycle_accesses es mode number) x (number l) ≡ 2)
+    → x ≡ intended es mode number
+only_of_few es mode number x r n c few ends =
+    only_in_order es mode number x r n c (λ l k h b.
+    let k_is : k ≡ 0 = omega (arith, b, few l h) in
+    let two : write_count es l ≡ 2 = omega (arith, b, few l h) in
+    last_step es mode number x l k r n c h (omega (arith, two, k_is)) (ends l h two ∙ sym two))

@@ -1,6 +1,6 @@
 -- The place of a write in a coherence order, and orders that are fixed by their steps.
-use Rattle.accesses_force_cycles.proofs.Vocabulary.{◌≡◌, ℕ, zero, suc, ◌+◌, ◌<◌, ◌≤◌, List, length, Option, Some, slice_get, sym, ◌∙◌, ap, arith, filter_map, position_or_len, lt-ltb, cond-true, slice_get_within, slice_get-get_or, get_or_from_slice_get, position_or_len_is, upto, by_less, WriteAt, same_write, order_place, same_write-refl, same_write-true}
-use Rattle.accesses_force_cycles.proofs.Lists.{same_below, length-filter_map-upto, slice_get-filter_map-upto, got_below}
+use Rattle.accesses_force_cycles.proofs.Vocabulary.{◌≡◌, ℕ, zero, suc, ◌+◌, ◌<◌, ◌≤◌, List, length, Option, Some, slice_get, sym, ◌∙◌, ap, arith, filter_map, position_or_len, lt-ltb, cond-true, slice_get_within, slice_get-get_or, get_or_from_slice_get}
+use Rattle.accesses_force_cycles.proofs.{Vocabulary.{position_or_len_is, upto, by_less, WriteAt, same_write, order_place, same_write-refl, same_write-true}, Lists.{same_below, length-filter_map-upto, slice_get-filter_map-upto, got_below}}
 
 -- a write that is listed once in an order is found where it is
 pub found_at : (order : List WriteAt) (j : ℕ) (w : WriteAt) → slice_get order j ≡ Some w → ((i : ℕ) → slice_get order i ≡ Some w → i ≡ j)

@@ -1,8 +1,8 @@
 -- From a program to its accesses: a candidate execution of a program that makes the accesses of the cycle's test and
 -- meets its condition is an execution of which the laws of this crate hold.
-use Rattle.accesses_force_cycles.proofs.Vocabulary.{◌≡◌, ℕ, ◌<◌, List, [], ◌∷◌, length, map, Some, slice_get, refl, sym, ◌∙◌, ap, arith, filter, ObsMode, Edge, Outcome, Access, is_read, Execution, IsNumbering, cycle_accesses, intended, Program, HasEnded, runs_of, accesses_in, accesses-count, MeetsCondition, accesses_filled, MakesAccesses, ReadsAsAsked, IsOutcome}
-use Rattle.accesses_force_cycles.proofs.{Lists.same_below, Lists.got_below, Lists.map-map, IntendedReads.reads-count, IntendedReads.intended_reads}
-use Rattle.accesses_force_cycles.proofs.{IntendedExists.intended_meets, Resolves.Resolves}
+use Rattle.accesses_force_cycles.proofs.Vocabulary.{◌≡◌, ℕ, ◌<◌, List, [], ◌∷◌, length, map, Some, slice_get, refl, sym, ◌∙◌, ap, subst, arith, filter, ObsMode, Edge, Outcome, Access, is_read, Execution, IsExecutionOf, IsNumbering, cycle_accesses}
+use Rattle.accesses_force_cycles.proofs.{Vocabulary.{intended, Program, HasEnded, IsCandidate, runs_of, accesses_in, accesses-count, MeetsCondition, accesses_filled, MakesAccesses, ReadsAsAsked, IsOutcome}, Lists.{same_below, got_below, map-map}}
+use Rattle.accesses_force_cycles.proofs.{IntendedReads.{reads-count, intended_reads}, IntendedExists.{intended_is_execution, intended_meets}, Resolves.{LaysOut, Resolves}}
 
 -- accesses whose reads read their own values are as they were
 filled_own : (accesses : List Access) → accesses_filled accesses (map (λ access. access.value) (filter is_read accesses)) ≡ accesses
@@ -31,9 +31,25 @@ pub outcome_meets : (es : List Edge) (mode : ObsMode) (number : ℕ → ℕ) (p 
 outcome_meets es mode number p x m o = grind (arith, (outcome_makes es mode number p x m o))
 
 -- the intended execution reads the values asked for
-pub intended_asked : (es : List Edge) (mode : ObsMode) (number : ℕ → ℕ) → Resolves es → IsNumbering es number → ReadsAsAsked es mode number (intended es mode number)
+pub intended_asked : (es : List Edge) (mode : ObsMode) (number : ℕ → ℕ) → LaysOut es → IsNumbering es number → ReadsAsAsked es mode number (intended es mode number)
 intended_asked es mode number r n k planned reads t g = grind (arith, (intended_reads es mode number k planned), map-map)
 
--- where the runs on the intended reads come to their ends, the intended execution is an outcome
-pub intended_outcome : (es : List Edge) (mode : ObsMode) (number : ℕ → ℕ) (p : Program) → Resolves es → IsNumbering es number → MakesAccesses es mode number p (intended es mode number) → ((k : ℕ) (run : Outcome) → slice_get (runs_of p.threads (intended es mode number).reads) k ≡ Some run → HasEnded run) → IsOutcome es mode number p (intended es mode number)
-intended_outcome es mode number p r n m ended = grind (arith, intended_asked, intended_meets, makes_planned, reads-count)
+-- all runs of a program on the reads of an execution come to their ends
+abbrev pub AllEnded : Program → Execution → Type 0
+AllEnded p x = (k : ℕ) (run : Outcome) → slice_get (runs_of p.threads x.reads) k ≡ Some run → HasEnded run
+
+-- where the runs on the intended reads do, the accesses made on them are those of the cycle's test, and the intended execution is a candidate
+pub intended_makes : (es : List Edge) (mode : ObsMode) (number : ℕ → ℕ) (p : Program) → LaysOut es → IsNumbering es number → MakesAccesses es mode number p (intended es mode number) → accesses_in p (intended es mode number) ≡ cycle_accesses es mode number
+intended_makes es mode number p r n m = grind (arith, makes_planned, intended_asked, reads-count)
+
+pub intended_candidate : (es : List Edge) (mode : ObsMode) (number : ℕ → ℕ) (p : Program) → LaysOut es → IsNumbering es number → MakesAccesses es mode number p (intended es mode number) → AllEnded p (intended es mode number) → IsCandidate p (intended es mode number)
+intended_candidate es mode number p r n m ended =
+    record {
+      ended = ended;
+      execution = subst (λ (z : List (List Access) × ℕ). IsExecutionOf z.0 z.1 (intended es mode number)) (λ t. (sym (intended_makes es mode number p r n m) t, sym m.places t)) (intended_is_execution es mode number r n);
+    }
+
+-- and, in a resolved cycle, an outcome
+pub intended_outcome : (es : List Edge) (mode : ObsMode) (number : ℕ → ℕ) (p : Program) → Resolves es → IsNumbering es number → MakesAccesses es mode number p (intended es mode number) → AllEnded p (intended es mode number) → IsOutcome es mode number p (intended es mode number)
+intended_outcome es mode number p r n m ended =
+    grind (arith, (intended_candidate es mode number p r.laid n m ended), (intended_makes es mode number p r.laid n m), (intended_asked es mode number r.laid n), (intended_meets es mode number r n))

@@ -1,6 +1,5 @@
 -- Lists of reads: what each read reads is fixed where its access can read one thing alone.
-use Rattle.accesses_force_cycles.proofs.Vocabulary.{◌≡◌, ℕ, suc, true, List, [], ◌∷◌, map, Option, Some, slice_get, refl, arith, filter, WriteAt, Access, is_read, Execution, CanRead, AreReadsOf, source_at}
-use Rattle.accesses_force_cycles.proofs.Lists.{rank_filter, got_map}
+use Rattle.accesses_force_cycles.proofs.{Vocabulary.{◌≡◌, ℕ, suc, true, List, [], ◌∷◌, map, Option, Some, slice_get, refl, arith, filter, WriteAt, Access, is_read, Execution, CanRead, AreReadsOf, source_at}, Lists.{rank_filter, got_map}}
 
 -- the reads that accesses make, where each reads the write that `source` gives it
 abbrev pub reads_by_source : (Access → Option WriteAt) → List Access → List (ℕ × Option WriteAt)

@@ -1,8 +1,7 @@
 -- The writes of a location in another order: that of their values under a function that exchanges values in pairs.
-use Rattle.accesses_force_cycles.proofs.Vocabulary.{◌≡◌, ℕ, zero, suc, ◌+◌, ◌-◌, ◌<◌, ◌≤◌, List, [], Option, Some, sym, ◌∙◌, ap, subst, arith, add-one, filter_map, ObsMode, Edge, upto, move_count, write_count, WriteAt, at_name, IsOrderOf, order_place, last_write, event_name, IsNumbering, cycle_accesses, ordered_write, write_of}
-use Rattle.accesses_force_cycles.proofs.{Lists.{length-filter_map-upto, slice_get-filter_map-upto}, IntendedOrders.gives_writes, Resolves.{IsWrite, Resolves}}
-use Rattle.accesses_force_cycles.proofs.Orders.{Holds, Gives, order_given, place_given}
-use Rattle.accesses_force_cycles.proofs.WriteEvents.{nth_write, write_event, write_at_name, ordered_write-is, rank_below}
+use Rattle.accesses_force_cycles.proofs.Vocabulary.{◌≡◌, ℕ, zero, suc, ◌+◌, ◌-◌, ◌<◌, ◌≤◌, List, [], Option, Some, sym, ◌∙◌, ap, subst, arith, add-one, filter_map, ObsMode, Edge, upto, move_count, write_count, WriteAt, at_name, IsOrderOf, order_place}
+use Rattle.accesses_force_cycles.proofs.{Vocabulary.{last_write, event_name, IsNumbering, cycle_accesses, ordered_write, write_of}, Lists.{length-filter_map-upto, slice_get-filter_map-upto}, IntendedOrders.gives_writes, Resolves.{IsWrite, LaysOut}}
+use Rattle.accesses_force_cycles.proofs.{Orders.{Holds, Gives, order_given, place_given}, WriteEvents.{nth_write, write_event, write_at_name, ordered_write-is, rank_below}}
 
 -- a function exchanges the values from 1 to n, and leaves 0 and n
 pub record Exchanges (f : ℕ → ℕ) (n : ℕ) : Type 0 where
@@ -30,32 +29,32 @@ pub record ValueWrite (es : List Edge) (l v : ℕ) : Type 0 where
   pub name_is : write_of es l v ≡ Some (event_name es event)
 
 -- a positive value up to the count of the writes is that of a write
-pub value_write : (es : List Edge) (l v : ℕ) → Resolves es → 0 < v → v ≤ write_count es l → ValueWrite es l v
+pub value_write : (es : List Edge) (l v : ℕ) → LaysOut es → 0 < v → v ≤ write_count es l → ValueWrite es l v
 value_write es l zero r h b = absurd (omega arith)
 value_write es l (suc k) r h b = grind (arith, (nth_write es l k r (omega arith)))
 
 -- two values of one write are one value
-one_value : (es : List Edge) (l u v : ℕ) (w : WriteAt) → Resolves es → 0 < u → u ≤ write_count es l → 0 < v → v ≤ write_count es l → write_of es l u ≡ Some w → write_of es l v ≡ Some w → u ≡ v
+one_value : (es : List Edge) (l u v : ℕ) (w : WriteAt) → LaysOut es → 0 < u → u ≤ write_count es l → 0 < v → v ≤ write_count es l → write_of es l u ≡ Some w → write_of es l v ≡ Some w → u ≡ v
 one_value es l u v w r a b c d p q =
     let x = value_write es l u r a b in
     let y = value_write es l v r c d in
     let g = gives_writes es l r in
     omega (arith, x.value_is, y.value_is, g.once x.rank y.rank w x.below y.below (ap (write_of es l) (sym x.value_is) ∙ p) (ap (write_of es l) (sym y.value_is) ∙ q))
 
-gives_under : (es : List Edge) (l : ℕ) (f : ℕ → ℕ) → Resolves es → Exchanges f (write_count es l) → Gives (under es l f) (write_count es l)
+gives_under : (es : List Edge) (l : ℕ) (f : ℕ → ℕ) → LaysOut es → Exchanges f (write_count es l) → Gives (under es l f) (write_count es l)
 gives_under es l f r e = record {
   some = λ k h. let w = value_write es l (f (k + 1)) r (e.above (k + 1) (omega arith) (omega arith)) (e.within (k + 1) (omega arith) (omega arith)) in (event_name es w.event, w.name_is);
   once = λ j k w h g p q. grind (arith, one_value, e.back (j + 1), e.back (k + 1));
 }
 
 -- the write of value v is in place f v of the order
-pub place_under : (es : List Edge) (l v : ℕ) (f : ℕ → ℕ) → Resolves es → Exchanges f (write_count es l) → v ≤ write_count es l → order_place (order_under es l f) (write_of es l v) ≡ f v
+pub place_under : (es : List Edge) (l v : ℕ) (f : ℕ → ℕ) → LaysOut es → Exchanges f (write_count es l) → v ≤ write_count es l → order_place (order_under es l f) (write_of es l v) ≡ f v
 place_under es l zero f r e h = sym e.none
 place_under es l (suc k) f r e h =
     grind (arith, (place_given (under es l f) (write_count es l) (f (suc k) - 1) (gives_under es l f r e) (omega arith)), (gives_under es l f r e))
 
 -- the order is one of the location's place
-pub order_under_is : (es : List Edge) (mode : ObsMode) (number : ℕ → ℕ) (l : ℕ) (f : ℕ → ℕ) → Resolves es → IsNumbering es number → l < move_count es → Exchanges f (write_count es l) → IsOrderOf (cycle_accesses es mode number) (number l) (order_under es l f)
+pub order_under_is : (es : List Edge) (mode : ObsMode) (number : ℕ → ℕ) (l : ℕ) (f : ℕ → ℕ) → LaysOut es → IsNumbering es number → l < move_count es → Exchanges f (write_count es l) → IsOrderOf (cycle_accesses es mode number) (number l) (order_under es l f)
 order_under_is es mode number l f r n h e =
     record {
       writes = λ j w p.
@@ -80,7 +79,7 @@ order_under_is es mode number l f r n h e =
     g = order_given (under es l f) (write_count es l) (gives_under es l f r e)
 
 -- the last write of the order is that of the greatest value
-pub last_under : (es : List Edge) (l k : ℕ) (f : ℕ → ℕ) → Resolves es → Exchanges f (write_count es l) → write_count es l ≡ suc k → last_write (order_under es l f) ≡ ordered_write es l k
+pub last_under : (es : List Edge) (l k : ℕ) (f : ℕ → ℕ) → LaysOut es → Exchanges f (write_count es l) → write_count es l ≡ suc k → last_write (order_under es l f) ≡ ordered_write es l k
 last_under es l k f r e h =
     grind (
       arith,

@@ -1,8 +1,11 @@
 -- A resolved cycle has the facts that the executions rest on.
-use Rattle.accesses_force_cycles.proofs.Vocabulary.{◌≡◌, ◌≢◌, ℕ, ◌+◌, ◌<◌, ◌≤◌, true, false, cond, List, length, Some, refl, sym, ◌∙◌, ap, arith, add-one, ◌==◌, count_by, cond-true, cond-false, eqb-true, eq-eqb, upto, count_upto_past, Dir, Sd, Same, Diff, Reach, Internal, External, Edge, source_of, sd_of, reach_of, is_external, is_diff, same_dir, IsResolved, edge_at, move_count, thread_of, slot_of, location_of, event_after, thread_out, event_in_slot, slot_of_event, SameRun, thread_below, several_locations, one_run, one_location, none_moves, source_after, mark_after, internal_follows, external_leads, keeps_location, changes_location, value_of, write_at, value_after, value_most, write_value, values_in_thread, values_in_thread_grow, write_at_parts, write_at_from, is_write_number, write_number, MayFollow}
+use Rattle.accesses_force_cycles.proofs.Vocabulary.{◌≡◌, ◌≢◌, ℕ, ◌+◌, ◌<◌, ◌≤◌, true, false, cond, List, length, Some, refl, sym, ◌∙◌, ap, arith, add-one, ◌==◌, count_by, cond-true, cond-false, eqb-true, eq-eqb, upto, count_upto_past, Dir, Sd, Same}
+use Rattle.accesses_force_cycles.proofs.Vocabulary.{Diff, Reach, Internal, External, Edge, source_of, sd_of, reach_of, is_external, is_diff, same_dir, IsLaidOut, IsResolved, laid_out, edge_at, move_count, thread_of, slot_of, location_of, event_after}
+use Rattle.accesses_force_cycles.proofs.Vocabulary.{thread_out, event_in_slot, slot_of_event, SameRun, thread_below, one_run, one_location, none_moves, source_after, mark_after, internal_follows, external_leads, keeps_location, changes_location}
+use Rattle.accesses_force_cycles.proofs.{Vocabulary.{value_of, write_at, value_after, value_most, write_value, values_in_thread, values_in_thread_grow, write_at_parts, write_at_from, is_write_number, write_number, MayFollow}, Resolves.{IsWrite, LaysOut}}
+use Rattle.accesses_force_cycles.proofs.Resolves.{Resolves, written_by}
 use Rattle.relax_edges.specs.declared.kinds.Dir.TheVariants as dirs
 use Rattle.cycle_events.proofs.Writes.{write_of as write_from}
-use Rattle.accesses_force_cycles.proofs.Resolves.{IsWrite, Resolves, written_by}
 
 keeps : (e : Edge) → sd_of e ≡ Same → is_diff e ≡ false
 keeps e h = rw h refl
@@ -27,11 +30,11 @@ slots_rise es i j h t =
     let e : count_by (λ m. thread_of es m == thread_of es i) (upto i) ≡ count_by (λ m. thread_of es m == thread_of es j) (upto i) = ap (λ k. count_by (λ m. thread_of es m == k) (upto i)) t in
     omega (arith, e, count_upto_past (λ m. thread_of es m == thread_of es j) i j h (eq-eqb (thread_of es i) (thread_of es j) t))
 
-next_slot : (es : List Edge) (i : ℕ) → IsResolved es → i < length es → reach_of (edge_at es i) ≡ Internal → (thread_of es (event_after es i) ≡ thread_of es i) × (slot_of es (event_after es i) ≡ slot_of es i + 1)
+next_slot : (es : List Edge) (i : ℕ) → IsLaidOut es → i < length es → reach_of (edge_at es i) ≡ Internal → (thread_of es (event_after es i) ≡ thread_of es i) × (slot_of es (event_after es i) ≡ slot_of es i + 1)
 next_slot es i r h p = grind (arith, internal_follows, stays_inside)
 
 -- an external edge leads to another thread, since there are two
-next_thread : (es : List Edge) (i : ℕ) → IsResolved es → i < length es → reach_of (edge_at es i) ≡ External → thread_of es (event_after es i) ≢ thread_of es i
+next_thread : (es : List Edge) (i : ℕ) → IsLaidOut es → i < length es → reach_of (edge_at es i) ≡ External → thread_of es (event_after es i) ≢ thread_of es i
 next_thread es i r h p s = grind (arith, external_leads, goes_outside, cond-true, eqb-true, cond-false)
 
 -- a write and the one that it counts for
@@ -72,10 +75,10 @@ values_order : (es : List Edge) (i j : ℕ) → IsResolved es → i < j → j < 
 values_order es i j r h b t e dirs.R d = values_in_thread es i j r (omega arith) b t e
 values_order es i j r h b t e dirs.W d = let q = values_in_thread_grow es i j r h b t e (writes (source_of (edge_at es j)) d) in omega (arith, q)
 
-value_kept : (es : List Edge) (i : ℕ) → IsResolved es → i < length es → sd_of (edge_at es i) ≡ Same → value_of es (event_after es i) ≡ value_of es i + written_by (source_of (edge_at es (event_after es i)))
+value_kept : (es : List Edge) (i : ℕ) → IsLaidOut es → i < length es → sd_of (edge_at es i) ≡ Same → value_of es (event_after es i) ≡ value_of es i + written_by (source_of (edge_at es (event_after es i)))
 value_kept es i r h p = grind (arith, value_after, cond-false, keeps, writes_one)
 
-value_begun : (es : List Edge) (i : ℕ) → IsResolved es → i < length es → sd_of (edge_at es i) ≡ Diff → value_of es (event_after es i) ≡ written_by (source_of (edge_at es (event_after es i)))
+value_begun : (es : List Edge) (i : ℕ) → IsLaidOut es → i < length es → sd_of (edge_at es i) ≡ Diff → value_of es (event_after es i) ≡ written_by (source_of (edge_at es (event_after es i)))
 value_begun es i r h p = grind (arith, value_after, cond-true, moves, writes_one)
 
 numbered_write : (es : List Edge) (l k i : ℕ) → write_at es l k ≡ Some i → IsWrite es l k i
@@ -84,12 +87,11 @@ numbered_write es l k i h = grind (arith, (write_from es l k i h), (write_at_par
 write_numbered : (es : List Edge) (l k i : ℕ) → IsWrite es l k i → write_at es l k ≡ Some i
 write_numbered es l k i w = search (arith, is_write_number, writes, write_at_from, add-one)
 
--- a resolved cycle has all these facts
-pub resolves : (es : List Edge) → IsResolved es → Resolves es
-resolves es r =
+-- a cycle that is laid out has these facts
+pub lays_out : (es : List Edge) → IsLaidOut es → LaysOut es
+lays_out es r =
     search (
       arith,
-      several_locations,
       location_under,
       thread_below,
       event_in_slot,
@@ -99,12 +101,8 @@ resolves es r =
       mark_after,
       keeps,
       keeps_location,
-      moves,
-      changes_location,
       next_slot,
       next_thread,
-      values_order,
-      edges_of_run,
       value_kept,
       value_begun,
       value_most,
@@ -114,3 +112,12 @@ resolves es r =
       write_numbered,
       write_value,
     )
+
+-- a resolved cycle has all these facts
+pub resolves : (es : List Edge) → IsResolved es → Resolves es
+resolves es r = record {
+  laid = lays_out es (laid_out r);
+  moves = λ i h d. changes_location es i r h (moves (edge_at es i) d);
+  order = λ i j h b t l. values_order es i j r h b t l (source_of (edge_at es j)) refl;
+  run = λ i m j h l b t e. edges_of_run es i m j r h l b t e;
+}

@@ -1,11 +1,12 @@
 -- Each premise of the laws is needed: all executions of small cycles, tried by computing.
-use Rattle.accesses_force_cycles.proofs.Vocabulary.{◌≡◌, ℕ, Bool, true, List, [], ◌∷◌, length, map, Some, refl, ◌||◌, ◌&&◌, ◌==◌, nat_lt, not, filter, flat_map, list_all, list_any, Diff, ObsMode, Accept, Avoid, Force, Kind, Edge, kind_of, pod, wse, fre, upto, edge_at, event_after, move_count, thread_of, slot_of, location_of, moves_before, events_in, value_of, way_place, write_count, write_at, is_observed, Access, read, write, Execution, coherence_place, final_value, event_name, name, coheres, cycle_accesses, event_access, intended, location_order, location_numbered}
+use Rattle.accesses_force_cycles.proofs.Vocabulary.{◌≡◌, ℕ, Bool, true, List, [], ◌∷◌, length, map, Some, refl, ◌||◌, ◌&&◌, ◌==◌, nat_lt, not, filter, flat_map, list_all, list_any, Diff, ObsMode, Accept, Avoid, Force, Kind, Edge, kind_of, pod, wse, fre}
+use Rattle.accesses_force_cycles.proofs.Vocabulary.{upto, edge_at, event_after, move_count, thread_of, slot_of, location_of, moves_before, events_in, value_of, way_place, write_count, write_at, is_observed, Access, read, write, Execution}
+use Rattle.accesses_force_cycles.proofs.{Vocabulary.{coherence_place, final_value, event_name, name, coheres, cycle_accesses, event_access, intended, location_order, location_numbered}, Examples.{two_writes, W3, W3O, here}}
 use Rattle.relax_edges.specs.declared.kinds.Dir.TheVariants as dirs
 use Rattle.relax_edges.specs.declared.kinds.FenceKind.TheVariants as fences
 use Rattle.relax_edges.specs.declared.kinds.Com.TheVariants as coms
 use Rattle.relax_edges.specs.declared.kinds.Kind.TheVariants as kinds
 use Rattle.relax_edges.specs.declared.edge.Edge.TheVariants as edges
-use Rattle.accesses_force_cycles.proofs.Examples.{two_writes, W3, W3O, here}
 
 abbrev MFencedWR : Edge
 MFencedWR = edges.Fenced fences.MFence Diff dirs.W dirs.R

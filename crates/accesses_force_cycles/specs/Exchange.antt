@@ -1,7 +1,7 @@
 -- The execution that no condition distinguishes from the intended one, if an external edge enters an inner write of a
 -- location: that write and the write before it are exchanged in the coherence order. Source: own.
 use Rattle.std.specs.{Prelude.{ℕ, ◌+◌, ◌-◌, ◌==◌, if◌then◌else◌, List, map}, List.filter_map}
-use Rattle.relax_edges.specs.{declared.kinds.ObsMode.TheVariants.Avoid, declared.edge.Edge.Edge}
+use Rattle.relax_edges.specs.declared.{kinds.ObsMode.TheVariants.Avoid, edge.Edge.Edge}
 use Rattle.list_laws.specs.Numbers.{upto}
 use Rattle.cycle_events.specs.{Resolution.{move_count, location_of}, Values.{value_of, write_count}}
 use Rattle.program_meaning.specs.{declared.WriteAt.WriteAt, Executions.Execution, Intended.{write_of, location_numbered, intended}}

@@ -1,14 +1,12 @@
 -- What a program must do so that the laws of this crate apply to it: make the accesses of the cycle's test, with whatever
 -- values are read, and mark and tie them as the edges say. `es` is the list of edges in which threads and locations are counted.
 use Rattle.std.specs.Prelude.{◌≡◌, ℕ, ◌<◌, ◌≤◌, false, List, [], ◌∷◌, length, map, filter, Option, Some, slice_get}
-use Rattle.relax_edges.specs.{declared.kinds.Dir.Dir, declared.kinds.Mark.TheVariants.Plain, declared.kinds.ObsMode.ObsMode, declared.edge.Edge.Edge}
-use Rattle.relax_edges.specs.EdgeTable.{kind_of, source_mark}
+use Rattle.relax_edges.specs.{declared.{kinds.{Dir.Dir, Mark.TheVariants.Plain, ObsMode.ObsMode}, edge.Edge.Edge}, EdgeTable.{kind_of, source_mark}}
 use Rattle.relax_edges.specs.declared.kinds.Dir.TheVariants as dirs
 use Rattle.micro_ops.specs.declared.operation.Item.{Item}
 use Rattle.cycle_events.specs.{Resolution.{edge_at, external_count, move_count, event_after}, Values.{is_observed, write_count}}
-use Rattle.program_meaning.specs.{declared.WriteAt.WriteAt, Accesses.{Access, Visit, barriers_after, is_read}, Executions.Execution, Coherence.final_value}
-use Rattle.program_meaning.specs.{Intended.cycle_accesses, Programs.{Program, IsCandidate, IsCoherentIn, accesses_in, items_in, visits_in}}
-use Rattle.program_meaning.specs.Standing.{NamedAccess, IsEvent, IsFree, StartsFree, TiesBy}
+use Rattle.program_meaning.specs.{declared.WriteAt.WriteAt, Accesses.{Access, Visit, barriers_after, is_read}, Executions.Execution, Coherence.final_value, Intended.cycle_accesses, Programs.{Program, IsCandidate, IsCoherentIn, accesses_in, items_in}}
+use Rattle.program_meaning.specs.{Programs.visits_in, Standing.{NamedAccess, IsEvent, IsFree, StartsFree, TiesBy}}
 
 -- the value of an access: a read takes the first of the values read, if there is one
 abbrev pub value_taken : Dir → List ℕ → ℕ → ℕ

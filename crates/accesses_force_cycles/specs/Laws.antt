@@ -1,11 +1,9 @@
 -- The laws of this crate. `es` is the list of edges in which the threads and locations of a resolved cycle are counted.
 use Rattle.std.specs.Prelude.{◌≡◌, ℕ, ◌<◌, List, length, Some, slice_get}
-use Rattle.relax_edges.specs.{declared.kinds.ObsMode.ObsMode, declared.kinds.ObsMode.TheVariants.Avoid, declared.edge.Edge.Edge}
+use Rattle.relax_edges.specs.declared.{kinds.ObsMode.{ObsMode, TheVariants.Avoid}, edge.Edge.Edge}
 use Rattle.micro_ops.specs.Running.{Outcome}
-use Rattle.cycle_events.specs.{Resolution.{IsResolved, edge_at, event_after, event_before, move_count}, declared.needs.NeedsObserver.NeedsObserver}
-use Rattle.cycle_events.specs.Values.{observer_need}
-use Rattle.program_meaning.specs.{Executions.Execution, Coherence.final_value, Programs.{Program, HasEnded, runs_of}, Standing.{AllStand, Joins}}
-use Rattle.program_meaning.specs.Intended.{IsNumbering, cycle_accesses, event_at, intended}
+use Rattle.cycle_events.specs.{Resolution.{IsResolved, edge_at, event_after, event_before, move_count}, declared.needs.NeedsObserver.NeedsObserver, Values.observer_need}
+use Rattle.program_meaning.specs.{Executions.Execution, Coherence.final_value, Programs.{Program, HasEnded, runs_of}, Standing.{AllStand, Joins}, Intended.{IsNumbering, cycle_accesses, event_at, intended}}
 use Rattle.accesses_force_cycles.specs.{Premises.{IsServed, MeetsCondition}, Joining.{IsOutcome, IsTiedUp, MakesAccesses}, Exchange.exchanged}
 
 -- each edge of the cycle joins its events: its communication holds, and their directions, locations and threads are as it says

@@ -1,7 +1,7 @@
 -- What the laws of this crate suppose of an execution: facts only about accesses, whatever the instructions are. `es` is
 -- the list of edges in which threads, locations and values are counted, and `number` numbers the locations.
 use Rattle.std.specs.Prelude.{◌≡◌, ℕ, ◌<◌, ◌≤◌, false, List, None}
-use Rattle.relax_edges.specs.{declared.kinds.ObsMode.ObsMode, declared.kinds.ObsMode.TheVariants.{Accept, Avoid, Force}, declared.edge.Edge.Edge}
+use Rattle.relax_edges.specs.declared.{kinds.ObsMode.{ObsMode, TheVariants.{Accept, Avoid, Force}}, edge.Edge.Edge}
 use Rattle.cycle_events.specs.{Resolution.move_count, Values.{is_observed, observer_need, write_count}}
 use Rattle.program_meaning.specs.{Executions.{Execution, IsExecutionOf}, Coherence.{IsCoherent, final_value}, Intended.cycle_accesses}
 

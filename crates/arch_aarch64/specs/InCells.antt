@@ -1,8 +1,7 @@
 -- AArch64's instructions fit into the cells of a table, and the code of each access makes one access.
-use Rattle.arch_trait.specs.{Cells.WritesCells, Cells.MakesOneAccess, Forms.register_names}
-use Rattle.arch_instructions_laws.proofs.InCells as tables
-use Rattle.arch_trait.proofs.AddressedOnce.{accesses_once}
-use Rattle.arch_aarch64.specs.{Puts.puts, Puts.instructions, Table.table, Table.numbered, Table.writing, Clear.is_clear_table, Laws.own_code}
+use Rattle.arch_trait.{specs.{Cells.{WritesCells, MakesOneAccess}, Forms.register_names}, proofs.AddressedOnce.accesses_once}
+use Rattle.arch_instructions.proofs.InCells as tables
+use Rattle.arch_aarch64.specs.{Puts.{puts, instructions}, Table.{table, numbered, writing}, Clear.is_clear_table, Laws.own_code}
 
 -- the instructions of AArch64 fit into the cells of a table
 pub writes_cells : WritesCells puts writing

@@ -1,11 +1,9 @@
 -- AArch64 obeys the laws of architectures.
-use Rattle.std.proofs.{Common.refl, Common.arith, lemmas.Bool.Decides.nat_tests, lemmas.Bool.and_from}
+use Rattle.std.proofs.{Common.{refl, arith}, lemmas.Bool.{Decides.nat_tests, and_from}}
 use Rattle.relax_edges.specs.declared.kinds.ArchName.TheVariants as archs
-use Rattle.arch_trait.specs.Laws.{IsArch}
-use Rattle.arch_trait.proofs.{AddressedInstructions.KeepsInstructions, Addressed.keeps_laws, OwnCode.tests, OwnCode.indexed, OwnCode.sums}
-use Rattle.arch_instructions_laws.specs.Tables.{operands_fit}
-use Rattle.arch_instructions_laws.proofs.Barriers.{fences_had}
-use Rattle.arch_aarch64.specs.{Table.forms, Table.table, Puts.puts, Puts.instructions}
+use Rattle.arch_trait.{specs.Laws.IsArch, proofs.{AddressedInstructions.KeepsInstructions, Addressed.keeps_laws, OwnCode.{tests, indexed, sums}}}
+use Rattle.arch_instructions.{specs.Tables.operands_fit, proofs.Barriers.fences_had}
+use Rattle.arch_aarch64.specs.{Table.{forms, table}, Puts.{puts, instructions}}
 
 -- AArch64's own instructions are of the sorts that the laws require
 pub own_code : KeepsInstructions instructions

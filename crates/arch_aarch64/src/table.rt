@@ -1,10 +1,12 @@
 ghost use Rattle.std.specs.Prelude.{◌≡◌};
-ghost use Rattle.arch_instructions_laws.specs.Tables.{table_seen};
+ghost use Rattle.arch_instructions.specs.Tables.{table_seen};
 ghost use Rattle.arch_instructions.specs.FixedTexts.{AreOfTable};
 ghost use Rattle.arch_aarch64.specs.Table.{table};
 
-use arch_instructions::{BarrierText, FixedTexts, around, barrier_text};
-use arch_instructions_laws::{Form, Hole, Kind, Labels, Piece, Table, form, piece};
+use arch_instructions::{
+    BarrierText, FixedTexts, Form, Hole, Kind, Labels, Piece, Table, around, barrier_text, form,
+    piece,
+};
 use arch_trait::Numbered;
 use micro_ops::Barrier;
 use relax_edges::FenceKind;

@@ -1,11 +1,9 @@
 -- ARM obeys the laws of architectures.
-use Rattle.std.proofs.{Common.refl, Common.arith, lemmas.Bool.Decides.nat_tests, lemmas.Bool.and_from}
+use Rattle.std.proofs.{Common.{refl, arith}, lemmas.Bool.{Decides.nat_tests, and_from}}
 use Rattle.relax_edges.specs.declared.kinds.ArchName.TheVariants as archs
-use Rattle.arch_trait.specs.Laws.{IsArch}
-use Rattle.arch_trait.proofs.{AddressedInstructions.KeepsInstructions, Addressed.keeps_laws, OwnCode.compares, OwnCode.indexed, OwnCode.sums}
-use Rattle.arch_instructions_laws.specs.Tables.{operands_fit}
-use Rattle.arch_instructions_laws.proofs.Barriers.{fences_had}
-use Rattle.arch_arm.specs.{Table.forms, Table.table, Puts.puts, Puts.instructions}
+use Rattle.arch_trait.{specs.Laws.IsArch, proofs.{AddressedInstructions.KeepsInstructions, Addressed.keeps_laws, OwnCode.{compares, indexed, sums}}}
+use Rattle.arch_instructions.{specs.Tables.operands_fit, proofs.Barriers.fences_had}
+use Rattle.arch_arm.specs.{Table.{forms, table}, Puts.{puts, instructions}}
 
 -- ARM's own instructions are of the sorts that the laws require
 pub own_code : KeepsInstructions instructions

@@ -3,8 +3,8 @@
 use Rattle.std.specs.Prelude.{[], ◌∷◌, Some}
 use Rattle.relax_edges.specs.declared.kinds.ArchName.TheVariants as archs
 use Rattle.micro_ops.specs.declared.operation.Micro.TheVariants as ops
-use Rattle.arch_trait.specs.{Threads.Puts, Addressed.Instructions, Addressed.puts_of}
-use Rattle.arch_instructions_laws.specs.Tables.{table_has}
+use Rattle.arch_trait.specs.{Threads.Puts, Addressed.{Instructions, puts_of}}
+use Rattle.arch_instructions.specs.Tables.{table_has}
 use Rattle.arch_arm.specs.Table.{table}
 
 -- ARM's own instructions: CMP and BEQ, accesses with an index register, and ADD of an immediate

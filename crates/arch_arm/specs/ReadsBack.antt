@@ -1,9 +1,9 @@
 -- ARM's instructions read back from their text, and its registers have names of their own.
 use Rattle.std.proofs.Common.{refl, arith}
 use Rattle.arch_trait.specs.{Forms.register_names, InstructionReading.ReadsOwn, Writing.WritesBack}
-use Rattle.arch_instructions_laws.proofs.Ranges as ranges
-use Rattle.arch_instructions_laws.proofs.ReadsBack.{numbered_back}
-use Rattle.arch_arm.specs.{Puts.puts, Table.table, Table.numbered, Table.writing, Clear.is_clear_table, Clear.few_registers}
+use Rattle.arch_instructions.proofs.Ranges as ranges
+use Rattle.arch_instructions.proofs.ReadsBack.{numbered_back}
+use Rattle.arch_arm.specs.{Puts.puts, Table.{table, numbered, writing}, Clear.{is_clear_table, few_registers}}
 
 -- the instructions of ARM read back from their text
 pub reads_back : WritesBack puts writing

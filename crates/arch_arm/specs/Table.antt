@@ -4,10 +4,10 @@ use Rattle.std.specs.Prelude.{List, [], ◌∷◌, codes}
 use Rattle.relax_edges.specs.declared.kinds.FenceKind.TheVariants as fences
 use Rattle.micro_ops.specs.declared.operation.Barrier.TheVariants as barriers
 use Rattle.arch_trait.specs.{declared.numbered.Numbered.Numbered, Forms.register_names, Writing.Writing}
-use Rattle.arch_instructions_laws.specs.declared.form.Hole.TheVariants as holes
-use Rattle.arch_instructions_laws.specs.declared.form.Labels.TheVariants as labels
-use Rattle.arch_instructions_laws.specs.declared.kind.Kind.TheVariants as kinds
-use Rattle.arch_instructions_laws.specs.Tables.{PieceText, FormText, TableText, piece, fixed, form, table_writing}
+use Rattle.arch_instructions.specs.declared.form.Hole.TheVariants as holes
+use Rattle.arch_instructions.specs.declared.form.Labels.TheVariants as labels
+use Rattle.arch_instructions.specs.declared.kind.Kind.TheVariants as kinds
+use Rattle.arch_instructions.specs.Tables.{PieceText, FormText, TableText, piece, fixed, form, table_writing}
 
 -- a register: R0 to R12
 abbrev pub register : PieceText

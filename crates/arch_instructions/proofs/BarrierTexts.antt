@@ -1,12 +1,6 @@
 -- The text of a barrier is sought from the first text on.
-use Rattle.std.proofs.Common.{ℕ, ◌≤◌, ◌≡◌, ◌-◌, true, cond, List, [], ◌∷◌, Option, Some, get_or, take, drop, length, sym, ap, ◌∙◌, subst, arith}
-use Rattle.std.proofs.lemmas.Bool.{and_parts, leb-true, eq-eqb, ne_eqb}
-use Rattle.std.specs.List.{list_all}
-use Rattle.micro_ops.specs.declared.operation.Barrier.{Barrier}
-use Rattle.arch_trait.specs.declared.arch.TheConstants.{MAX_INSTRUCTION_TEXT}
-use Rattle.arch_instructions_laws.specs.Kinds.{barrier_number}
-use Rattle.arch_instructions.specs.{declared.fixed.BarrierText.BarrierText, FixedTexts.{barrier_text, is_short}}
-use Rattle.list_laws.proofs.Elements.{rest-cons}
+use Rattle.std.{proofs.{Common.{ℕ, ◌≤◌, ◌≡◌, ◌-◌, true, cond, List, [], ◌∷◌, Option, Some, get_or, take, drop, length, sym, ap, ◌∙◌, subst, arith}, lemmas.Bool.{and_parts, leb-true, eq-eqb, ne_eqb}}, specs.List.list_all}
+use Rattle.arch_instructions.{proofs.Vocabulary.{Barrier, MAX_INSTRUCTION_TEXT, rest-cons}, specs.{Kinds.barrier_number, declared.fixed.BarrierText.BarrierText, FixedTexts.{barrier_text, is_short}}}
 
 -- the first text is the barrier's
 pub first_text : (ts : List BarrierText) (d : BarrierText) (b : Barrier) → 1 ≤ length ts →

@@ -1,15 +1,7 @@
 -- Operands are printed one after another, as far as the holes can hold them.
-use Rattle.std.proofs.Common.{ℕ, ◌+◌, ◌-◌, ◌<◌, ◌≤◌, ◌≡◌, ◌==◌, Bool, true, false, ◌&&◌, List, [], ◌∷◌, ◌++◌, map, take, drop, get_or, subst, length, arith, length-append, refl, sym, ap, append_assoc, append-nil, ◌∙◌}
-use Rattle.std.specs.List.{list_all}
-use Rattle.std.proofs.lemmas.{Bool.and_parts, Bool.Decides.nat_tests}
-use Rattle.arch_trait.specs.declared.arch.TheConstants.{MAX_INSTRUCTION_TEXT}
-use Rattle.arch_instructions_laws.specs.declared.{form.Piece.Piece, kind.Operand.Operand}
-use Rattle.arch_instructions_laws.specs.Tables.{piece_seen, fits_first, after_hole, operands_fit, hole_filled, piece_text}
-use Rattle.arch_instructions_laws.specs.ClearTables.{is_piece_good, most_in, most_of}
-use Rattle.arch_instructions_laws.proofs.PieceBacks.{piece_is_good}
-use Rattle.arch_instructions.specs.Printing.{byte_before, joined_texts, ReadyToPrint, ReadyPiece}
-use Rattle.list_laws.proofs.Elements.{rest-cons}
-use Rattle.arch_instructions.proofs.Room.{hole_short, short_after, after_of, byte_one}
+use Rattle.std.proofs.{Common.{ℕ, ◌+◌, ◌-◌, ◌<◌, ◌≤◌, ◌≡◌, ◌==◌, Bool, true, false, ◌&&◌, List, [], ◌∷◌, ◌++◌, map, take, drop, get_or, subst, length, arith, length-append, refl, sym, ap, append_assoc, append-nil, ◌∙◌}, lemmas.Bool.and_parts}
+use Rattle.arch_instructions.{proofs.{Vocabulary.{nat_tests, list_all, MAX_INSTRUCTION_TEXT, rest-cons}, PieceBacks.piece_is_good, Room.{hole_short, short_after, after_of, byte_one}}, specs.declared.{form.Piece.Piece, kind.Operand.Operand}}
+use Rattle.arch_instructions.specs.{Tables.{piece_seen, fits_first, after_hole, operands_fit, hole_filled, piece_text}, ClearTables.{is_piece_good, most_in, most_of}, Printing.{byte_before, joined_texts, ReadyToPrint, ReadyPiece}}
 
 -- operands are printed as far as those that are left, to a text that is whole, if they fit
 pub record Going (names : ℕ → List ℕ) (whole : List ℕ) (all : Bool) (out : List ℕ) (left : List Piece) (vs : List Operand) : Type 0 where

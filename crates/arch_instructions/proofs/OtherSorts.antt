@@ -1,9 +1,6 @@
 -- An operation is of a kind only where their sorts are the same.
 use Rattle.std.proofs.Common.{◌≡◌, List, refl, false}
-use Rattle.micro_ops.specs.declared.operation.Micro.{Micro}
-use Rattle.arch_instructions_laws.specs.{declared.kind.Kind.Kind, declared.kind.Operand.Operand, Tables.{FormText, does, fits_if}}
-use Rattle.arch_instructions_laws.proofs.OfKind.{IsOf, orders, by_kind}
-use Rattle.arch_instructions.specs.Printing.{kind_sort, op_sort}
+use Rattle.arch_instructions.{proofs.{Vocabulary.Micro, OfKind.{IsOf, orders, by_kind}}, specs.{declared.kind.{Kind.Kind, Operand.Operand}, Tables.{FormText, does, fits_if}, Printing.{kind_sort, op_sort}}}
 
 same_sort : {kind : Kind} {op : Micro} {vs : List Operand} → IsOf kind op vs → kind_sort kind ≡ op_sort op
 same_sort (orders a b e) = refl

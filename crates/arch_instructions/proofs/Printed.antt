@@ -1,16 +1,8 @@
 -- Printing by the first form that does an operation.
-use Rattle.std.proofs.Common.{ℕ, ◌-◌, ◌<◌, ◌≤◌, ◌≡◌, refl, true, false, cond, ◌&&◌, nat_le, List, [], ◌∷◌, ◌++◌, map, take, drop, get_or, length, append-nil, ◌∙◌, sym, ap, subst, arith}
-use Rattle.std.specs.List.{list_any, list_all}
-use Rattle.std.proofs.lemmas.Bool.{and_parts, leb-true}
-use Rattle.micro_ops.specs.declared.operation.Micro.{Micro}
+use Rattle.std.{proofs.{Common.{ℕ, ◌-◌, ◌<◌, ◌≤◌, ◌≡◌, refl, true, false, cond, ◌&&◌, nat_le, List, [], ◌∷◌, ◌++◌, map, take, drop, get_or, length, append-nil, ◌∙◌, sym, ap, subst, arith}, lemmas.Bool.{and_parts, leb-true}}, specs.List.list_any}
+use Rattle.arch_instructions.{proofs.{Vocabulary.{list_all, Micro, few, listed, written_text, rest-cons}, ChosenForms.form_is_good}, specs.{declared.{kind.Operand.Operand, form.Form.Form}, Kinds.operands_of, ClearTables.{is_clear, forms_apart}}}
+use Rattle.arch_instructions.specs.{ClearTables.is_form_good, Tables.{PieceText, FormText, TableText, piece_seen, form_seen, table_has, does, given_operands, piece_texts, form_written, first_written}, Printing.{byte_before, joined_texts, form_text}}
 use Rattle.micro_ops.specs.declared.operation.Micro.TheVariants as ops
-use Rattle.arch_trait.specs.{InstructionReading.few, Writing.listed, Writing.written_text}
-use Rattle.arch_instructions_laws.specs.declared.{kind.Operand.Operand, form.Form.Form}
-use Rattle.arch_instructions_laws.specs.{Kinds.operands_of, ClearTables.is_clear, ClearTables.forms_apart, ClearTables.is_form_good}
-use Rattle.arch_instructions_laws.specs.Tables.{PieceText, FormText, TableText, piece_seen, form_seen, table_has, does, given_operands, piece_texts, form_written, first_written}
-use Rattle.arch_instructions_laws.proofs.ChosenForms.{form_is_good}
-use Rattle.arch_instructions.specs.Printing.{byte_before, joined_texts, form_text}
-use Rattle.list_laws.proofs.Elements.{rest-cons}
 
 -- at most four operands come after a blank and commas
 commas_are : (names : ℕ → List ℕ) (ps : List PieceText) (vs : List Operand) → nat_le (length ps) 4 ≡ true →

@@ -1,9 +1,6 @@
 -- A number of one or two digits.
-use Rattle.std.proofs.Common.{ℕ, ◌+◌, ◌-◌, ◌*◌, ◌/◌, ◌%◌, ◌<◌, ◌≤◌, ◌≡◌, List, [], ◌∷◌, ◌++◌, Some, length, get_or, ap, sym, ◌∙◌, refl, arith}
-use Rattle.std.specs.Fmt.{decimal}
-use Rattle.std.proofs.lemmas.Fmt.{decimal_digit, decimal_step}
-use Rattle.text_parts.specs.NumberTexts.{number_of}
-use Rattle.text_parts.proofs.NumberLaws.{number_of-decimal}
+use Rattle.std.{proofs.{Common.{ℕ, ◌+◌, ◌-◌, ◌*◌, ◌/◌, ◌%◌, ◌<◌, ◌≤◌, ◌≡◌, List, [], ◌∷◌, ◌++◌, Some, length, get_or, ap, sym, ◌∙◌, refl, arith}, lemmas.Fmt.{decimal_digit, decimal_step}}, specs.Fmt.decimal}
+use Rattle.arch_instructions.proofs.Vocabulary.{number_of, number_of-decimal}
 
 -- a digit is the decimal of its number
 pub one_read : (a : ℕ) → 48 ≤ a → a ≤ 57 → number_of (a ∷ []) ≡ Some (a - 48)

@@ -1,14 +1,10 @@
 -- How operands are found one after the other, and forms tried one after the other.
-use Rattle.std.proofs.Common.{ℕ, ◌-◌, ◌<◌, ◌≤◌, ◌≡◌, refl, List, [], ◌∷◌, Option, Some, None, map, length, Bor, get_or, take, drop, ap, sym, ◌∙◌, append_assoc, arith}
-use Rattle.std.proofs.{Math.Seq.take-length, lemmas.Bool.le-leb, lemmas.Bool.eq-eqb, lemmas.Bool.Decides.nat_tests, lemmas.Grind.common_steps}
-use Rattle.std.specs.Prelude.{option_map, option_and_then, true, cond, nat_le}
+use Rattle.std.proofs.{Common.{ℕ, ◌-◌, ◌<◌, ◌≤◌, ◌≡◌, refl, List, [], ◌∷◌, Option, Some, None, map, length, Bor, get_or, take, drop, ap, sym, ◌∙◌, append_assoc, arith}, Math.Seq.take-length, lemmas.Bool.{le-leb, eq-eqb, Decides.nat_tests}}
+use Rattle.std.{proofs.lemmas.Grind.common_steps, specs.Prelude.{option_map, option_and_then, true, cond, nat_le}}
 use Rattle.arch_trait.specs.Writing.{OperandTexts, none, one, two, three, four, more, RawInstr}
-use Rattle.arch_instructions_laws.specs.declared.{form.Piece.Piece, form.Form.Form, form.Labels.Labels, kind.Kind.Kind}
-use Rattle.arch_instructions_laws.specs.declared.form.Labels.TheVariants as labels
-use Rattle.arch_instructions_laws.specs.Kinds.{FoundOperand, raw_with}
-use Rattle.arch_instructions_laws.specs.Tables.{FormText, piece_seen, form_seen, joined_operands, pieces_found, form_found, after_prefix, before_suffix, raw_or, first_form_read, label_read, texts_in, raw_if}
-use Rattle.arch_instructions.specs.Founds.{texts_seen, form_raw, forms_raw}
-use Rattle.list_laws.proofs.Elements.{rest-cons}
+use Rattle.arch_instructions.specs.{declared.{form.{Piece.Piece, Form.Form, Labels.Labels}, kind.Kind.Kind}, Kinds.{FoundOperand, raw_with}, Tables.{FormText, piece_seen, form_seen, joined_operands, pieces_found, form_found, after_prefix, before_suffix}}
+use Rattle.arch_instructions.{specs.{Tables.{raw_or, first_form_read, label_read, texts_in, raw_if}, Founds.{texts_seen, form_raw, forms_raw}}, proofs.Vocabulary.rest-cons}
+use Rattle.arch_instructions.specs.declared.form.Labels.TheVariants as labels
 
 -- no operands, joined to others, change nothing
 pub join_nothing : (o : Option (List FoundOperand)) → joined_operands (Some []) o ≡ o

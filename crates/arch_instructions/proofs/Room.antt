@@ -1,12 +1,8 @@
 -- There is room for an instruction of a good form.
 use Rattle.std.proofs.{Common.{ℕ, ◌+◌, ◌≤◌, ◌≡◌, true, List, [], ◌∷◌, ◌++◌, subst, length, arith, length-append, ap}, lemmas.Bool.leb-true}
-use Rattle.arch_trait.specs.declared.arch.TheConstants.{MAX_INSTRUCTION_TEXT}
-use Rattle.arch_instructions_laws.specs.{declared.form.Hole.Hole, declared.kind.Operand.Operand}
-use Rattle.arch_instructions_laws.specs.Tables.{PieceText, FormText, fits_first, after_hole, hole_filled}
-use Rattle.arch_instructions_laws.specs.ClearTables.{is_hole_good, is_form_good, most_in, most_of}
-use Rattle.arch_instructions_laws.specs.declared.kind.Operand.TheVariants as operands
-use Rattle.arch_instructions_laws.proofs.{PieceBacks.piece_is_good, PlainForms.{after_keeps, filled_short}, ChosenForms.form_is_good}
-use Rattle.arch_instructions.specs.Printing.{byte_before, AllShort, ReadyToPrint, ReadyPiece}
+use Rattle.arch_instructions.{proofs.{Vocabulary.MAX_INSTRUCTION_TEXT, PieceBacks.piece_is_good, PlainForms.{after_keeps, filled_short}, ChosenForms.form_is_good}, specs.{declared.{form.Hole.Hole, kind.Operand.Operand}, Tables.{PieceText, FormText}}}
+use Rattle.arch_instructions.specs.{Tables.{fits_first, after_hole, hole_filled}, ClearTables.{is_hole_good, is_form_good, most_in, most_of}, Printing.{byte_before, AllShort, ReadyToPrint, ReadyPiece}}
+use Rattle.arch_instructions.specs.declared.kind.Operand.TheVariants as operands
 
 short_tail : (names : ℕ → List ℕ) (v : Operand) (vs : List Operand) → AllShort names (v ∷ vs) → AllShort names vs
 short_tail names (operands.Place p) vs h = h.1

@@ -1,17 +1,12 @@
 -- The law by which an architecture proves that its fixed texts are what its table writes: the checker computes it for all digits
 -- and all barriers.
 -- Source: own.
-use Rattle.std.proofs.Common.{ℕ, zero, suc, ◌+◌, ◌<◌, ◌≡◌, Bool, true, cond, ◌&&◌, nat_lt, List, ◌∷◌, ◌++◌, Option, Some, None, sym, ap, ◌∙◌, arith}
-use Rattle.std.specs.{List.list_all, Str.bytes_eq}
-use Rattle.std.proofs.lemmas.{Bool.and_parts, Bool.ltb-true, Slice.Eq.bytes_eq-Decides}
+use Rattle.std.{proofs.{Common.{ℕ, zero, suc, ◌+◌, ◌<◌, ◌≡◌, Bool, true, cond, ◌&&◌, nat_lt, List, ◌∷◌, ◌++◌, Option, Some, None, sym, ap, ◌∙◌, arith}, lemmas.{Bool.{and_parts, ltb-true}, Slice.Eq.bytes_eq-Decides}}, specs.{List.list_all, Str.bytes_eq}}
 use Rattle.list_laws.proofs.Cases.{by_test, by_less}
 use Rattle.micro_ops.specs.declared.operation.Micro.{Micro}
 use Rattle.micro_ops.specs.declared.operation.Micro.TheVariants as ops
 use Rattle.arch_trait.specs.Writing.{written_text}
-use Rattle.arch_instructions_laws.specs.Tables.{TableText, table_written}
-use Rattle.arch_instructions_laws.proofs.Barriers.{all_barriers, each_barrier}
-use Rattle.arch_instructions.specs.declared.fixed.{FixedTexts.FixedTexts, TextsAround.TextsAround}
-use Rattle.arch_instructions.specs.FixedTexts.{text_around, fixed_text, have_room, AreOfTable}
+use Rattle.arch_instructions.{specs.{Tables.{TableText, table_written}, declared.fixed.{FixedTexts.FixedTexts, TextsAround.TextsAround}, FixedTexts.{text_around, fixed_text, have_room, AreOfTable}}, proofs.Barriers.{all_barriers, each_barrier}}
 
 -- all numbers below n pass a test
 abbrev all_below : ℕ → (ℕ → Bool) → Bool

@@ -1,11 +1,10 @@
 -- The fixed texts of operations, and the premise that they are what a table writes.
 -- Source: own.
 use Rattle.std.specs.{Prelude.{ℕ, ◌+◌, ◌≡◌, Bool, true, cond, ◌&&◌, nat_lt, nat_le, List, [], ◌∷◌, ◌++◌, Option, Some, None, length}, List.list_all}
-use Rattle.micro_ops.specs.{declared.operation.Micro.Micro, declared.operation.Barrier.Barrier}
+use Rattle.micro_ops.specs.declared.operation.{Micro.Micro, Barrier.Barrier}
 use Rattle.micro_ops.specs.declared.operation.Micro.TheVariants as ops
 use Rattle.arch_trait.specs.{declared.arch.TheConstants.MAX_INSTRUCTION_TEXT, Writing.written_text}
-use Rattle.arch_instructions_laws.specs.{Kinds.same_barrier, Tables.{TableText, table_written}}
-use Rattle.arch_instructions.specs.{declared.fixed.TextsAround.TextsAround, declared.fixed.BarrierText.BarrierText, declared.fixed.FixedTexts.FixedTexts}
+use Rattle.arch_instructions.specs.{Kinds.same_barrier, Tables.{TableText, table_written}, declared.fixed.{TextsAround.TextsAround, BarrierText.BarrierText, FixedTexts.FixedTexts}}
 
 -- two numbers with fixed texts around them, if each is of one digit
 abbrev pub text_around : TextsAround → ℕ → ℕ → Option (List ℕ)

@@ -2,10 +2,9 @@
 -- Source: own.
 use Rattle.std.specs.{Prelude.{ℕ, Bool, true, false, List, Option, Some, None, map, option_map, option_and_then}, Borrow.Bor}
 use Rattle.arch_trait.specs.Writing.{RawInstr, OperandTexts}
-use Rattle.arch_instructions.specs.declared.found.Found.{Found}
+use Rattle.arch_instructions.specs.{declared.{found.Found.Found, form.Labels.Labels}, Kinds.{FoundOperand, found_register, found_number, found_place, found_label, raw_with}, Tables.{PieceText, FormText, joined_operands, form_found, pieces_found}}
+use Rattle.arch_instructions.specs.Tables.{texts_in, table_raw}
 use Rattle.arch_instructions.specs.declared.found.Found.TheVariants as founds
-use Rattle.arch_instructions_laws.specs.{Kinds.{FoundOperand, found_register, found_number, found_place, found_label, raw_with}, declared.form.Labels.Labels}
-use Rattle.arch_instructions_laws.specs.Tables.{PieceText, FormText, joined_operands, form_found, pieces_found, texts_in, table_raw}
 
 -- what contracts see of an operand that was found
 abbrev pub found_seen : Found → FoundOperand

@@ -4,12 +4,10 @@ use Rattle.std.specs.{Prelude.{ℕ, ◌+◌, ◌≤◌, ◌≡◌, Bool, true, n
 use Rattle.micro_ops.specs.declared.operation.Micro.{Micro}
 use Rattle.micro_ops.specs.declared.operation.Micro.TheVariants as ops
 use Rattle.arch_trait.specs.declared.arch.TheConstants.{MAX_INSTRUCTION_TEXT}
-use Rattle.arch_instructions_laws.specs.{declared.kind.Kind.Kind, declared.kind.Operand.Operand, Kinds.operands_of}
-use Rattle.arch_instructions_laws.specs.{ClearTables.{is_piece_good, most_in, most_of}, Tables.{PieceText, FormText, after_hole, given_operands, piece_text}}
-use Rattle.arch_instructions_laws.specs.declared.kind.Kind.TheVariants as kinds
-use Rattle.arch_instructions_laws.specs.declared.kind.Operand.TheVariants as operands
-use Rattle.arch_instructions.specs.{declared.operand_list.OperandList.OperandList, declared.print.Separator.Separator}
-use Rattle.arch_instructions.specs.{declared.print.Separator.TheVariants.{Blank, Comma}, declared.sorts.Sort.Sort}
+use Rattle.arch_instructions.specs.{declared.{kind.{Kind.Kind, Operand.Operand}, operand_list.OperandList.OperandList, print.Separator.{Separator, TheVariants.{Blank, Comma}}, sorts.Sort.Sort}, Kinds.operands_of, ClearTables.{is_piece_good, most_in}}
+use Rattle.arch_instructions.specs.{ClearTables.most_of, Tables.{PieceText, FormText, after_hole, given_operands, piece_text}}
+use Rattle.arch_instructions.specs.declared.kind.Kind.TheVariants as kinds
+use Rattle.arch_instructions.specs.declared.kind.Operand.TheVariants as operands
 use Rattle.arch_instructions.specs.declared.sorts.Sort.TheVariants as sorts
 
 -- the operands that a list has

@@ -1,8 +1,8 @@
 ghost use Rattle.std.specs.Prelude.{◌≡◌, map};
-ghost use Rattle.arch_instructions_laws.specs.Tables.{piece_seen, form_seen, fits_first, after_hole, operands_fit, does};
+ghost use Rattle.arch_instructions.specs.Tables.{piece_seen, form_seen, fits_first, after_hole, operands_fit, does};
 
 use crate::operands::operands_of;
-use arch_instructions_laws::{Form, Hole, Operand, Piece};
+use crate::{Form, Hole, Operand, Piece};
 use arch_trait::MAX_IMMEDIATE;
 use micro_ops::Micro;
 
@@ -17,7 +17,7 @@ pub(crate) fn does(form: &Form, op: &Micro) -> bool
 }
 
 /// Whether the holes can hold exactly these operands, in order.
-#[tactic(auto, unfolding(arch_instructions_laws::specs::Tables::operands_fit))]
+#[tactic(auto, unfolding(crate::specs::Tables::operands_fit))]
 fn fits(pieces: &[Piece], operands: &[Operand]) -> bool
     ensures { result ≡ operands_fit (map piece_seen pieces.now) operands.now }
 {

@@ -1,12 +1,12 @@
 ghost use Rattle.std.specs.Prelude.{◌≡◌, ◌<◌, ◌≤◌, ◌+◌, ◌∷◌, [], Some, option_map};
 ghost use Rattle.arrayvec.specs.ArrayVec.{array_vec_len};
 ghost use Rattle.arch_trait.specs.InstructionPieces.{raw_seen};
-ghost use Rattle.arch_instructions_laws.specs.{Kinds.{raw_with, unnamed, with_place_name, at_label}, Tables.{hole_found}};
+ghost use Rattle.arch_instructions.specs.{Kinds.{raw_with, unnamed, with_place_name, at_label}, Tables.{hole_found}};
 ghost use Rattle.arch_instructions.specs.Founds.{and_founds, found_seen, founds_seen, founds_if};
 
 use crate::indexed::{indexed_load, indexed_store};
 use crate::numbers::{immediate, register_in};
-use arch_instructions_laws::{Hole, Kind};
+use crate::{Hole, Kind};
 use arch_trait::{Named, Raw};
 use arrayvec::ArrayVec;
 use micro_ops::Micro;

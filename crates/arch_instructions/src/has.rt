@@ -1,10 +1,10 @@
 ghost use Rattle.std.specs.{Prelude.{◌≡◌, map}, List.{list_any}};
-ghost use Rattle.arch_instructions_laws.specs.Tables.{form_seen, table_seen, does, table_has};
+ghost use Rattle.arch_instructions.specs.Tables.{form_seen, table_seen, does, table_has};
 ghost use Rattle.arch_instructions.specs.Printing.{op_sort};
 
 use crate::fits::does;
 use crate::sorts::{Sort, may_do, op_sort};
-use arch_instructions_laws::{Form, Labels, Table};
+use crate::{Form, Labels, Table};
 use micro_ops::Micro;
 
 /// Whether an instruction of the table can do the operation.

@@ -1,13 +1,15 @@
-//! Printing and reading instructions by a table of forms, and the code of threads whose accesses name a register
-//! that holds the address.
+//! The instructions of an architecture as a table of forms, printing and reading by it, and the code of threads whose accesses name a
+//! register that holds the address.
 #![tactic(auto)]
 
 mod fits;
 mod fixed;
+mod form;
 mod found;
 mod generator;
 mod has;
 mod indexed;
+mod kind;
 mod numbers;
 mod operand_list;
 mod operands;
@@ -18,9 +20,11 @@ mod read;
 mod sorts;
 
 pub use fixed::{BarrierText, FixedTexts, TextsAround, print_fixed};
+pub use form::{Form, Hole, Labels, Piece, Table};
 pub use generator::{put_link, put_load, put_store, registers_needed};
 pub use has::has_by;
 pub use indexed::{add_number, indexed_load, indexed_store};
+pub use kind::{Kind, Operand};
 pub use own::OwnInstructions;
 pub use print::{print_by, print_with};
 pub use push::push_short;

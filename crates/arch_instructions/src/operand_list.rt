@@ -1,6 +1,6 @@
 ghost use Rattle.std.specs.Prelude.{◌≡◌, ◌≤◌, ◌∷◌, [], take};
 
-use arch_instructions_laws::Operand;
+use crate::Operand;
 
 /// The operands of an operation: at most three.
 #[derive(Clone, Copy)]

@@ -1,10 +1,10 @@
 ghost use Rattle.std.specs.Prelude.{◌≡◌, ◌≤◌, ◌∷◌, [], Some, option_map};
-ghost use Rattle.arch_instructions_laws.specs.Kinds.{barrier_number, pick_number, same_barrier, operands_of};
+ghost use Rattle.arch_instructions.specs.Kinds.{barrier_number, pick_number, same_barrier, operands_of};
 ghost use Rattle.arch_instructions.specs.Printing.{listed_operands};
 
+use crate::Operand::{Label, Number, Place, Register};
 use crate::operand_list::OperandList;
-use arch_instructions_laws::Operand::{Label, Number, Place, Register};
-use arch_instructions_laws::{Kind, Operand};
+use crate::{Kind, Operand};
 use micro_ops::{Barrier, Micro};
 use relax_edges::{FenceKind, Pick};
 

@@ -1,7 +1,7 @@
 ghost use Rattle.std.specs.{Prelude.{◌≡◌, ◌<◌, ◌≤◌, ◌++◌, [], true, false, map, length}, List.{list_any}};
 ghost use Rattle.arch_trait.specs.Writing.{written_text, name_in, place_below, label_below};
-ghost use Rattle.arch_instructions_laws.specs.Tables.{piece_seen, form_seen, table_seen, piece_text, does, operands_fit, fits_first, table_has, hole_filled, first_written, table_written};
-ghost use Rattle.arch_instructions_laws.specs.ClearTables.{is_clear, is_form_good};
+ghost use Rattle.arch_instructions.specs.Tables.{piece_seen, form_seen, table_seen, piece_text, does, operands_fit, fits_first, table_has, hole_filled, first_written, table_written};
+ghost use Rattle.arch_instructions.specs.ClearTables.{is_clear, is_form_good};
 ghost use Rattle.arch_instructions.specs.FixedTexts.{AreOfTable};
 ghost use Rattle.arch_instructions.specs.Printing.{separator_byte, byte_before, joined_texts, form_text, form_op_text, place_short, op_sort, AllShort, ReadyToPrint, ReadyPiece};
 
@@ -10,7 +10,7 @@ use crate::fixed::{FixedTexts, print_short};
 use crate::operands::operands_of;
 use crate::push::{Text, push_place, push_short, push_word};
 use crate::sorts::{Sort, may_do, op_sort};
-use arch_instructions_laws::{Form, Hole, Operand, Piece, Table};
+use crate::{Form, Hole, Operand, Piece, Table};
 use arch_trait::{MAX_INSTRUCTION_TEXT, Places, push_label, push_number};
 use arrayvec::ArrayString;
 use micro_ops::Micro;

@@ -1,12 +1,12 @@
 ghost use Rattle.std.specs.Prelude.{◌≡◌, ◌<◌, ◌≤◌, ◌+◌, [], map, option_map, length};
 ghost use Rattle.arrayvec.specs.ArrayVec.{array_vec_len};
 ghost use Rattle.arch_trait.specs.InstructionPieces.{raw_seen, operand_texts};
-ghost use Rattle.arch_instructions_laws.specs.Tables.{piece_seen, form_seen, table_seen, after_prefix, before_suffix, piece_found, pieces_found, table_raw};
-ghost use Rattle.arch_instructions_laws.specs.Kinds.{raw_with};
+ghost use Rattle.arch_instructions.specs.Tables.{piece_seen, form_seen, table_seen, after_prefix, before_suffix, piece_found, pieces_found, table_raw};
+ghost use Rattle.arch_instructions.specs.Kinds.{raw_with};
 ghost use Rattle.arch_instructions.specs.Founds.{and_founds, founds_if, found_in, form_raw, texts_seen};
 
 use crate::found::{Founds, add_found, raw_with};
-use arch_instructions_laws::{Form, Labels, Piece, Table};
+use crate::{Form, Labels, Piece, Table};
 use arch_trait::{Operands, Raw, read_label_alone};
 
 /// What is left of a text after a fixed text at its beginning, if it begins with that.
@@ -32,7 +32,7 @@ fn after_prefix<'a>(prefix: &[u8], text: &'a [u8]) -> Option<&'a [u8]>
 
 /// What is left of a text before a fixed text at its end, if it ends with that.
 #[inline(always)]
-#[tactic(auto, using(crate::proofs::Readings::no_suffix), unfolding(arch_instructions_laws::specs::Tables::before_suffix))]
+#[tactic(auto, using(crate::proofs::Readings::no_suffix), unfolding(crate::specs::Tables::before_suffix))]
 fn before_suffix<'a>(suffix: &[u8], text: &'a [u8]) -> Option<&'a [u8]>
     ensures { option_map (λ rest. rest.now) result ≡ before_suffix suffix.now text.now }
 {
@@ -48,7 +48,7 @@ fn before_suffix<'a>(suffix: &[u8], text: &'a [u8]) -> Option<&'a [u8]>
 
 /// Appends the operand that a text is read as by its form; a fixed text has none. False if the text isn't of the
 /// form.
-#[tactic(auto, unfolding(arch_instructions_laws::specs::Tables::piece_found))]
+#[tactic(auto, unfolding(crate::specs::Tables::piece_found))]
 fn add_piece<'a>(piece: &Piece, text: &'a [u8], founds: &mut Founds<'a>) -> bool
     requires room { array_vec_len founds.old < 4 }
     ensures found { founds_if result founds.new.items ≡ and_founds founds.old.items (piece_found (piece_seen piece.now) text.now) }
@@ -64,7 +64,7 @@ fn add_piece<'a>(piece: &Piece, text: &'a [u8], founds: &mut Founds<'a>) -> bool
 }
 
 /// Appends the operands that texts are read as by their forms. True if there are as many and each is of its form.
-#[tactic(auto, unfolding(arch_instructions_laws::specs::Tables::pieces_found), using(crate::proofs::Readings::join_joined, crate::proofs::Readings::no_text))]
+#[tactic(auto, unfolding(crate::specs::Tables::pieces_found), using(crate::proofs::Readings::join_joined, crate::proofs::Readings::no_text))]
 fn add_pieces<'a>(pieces: &[Piece], texts: &[&'a [u8]], founds: &mut Founds<'a>) -> bool
     requires room { array_vec_len founds.old + length texts.now ≤ 4 }
     ensures { founds_if result founds.new.items ≡ and_founds founds.old.items (pieces_found (map piece_seen pieces.now) (texts_seen texts.now)) }

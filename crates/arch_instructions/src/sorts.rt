@@ -1,8 +1,8 @@
 ghost use Rattle.std.specs.Prelude.{◌≡◌, false};
-ghost use Rattle.arch_instructions_laws.specs.Tables.{form_seen, does};
+ghost use Rattle.arch_instructions.specs.Tables.{form_seen, does};
 ghost use Rattle.arch_instructions.specs.Printing.{kind_sort, op_sort};
 
-use arch_instructions_laws::{Form, Kind};
+use crate::{Form, Kind};
 use micro_ops::Micro;
 
 /// What an operation does, apart from its operands, and what a kind does, apart from their order. Only an operation

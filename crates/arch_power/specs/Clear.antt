@@ -1,11 +1,8 @@
 -- The table of Power is clear, and within the range of the machine.
-use Rattle.std.proofs.Common.{◌≡◌, refl, true}
-use Rattle.std.specs.{Fmt.digits, List.list_all}
+use Rattle.std.{proofs.Common.{◌≡◌, refl, true}, specs.{Fmt.digits, List.list_all}}
 use Rattle.text_parts.specs.NumberTexts.{number_of}
 use Rattle.arch_trait.specs.Writing.{immediate_number}
-use Rattle.arch_instructions_laws.specs.Tables.{piece_found, after_prefix, before_suffix}
-use Rattle.arch_instructions_laws.specs.ClearTables.{is_clear, differ, piece_apart, pieces_apart, forms_apart, is_piece_good, most_of, is_form_good}
-use Rattle.arch_instructions_laws.proofs.Ranges.{is_small_form}
+use Rattle.arch_instructions.{specs.{Tables.{piece_found, after_prefix, before_suffix}, ClearTables.{is_clear, differ, piece_apart, pieces_apart, forms_apart, is_piece_good, most_of, is_form_good}}, proofs.Ranges.is_small_form}
 use Rattle.arch_power.specs.Table.{forms}
 
 -- the table is clear: each form is good, and no instruction has two forms

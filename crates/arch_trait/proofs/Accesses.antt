@@ -1,18 +1,12 @@
 -- What an architecture shows of its accesses: they write registers that were taken for them, and none
 -- that holds an address.
-use Rattle.std.proofs.Common.{ℕ, ◌+◌, ◌<◌, ◌≤◌, ◌≡◌, ◌==◌, refl, Bool, true, false, ◌||◌, List, [], ◌∷◌, ◌++◌, Option, Some, ◌∙◌, sym, ap, subst, eq-eqb, ne_eqb, append-nil, arith}
-use Rattle.std.proofs.lemmas.Bool.{or_left, or_right}
-use Rattle.std.specs.List.{list_all}
+use Rattle.std.{proofs.{Common.{ℕ, ◌+◌, ◌<◌, ◌≤◌, ◌≡◌, ◌==◌, refl, Bool, true, false, ◌||◌, List, [], ◌∷◌, ◌++◌, Option, Some, ◌∙◌, sym, ap, subst, eq-eqb, ne_eqb, append-nil, arith}, lemmas.Bool.{or_left, or_right}}, specs.List.list_all}
 use Rattle.relax_edges.specs.declared.kinds.Dir.TheVariants as dirs
-use Rattle.relax_edges.specs.declared.kinds.Mark.{Mark}
-use Rattle.micro_ops.specs.{declared.held.Held.Held, declared.operation.Micro.Micro, declared.operation.Barrier.Barrier}
-use Rattle.micro_ops.specs.{Machine.{num, held_at_place, bit, written}, Running.{Run, At, go, exec, labels_of, lands}, RunLaws.exec_append}
+use Rattle.arch_trait.proofs.{Vocabulary.{Mark, Held, Micro, Barrier, num, held_at_place, bit, written, Run, At, go, exec, labels_of, lands, exec_append}, Rules.{holding, after_load, after_store}, Taking.{address_bounds, address_kept, address_added}}
+use Rattle.arch_trait.specs.{declared.link.Link.Link, Cells.access_count, Links.{branches, depends_on_load, is_addr, is_data}, Taking.{Taken, address_in, address_of, with_address}, Laws.{IsTaken, HoldsPlaces, HasSource, Did, DidLoad, DidLink}}
+use Rattle.arch_trait.specs.Laws.{is_at_place}
 use Rattle.micro_ops.specs.declared.operation.Micro.TheVariants as ops
 use Rattle.micro_ops.specs.declared.operation.Item.TheVariants as items
-use Rattle.arch_trait.proofs.{Rules.{holding, after_load, after_store}, Taking.{address_bounds, address_kept, address_added}}
-use Rattle.arch_trait.specs.{declared.link.Link.Link, Cells.access_count, Links.{branches, depends_on_load, is_addr, is_data}}
-use Rattle.arch_trait.specs.Taking.{Taken, address_in, address_of, with_address}
-use Rattle.arch_trait.specs.Laws.{IsTaken, HoldsPlaces, HasSource, Did, DidLoad, DidLink, is_at_place}
 
 -- what laws ask of code, but for its run
 pub record Asked : Type 0 where

@@ -1,23 +1,17 @@
 -- What is alike in the architectures whose accesses name a register with the address: the laws of
 -- architectures follow from those of their instructions.
-use Rattle.std.proofs.Common.{ℕ, ◌+◌, ◌<◌, ◌≤◌, ◌≡◌, ◌==◌, ◌||◌, refl, Bool, true, false, cond, not, List, [], ◌∷◌, ◌++◌, Option, Some, None, is_some, length, length-append, ◌∙◌, ap, append_assoc, arith}
-use Rattle.std.proofs.lemmas.Bool.{and_from, ne_eqb}
-use Rattle.std.specs.List.{list_all}
-use Rattle.relax_edges.specs.{EdgeTable.{mark_fits, mark_is_of}, declared.kinds.Mark.Mark}
+use Rattle.std.proofs.{Common.{ℕ, ◌+◌, ◌<◌, ◌≤◌, ◌≡◌, ◌==◌, ◌||◌, refl, Bool, true, false, cond, not, List, [], ◌∷◌, ◌++◌, Option, Some, None, is_some, length, length-append, ◌∙◌, ap, append_assoc, arith}, lemmas.Bool.{and_from, ne_eqb}}
+use Rattle.arch_trait.proofs.{Vocabulary.{list_all, mark_fits, mark_is_of, Mark, Micro, Barrier, num, bit, Run, At, go, exec, labels_of, lands}, Rules.holding, Taking.{address_there, address_next}, Accesses.{Writes, IsSpare, writes_none, writes_more}}
+use Rattle.arch_trait.proofs.{Accesses.{written_same, spare_with, address_is, address_below, did_load, did_store, did_nothing, did_barrier, on_source, xor_runs, written_other, addr_depends, data_depends, addr_no_data}, AddressedInstructions.IsBut}
+use Rattle.arch_trait.proofs.AddressedInstructions.{KeepsInstructions, load_op_has, load_op_runs, load_op_wants, load_through_has, load_through_runs, load_through_short, load_through_wants, store_op_has, store_op_runs, store_through_has}
+use Rattle.arch_trait.{proofs.AddressedInstructions.{store_through_runs, store_through_short}, specs.{declared.link.Link.Link, Links.{link_is_of, depends_on_load, is_addr, is_data, mask_if, source_if, link_control, link_items}, Taking.{Taken, took}}}
+use Rattle.arch_trait.specs.{Taking.{has_address, address_of, with_address}, Laws.{HoldsPlaces, HasSource, Did, DidLoad, DidLink, IsWanting, IsTaken, Takes, HasLink, IsUsable, MakesLinks, MakesAccess, MakesLoads, MakesStores, IsArch, link_room}}
+use Rattle.arch_trait.specs.{Laws.{link_labels, is_at_place}, Addressed.{Instructions, puts_of, store_op, load_through, store_through, branch_code, link_code, load_on, filled_on, store_on}}
 use Rattle.relax_edges.specs.declared.kinds.Dir.TheVariants as dirs
 use Rattle.relax_edges.specs.declared.kinds.FenceKind.TheVariants as fences
-use Rattle.micro_ops.specs.{declared.operation.Micro.Micro, declared.operation.Barrier.Barrier, Machine.{num, bit}}
-use Rattle.micro_ops.specs.Running.{Run, At, go, exec, labels_of, lands}
 use Rattle.micro_ops.specs.declared.operation.Micro.TheVariants as ops
 use Rattle.micro_ops.specs.declared.operation.Item.TheVariants as items
 use Rattle.micro_ops.specs.declared.operation.Barrier.TheVariants as barriers
-use Rattle.arch_trait.proofs.{Rules.holding, Taking.{address_there, address_next}}
-use Rattle.arch_trait.proofs.Accesses.{Writes, IsSpare, writes_none, writes_more, written_same, spare_with, address_is, address_below, did_load, did_store, did_nothing, did_barrier, on_source, xor_runs, written_other, addr_depends, data_depends, addr_no_data}
-use Rattle.arch_trait.proofs.AddressedInstructions.{IsBut, KeepsInstructions, load_op_has, load_op_runs, load_op_wants, load_through_has, load_through_runs, load_through_short, load_through_wants, store_op_has, store_op_runs, store_through_has, store_through_runs, store_through_short}
-use Rattle.arch_trait.specs.{declared.link.Link.Link, Links.{link_is_of, depends_on_load, is_addr, is_data, mask_if, source_if, link_control, link_items}}
-use Rattle.arch_trait.specs.Taking.{Taken, took, has_address, address_of, with_address}
-use Rattle.arch_trait.specs.Laws.{HoldsPlaces, HasSource, Did, DidLoad, DidLink, IsWanting, IsTaken, Takes, HasLink, IsUsable, MakesLinks, MakesAccess, MakesLoads, MakesStores, IsArch, link_room, link_labels, is_at_place}
-use Rattle.arch_trait.specs.Addressed.{Instructions, puts_of, store_op, load_through, store_through, branch_code, link_code, load_on, filled_on, store_on}
 use Rattle.arch_trait.specs.declared.link.Link.TheVariants as links
 
 -- registers of which one more was changed

@@ -1,19 +1,13 @@
 -- What an architecture whose accesses name a register with the address shows of its own instructions, and what follows for
 -- the code of a single access.
-use Rattle.std.proofs.Common.{ℕ, ◌<◌, ◌≤◌, ◌≡◌, ◌==◌, true, false, bit_or, List, [], ◌∷◌, ◌++◌, None, length, arith}
-use Rattle.std.specs.List.{list_all}
-use Rattle.relax_edges.specs.{EdgeTable.{fence_is_of, mark_fits, mark_is_of}, declared.kinds.Mark.Mark}
-use Rattle.relax_edges.specs.{declared.kinds.Mark.TheVariants.{Plain, Acquire, Release}, declared.kinds.FenceKind.FenceKind}
+use Rattle.arch_trait.proofs.Vocabulary.{ℕ, ◌<◌, ◌≤◌, ◌≡◌, ◌==◌, true, false, bit_or, List, [], ◌∷◌, ◌++◌, None, length, arith, list_all, fence_is_of, mark_fits, mark_is_of, Mark, Plain, Acquire, Release, FenceKind, Micro, num, address_held}
+use Rattle.arch_trait.{proofs.{Vocabulary.{held_at_place, bit, Run, At, Wants, go, exec, labels_of, lands}, Rules.{holding, after_load, after_store, run_add_to_address}, Accesses.{written_same, written_other}}, specs.{Links.link_is_of, Cells.is_access}}
+use Rattle.arch_trait.specs.{Cells.access_count, Laws.{DidLink, IsWanting, is_at_place}, Addressed.{Instructions, load_op, store_op, load_through, store_through}}
 use Rattle.relax_edges.specs.declared.kinds.Dir.TheVariants as dirs
 use Rattle.relax_edges.specs.declared.kinds.FenceKind.TheVariants as fences
-use Rattle.micro_ops.specs.{declared.operation.Micro.Micro, Machine.{num, address_held, held_at_place, bit}}
-use Rattle.micro_ops.specs.Running.{Run, At, Wants, go, exec, labels_of, lands}
 use Rattle.micro_ops.specs.declared.operation.Micro.TheVariants as ops
 use Rattle.micro_ops.specs.declared.operation.Barrier.TheVariants as barriers
-use Rattle.arch_trait.proofs.{Rules.{holding, after_load, after_store, run_add_to_address}, Accesses.{written_same, written_other}}
 use Rattle.arch_trait.specs.declared.link.Link.TheVariants as links
-use Rattle.arch_trait.specs.{Links.link_is_of, Cells.{is_access, access_count}, Laws.{DidLink, IsWanting, is_at_place}}
-use Rattle.arch_trait.specs.Addressed.{Instructions, load_op, store_op, load_through, store_through}
 
 -- two runs differ in one register alone
 pub record IsBut (d : ℕ) (r u : Run) : Type 0 where

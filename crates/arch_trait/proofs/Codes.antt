@@ -1,15 +1,10 @@
 -- What is in a thread's code: its operations and labels, their number, and the registers of its
 -- loads.
-use Rattle.std.proofs.Common.{◌⊎◌, inl, inr, eq-eqb, ℕ, suc, ◌+◌, ◌*◌, ◌<◌, ◌≤◌, ◌≡◌, ◌==◌, refl, Bool, true, false, cond, List, [], ◌∷◌, ◌++◌, Option, is_some, length, ◌∙◌, sym, ap, length-append, append-nil, arith}
-use Rattle.std.proofs.{lemmas.Bool.{and_from, and_parts, or_left, or_right}, lemmas.List.Folds.list_all-append, lemmas.List.Sums.sum_by-cons}
-use Rattle.std.specs.List.{list_all, range_with_len}
-use Rattle.relax_edges.specs.declared.kinds.Dir.{Dir}
+use Rattle.std.proofs.{Common.{◌⊎◌, inl, inr, eq-eqb, ℕ, suc, ◌+◌, ◌*◌, ◌<◌, ◌≤◌, ◌≡◌, ◌==◌, refl, Bool, true, false, cond, List, [], ◌∷◌, ◌++◌, Option, is_some, length, ◌∙◌, sym, ap, length-append, append-nil, arith}, lemmas.Bool.{and_from, and_parts}}
+use Rattle.arch_trait.proofs.{Vocabulary.{or_left, or_right, list_all-append, sum_by-cons, list_all, range_with_len, Dir, Micro, lands, labels_of, labels_append, lands_append}, Runs.{step_takes, step_grew, thread_grew, step_filled}}
+use Rattle.arch_trait.specs.{declared.{link.Link.Link, step.Step.Step}, Links.branches, Codes.{is_within, AllBelow}, Threads.{Way, Puts, FitStep, FitSteps, is_load_dir, loads_in, branches_in, visits, from_of, put_of, filled_by, next_put, next_filled}}
+use Rattle.arch_trait.specs.{Threads.{further, step_code, thread_code, thread_regs, thread_loads, put_before}, Laws.{IsTaken, AddsAddress, IsUsable, HasLink, MakesAccess, IsArch, is_at_place, access_room, link_room, link_labels}}
 use Rattle.relax_edges.specs.declared.kinds.Dir.TheVariants as dirs
-use Rattle.micro_ops.specs.{declared.operation.Micro.Micro, Running.{lands, labels_of}, RunLaws.{labels_append, lands_append}}
-use Rattle.arch_trait.specs.{declared.link.Link.Link, declared.step.Step.Step, Links.branches, Codes.{is_within, AllBelow}}
-use Rattle.arch_trait.specs.Threads.{Way, Puts, FitStep, FitSteps, is_load_dir, loads_in, branches_in, visits, from_of, put_of, filled_by, next_put, next_filled, further, step_code, thread_code, thread_regs, thread_loads, put_before}
-use Rattle.arch_trait.specs.Laws.{IsTaken, AddsAddress, IsUsable, HasLink, MakesAccess, IsArch, is_at_place, access_room, link_room, link_labels}
-use Rattle.arch_trait.proofs.Runs.{step_takes, step_grew, thread_grew, step_filled}
 
 -- the most operations of an access with its link
 both_rooms : (link : Link) → link_room link + access_room link ≤ 6

@@ -1,10 +1,6 @@
 -- The comma at which a text is cut, and the operands between commas.
-use Rattle.std.proofs.Common.{ℕ, ◌+◌, ◌-◌, ◌≤◌, ◌≡◌, ◌==◌, refl, Bool, true, false, cond, List, [], ◌∷◌, Some, None, nat_lt, map, length, length-drop, take, drop, ◌∙◌, sym, ap, arith}
-use Rattle.std.proofs.{lemmas.Bool.{ltb-true, ltb-false, eqb-true}, Math.Seq.take-length, lemmas.List.Splits.{slice_split_first, slice_split_none}}
-use Rattle.std.proofs.lemmas.List.Sums.{fails_before_first}
-use Rattle.std.specs.List.{position, slice_split, onto_first}
-use Rattle.text_parts.specs.Blanks.{trim_blanks}
-use Rattle.arch_trait.specs.{Writing.{none, one, two, three, four, more}, InstructionReading.{few, operands_in}}
+use Rattle.std.proofs.{Common.{ℕ, ◌+◌, ◌-◌, ◌≤◌, ◌≡◌, ◌==◌, refl, Bool, true, false, cond, List, [], ◌∷◌, Some, None, nat_lt, map, length, length-drop, take, drop, ◌∙◌, sym, ap, arith}, lemmas.Bool.{ltb-true, ltb-false, eqb-true}}
+use Rattle.arch_trait.{proofs.Vocabulary.{slice_split_first, slice_split_none, fails_before_first, take-length, position, slice_split, onto_first, trim_blanks}, specs.{Writing.{none, one, two, three, four, more}, InstructionReading.{few, operands_in}}}
 
 -- a text cut at its first comma, and one without a comma
 abbrev pub is_comma : ℕ → Bool

@@ -1,10 +1,7 @@
 -- The walk over the accesses of a thread that appends their code.
 use Rattle.std.proofs.Common.{ℕ, ◌+◌, ◌*◌, ◌<◌, ◌≤◌, ◌≡◌, false, List, [], ◌∷◌, ◌++◌, Option, is_some, length, get_or, drop, drop-cons, add-one, length-append, append_assoc, arith}
-use Rattle.micro_ops.specs.declared.operation.Micro.{Micro}
-use Rattle.arch_trait.specs.declared.step.Step.{Step}
-use Rattle.arch_trait.specs.Threads.{Way, Puts, FitSteps, is_load_dir, shape_of, setting_out, next_filled, further, step_code, thread_code, thread_regs, thread_loads, put_before}
-use Rattle.arch_trait.specs.Laws.{IsArch}
-use Rattle.arch_trait.proofs.{Runs.step_grew, Runs.thread_grew, Codes.step_short, Shapes.need_is}
+use Rattle.arch_trait.{proofs.{Vocabulary.Micro, Runs.{step_grew, thread_grew}, Codes.step_short, Shapes.need_is}, specs.{declared.step.Step.Step, Threads.{Way, Puts, FitSteps, is_load_dir, shape_of, setting_out, next_filled, further, step_code}}}
+use Rattle.arch_trait.specs.{Threads.{thread_code, thread_regs, thread_loads, put_before}, Laws.IsArch}
 
 -- the walk has come to access i: what it has appended and what it is still to append are the code of the
 -- thread

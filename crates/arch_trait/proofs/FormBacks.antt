@@ -1,13 +1,7 @@
 -- The names of labels fit in cells, and those of numbered registers have their form and occur once each.
-use Rattle.std.proofs.{Common.{ℕ, zero, suc, ◌+◌, ◌<◌, ◌≤◌, ◌≡◌, refl, true, false, [], map, length, get_or, ◌∙◌, ap, arith}, lemmas.Bool.{and_from, le-leb}}
-use Rattle.std.proofs.{lemmas.Fmt.decimal_injective, lemmas.Slice.Eq.bytes_eq-Decides}
-use Rattle.std.specs.{Char.{is_ascii_alphabetic, is_ascii_alphanumeric, is_ascii_digit}, Fmt.decimal, Str.bytes_eq}
-use Rattle.std.specs.List.{list_all, range_with_len, IsDistinct, AllByRecursion}
-use Rattle.list_laws.proofs.{Elements.list_all-weaker, Digits.{three_digits, digits_of}}
-use Rattle.text_parts.specs.Names.{is_register_name}
-use Rattle.text_parts.proofs.NameLaws.{digit_alphanumeric}
-use Rattle.arch_trait.specs.{declared.numbered.Numbered.Numbered, Forms.{register_name, register_names}}
-use Rattle.arch_trait.specs.Writing.{name_in, is_plain, is_label_name, label_name, label_word}
+use Rattle.arch_trait.proofs.Vocabulary.{ℕ, zero, suc, ◌+◌, ◌<◌, ◌≤◌, ◌≡◌, refl, true, false, [], map, length, get_or, ◌∙◌, ap, arith, and_from, le-leb, decimal_injective, bytes_eq-Decides, is_ascii_alphabetic, is_ascii_alphanumeric, is_ascii_digit}
+use Rattle.arch_trait.{proofs.Vocabulary.{decimal, bytes_eq, list_all, range_with_len, IsDistinct, AllByRecursion, list_all-weaker, three_digits, digits_of, is_register_name, digit_alphanumeric}, specs.declared.numbered.Numbered.Numbered}
+use Rattle.arch_trait.specs.{Forms.{register_name, register_names}, Writing.{name_in, is_plain, is_label_name, label_name, label_word}}
 
 -- numbered registers: a letter, and numbers of at most three digits
 pub record IsNumbered (n : Numbered) : Type 0 where

@@ -1,9 +1,6 @@
 -- The items of a thread: those of some accesses and then those of others, and what the control masks
 -- name.
-use Rattle.std.proofs.{Common.{ℕ, ◌-◌, ◌^◌, ◌<◌, ◌≡◌, true, cond, bit_or, pow-suc, arith}, lemmas.Nat.{or_lt, pow_pos}}
-use Rattle.std.proofs.lemmas.Nat.Bits.{bit_at_or, bit_at-pow_same, bit_at_above}
-use Rattle.std.specs.Int.{bit_at}
-use Rattle.arch_trait.specs.{declared.link.Link.Link, Links.{branches, link_control}}
+use Rattle.arch_trait.{proofs.Vocabulary.{ℕ, ◌-◌, ◌^◌, ◌<◌, ◌≡◌, true, cond, bit_or, pow-suc, arith, or_lt, pow_pos, bit_at_or, bit_at-pow_same, bit_at_above, bit_at}, specs.{declared.link.Link.Link, Links.{branches, link_control}}}
 
 -- the mask of branches names only loads that were made
 pub link_below : (link : Link) (n c : ℕ) → (branches link ≡ true → 0 < n) → c < 2 ^ n →

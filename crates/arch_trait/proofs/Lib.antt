@@ -1,3 +1,4 @@
+pub mod Vocabulary
 pub mod Items
 pub mod Renumbered
 pub mod Ordered

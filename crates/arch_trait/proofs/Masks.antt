@@ -1,5 +1,5 @@
 -- Masks, joined with one that is empty or the same.
-use Rattle.std.proofs.{Common.{ℕ, ◌≡◌, bit_or, arith}, lemmas.Nat.Bits.{bit_at_or, bit_at-zero, same_from_bits}}
+use Rattle.arch_trait.proofs.Vocabulary.{ℕ, ◌≡◌, bit_or, arith, bit_at_or, bit_at-zero, same_from_bits}
 
 -- a mask joined with the empty one is as it was
 pub or_zero : (m : ℕ) → bit_or m 0 ≡ m

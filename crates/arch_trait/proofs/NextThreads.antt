@@ -1,7 +1,5 @@
 -- The code of the threads of a test, as one more is made in its place.
-use Rattle.std.proofs.Common.{◌≡◌, ℕ, ◌+◌, ◌<◌, ◌≤◌, List, [], ◌∷◌, ◌++◌, arith, length, take, map, append-nil}
-use Rattle.std.specs.{Prelude.slice_set, List.refill}
-use Rattle.std.proofs.lemmas.List.{drop_all, length-set, map-append, take-set, take_all, take_more_set}
+use Rattle.arch_trait.proofs.Vocabulary.{◌≡◌, ℕ, ◌+◌, ◌<◌, ◌≤◌, List, [], ◌∷◌, ◌++◌, arith, length, take, map, append-nil, drop_all, length-set, map-append, take-set, take_all, take_more_set, slice_set, refill}
 
 -- a vector whose elements are written over by as many others has these
 written_over : {X : Type 0} (xs ys : List X) → length ys ≡ length xs → refill (length xs) xs ys ≡ ys

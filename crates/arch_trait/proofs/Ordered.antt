@@ -1,14 +1,10 @@
 -- The labels of a thread are in the order of their first mention, and it makes as many accesses as it has steps.
-use Rattle.std.proofs.Common.{◌≡◌, ◌<◌, ◌≤◌, ◌+◌, ◌==◌, ℕ, List, [], ◌∷◌, ◌++◌, true, false, cond, length, max, refl, ap, ◌∙◌, arith, append-nil}
-use Rattle.std.proofs.{lemmas.Bool.{eq-eqb, and_parts, and_from}, lemmas.List.Sums.{sum_by-append, sum_by-cons}}
-use Rattle.std.specs.{Prelude.{Bool, ◌&&◌, Option, nat_lt, nat_le, is_some}, List.list_all}
-use Rattle.relax_edges.specs.declared.kinds.Dir.{Dir}
+use Rattle.std.{proofs.{Common.{◌≡◌, ◌<◌, ◌≤◌, ◌+◌, ◌==◌, ℕ, List, [], ◌∷◌, ◌++◌, true, false, cond, length, max, refl, ap, ◌∙◌, arith, append-nil}, lemmas.{Bool.{eq-eqb, and_parts, and_from}, List.Sums.{sum_by-append, sum_by-cons}}}, specs.Prelude.Bool}
+use Rattle.std.specs.{Prelude.{◌&&◌, Option, nat_lt, nat_le, is_some}, List.list_all}
+use Rattle.arch_trait.{proofs.Vocabulary.{Dir, Micro, labels_of, lands, occurs, labels_append, lands_append}, specs.{declared.step.Step.Step, Cells.{is_access, access_count, MakesOneAccess}, LabelOrder.{labels_after, labels_in, labels_ordered}}}
+use Rattle.arch_trait.specs.{Links.branches, Laws.{IsArch, HasLink}, Taking.Taken, Threads.{Way, Puts, FitStep, FitSteps, is_load_dir, from_of, put_of, filled_by, further, step_code, thread_code, branches_in, setting_out, compiled}}
 use Rattle.relax_edges.specs.declared.kinds.Dir.TheVariants as dirs
-use Rattle.micro_ops.specs.{declared.operation.Micro.Micro, Running.{labels_of, lands, occurs}, RunLaws.{labels_append, lands_append}}
 use Rattle.micro_ops.specs.declared.operation.Micro.TheVariants as ops
-use Rattle.arch_trait.specs.{declared.step.Step.Step, Cells.{is_access, access_count, MakesOneAccess}, LabelOrder.{labels_after, labels_in, labels_ordered}}
-use Rattle.arch_trait.specs.{Links.branches, Laws.{IsArch, HasLink}, Taking.Taken}
-use Rattle.arch_trait.specs.Threads.{Way, Puts, FitStep, FitSteps, is_load_dir, from_of, put_of, filled_by, further, step_code, thread_code, branches_in, setting_out, compiled}
 
 ordered_append : (count : ℕ) (xs ys : List Micro) → labels_ordered count xs ≡ true → labels_ordered (labels_in count xs) ys ≡ true → labels_ordered count (xs ++ ys) ≡ true
 ordered_append count [] ys h k = k

@@ -2,15 +2,10 @@
 -- accesses at an address that depends on a register, and what joins a dependency to a number. What each sort of them keeps is
 -- proved here once; an architecture says of which sort its own are, and that its table has them.
 -- Source: own.
-use Rattle.std.proofs.Common.{ℕ, ◌≤◌, ◌≡◌, refl, true, bit_or, List, [], ◌∷◌, ◌++◌, length, Some, None, ◌∙◌, ap, arith}
-use Rattle.std.proofs.lemmas.Bool.{and_from, or_left, eq-eqb}
-use Rattle.relax_edges.specs.declared.kinds.Mark.TheVariants.{Plain}
-use Rattle.micro_ops.specs.{declared.held.Held.Held, declared.operation.Micro.Micro, Machine.{num, bit}, Running.{Run, At}}
+use Rattle.std.proofs.{Common.{ℕ, ◌≤◌, ◌≡◌, refl, true, bit_or, List, [], ◌∷◌, ◌++◌, length, Some, None, ◌∙◌, ap, arith}, lemmas.Bool.{and_from, or_left, eq-eqb}}
+use Rattle.arch_trait.proofs.{Vocabulary.{Plain, Held, Micro, num, bit, Run, At}, Rules.{after_cmp, after_branch, run_add_address, run_load_index, run_load_index_wants, run_store_index, run_cmp_branch, run_branch_nz}, Accesses.{Asked, asked}}
+use Rattle.arch_trait.{proofs.{Accesses.did_control, AddressedInstructions.{IsBranch, AreDependent, IsJoining, same_run, loads_there, wants_there, stores_there}}, specs.Laws.DidLink}
 use Rattle.micro_ops.specs.declared.operation.Micro.TheVariants as ops
-use Rattle.arch_trait.specs.Laws.{DidLink}
-use Rattle.arch_trait.proofs.Rules.{after_cmp, after_branch, run_add_address, run_load_index, run_load_index_wants, run_store_index, run_cmp_branch, run_branch_nz}
-use Rattle.arch_trait.proofs.Accesses.{Asked, asked, did_control}
-use Rattle.arch_trait.proofs.AddressedInstructions.{IsBranch, AreDependent, IsJoining, same_run, loads_there, wants_there, stores_there}
 
 -- short code of which the laws ask no more than of one branch to the label after it depends on a register, if its runs do
 is_branch : (branch : ℕ → ℕ → List Micro) → ((s n : ℕ) → length (branch s n) ≤ 2) →

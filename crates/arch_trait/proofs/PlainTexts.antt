@@ -1,9 +1,6 @@
 -- Immediates and labels read back from their text.
-use Rattle.std.proofs.{Common.{ℕ, ◌≤◌, ◌≡◌, refl, Some, arith}, lemmas.Bool.le-leb}
-use Rattle.std.specs.Fmt.{decimal}
-use Rattle.text_parts.proofs.NumberLaws.{number_of-decimal}
+use Rattle.arch_trait.{proofs.Vocabulary.{ℕ, ◌≤◌, ◌≡◌, refl, Some, arith, le-leb, decimal, number_of-decimal}, specs.Writing.{immediate_number, label, label_name, label_word, label_raw}}
 use Rattle.micro_ops.specs.declared.operation.Micro.TheVariants as ops
-use Rattle.arch_trait.specs.Writing.{immediate_number, label, label_name, label_word, label_raw}
 
 -- an immediate is read from its decimal
 pub immediate_back : (n : ℕ) → n ≤ 2047 → immediate_number (decimal n) ≡ Some n

@@ -1,10 +1,6 @@
 -- The run of a whole thread whose places have other numbers.
-use Rattle.std.proofs.{Common.{◌≡◌, ℕ, ◌-◌, cond, List, [], ◌∷◌, map, refl, ◌∙◌, ap, arith}, lemmas.List.Sums.sum_by-cons}
-use Rattle.relax_edges.specs.{declared.kinds.Value.Value, declared.kinds.Value.TheVariants.Place}
-use Rattle.micro_ops.specs.{declared.operation.Micro.Micro, Running.{runs, Ended}, Renumbering.{op_at, value_at, item_at}}
-use Rattle.arch_trait.proofs.RunsRenumbered.{init_at, outcome_at, runs_at}
-use Rattle.arch_trait.specs.{declared.step.Step.Step, Codes.MakesSteps, Links.link_control, Taking.initial_values, PlaceRenumbering.{step_at, renumbered}}
-use Rattle.arch_trait.specs.Threads.{ThreadCode, is_load_dir, loads_in, loads_after, left_after, thread_items, HoldNumbers}
+use Rattle.arch_trait.proofs.{Vocabulary.{◌≡◌, ℕ, ◌-◌, cond, List, [], ◌∷◌, map, refl, ◌∙◌, ap, arith, sum_by-cons, Value, Place, Micro, runs, Ended, op_at, value_at, item_at}, RunsRenumbered.{init_at, outcome_at, runs_at}}
+use Rattle.arch_trait.specs.{declared.step.Step.Step, Codes.MakesSteps, Links.link_control, Taking.initial_values, PlaceRenumbering.{step_at, renumbered}, Threads.{ThreadCode, is_load_dir, loads_in, loads_after, left_after, thread_items, HoldNumbers}}
 
 -- address registers with other numbers begin with the addresses of these
 initial_at : (f : ℕ → ℕ) (l : List (ℕ × ℕ)) → initial_values (map (λ link. (link.0, f link.1)) l) ≡ init_at f (initial_values l)

@@ -1,11 +1,9 @@
 -- The rules in the form in which a list of operations is run, one after another, from `At r`.
 use Rattle.std.proofs.Common.{ℕ, ◌+◌, ◌≡◌, refl, Bool, true, bit_or, List, [], ◌∷◌, ◌++◌, Some, eq-eqb, arith}
 use Rattle.relax_edges.specs.declared.kinds.Dir.TheVariants as dirs
-use Rattle.relax_edges.specs.{declared.kinds.Mark.Mark, declared.kinds.Mark.TheVariants.Plain}
-use Rattle.micro_ops.specs.{declared.held.Held.Held, Machine.{num, address_held, held_at_place, bit, put}, Running.{Run, At, Wants, go, exec}}
+use Rattle.arch_trait.proofs.{Vocabulary.{Mark, Plain, Held, num, address_held, held_at_place, bit, put, Run, At, Wants, go, exec}, Masks.{or_zero, zero_or, or_same}}
 use Rattle.micro_ops.specs.declared.operation.Micro.TheVariants as ops
 use Rattle.micro_ops.specs.declared.operation.Item.TheVariants as items
-use Rattle.arch_trait.proofs.Masks.{or_zero, zero_or, or_same}
 
 -- a run in which a register was written
 abbrev pub holding : Run → ℕ → Held → Run

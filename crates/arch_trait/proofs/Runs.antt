@@ -1,15 +1,9 @@
 -- The run of a thread's code: each access is made in turn, on any numbers that its loads read.
-use Rattle.std.proofs.Common.{ℕ, ◌+◌, ◌-◌, ◌<◌, ◌≤◌, ◌≡◌, refl, Bool, true, false, cond, List, [], ◌∷◌, ◌++◌, Option, Some, None, length, ◌∙◌, sym, ap, subst, append_assoc, append-nil, arith}
-use Rattle.std.proofs.lemmas.List.Sums.{sum_by-cons}
-use Rattle.list_laws.proofs.Cases.{by_test}
-use Rattle.relax_edges.specs.{declared.kinds.Dir.Dir, EdgeTable.mark_fits}
+use Rattle.std.proofs.{Common.{ℕ, ◌+◌, ◌-◌, ◌<◌, ◌≤◌, ◌≡◌, refl, Bool, true, false, cond, List, [], ◌∷◌, ◌++◌, Option, Some, None, length, ◌∙◌, sym, ap, subst, append_assoc, append-nil, arith}, lemmas.List.Sums.sum_by-cons}
+use Rattle.arch_trait.{proofs.{Vocabulary.{by_test, Dir, mark_fits, Micro, Held, num, bit, exec_append, wants_stays, Run, Point, At, exec}, Taking.{Grew, grew, grew_refl, grew_trans}}, specs.declared.{link.Link.Link, step.Step.Step}}
+use Rattle.arch_trait.specs.{Links.{depends_on_load, is_data, link_control, link_items}, Taking.Taken, Threads.{Way, Puts, FitStep, FitSteps, is_load_dir, loads_in, from_of, put_of, filled_by, next_put, next_filled, further, step_code, thread_code}}
+use Rattle.arch_trait.specs.{Threads.{thread_regs, thread_loads, put_before, access_item, first_number, left_after, loads_after, thread_items, Loaded}, Laws.{IsTaken, Takes, HoldsPlaces, HasSource, ReadyForAccess, DidLink, IsWanting, IsArch}}
 use Rattle.relax_edges.specs.declared.kinds.Dir.TheVariants as dirs
-use Rattle.micro_ops.specs.{declared.operation.Micro.Micro, declared.held.Held.Held, Machine.{num, bit}, RunLaws.{exec_append, wants_stays}}
-use Rattle.micro_ops.specs.Running.{Run, Point, At, exec}
-use Rattle.arch_trait.specs.{declared.link.Link.Link, declared.step.Step.Step, Links.{depends_on_load, is_data, link_control, link_items}, Taking.Taken}
-use Rattle.arch_trait.specs.Threads.{Way, Puts, FitStep, FitSteps, is_load_dir, loads_in, from_of, put_of, filled_by, next_put, next_filled, further, step_code, thread_code, thread_regs, thread_loads, put_before, access_item, first_number, left_after, loads_after, thread_items, Loaded}
-use Rattle.arch_trait.specs.Laws.{IsTaken, Takes, HoldsPlaces, HasSource, ReadyForAccess, DidLink, IsWanting, IsArch}
-use Rattle.arch_trait.proofs.Taking.{Grew, grew, grew_refl, grew_trans}
 
 -- there is a number to read, if the access reads
 abbrev pub HasFirst : Dir → List ℕ → Type 0

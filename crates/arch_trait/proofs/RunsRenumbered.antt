@@ -1,10 +1,7 @@
 -- The run of code whose places have other numbers is its run with these numbers: no operation depends on a place's number.
-use Rattle.std.proofs.{Common.{◌≡◌, ℕ, Bool, false, List, [], ◌∷◌, map, Option, Some, None, refl, ◌∙◌, ap, arith}, lemmas.List.map-append}
-use Rattle.std.specs.Option.{option_map}
-use Rattle.relax_edges.specs.declared.kinds.Value.{Value}
-use Rattle.micro_ops.specs.{declared.held.Held.Held, declared.operation.Micro.Micro, declared.operation.Item.Item, Machine.{ThreadState, Effect, step}}
-use Rattle.micro_ops.specs.Renumbering.{op_at, value_at, item_at}
-use Rattle.micro_ops.specs.Running.{Run, Point, At, Past, Wants, Stuck, is_load, is_label, add_item, led, wanting, taken, go, exec, starting, beginning, Outcome, Ended, ReadsLeft, ReadsShort, NoRule, outcome, runs}
+use Rattle.std.{proofs.{Common.{◌≡◌, ℕ, Bool, false, List, [], ◌∷◌, map, Option, Some, None, refl, ◌∙◌, ap, arith}, lemmas.List.map-append}, specs.Option.option_map}
+use Rattle.arch_trait.proofs.Vocabulary.{Value, Held, Micro, Item, ThreadState, Effect, step, op_at, value_at, item_at, Run, Point, At, Past, Wants, Stuck, is_load, is_label, add_item, led, wanting, taken, go, exec, starting, beginning, Outcome, Ended}
+use Rattle.arch_trait.proofs.Vocabulary.{ReadsLeft, ReadsShort, NoRule, outcome, runs}
 
 -- what a register, a state, a run and so on are under other numbers
 abbrev held_at : (ℕ → ℕ) → Held → Held

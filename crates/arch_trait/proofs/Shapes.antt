@@ -1,10 +1,7 @@
 -- How many registers a thread takes: as many as its shape needs.
-use Rattle.std.proofs.Common.{ℕ, ◌+◌, ◌<◌, ◌≡◌, ◌==◌, refl, Bool, true, false, cond, not, ◌&&◌, ◌||◌, List, [], ◌∷◌, ◌∙◌, sym, ap, count_by, arith}
-use Rattle.std.proofs.lemmas.List.Sums.{sum_by-cons}
-use Rattle.arch_trait.specs.{declared.step.Step.Step, declared.step.Shape.Shape, Links.is_addr, Taking.{Taken, has_address}}
-use Rattle.arch_trait.specs.Laws.{IsArch, shape_grown, no_shape}
-use Rattle.arch_trait.specs.Threads.{Way, Puts, FitSteps, is_load_dir, is_store_dir, loads_in, visits, places_in, shape_of, setting_out, from_of, further, thread_regs}
-use Rattle.arch_trait.proofs.{Taking.tracks, Runs.step_takes, Codes.{IsGiven, given_after, has_link, put_laws}}
+use Rattle.std.proofs.{Common.{ℕ, ◌+◌, ◌<◌, ◌≡◌, ◌==◌, refl, Bool, true, false, cond, not, ◌&&◌, ◌||◌, List, [], ◌∷◌, ◌∙◌, sym, ap, count_by, arith}, lemmas.List.Sums.sum_by-cons}
+use Rattle.arch_trait.specs.{declared.step.{Step.Step, Shape.Shape}, Links.is_addr, Taking.{Taken, has_address}, Laws.{IsArch, shape_grown, no_shape}, Threads.{Way, Puts, FitSteps, is_load_dir, is_store_dir, loads_in, visits, places_in, shape_of}}
+use Rattle.arch_trait.{specs.Threads.{setting_out, from_of, further, thread_regs}, proofs.{Taking.tracks, Runs.step_takes, Codes.{IsGiven, given_after, has_link, put_laws}}}
 
 -- at how many locations the accesses are that aren't among those seen: each counts at its last
 -- access, or at its first

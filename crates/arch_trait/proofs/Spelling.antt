@@ -1,13 +1,7 @@
 -- The text of an instruction reads back as its first word and its operands.
-use Rattle.std.proofs.Common.{ℕ, ◌≡◌, ◌==◌, refl, Bool, true, false, not, ◌&&◌, List, [], ◌∷◌, ◌++◌, Some, map, ap, append-nil, append_assoc, arith}
-use Rattle.std.proofs.lemmas.Bool.{and_parts, not-true}
-use Rattle.std.specs.List.{list_all, slice_split}
-use Rattle.list_laws.proofs.Elements.{list_all-weaker}
-use Rattle.text_parts.specs.{Blanks.{unblanked, before_blanks, trim_blanks, is_inked}, LeadingRuns.after_run}
-use Rattle.text_parts.proofs.{RunLaws.{stops, after_halts, whole_run}, BlankLaws.{inked_ends, end_stays}, PieceLaws.{split_off, split_whole}}
-use Rattle.micro_ops.specs.declared.operation.Micro.{Micro}
-use Rattle.arch_trait.specs.{Threads.Puts, WordBytes.is_instruction_byte}
-use Rattle.arch_trait.specs.Writing.{OperandTexts, none, one, two, three, four, more, Written, Writing, WritesBack, listed, written_text, op_text, is_plain, all_plain_texts, raw_of, op_name, is_well_named, with_number}
+use Rattle.std.{proofs.{Common.{ℕ, ◌≡◌, ◌==◌, refl, Bool, true, false, not, ◌&&◌, List, [], ◌∷◌, ◌++◌, Some, map, ap, append-nil, append_assoc, arith}, lemmas.Bool.{and_parts, not-true}}, specs.List.{list_all, slice_split}}
+use Rattle.arch_trait.{proofs.Vocabulary.{list_all-weaker, unblanked, before_blanks, trim_blanks, is_inked, after_run, stops, after_halts, whole_run, inked_ends, end_stays, split_off, split_whole, Micro}, specs.Threads.Puts}
+use Rattle.arch_trait.specs.{WordBytes.is_instruction_byte, Writing.{OperandTexts, none, one, two, three, four, more, Written, Writing, WritesBack, listed, written_text, op_text, is_plain, all_plain_texts, raw_of, op_name, is_well_named, with_number}}
 use Rattle.arch_trait.specs.InstructionReading.{few, operands_if, operands_in, written_in, read_numbered, instr_read}
 
 -- a word, by its bytes

@@ -1,10 +1,6 @@
 -- Tables of names.
-use Rattle.std.proofs.Common.{ℕ, zero, suc, ◌+◌, ◌/◌, ◌%◌, ◌<◌, ◌≡◌, refl, Bool, true, nat_lt, nat_le, List, [], ◌∷◌, ◌++◌, None, is_none, ◌&&◌, length, get_or, length-append, arith}
-use Rattle.std.proofs.{lemmas.Bool.{and_from, and_parts, or_left, ltb-true}, lemmas.List.Folds.list_all-append}
-use Rattle.std.proofs.lemmas.List.FromFn.{map-range_with_len_more, length-map-range_with_len}
-use Rattle.std.specs.{List.{list_all, IsDistinct}, Str.bytes_eq}
-use Rattle.text_parts.specs.Names.{is_place_name, is_register_name}
-use Rattle.list_laws.proofs.{Elements.list_all-weaker, Places.none_passes, Distinct.distinct_push}
+use Rattle.std.proofs.{Common.{ℕ, zero, suc, ◌+◌, ◌/◌, ◌%◌, ◌<◌, ◌≡◌, refl, Bool, true, nat_lt, nat_le, List, [], ◌∷◌, ◌++◌, None, is_none, ◌&&◌, length, get_or, length-append, arith}, lemmas.Bool.{and_from, and_parts, or_left, ltb-true}}
+use Rattle.arch_trait.proofs.Vocabulary.{list_all-append, map-range_with_len_more, length-map-range_with_len, list_all, IsDistinct, bytes_eq, is_place_name, is_register_name, list_all-weaker, none_passes, distinct_push}
 use Rattle.arch_trait.specs.{declared.step.TheConstants.MAX_STEPS, PlaceNames.{IsTable, number_in, location_letters, location_name, letters}}
 
 distinct_none : IsDistinct bytes_eq []

@@ -1,7 +1,6 @@
 -- The registers of a thread: which hold addresses, as they are taken one after another.
 use Rattle.std.proofs.Common.{ℕ, ◌+◌, ◌<◌, ◌≤◌, ◌≡◌, ◌==◌, ◌⊎◌, refl, true, cond, ◌||◌, List, [], ◌∷◌, ◌++◌, Option, Some, None, is_some, eq-eqb, ne_eqb, eqb-true, arith}
-use Rattle.micro_ops.specs.Machine.{held_at_place}
-use Rattle.arch_trait.specs.{Taking.{Taken, address_in, has_address, begins, with_address}, Laws.{InOrder, IsTaken, AddsAddress, Takes}}
+use Rattle.arch_trait.{proofs.Vocabulary.held_at_place, specs.{Taking.{Taken, address_in, has_address, begins, with_address}, Laws.{InOrder, IsTaken, AddsAddress, Takes}}}
 
 -- address registers in order are within their bounds
 pub in_order_le : (low : ℕ) (links : List (ℕ × ℕ)) (high : ℕ) → InOrder low links high → low ≤ high

@@ -1,13 +1,8 @@
 -- The run of a whole thread, from its beginning, on any numbers that its loads read.
-use Rattle.std.proofs.Common.{ℕ, ◌+◌, ◌<◌, ◌≤◌, ◌≡◌, refl, false, List, [], ◌∷◌, length, take, drop, ◌∙◌, sym, ap, append-nil, length-take, length-drop, arith}
-use Rattle.std.proofs.lemmas.List.{take-append-drop}
-use Rattle.micro_ops.specs.{declared.held.Held.Held, declared.operation.Micro.Micro, Running.{Run, beginning, runs, outcome, run_ended, ReadsLeft, ReadsShort}}
-use Rattle.arch_trait.specs.{declared.step.Step.Step, Taking.{untaken, initial_values}, Laws.{IsArch, IsTaken}}
-use Rattle.arch_trait.specs.Threads.{Puts, ThreadCode, FitSteps, setting_out, loads_in, shape_of, visits, thread_regs, thread_loads, compiled, Loaded, HoldNumbers}
-use Rattle.arch_trait.specs.Codes.{EndsWith, MakesSteps, IsFormedCode, AllBelow}
-use Rattle.arch_trait.proofs.{Taking.{begins_at, in_order_more}, Shapes.need_is}
-use Rattle.arch_trait.proofs.Codes.{thread_has, thread_lands, thread_labels, thread_places, thread_addresses, visits_all, thread_loads_below, thread_loads_length}
-use Rattle.arch_trait.proofs.Runs.{Begins, thread_grew, thread_runs, thread_wants}
+use Rattle.arch_trait.proofs.Vocabulary.{ℕ, ◌+◌, ◌<◌, ◌≤◌, ◌≡◌, refl, false, List, [], ◌∷◌, length, take, drop, ◌∙◌, sym, ap, append-nil, length-take, length-drop, arith, take-append-drop, Held, Micro, Run, beginning, runs, outcome, run_ended, ReadsLeft}
+use Rattle.arch_trait.proofs.{Vocabulary.ReadsShort, Taking.{begins_at, in_order_more}, Shapes.need_is, Codes.{thread_has, thread_lands, thread_labels, thread_places, thread_addresses, visits_all, thread_loads_below, thread_loads_length}, Runs.Begins}
+use Rattle.arch_trait.{proofs.Runs.{thread_grew, thread_runs, thread_wants}, specs.{declared.step.Step.Step, Taking.{untaken, initial_values}, Laws.{IsArch, IsTaken}, Threads.{Puts, ThreadCode, FitSteps, setting_out, loads_in, shape_of, visits}}}
+use Rattle.arch_trait.specs.{Threads.{thread_regs, thread_loads, compiled, Loaded, HoldNumbers}, Codes.{EndsWith, MakesSteps, IsFormedCode, AllBelow}}
 
 none_taken : (n : ℕ) → IsTaken (untaken n)
 none_taken n = record { in_order = omega arith }

@@ -2,13 +2,12 @@
 -- registers are taken, and where each architecture's own instructions come in.
 -- Source: the diy tools' tests for Power, Arm and RISC-V.
 use Rattle.std.specs.Prelude.{ℕ, ◌+◌, Bool, true, List, [], ◌∷◌, ◌++◌, Option, Some, None}
-use Rattle.relax_edges.specs.{declared.kinds.ArchName.ArchName, declared.kinds.Mark.Mark, declared.kinds.Mark.TheVariants.{Acquire, Release}}
+use Rattle.relax_edges.specs.declared.kinds.{ArchName.ArchName, Mark.{Mark, TheVariants.{Acquire, Release}}}
 use Rattle.relax_edges.specs.declared.kinds.FenceKind.TheVariants as fences
 use Rattle.micro_ops.specs.declared.operation.Micro.{Micro}
 use Rattle.micro_ops.specs.declared.operation.Micro.TheVariants as ops
 use Rattle.micro_ops.specs.declared.operation.Barrier.TheVariants as barriers
-use Rattle.arch_trait.specs.{declared.link.Link.Link, declared.step.Shape.Shape, Links.{is_addr, is_data, source_if}, Threads.{Put, Puts}}
-use Rattle.arch_trait.specs.Taking.{Taken, took, address_of, with_address}
+use Rattle.arch_trait.specs.{declared.{link.Link.Link, step.Shape.Shape}, Links.{is_addr, is_data, source_if}, Threads.{Put, Puts}, Taking.{Taken, took, address_of, with_address}}
 use Rattle.arch_trait.specs.declared.link.Link.TheVariants as links
 
 -- the instructions of an architecture, besides loads and stores with any mark at the address in a register:

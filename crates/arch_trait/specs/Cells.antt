@@ -1,13 +1,11 @@
 -- How the texts of instructions fit into the table of a test.
 -- Source: the litmus format of the herdtools, in which bars divide cells and a semicolon ends a row.
-use Rattle.std.specs.Prelude.{ℕ, ◌≤◌, ◌==◌, ◌≡◌, Bool, true, false, not, ◌&&◌, ◌||◌, nat_le, List, [], ◌∷◌, ◌++◌, codes, length, Option, count_by}
-use Rattle.std.specs.{List.{list_all, list_any}, Str.bytes_eq}
+use Rattle.std.specs.{Prelude.{ℕ, ◌≤◌, ◌==◌, ◌≡◌, Bool, true, false, not, ◌&&◌, ◌||◌, nat_le, List, [], ◌∷◌, ◌++◌, codes, length, Option, count_by}, List.{list_all, list_any}, Str.bytes_eq}
 use Rattle.text_parts.specs.{LeadingRuns.leading_run, Blanks.unblanked, Words.is_argument_byte}
 use Rattle.relax_edges.specs.declared.kinds.Mark.{Mark}
 use Rattle.micro_ops.specs.declared.operation.Micro.{Micro}
 use Rattle.micro_ops.specs.declared.operation.Micro.TheVariants as ops
-use Rattle.arch_trait.specs.{declared.link.Link.Link, declared.arch.TheConstants.MAX_INSTRUCTION_TEXT, Taking.Taken, Threads.Puts}
-use Rattle.arch_trait.specs.Writing.{Writing, op_text, op_name, is_well_named, label_name}
+use Rattle.arch_trait.specs.{declared.{link.Link.Link, arch.TheConstants.MAX_INSTRUCTION_TEXT}, Taking.Taken, Threads.Puts, Writing.{Writing, op_text, op_name, is_well_named, label_name}}
 
 -- a byte of a line of a printed test: a space or a graphic ASCII character other than `*`
 abbrev pub is_line_byte : ℕ → Bool

@@ -4,8 +4,7 @@ use Rattle.std.specs.{Prelude.{ℕ, ◌<◌, ◌≡◌, Bool, true, List, [], �
 use Rattle.relax_edges.specs.declared.kinds.Value.{Value}
 use Rattle.micro_ops.specs.{declared.operation.Micro.Micro, Running.{runs, Ended, ReadsShort, ReadsLeft, labels_of, lands}}
 use Rattle.micro_ops.specs.declared.operation.Micro.TheVariants as ops
-use Rattle.arch_trait.specs.{declared.code.Code.Code, declared.step.Step.Step, Taking.initial_values, Laws.InOrder}
-use Rattle.arch_trait.specs.Threads.{Puts, ThreadCode, thread_items, loads_in, branches_in, visits, HoldNumbers}
+use Rattle.arch_trait.specs.{declared.{code.Code.Code, step.Step.Step}, Taking.initial_values, Laws.InOrder, Threads.{Puts, ThreadCode, thread_items, loads_in, branches_in, visits, HoldNumbers}}
 
 -- what the code sees of the code of a thread
 abbrev pub thread_code_of : Code → ThreadCode

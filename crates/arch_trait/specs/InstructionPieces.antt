@@ -2,8 +2,7 @@
 -- Source: own.
 use Rattle.std.specs.Prelude.{ℕ, ◌≡◌, List, Option, Some, None, Result, Ok, Err}
 use Rattle.micro_ops.specs.declared.operation.Micro.{Micro}
-use Rattle.arch_trait.specs.{declared.reading.Operands.Operands, declared.reading.Named.Named, declared.reading.Raw.Raw, declared.reading.InstrError.InstrError}
-use Rattle.arch_trait.specs.{Writing.{OperandTexts, none, one, two, three, four, more, Name, nothing, place, label, RawInstr}, InstructionReading.ReadInstr}
+use Rattle.arch_trait.specs.{declared.reading.{Operands.Operands, Named.Named, Raw.Raw, InstrError.InstrError}, Writing.{OperandTexts, none, one, two, three, four, more, Name, nothing, place, label, RawInstr}, InstructionReading.ReadInstr}
 use Rattle.arch_trait.specs.declared.reading.Operands.TheVariants as operands
 use Rattle.arch_trait.specs.declared.reading.Named.TheVariants as names
 

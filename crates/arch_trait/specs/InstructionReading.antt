@@ -3,8 +3,8 @@
 use Rattle.std.specs.{Prelude.{ℕ, ◌≡◌, ◌==◌, true, cond, List, [], ◌∷◌, Option, Some, None, Result, Ok, Err, map}, List.slice_split}
 use Rattle.text_parts.specs.{Names.is_place_name, Blanks.{is_inked, unblanked, trim_blanks}, LeadingRuns.{leading_run, after_run}}
 use Rattle.micro_ops.specs.{declared.operation.Micro.Micro, Machines.InRange}
-use Rattle.arch_trait.specs.{declared.reading.InstrError.InstrError, PlaceNames.{number_added, names_added}, Threads.Puts}
-use Rattle.arch_trait.specs.Writing.{OperandTexts, none, one, two, three, four, more, Written, Name, nothing, place, label, RawInstr, Writing, is_label_name, with_number}
+use Rattle.arch_trait.specs.{declared.reading.InstrError.InstrError, PlaceNames.{number_added, names_added}, Threads.Puts, Writing.{OperandTexts, none, one, two, three, four, more, Written, Name, nothing, place, label, RawInstr, Writing, is_label_name}}
+use Rattle.arch_trait.specs.Writing.{with_number}
 use Rattle.arch_trait.specs.declared.reading.InstrError.TheVariants as errors
 
 -- the pieces of a text as operands

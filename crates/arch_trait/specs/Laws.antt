@@ -1,16 +1,13 @@
 -- What holds of the code of every architecture: the laws of links and accesses, for any run.
 -- Source: own.
-use Rattle.std.specs.Prelude.{ℕ, ◌+◌, ◌==◌, ◌<◌, ◌≤◌, ◌≡◌, ◌⊎◌, Bool, true, false, cond, not, ◌||◌, List, [], ◌∷◌, ◌++◌, Option, Some, None, is_some, length}
-use Rattle.std.specs.List.{list_all}
-use Rattle.relax_edges.specs.{declared.kinds.Dir.Dir, declared.kinds.Mark.Mark, EdgeTable.{mark_fits, mark_is_of}}
+use Rattle.std.specs.{Prelude.{ℕ, ◌+◌, ◌==◌, ◌<◌, ◌≤◌, ◌≡◌, ◌⊎◌, Bool, true, false, cond, not, ◌||◌, List, [], ◌∷◌, ◌++◌, Option, Some, None, is_some, length}, List.list_all}
+use Rattle.relax_edges.specs.{declared.kinds.{Dir.Dir, Mark.Mark}, EdgeTable.{mark_fits, mark_is_of}}
 use Rattle.relax_edges.specs.declared.kinds.Dir.TheVariants as dirs
-use Rattle.micro_ops.specs.{declared.operation.Micro.Micro, declared.operation.Item.Item, Machine.{num, held_at_place, bit}}
-use Rattle.micro_ops.specs.Running.{Run, Point, At, Wants, exec, labels_of, lands}
+use Rattle.micro_ops.specs.{declared.operation.{Micro.Micro, Item.Item}, Machine.{num, held_at_place, bit}, Running.{Run, Point, At, Wants, exec, labels_of, lands}}
 use Rattle.micro_ops.specs.declared.operation.Micro.TheVariants as ops
 use Rattle.micro_ops.specs.declared.operation.Item.TheVariants as items
-use Rattle.arch_trait.specs.{declared.link.Link.Link, declared.step.Shape.Shape}
-use Rattle.arch_trait.specs.Links.{link_is_of, depends_on_load, branches, is_addr, is_data, mask_if, link_control, link_items}
-use Rattle.arch_trait.specs.{Taking.{Taken, address_in, has_address}, Threads.{Put, Puts, is_load_dir, is_store_dir}}
+use Rattle.arch_trait.specs.{declared.{link.Link.Link, step.Shape.Shape}, Links.{link_is_of, depends_on_load, branches, is_addr, is_data, mask_if, link_control, link_items}, Taking.{Taken, address_in, has_address}, Threads.{Put, Puts, is_load_dir}}
+use Rattle.arch_trait.specs.Threads.{is_store_dir}
 
 -- address registers in the order of taking: ascending, from low on and below high
 abbrev pub InOrder : ℕ → List (ℕ × ℕ) → ℕ → Type 0

@@ -1,8 +1,7 @@
 -- How an access is tied to the one before it: the barriers and masks that each link asks for.
 -- Source: the diy part of the herdtools manual, "Candidate relaxations".
 use Rattle.std.specs.Prelude.{ℕ, Bool, true, false, cond, bit_or, List, [], ◌∷◌, Option, None}
-use Rattle.relax_edges.specs.{declared.kinds.ArchName.ArchName, declared.kinds.Kind.Kind, declared.edge.Edge.Edge}
-use Rattle.relax_edges.specs.EdgeTable.{kind_of, fence_is_of, dependency_is_of, data_is_of}
+use Rattle.relax_edges.specs.{declared.{kinds.{ArchName.ArchName, Kind.Kind}, edge.Edge.Edge}, EdgeTable.{kind_of, fence_is_of, dependency_is_of, data_is_of}}
 use Rattle.relax_edges.specs.declared.kinds.FenceKind.TheVariants as fences
 use Rattle.relax_edges.specs.declared.kinds.DepKind.TheVariants as deps
 use Rattle.relax_edges.specs.declared.kinds.Kind.TheVariants as kinds

@@ -1,7 +1,6 @@
 -- Tables of the names of locations and of labels.
 -- Source: own; the names of locations are those of the diy tools.
-use Rattle.std.specs.Prelude.{ℕ, zero, suc, ◌+◌, ◌/◌, ◌%◌, ◌≤◌, ◌≡◌, true, cond, nat_lt, List, [], ◌∷◌, ◌++◌, Option, Some, None, map, length, get_or, codes}
-use Rattle.std.specs.{List.{list_all, position_from, range_with_len, IsDistinct}, Str.bytes_eq}
+use Rattle.std.specs.{Prelude.{ℕ, zero, suc, ◌+◌, ◌/◌, ◌%◌, ◌≤◌, ◌≡◌, true, cond, nat_lt, List, [], ◌∷◌, ◌++◌, Option, Some, None, map, length, get_or, codes}, List.{list_all, position_from, range_with_len, IsDistinct}, Str.bytes_eq}
 use Rattle.text_parts.specs.Names.{is_place_name}
 use Rattle.arch_trait.specs.declared.places.TheConstants.{MAX_PLACES}
 

@@ -1,7 +1,7 @@
 -- The registers of a thread: how many are taken, and which hold the address of a location.
 -- Source: own.
 use Rattle.std.specs.Prelude.{ℕ, ◌+◌, ◌==◌, Bool, cond, List, [], ◌∷◌, ◌++◌, Option, Some, None, map, is_some}
-use Rattle.relax_edges.specs.{declared.kinds.Value.Value, declared.kinds.Value.TheVariants.Place}
+use Rattle.relax_edges.specs.declared.kinds.Value.{Value, TheVariants.Place}
 use Rattle.micro_ops.specs.{declared.held.Held.Held, Running.starting}
 
 -- the registers of a thread, numbered from 0: how many there are, the next one that isn't taken, and

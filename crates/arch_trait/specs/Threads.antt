@@ -1,13 +1,11 @@
 -- The code of a thread: for each access the code of its link, and then that of the access.
 -- Source: own.
 use Rattle.std.specs.{Prelude.{ℕ, ◌+◌, ◌-◌, ◌==◌, ◌<◌, ◌≡◌, Bool, true, false, cond, List, [], ◌∷◌, ◌++◌, Option, Some, None, count_by}, List.list_any}
-use Rattle.relax_edges.specs.{declared.kinds.Dir.Dir, declared.kinds.Mark.Mark, declared.kinds.ArchName.ArchName, declared.kinds.Value.Value}
-use Rattle.relax_edges.specs.{declared.kinds.Value.TheVariants.Num, EdgeTable.{mark_fits, mark_is_of}}
+use Rattle.relax_edges.specs.{declared.kinds.{Dir.Dir, Mark.Mark, ArchName.ArchName, Value.{Value, TheVariants.Num}}, EdgeTable.{mark_fits, mark_is_of}}
 use Rattle.relax_edges.specs.declared.kinds.Dir.TheVariants as dirs
-use Rattle.micro_ops.specs.{declared.operation.Micro.Micro, declared.operation.Item.Item, declared.held.Held.Held, Machine.{num, bit}}
+use Rattle.micro_ops.specs.{declared.{operation.{Micro.Micro, Item.Item}, held.Held.Held}, Machine.{num, bit}}
 use Rattle.micro_ops.specs.declared.operation.Item.TheVariants as items
-use Rattle.arch_trait.specs.{declared.link.Link.Link, declared.step.Step.Step, declared.step.Shape.Shape}
-use Rattle.arch_trait.specs.{Links.{link_is_of, depends_on_load, branches, is_addr, is_data, mask_if, link_control, link_items}, Taking.{Taken, untaken}}
+use Rattle.arch_trait.specs.{declared.{link.Link.Link, step.{Step.Step, Shape.Shape}}, Links.{link_is_of, depends_on_load, branches, is_addr, is_data, mask_if, link_control, link_items}, Taking.{Taken, untaken}}
 use Rattle.arch_trait.specs.declared.way.Way as kept
 
 -- the code of an access, and the registers after it

@@ -1,8 +1,7 @@
 -- How instructions are written in a test, and what they name.
 -- Source: the litmus format of the herdtools, in which a cell holds one instruction.
-use Rattle.std.specs.Prelude.{ℕ, ◌+◌, ◌-◌, ◌/◌, ◌%◌, ◌==◌, ◌≡◌, Bool, true, false, cond, not, ◌&&◌, nat_lt, nat_le, List, [], ◌∷◌, ◌++◌, Option, Some, None, get_or, take, drop, length, codes}
-use Rattle.std.specs.{List.list_all, List.IsDistinct, Fmt.decimal, Str.bytes_eq}
-use Rattle.text_parts.specs.{Names.is_place_name, Names.is_register_name, NumberTexts.number_of, Blanks.is_blank}
+use Rattle.std.specs.{Prelude.{ℕ, ◌+◌, ◌-◌, ◌/◌, ◌%◌, ◌==◌, ◌≡◌, Bool, true, false, cond, not, ◌&&◌, nat_lt, nat_le, List, [], ◌∷◌, ◌++◌, Option, Some, None, get_or, take, drop, length, codes}, List.{list_all, IsDistinct}, Fmt.decimal, Str.bytes_eq}
+use Rattle.text_parts.specs.{Names.{is_place_name, is_register_name}, NumberTexts.number_of, Blanks.is_blank}
 use Rattle.micro_ops.specs.declared.operation.Micro.{Micro}
 use Rattle.micro_ops.specs.declared.operation.Micro.TheVariants as ops
 use Rattle.arch_trait.specs.Threads.{Puts}

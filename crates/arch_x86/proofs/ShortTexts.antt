@@ -1,12 +1,10 @@
 -- The texts that are printed by fixed texts are those of the table.
-use Rattle.std.proofs.Common.{◌≡◌, ◌<◌, ◌+◌, ℕ, zero, suc, List, [], ◌∷◌, ◌++◌, true, nat_le, length, sym, ap, ◌∙◌, append_assoc, arith, refl}
-use Rattle.std.specs.{Prelude.codes, Prelude.slice_index_or, Fmt.decimal}
-use Rattle.std.proofs.lemmas.{Bool.le-leb, Fmt.decimal_digit}
+use Rattle.std.{proofs.{Common.{◌≡◌, ◌<◌, ◌+◌, ℕ, zero, suc, List, [], ◌∷◌, ◌++◌, true, nat_le, length, sym, ap, ◌∙◌, append_assoc, arith, refl}, lemmas.{Bool.le-leb, Fmt.decimal_digit}}, specs.{Prelude.{codes, slice_index_or}, Fmt.decimal}}
 use Rattle.relax_edges.specs.declared.kinds.FenceKind.TheVariants as fences
 use Rattle.micro_ops.specs.declared.operation.Barrier.TheVariants as barriers
 use Rattle.micro_ops.specs.declared.operation.Micro.TheVariants as ops
 use Rattle.arch_trait.specs.Writing.{op_text}
-use Rattle.arch_instructions_laws.specs.Tables.{operands_fit, piece_texts, first_written}
+use Rattle.arch_instructions.specs.Tables.{operands_fit, piece_texts, first_written}
 use Rattle.arch_x86.specs.Table.{forms, writing, x86_register_names}
 
 -- a store of a number below 10

@@ -1,8 +1,8 @@
 -- X86's instructions fit into the cells of a table, and the code of each access makes one access.
 use Rattle.arch_trait.specs.Cells.{WritesCells, MakesOneAccess}
-use Rattle.arch_instructions_laws.proofs.InCells as tables
-use Rattle.arch_instructions_laws.proofs.Fenced.{fenced_once}
-use Rattle.arch_x86.specs.{Puts.puts, Table.table, Table.x86_register_names, Table.writing, Clear.is_clear_table, Laws.is_fenced}
+use Rattle.arch_instructions.proofs.InCells as tables
+use Rattle.arch_instructions.proofs.Fenced.{fenced_once}
+use Rattle.arch_x86.specs.{Puts.puts, Table.{table, x86_register_names, writing}, Clear.is_clear_table, Laws.is_fenced}
 
 -- the instructions of X86 fit into the cells of a table
 pub writes_cells : WritesCells puts writing

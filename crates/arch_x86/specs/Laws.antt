@@ -3,8 +3,7 @@ use Rattle.std.proofs.{Common.{ℕ, ◌≡◌, refl, Option, arith}, lemmas.Bool
 use Rattle.relax_edges.specs.declared.kinds.ArchName.TheVariants as archs
 use Rattle.arch_trait.specs.{declared.link.Link.Link, Laws.IsArch}
 use Rattle.arch_trait.specs.declared.link.Link.TheVariants as links
-use Rattle.arch_instructions_laws.specs.Tables.{operands_fit}
-use Rattle.arch_instructions_laws.proofs.{Barriers.fences_had, Fenced.{fence_code, IsFenced, fenced_laws}}
+use Rattle.arch_instructions.{specs.Tables.operands_fit, proofs.{Barriers.fences_had, Fenced.{fence_code, IsFenced, fenced_laws}}}
 use Rattle.arch_x86.specs.{Table.{forms, table}, Puts.{puts, x86_link_code}}
 
 -- the code of a link is only its fence, if it is one

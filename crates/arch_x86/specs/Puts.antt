@@ -6,9 +6,9 @@ use Rattle.relax_edges.specs.declared.kinds.Mark.{Mark}
 use Rattle.micro_ops.specs.declared.operation.Micro.{Micro}
 use Rattle.micro_ops.specs.declared.operation.Micro.TheVariants as ops
 use Rattle.micro_ops.specs.declared.operation.Barrier.TheVariants as barriers
-use Rattle.arch_trait.specs.{declared.link.Link.Link, declared.step.Shape.Shape, Taking.{Taken, take_next}, Threads.{Put, Puts}}
+use Rattle.arch_trait.specs.{declared.{link.Link.Link, step.Shape.Shape}, Taking.{Taken, take_next}, Threads.{Put, Puts}}
 use Rattle.arch_trait.specs.declared.link.Link.TheVariants as links
-use Rattle.arch_instructions_laws.specs.Tables.{table_has}
+use Rattle.arch_instructions.specs.Tables.{table_has}
 use Rattle.arch_x86.specs.Table.{table}
 
 -- the code of a link: its fence, if it is one

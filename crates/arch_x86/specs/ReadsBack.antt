@@ -1,11 +1,10 @@
 -- X86's instructions read back from their text, and its registers have names of their own.
-use Rattle.std.proofs.Common.{◌≡◌, refl, true, rules}
-use Rattle.std.specs.{List.list_all, List.IsDistinct, Str.bytes_eq}
+use Rattle.std.{proofs.Common.{◌≡◌, refl, true, rules}, specs.{List.{list_all, IsDistinct}, Str.bytes_eq}}
 use Rattle.text_parts.specs.Names.{is_register_name}
 use Rattle.arch_trait.specs.{InstructionReading.ReadsOwn, Writing.WritesBack}
-use Rattle.arch_instructions_laws.proofs.Ranges as ranges
-use Rattle.arch_instructions_laws.proofs.ReadsBack.{AreNames, writes_back}
-use Rattle.arch_x86.specs.{Puts.puts, Table.table, Table.x86_register_names, Table.writing, Clear.is_clear_table, Clear.few_registers}
+use Rattle.arch_instructions.proofs.Ranges as ranges
+use Rattle.arch_instructions.proofs.ReadsBack.{AreNames, writes_back}
+use Rattle.arch_x86.specs.{Puts.puts, Table.{table, x86_register_names, writing}, Clear.{is_clear_table, few_registers}}
 
 registers_formed : list_all is_register_name x86_register_names ≡ true
 unfolding is_register_name

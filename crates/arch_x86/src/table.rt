@@ -1,8 +1,8 @@
 ghost use Rattle.std.specs.Prelude.{◌≡◌};
-ghost use Rattle.arch_instructions_laws.specs.Tables.{table_seen};
+ghost use Rattle.arch_instructions.specs.Tables.{table_seen};
 ghost use Rattle.arch_x86.specs.Table.{table};
 
-use arch_instructions_laws::{Form, Hole, Kind, Labels, Piece, Table, form, piece};
+use arch_instructions::{Form, Hole, Kind, Labels, Piece, Table, form, piece};
 use micro_ops::Barrier;
 use relax_edges::FenceKind;
 

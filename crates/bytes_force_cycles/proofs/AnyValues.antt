@@ -1,17 +1,8 @@
 -- Whatever its loads read, the code of a cycle's test runs through, and makes the same accesses but for the values that are read.
-use Rattle.std.proofs.{Common.{◌≡◌, ℕ, ◌-◌, ◌<◌, List, [], ◌∷◌, length, map, Some, slice_get, refl, sym, ◌∙◌, ap, arith}, lemmas.List.length-map}
-use Rattle.relax_edges.specs.declared.{kinds.Dir.Dir, kinds.ObsMode.ObsMode, edge.Edge.Edge}
+use Rattle.bytes_force_cycles.proofs.Vocabulary.{◌≡◌, ℕ, ◌-◌, ◌<◌, List, [], ◌∷◌, length, map, Some, slice_get, refl, sym, ◌∙◌, ap, arith, length-map, Dir, ObsMode, Edge, move_count, Step, link_control, ThreadCode, first_number, left_after, loads_after}
+use Rattle.bytes_force_cycles.proofs.Vocabulary.{Visit, accesses_of, Execution, IsCandidate, visits_in, accesses-count, got_below, got_map, image_of, same_below, cycle_steps, program_of, thread_from, AreCodesOf, AreEnough, did_thread, thread_of}
+use Rattle.bytes_force_cycles.{proofs.Vocabulary.{step_visit, thread_visits, candidate_enough, candidate_lists}, specs.AnyValues.{AsManyReads, without_value}}
 use Rattle.relax_edges.specs.declared.kinds.Dir.TheVariants as dirs
-use Rattle.cycle_events.specs.Resolution.{move_count}
-use Rattle.arch_trait.specs.{declared.step.Step.Step, Links.link_control, Threads.{ThreadCode, first_number, left_after, loads_after}}
-use Rattle.program_meaning.specs.{Accesses.Visit, Executions.Execution, Programs.{IsCandidate, visits_in}}
-use Rattle.program_meaning.proofs.Runs.{accesses-count}
-use Rattle.program_meaning.specs.Accesses.{accesses_of}
-use Rattle.accesses_force_cycles.proofs.Lists.{got_below, got_map, image_of, same_below}
-use Rattle.tests_force_cycles.specs.{CycleSteps.cycle_steps, TestPrograms.{program_of, thread_from}}
-use Rattle.tests_force_cycles.proofs.{ThreadRuns.{AreCodesOf, AreEnough, did_thread, thread_of}, Visits.{step_visit, thread_visits}}
-use Rattle.tests_force_cycles.proofs.AccessesMade.{candidate_enough, candidate_lists}
-use Rattle.bytes_force_cycles.specs.AnyValues.{AsManyReads, without_value}
 
 -- with as many reads as a candidate, an execution has a number for each load
 pub many_enough : (codes : List ThreadCode) (es : List Edge) (mode : ObsMode) (number : ℕ → ℕ) (x y : Execution) → AreCodesOf codes (cycle_steps es mode number)

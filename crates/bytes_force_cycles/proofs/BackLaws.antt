@@ -1,11 +1,6 @@
 -- Laws of reading back, for the crates above.
-use Rattle.std.proofs.Common.{ℕ, List, ◌≡◌, true}
-use Rattle.relax_edges.specs.declared.kinds.ArchName.{ArchName}
-use Rattle.arch_trait.specs.{Threads.Puts, Writing.Writing, Writing.WritesBack, Cells.WritesCells, SeenTests.TestSeen, PlaceNames.number_in}
-use Rattle.litmus_text.specs.{Reread.IsReadable, TestReadsBack.TestReadsBack}
+use Rattle.bytes_force_cycles.proofs.Vocabulary.{ℕ, List, ◌≡◌, true, is_some, ArchName, Puts, Writing, WritesBack, WritesCells, TestSeen, number_in, IsReadable, TestReadsBack, Numbered}
 use Rattle.litmus_text.proofs.MentionedBack as mentioned_back
-use Rattle.std.specs.Prelude.{is_some}
-use Rattle.litmus_text.proofs.NamesBack.{Numbered}
 use Rattle.litmus_text.proofs.NamesBack as names_back
 
 -- the text of a readable test is read as that test, its places numbered by a table

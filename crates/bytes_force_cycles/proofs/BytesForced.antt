@@ -1,19 +1,9 @@
 -- The printed bytes of a readable test of a cycle force the cycle.
-use Rattle.std.proofs.Common.{◌≡◌, ℕ, List, length, refl, sym, ◌∙◌, subst}
-use Rattle.relax_edges.specs.{declared.kinds.ArchName.ArchName, declared.kinds.ObsMode.ObsMode, declared.edge.Edge.Edge}
-use Rattle.final_cond.specs.States.{Meets}
-use Rattle.cycle_events.specs.Resolution.{move_count}
-use Rattle.arch_trait.specs.{Laws.IsArch, PlaceNames.{letters, number_in}, Threads.Puts, Writing.{Writing, WritesBack, name_in}}
-use Rattle.litmus_text.specs.{TestReadsBack.TestReadsBack, Reread.reread, TestReading.TestRead, TestText.test_text}
-use Rattle.program_meaning.specs.{Executions.Execution, Intended.intended, Programs.{Program, IsCandidate, IsCoherentIn}, Standing.AllStand}
-use Rattle.tests_force_cycles.specs.{FinalStates.{final_state, IsAskedFor}, TestHeadline.{HasTest, IsRenumbered, Forces}, TestPrograms.test_program}
-use Rattle.tests_force_cycles.specs.{CycleSteps.cycle_steps, TestOf.test_of}
-use Rattle.tests_force_cycles.proofs.{Headline.{renumbered_force_law, renumbered_program}, RegisterNames.registers_found}
-use Rattle.tests_force_cycles.proofs.{TestCodes.{are_codes, cycle_codes, cycle_program}, ThreadRuns.AreCodesOf}
-use Rattle.bytes_force_cycles.proofs.SomeInterleaving.{runs_through}
-use Rattle.bytes_force_cycles.specs.{AnyValues.RunsThrough, PrintedHeadline.BytesForce, Readings.{program_read, place_in_test, ReadingAsks}}
-use Rattle.bytes_force_cycles.proofs.NoInterleaving.{WritesInside, NotInOrder, test_writes_within, not_in_order, interleaving_ends}
-use Rattle.bytes_force_cycles.proofs.RereadTests.{by_table, reread_test, reread_renumbered, threads_numbered, number_of_location, intended_same}
+use Rattle.bytes_force_cycles.proofs.Vocabulary.{◌≡◌, ℕ, List, length, refl, sym, ◌∙◌, subst, ArchName, ObsMode, Edge, Meets, move_count, IsArch, letters, number_in, Puts, Writing, WritesBack, name_in, TestReadsBack, reread, TestRead, test_text}
+use Rattle.bytes_force_cycles.proofs.Vocabulary.{Execution, intended, Program, IsCandidate, IsCoherentIn, AllStand, final_state, IsAskedFor, HasTest, IsRenumbered, Forces, test_program, cycle_steps, test_of, renumbered_force_law, renumbered_program}
+use Rattle.bytes_force_cycles.proofs.{Vocabulary.{registers_found, are_codes, cycle_codes, cycle_program, AreCodesOf}, SomeInterleaving.runs_through, NoInterleaving.{WritesInside, NotInOrder, test_writes_within, not_in_order, interleaving_ends}}
+use Rattle.bytes_force_cycles.{proofs.RereadTests.{by_table, reread_test, reread_renumbered, threads_numbered, number_of_location, intended_same}, specs.{AnyValues.RunsThrough, PrintedHeadline.BytesForce, Readings.{program_read, place_in_test}}}
+use Rattle.bytes_force_cycles.specs.Readings.{ReadingAsks}
 
 -- the bytes of a test that reads back force the cycle
 pub bytes_force : (a : Puts) (arch : ArchName) (w : Writing) (name : List ℕ) (es : List Edge) (mode : ObsMode) → IsArch a → WritesBack a w → HasTest a es mode
@@ -39,7 +29,7 @@ bytes_force a arch w name es mode laws back t r = record {
     number = by_table r.table (letters (move_count es))
 
     renumbered : IsRenumbered (test_of a (name_in w.registers) es mode) (reread_test r.table (test_of a (name_in w.registers) es mode)) number
-    renumbered = reread_renumbered a (name_in w.registers) es mode r.table laws t.code (record { once = r.once; inside = r.among }) r.codes r.links
+    renumbered = reread_renumbered a (name_in w.registers) es mode r.table laws t.code.coded (record { once = r.once; inside = r.among }) r.codes r.links
 
     forced : Forces (reread_test r.table (test_of a (name_in w.registers) es mode)) (number_in w.registers) es mode number
     forced = renumbered_force_law a (name_in w.registers) (number_in w.registers) es mode (reread_test r.table (test_of a (name_in w.registers) es mode)) number laws (registers_found a w back) t renumbered
@@ -68,7 +58,7 @@ bytes_force a arch w name es mode laws back t r = record {
     stands x asked = subst (λ (p : Program). AllStand es p x) program_is (forced.stand x (asked_for x asked))
 
     codes : AreCodesOf (cycle_codes a es mode number) (cycle_steps es mode number)
-    codes = are_codes a es mode number laws t.code.resolved t.code.of_arch
+    codes = are_codes a es mode number laws t.code.coded.laid t.code.coded.of_arch
 
     made_program : cycle_program a es mode number ≡ test_program (reread_test r.table (test_of a (name_in w.registers) es mode))
     made_program =
@@ -80,4 +70,4 @@ bytes_force a arch w name es mode laws back t r = record {
         (subst (λ (p : Program). IsCandidate p (intended es mode number)) (sym made_program) forced.exists.candidate)
 
     none : NotInOrder w test
-    none = not_in_order w test es t.code.resolved (λ x. subst (WritesInside x) program_is (test_writes_within a (name_in w.registers) es mode (reread_test r.table (test_of a (name_in w.registers) es mode)) number laws t renumbered x)) stands
+    none = not_in_order w test es t.code.coded.laid (λ x. subst (WritesInside x) program_is (test_writes_within a (name_in w.registers) es mode (reread_test r.table (test_of a (name_in w.registers) es mode)) number laws t.code.coded renumbered x)) stands

@@ -1,24 +1,10 @@
 -- The test of a cycle is within the limits of the format: its code, its address registers and its terms.
-use Rattle.std.proofs.Common.{◌≡◌, ℕ, suc, ◌+◌, ◌<◌, ◌≤◌, ◌==◌, Bool, true, false, ◌||◌, List, [], ◌∷◌, ◌++◌, length, map, Some, slice_get, refl, sym, ap, ◌∙◌, subst, arith}
-use Rattle.std.proofs.{lemmas.Bool.{eqb-true, lt-ltb, and_from}, lemmas.List.length-map, lemmas.List.Sums.count_by-le-length}
-use Rattle.std.proofs.{lemmas.Option.{slice_get_within, slice_get-get_or}, lemmas.Slice.Eq.bytes_eq-Decides}
-use Rattle.std.specs.{Prelude.{◌&&◌, is_some, nat_lt}, Str.bytes_eq, List.{AllByRecursion, list_all, filter, position_from, zip}}
-use Rattle.list_laws.proofs.{Elements.all_append, Cases.by_test, Numbers.{length-upto, slice_get-upto}}
-use Rattle.list_laws.specs.Numbers.{upto}
-use Rattle.relax_edges.specs.{declared.TheConstants.MAX_EDGES, declared.kinds.ArchName.ArchName, declared.kinds.ObsMode.ObsMode, declared.edge.Edge.Edge}
-use Rattle.cycle_events.proofs.ValuesAlongEdges.{write_count_most}
-use Rattle.cycle_events.specs.Resolution.{IsResolved, move_count}
-use Rattle.text_parts.specs.Names.{is_place_name, is_register_name}
-use Rattle.arch_trait.specs.{declared.arch.TheConstants.MAX_INSTRS, declared.step.Step.Step, Cells.MakesOneAccess, Codes.{AllBelow, IsFormedCode}}
-use Rattle.arch_trait.specs.{Laws.{IsArch, InOrder}, Links.branches, PlaceNames.{letters, location_name, number_in}, Writing.{Writing, WritesBack, name_in}}
-use Rattle.arch_trait.specs.Threads.{Puts, ThreadCode, FitSteps, compiled, is_load_dir, setting_out, visits}
-use Rattle.arch_trait.proofs.{Ordered.{compiled_ordered, compiled_accesses}, Tables.location_new, WholeRuns.is_formed, Codes.thread_short}
-use Rattle.litmus_text.specs.{Items.{Link, LinkFits, links_of}, Progress.{CodeFits, code_lands}, ReadTerms.TermFits}
-use Rattle.bytes_force_cycles.proofs.{FormedFits.{HasPlaces, code_fits, lands_once, links_fit}, RereadTests.got_is}
-use Rattle.accesses_force_cycles.proofs.Lists.{image_of}
-use Rattle.tests_force_cycles.specs.{TestHeadline.HasCode, CycleSteps.{cycle_steps, numbers_read}}
-use Rattle.tests_force_cycles.specs.TestOf.{plain, is_named_location, last_term, last_terms, load_term, thread_terms, load_terms}
-use Rattle.tests_force_cycles.proofs.{ListElements.all_from, PlaceNames.{letter_at, locations_few}, StepsFit.{IsThread, all_at, steps_fit, steps_placed}}
+use Rattle.std.proofs.{Common.{◌≡◌, ℕ, suc, ◌+◌, ◌<◌, ◌≤◌, ◌==◌, Bool, true, false, ◌||◌, List, [], ◌∷◌, ◌++◌, length, map, Some, slice_get, refl, sym, ap, ◌∙◌, subst, arith}, lemmas.{Bool.{eqb-true, lt-ltb, and_from}, List.length-map}}
+use Rattle.bytes_force_cycles.proofs.Vocabulary.{count_by-le-length, slice_get_within, slice_get-get_or, bytes_eq-Decides, ◌&&◌, is_some, nat_lt, bytes_eq, AllByRecursion, list_all, filter, position_from, zip, all_append, by_test, length-upto}
+use Rattle.bytes_force_cycles.proofs.Vocabulary.{slice_get-upto, upto, MAX_EDGES, ArchName, ObsMode, Edge, write_count_most, IsLaidOut, move_count, is_place_name, is_register_name, MAX_INSTRS, Step, MakesOneAccess, AllBelow, IsFormedCode, IsArch}
+use Rattle.bytes_force_cycles.proofs.Vocabulary.{InOrder, branches, letters, location_name, number_in, Writing, WritesBack, name_in, Puts, ThreadCode, FitSteps, compiled, is_load_dir, setting_out, visits, compiled_ordered, compiled_accesses}
+use Rattle.bytes_force_cycles.proofs.Vocabulary.{location_new, is_formed, thread_short, Link, LinkFits, links_of, CodeFits, code_lands, TermFits, image_of, HasLaidCode, cycle_steps, numbers_read, plain, is_named_location, last_term, last_terms}
+use Rattle.bytes_force_cycles.proofs.{Vocabulary.{load_term, thread_terms, load_terms, all_from, letter_at, locations_few, IsThread, all_at, steps_fit, steps_placed}, FormedFits.{HasPlaces, code_fits, lands_once, links_fit}, RereadTests.got_is}
 
 -- what is in a table has a number
 name_found : (k : ℕ) (names : List (List ℕ)) (i : ℕ) (name : List ℕ) → slice_get names i ≡ Some name → is_some (position_from (λ x. bytes_eq x name) k names) ≡ true
@@ -37,7 +23,7 @@ visited_below n (s ∷ ss) place below v =
     (λ e. let same : s.place ≡ place = eqb-true s.place place e in omega (arith, below 0 s refl))
     (λ e. visited_below n ss place (λ j t g. below (suc j) t g) (sym (ap (λ b. b || visits place ss) e) ∙ v))
 
-has_places : (es : List Edge) (mode : ObsMode) (k : ℕ) (ss : List Step) → IsResolved es → slice_get (cycle_steps es mode plain) k ≡ Some ss → HasPlaces (letters (move_count es)) (name_in (letters (move_count es))) ss
+has_places : (es : List Edge) (mode : ObsMode) (k : ℕ) (ss : List Step) → IsLaidOut es → slice_get (cycle_steps es mode plain) k ≡ Some ss → HasPlaces (letters (move_count es)) (name_in (letters (move_count es))) ss
 has_places es mode k ss r g place v =
     let n = move_count es in
     let few = locations_few es r in
@@ -59,24 +45,24 @@ pub record IsThreadCode (a : Puts) (ss : List Step) : Type 0 where
   pub formed : IsFormedCode a ss (compiled a ss)
 
 -- the code of a thread of the test is that of a thread of the architecture
-pub thread_is : (a : Puts) (es : List Edge) (mode : ObsMode) (k : ℕ) (ss : List Step) → IsArch a → HasCode a es mode → slice_get (cycle_steps es mode plain) k ≡ Some ss → IsThreadCode a ss
-thread_is a es mode k ss laws t g = grind (arith, steps_fit es mode plain a.name k ss t.resolved t.of_arch g, is_formed a laws ss)
+pub thread_is : (a : Puts) (es : List Edge) (mode : ObsMode) (k : ℕ) (ss : List Step) → IsArch a → HasLaidCode a es mode → slice_get (cycle_steps es mode plain) k ≡ Some ss → IsThreadCode a ss
+thread_is a es mode k ss laws t g = grind (arith, steps_fit es mode plain a.name k ss t.laid t.of_arch g, is_formed a laws ss)
 
 -- the code of a thread has no more instructions than a thread may have
-pub code_short : (a : Puts) (es : List Edge) (mode : ObsMode) (k : ℕ) (ss : List Step) → IsArch a → HasCode a es mode → slice_get (cycle_steps es mode plain) k ≡ Some ss → length (compiled a ss).instrs ≤ MAX_INSTRS
+pub code_short : (a : Puts) (es : List Edge) (mode : ObsMode) (k : ℕ) (ss : List Step) → IsArch a → HasLaidCode a es mode → slice_get (cycle_steps es mode plain) k ≡ Some ss → length (compiled a ss).instrs ≤ MAX_INSTRS
 code_short a es mode k ss laws t g = grind (arith, thread_is a es mode k ss laws t g, thread_short a laws false (setting_out a.registers) ss)
 
 -- the code of a thread fits the names of the locations
-pub thread_code_fits : (a : Puts) (es : List Edge) (mode : ObsMode) (k : ℕ) (ss : List Step) → IsArch a → MakesOneAccess a → HasCode a es mode → slice_get (cycle_steps es mode plain) k ≡ Some ss
+pub thread_code_fits : (a : Puts) (es : List Edge) (mode : ObsMode) (k : ℕ) (ss : List Step) → IsArch a → MakesOneAccess a → HasLaidCode a es mode → slice_get (cycle_steps es mode plain) k ≡ Some ss
     → CodeFits a (letters (move_count es)) (name_in (letters (move_count es))) 0 0 (compiled a ss).instrs
 thread_code_fits a es mode k ss laws one t g =
     let c = thread_is a es mode k ss laws t g in
     let most = count_by-le-length (λ (s : Step). branches s.link) ss in
-    code_fits a (letters (move_count es)) (name_in (letters (move_count es))) ss 0 0 (compiled a ss).instrs (has_places es mode k ss t.resolved g) c.formed.has c.formed.places
+    code_fits a (letters (move_count es)) (name_in (letters (move_count es))) ss 0 0 (compiled a ss).instrs (has_places es mode k ss t.laid g) c.formed.has c.formed.places
     (compiled_ordered a laws ss c.thread.fit (omega (arith, most, c.thread.few))) (omega (arith, compiled_accesses a one ss, c.thread.few))
 
 -- the branches in the code of a thread land
-pub thread_lands : (a : Puts) (es : List Edge) (mode : ObsMode) (k : ℕ) (ss : List Step) → IsArch a → HasCode a es mode → slice_get (cycle_steps es mode plain) k ≡ Some ss → code_lands (compiled a ss).instrs (compiled a ss).instrs ≡ true
+pub thread_lands : (a : Puts) (es : List Edge) (mode : ObsMode) (k : ℕ) (ss : List Step) → IsArch a → HasLaidCode a es mode → slice_get (cycle_steps es mode plain) k ≡ Some ss → code_lands (compiled a ss).instrs (compiled a ss).instrs ≡ true
 thread_lands a es mode k ss laws t g = grind (arith, thread_is a es mode k ss laws t g, lands_once (compiled a ss).instrs)
 
 -- the address registers of all threads, from those of each
@@ -88,7 +74,7 @@ all_links P n (t ∷ threads) h =
     (all_links P (n + 1) threads (λ k u g. subst (λ m. AllByRecursion P (map (λ link. (m, link)) u.links)) (omega arith) (h (suc k) u g)))
 
 -- the address registers of all threads fit
-pub all_links_fit : (a : Puts) (w : Writing) (es : List Edge) (mode : ObsMode) → IsArch a → WritesBack a w → HasCode a es mode → length (cycle_steps es mode plain) ≤ MAX_EDGES
+pub all_links_fit : (a : Puts) (w : Writing) (es : List Edge) (mode : ObsMode) → IsArch a → WritesBack a w → HasLaidCode a es mode → length (cycle_steps es mode plain) ≤ MAX_EDGES
     → AllByRecursion (LinkFits w (letters (move_count es)) (name_in (letters (move_count es)))) (links_of 0 (map (compiled a) (cycle_steps es mode plain)))
 all_links_fit a w es mode laws back t few =
     all_links (LinkFits w (letters (move_count es)) (name_in (letters (move_count es)))) 0 (map (compiled a) (cycle_steps es mode plain)) (λ k code g.
@@ -96,7 +82,7 @@ all_links_fit a w es mode laws back t few =
     let c = thread_is a es mode k i.element laws t i.got in
     let within = slice_get_within (cycle_steps es mode plain) k i.element i.got in
     subst (λ (code : ThreadCode). AllByRecursion (LinkFits w (letters (move_count es)) (name_in (letters (move_count es)))) (map (λ link. (0 + k, link)) code.links)) i.image
-    (links_fit w (letters (move_count es)) (name_in (letters (move_count es))) i.element (0 + k) 0 (compiled a i.element).links (has_places es mode k i.element t.resolved i.got) (omega (arith, within, few))
+    (links_fit w (letters (move_count es)) (name_in (letters (move_count es))) i.element (0 + k) 0 (compiled a i.element).links (has_places es mode k i.element t.laid i.got) (omega (arith, within, few))
     (subst (λ n. InOrder 0 (compiled a i.element).links n) (sym back.count) c.formed.links) c.formed.addresses))
 
 -- the numbers that loads are to read are bytes
@@ -130,7 +116,7 @@ all_read_terms a w table threads thread (ss ∷ all) back h few each =
     (read_terms a w table threads thread (compiled a ss).loads (numbers_read ss) back (omega arith) few here.0 here.1)
     (all_read_terms a w table threads (thread + 1) all back (omega arith) few (λ k u g. each (suc k) u g))
 
-ends_fit : (w : Writing) (es : List Edge) (threads : ℕ) (locations : List ℕ) → IsResolved es → AllByRecursion (λ l. l < move_count es) locations → AllByRecursion (TermFits w threads (letters (move_count es))) (map (last_term es) locations)
+ends_fit : (w : Writing) (es : List Edge) (threads : ℕ) (locations : List ℕ) → IsLaidOut es → AllByRecursion (λ l. l < move_count es) locations → AllByRecursion (TermFits w threads (letters (move_count es))) (map (last_term es) locations)
 ends_fit w es threads [] r h = tt
 ends_fit w es threads (l ∷ locations) r h = grind (arith, ends_fit w es threads locations r h.1, locations_few, write_count_most, location_new, location_in)
 
@@ -142,12 +128,12 @@ upto_below : (n : ℕ) → AllByRecursion (λ l. l < n) (upto n)
 upto_below n = grind (arith, all_from, slice_get_within, length-upto, slice_get-upto)
 
 -- the terms of the condition
-pub terms_fit : (a : Puts) (w : Writing) (es : List Edge) (mode : ObsMode) → IsArch a → WritesBack a w → HasCode a es mode → length (cycle_steps es mode plain) ≤ MAX_EDGES
+pub terms_fit : (a : Puts) (w : Writing) (es : List Edge) (mode : ObsMode) → IsArch a → WritesBack a w → HasLaidCode a es mode → length (cycle_steps es mode plain) ≤ MAX_EDGES
     → AllByRecursion (TermFits w (length (map (compiled a) (cycle_steps es mode plain))) (letters (move_count es))) (last_terms es mode ++ load_terms a (name_in w.registers) 0 (cycle_steps es mode plain))
 terms_fit a w es mode laws back t few =
     let threads = length (map (compiled a) (cycle_steps es mode plain)) in
     let size = length-map (cycle_steps es mode plain) (compiled a) in
     all_append (TermFits w threads (letters (move_count es))) (last_terms es mode) (load_terms a (name_in w.registers) 0 (cycle_steps es mode plain))
-    (ends_fit w es threads (filter (is_named_location es mode) (upto (move_count es))) t.resolved (filter_below (is_named_location es mode) (move_count es) (upto (move_count es)) (upto_below (move_count es))))
+    (ends_fit w es threads (filter (is_named_location es mode) (upto (move_count es))) t.laid (filter_below (is_named_location es mode) (move_count es) (upto (move_count es)) (upto_below (move_count es))))
     (all_read_terms a w (letters (move_count es)) threads 0 (cycle_steps es mode plain) back (omega arith) (omega arith) (λ k ss g.
     let c = thread_is a es mode k ss laws t g in (c.formed.loads, numbers_small a.name false ss c.thread.fit)))

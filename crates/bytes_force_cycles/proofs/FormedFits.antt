@@ -1,15 +1,9 @@
 -- The code of a thread reads back.
-use Rattle.std.proofs.Common.{◌≡◌, ◌<◌, ◌≤◌, ◌+◌, ◌==◌, ℕ, zero, suc, List, [], ◌∷◌, ◌++◌, true, false, cond, length, map, refl, sym, ap, ◌∙◌, subst, arith, append_assoc, append-nil, zero-add}
-use Rattle.std.proofs.{lemmas.Bool.{eqb-true, eq-eqb, lt-ltb, ltb-true, and_parts, and_from}, lemmas.List.Sums.{sum_by-append, sum_by-cons}}
-use Rattle.std.specs.{Prelude.{Bool, not, ◌&&◌, ◌||◌, nat_lt, is_some, count_by}, List.{list_all, list_any, range_with_len, AllByRecursion}}
-use Rattle.list_laws.proofs.Cases.{by_test}
-use Rattle.micro_ops.specs.{declared.operation.Micro.Micro, Running.{labels_of, lands, occurs}}
+use Rattle.bytes_force_cycles.proofs.Vocabulary.{◌≡◌, ◌<◌, ◌≤◌, ◌+◌, ◌==◌, ℕ, zero, suc, List, [], ◌∷◌, ◌++◌, true, false, cond, length, map, refl, sym, ap, ◌∙◌, subst, arith, append_assoc, append-nil, zero-add, eqb-true, eq-eqb, lt-ltb, ltb-true}
+use Rattle.bytes_force_cycles.proofs.Vocabulary.{by_test, Micro, labels_of, lands, occurs, is_place_name, Step, is_access, access_count, labels_after, is_next, labels_ordered, is_within, InOrder, number_in, Puts, ThreadCode, visits, Writing, in_order_le}
+use Rattle.bytes_force_cycles.proofs.Vocabulary.{is_label_of, comes_once, is_placed, CodeFits, code_lands, Link, links_of, links_once, LinkFits}
+use Rattle.std.{proofs.lemmas.{Bool.{and_parts, and_from}, List.Sums.{sum_by-append, sum_by-cons}}, specs.{Prelude.{Bool, not, ◌&&◌, ◌||◌, nat_lt, is_some, count_by}, List.{list_all, list_any, range_with_len, AllByRecursion}}}
 use Rattle.micro_ops.specs.declared.operation.Micro.TheVariants as ops
-use Rattle.text_parts.specs.Names.{is_place_name}
-use Rattle.arch_trait.specs.{declared.step.Step.Step, Cells.{is_access, access_count}, LabelOrder.{labels_after, is_next, labels_ordered}, Codes.is_within}
-use Rattle.arch_trait.specs.{Laws.InOrder, PlaceNames.number_in, Threads.{Puts, ThreadCode, visits}, Writing.Writing}
-use Rattle.litmus_text.specs.{TestTable.{is_label_of, comes_once}, Progress.{is_placed, CodeFits, code_lands}, Items.{Link, links_of, links_once, LinkFits}}
-use Rattle.arch_trait.proofs.Taking.{in_order_le}
 
 -- the place of each visit has a name of its form in a table
 abbrev pub HasPlaces : List (List ℕ) → (ℕ → List ℕ) → List Step → Type 0

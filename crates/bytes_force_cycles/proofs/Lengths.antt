@@ -1,23 +1,11 @@
 -- The text of a cycle's test isn't too long.
-use Rattle.std.proofs.Common.{◌≡◌, ℕ, zero, suc, ◌+◌, ◌-◌, ◌*◌, ◌<◌, ◌≤◌, true, List, [], ◌∷◌, ◌++◌, length, get_or, map, max, fold, refl, ap, arith, length-append, suc-mul}
-use Rattle.std.proofs.{Math.ListN.replicate, lemmas.Bool.{and_parts, ltb-true}, lemmas.Grind.flat_map-append, lemmas.List.{length-map, length-replicate}}
-use Rattle.std.proofs.{lemmas.List.Elements.All-from_recursion, lemmas.List.FromFn.length-range_with_len}
-use Rattle.std.specs.{Prelude.{codes, nat_lt}, Fmt.decimal, List.{AllByRecursion, join_by, flat_map, enumerate_from, range_with_len}}
-use Rattle.relax_edges.specs.{declared.TheConstants.MAX_EDGES, declared.kinds.ArchName.ArchName, declared.edge.Edge.Edge, Architectures.arch_word}
-use Rattle.relax_edges.specs.WordParts.{word_of}
+use Rattle.bytes_force_cycles.proofs.Vocabulary.{◌≡◌, ℕ, zero, suc, ◌+◌, ◌-◌, ◌*◌, ◌<◌, ◌≤◌, true, List, [], ◌∷◌, ◌++◌, length, get_or, map, max, fold, refl, ap, arith, length-append, suc-mul, replicate, and_parts, ltb-true, flat_map-append, length-map}
+use Rattle.bytes_force_cycles.proofs.Vocabulary.{length-replicate, All-from_recursion, length-range_with_len, codes, nat_lt, decimal, AllByRecursion, join_by, flat_map, enumerate_from, range_with_len, MAX_EDGES, ArchName, Edge, arch_word, word_of}
+use Rattle.bytes_force_cycles.proofs.Vocabulary.{word_short, Micro, Quantifier, LeftSeen, InRegister, AtPlace, TermSeen, CondSeen, quantifier_word, left_text, term_text, further_term_text, terms_text, cond_text, IsFormedTerm, has_form, is_register_name}
+use Rattle.bytes_force_cycles.proofs.Vocabulary.{pieces_short, place_name_short, register_name_short, two_digits, ten_digits, MAX_INSTRS, ThreadCode, Writing, op_text, name_in, TestSeen, MAX_TEST_TEXT, header_line, edges_line, item_text, items_lines}
+use Rattle.bytes_force_cycles.proofs.Vocabulary.{initial_lines, column_of, width_of, cell_text, row_line, row_count, table_lines, test_lines, with_line_feed, test_text, flat_map-flat_map}
 use Rattle.relax_edges.specs.declared.kinds.ArchName.TheVariants as archs
-use Rattle.edge_algebra_laws.proofs.SpellingLaws.{word_short}
-use Rattle.micro_ops.specs.declared.operation.Micro.{Micro}
-use Rattle.final_cond.specs.{declared.cond.Quantifier.Quantifier, Conditions.{LeftSeen, InRegister, AtPlace, TermSeen, CondSeen}}
-use Rattle.final_cond.specs.{CondText.{quantifier_word, left_text, term_text, further_term_text, terms_text, cond_text}, ConditionReadBack.IsFormedTerm}
-use Rattle.final_cond.specs.ConditionReading.{has_form}
 use Rattle.final_cond.specs.declared.cond.Quantifier.TheVariants as quantifiers
-use Rattle.text_parts.specs.Names.{is_register_name}
-use Rattle.text_parts.proofs.{LengthLaws.pieces_short, NameLaws.{place_name_short, register_name_short}, NumberLaws.{two_digits, ten_digits}}
-use Rattle.arch_trait.specs.{declared.arch.TheConstants.MAX_INSTRS, Threads.ThreadCode, Writing.{Writing, op_text, name_in}, SeenTests.TestSeen}
-use Rattle.litmus_text.specs.declared.limits.TheConstants.{MAX_TEST_TEXT}
-use Rattle.litmus_text.specs.TestText.{header_line, edges_line, item_text, items_lines, initial_lines, column_of, width_of, cell_text, row_line, row_count, table_lines, test_lines, with_line_feed, test_text}
-use Rattle.list_laws.proofs.Elements.{flat_map-flat_map}
 
 -- pieces of at most c bytes each, with a separator between
 joined_short : {X : Type 0} (f : X → List ℕ) (sep : List ℕ) (c e : ℕ) (xs : List X) → c + length sep ≤ e → AllByRecursion (λ x. length (f x) ≤ c) xs → length (join_by f sep xs) ≤ length xs * e

@@ -1,3 +1,4 @@
+pub mod Vocabulary
 pub mod MentionedLocations
 pub mod RereadTests
 pub mod NoInterleaving

@@ -1,27 +1,12 @@
 -- The laws on links and on the condition, of what is read of the printed text of a cycle's test: it is the test, except for the
 -- numbers of places.
-use Rattle.std.proofs.Common.{◌≡◌, ℕ, List, [], length, refl, sym, ◌∙◌, subst}
-use Rattle.relax_edges.specs.{declared.kinds.ArchName.ArchName, declared.kinds.ObsMode.ObsMode, declared.edge.Edge.Edge}
-use Rattle.cycle_events.specs.Resolution.{move_count}
-use Rattle.final_cond.specs.States.{Meets}
-use Rattle.arch_trait.specs.{Cells.{WritesCells, MakesOneAccess}, Laws.IsArch, PlaceNames.{letters, number_in}, SeenTests.TestSeen, Threads.Puts}
-use Rattle.arch_trait.specs.Writing.{Writing, WritesBack, name_in}
-use Rattle.litmus_text.specs.{TestReadsBack.TestReadsBack, Reread.reread, TestReading.TestRead}
-use Rattle.program_meaning.specs.{Executions.Execution, Standing.{AllStand, event_name}, Programs.{Program, IsCandidate, IsCoherentIn, accesses_in}}
-use Rattle.program_meaning.specs.Intended.{IsNumbering, cycle_accesses, intended, observed_locations}
-use Rattle.accesses_force_cycles.proofs.{ResolvedFacts.resolves, IntendedReads.reads-count}
+use Rattle.bytes_force_cycles.proofs.Vocabulary.{◌≡◌, ℕ, List, [], length, refl, sym, ◌∙◌, subst, ArchName, ObsMode, Edge, move_count, Meets, WritesCells, MakesOneAccess, IsArch, letters, number_in, TestSeen, Puts, Writing, WritesBack, name_in}
+use Rattle.bytes_force_cycles.proofs.Vocabulary.{TestReadsBack, reread, TestRead, Execution, AllStand, event_name, Program, IsCandidate, IsCoherentIn, accesses_in, IsNumbering, cycle_accesses, intended, observed_locations, lays_out, reads-count}
+use Rattle.bytes_force_cycles.proofs.Vocabulary.{MakesAccesses, HasNoCycle, IsLink, PrecedesBut, KeepsOthers, lives_without_cycle, kept_orders_forbid, each_link_closes, others_are_kept, standing_is_outcome, final_state, IsAskedFor, HasTest, IsRenumbered}
+use Rattle.bytes_force_cycles.proofs.{Vocabulary.{test_program, test_of, renumbered_numbers, renumbered_program, tests_ask_law, makes, makes_enough, intended_enough, registers_found, cycle_codes, cycle_program, are_codes}, BackLaws.reads_back}
+use Rattle.bytes_force_cycles.proofs.{BytesForced.bytes_force, NoInterleaving.{WritesInside, test_writes_within}, Readable.readable, PrintedSc.same_test, RereadTests.{reread_test, reread_renumbered, by_table, threads_numbered, number_of_location}}
+use Rattle.bytes_force_cycles.{proofs.RereadTests.intended_same, specs.{Readings.{program_read, place_in_test, ReadingAsks}, Links.{AllBut, IsPrintedTest, LinkCloses, EachLinkMayBreak, LinksDecide, ConditionDecides}}}
 use Rattle.accesses_force_cycles.proofs.Programs as programs
-use Rattle.accesses_force_cycles.specs.Joining.{MakesAccesses}
-use Rattle.sc_and_interleavings.specs.{Sequential.HasNoCycle, LinkLaws.IsLink, Links.{PrecedesBut, KeepsOthers}}
-use Rattle.sc_and_interleavings.proofs.{RelationCycles.lives_without_cycle, InterleavingLaws.kept_orders_forbid, OneLink.{each_link_closes, others_are_kept}, Outcomes.standing_is_outcome}
-use Rattle.tests_force_cycles.specs.{FinalStates.{final_state, IsAskedFor}, TestHeadline.{HasTest, IsRenumbered}, TestPrograms.test_program, TestOf.test_of}
-use Rattle.tests_force_cycles.proofs.{Headline.{renumbered_numbers, renumbered_program, tests_ask_law}, AccessesMade.{makes, makes_enough, intended_enough}}
-use Rattle.tests_force_cycles.proofs.{RegisterNames.registers_found, TestCodes.{cycle_codes, cycle_program, are_codes}}
-use Rattle.bytes_force_cycles.specs.Readings.{program_read, place_in_test, ReadingAsks}
-use Rattle.bytes_force_cycles.specs.Links.{AllBut, IsPrintedTest, LinkCloses, EachLinkMayBreak, LinksDecide, ConditionDecides}
-use Rattle.bytes_force_cycles.proofs.{BackLaws.reads_back, BytesForced.bytes_force, NoInterleaving.{WritesInside, test_writes_within}, Readable.readable}
-use Rattle.bytes_force_cycles.proofs.PrintedSc.{same_test}
-use Rattle.bytes_force_cycles.proofs.RereadTests.{reread_test, reread_renumbered, by_table, threads_numbered, number_of_location, intended_same}
 
 -- what the printed text forces of the test that is read: all edges stand in each execution that it asks for, and the intended one is one
 record Forces (w : Writing) (es : List Edge) (mode : ObsMode) (test : TestRead) : Type 0 where
@@ -39,18 +24,18 @@ cycle_links : (a : Puts) (register_name : ℕ → List ℕ) (es : List Edge) (mo
 cycle_links a register_name es mode test number i laws t e link =
     subst
     (λ threads. HasNoCycle (PrecedesBut threads (event_name es i)) threads (intended es mode number) × KeepsOthers es i (PrecedesBut threads (event_name es i)))
-    (sym planned) (each_link_closes es mode number i t.code.resolved n link, others_are_kept es mode number i t.code.resolved n link)
+    (sym planned) (each_link_closes es mode number i t.code.coded.laid n link, others_are_kept es mode number i t.code.coded.laid n link)
   where
     n : IsNumbering es number
-    n = renumbered_numbers a register_name es mode test number t.code e
+    n = renumbered_numbers a register_name es mode test number t.code.coded e
 
     m : MakesAccesses es mode number (cycle_program a es mode number) (intended es mode number)
-    m = makes_enough (cycle_codes a es mode number) es mode number (intended es mode number) (are_codes a es mode number laws t.code.resolved t.code.of_arch)
-        (intended_enough es mode number t.code.resolved n)
+    m = makes_enough (cycle_codes a es mode number) es mode number (intended es mode number) (are_codes a es mode number laws t.code.coded.laid t.code.coded.of_arch)
+        (intended_enough es mode number t.code.coded.laid n)
 
     planned : accesses_in (cycle_program a es mode number) (intended es mode number) ≡ cycle_accesses es mode number
     planned = programs.makes_planned es mode number (cycle_program a es mode number) (intended es mode number) m
-        (programs.intended_asked es mode number (resolves es t.code.resolved) n) (reads-count es mode number ∙ sym m.threads)
+        (programs.intended_asked es mode number (lays_out es t.code.coded.laid) n) (reads-count es mode number ∙ sym m.threads)
 
 -- without observers, such a test asks for each coherent candidate in which all edges stand
 cycle_asks : (a : Puts) (w : Writing) (es : List Edge) (mode : ObsMode) (test : TestSeen) (number : ℕ → ℕ) (x : Execution) → IsArch a → WritesBack a w
@@ -58,9 +43,9 @@ cycle_asks : (a : Puts) (w : Writing) (es : List Edge) (mode : ObsMode) (test : 
     → IsCandidate (test_program test) x → IsCoherentIn (test_program test) x → AllStand es (test_program test) x → IsAskedFor test (number_in w.registers) x
 cycle_asks a w es mode test number x laws back t e none candidate coherent all =
     (tests_ask_law a (name_in w.registers) (number_in w.registers) es mode test number x laws (registers_found a w back) t e).1
-    (standing_is_outcome es mode number (test_program test) x t.code.resolved (renumbered_numbers a (name_in w.registers) es mode test number t.code e) none
+    (standing_is_outcome es mode number (test_program test) x t.code.coded.laid (renumbered_numbers a (name_in w.registers) es mode test number t.code.coded e) none
     (subst (λ (p : Program). MakesAccesses es mode number p x) p
-    (makes (cycle_codes a es mode number) es mode number x (are_codes a es mode number laws t.code.resolved t.code.of_arch)
+    (makes (cycle_codes a es mode number) es mode number x (are_codes a es mode number laws t.code.coded.laid t.code.coded.of_arch)
     (subst (λ (p : Program). IsCandidate p x) (sym p) candidate)))
     candidate coherent all)
   where
@@ -72,7 +57,7 @@ reread_of : (a : Puts) (arch : ArchName) (w : Writing) (name : List ℕ) (es : L
     → (r : TestReadsBack arch w name (test_of a (name_in w.registers) es mode))
     → IsRenumbered (test_of a (name_in w.registers) es mode) (reread_test r.table (test_of a (name_in w.registers) es mode))
     (by_table r.table (letters (move_count es)))
-reread_of a arch w name es mode laws t r = reread_renumbered a (name_in w.registers) es mode r.table laws t.code
+reread_of a arch w name es mode laws t r = reread_renumbered a (name_in w.registers) es mode r.table laws t.code.coded
     (record { once = r.once; inside = r.among }) r.codes r.links
 
 -- its program is that of the reading
@@ -126,7 +111,7 @@ back_of : (a : Puts) (arch : ArchName) (w : Writing) (name : List ℕ) (es : Lis
     → WritesCells a w → MakesOneAccess a → IsPrintedTest a arch w name es mode test → TestReadsBack arch w name (test_of a (name_in w.registers) es mode)
 back_of a arch w name es mode test laws back cells one printed =
     reads_back a arch w name (test_of a (name_in w.registers) es mode) back cells
-    (readable a arch w name es mode laws back cells one printed.named printed.has_test.code)
+    (readable a arch w name es mode laws back cells one printed.named printed.has_test.code.coded)
 
 -- each internal edge to another location may be left out
 left_out : (a : Puts) (arch : ArchName) (w : Writing) (name : List ℕ) (es : List Edge) (mode : ObsMode) (test : TestRead) (i : ℕ) → IsArch a → WritesBack a w
@@ -160,7 +145,7 @@ read_within a arch w name es mode test x laws back cells one printed =
     (same_test (reread r.table name (test_of a (name_in w.registers) es mode)) test (sym r.read ∙ printed.read))
     (subst (WritesInside x) (program_is arch w name es (test_of a (name_in w.registers) es mode) r refl)
     (test_writes_within a (name_in w.registers) es mode (reread_test r.table (test_of a (name_in w.registers) es mode)) (by_table r.table (letters (move_count es)))
-    laws printed.has_test (reread_of a arch w name es mode laws printed.has_test r) x))
+    laws printed.has_test.code.coded (reread_of a arch w name es mode laws printed.has_test r) x))
 
 -- the links decide
 pub links_decide : (a : Puts) (arch : ArchName) (w : Writing) → IsArch a → WritesBack a w → WritesCells a w → MakesOneAccess a → LinksDecide a arch w
@@ -168,7 +153,7 @@ links_decide a arch w laws back cells one name es mode test printed =
     let forced = forced_by a arch w name es mode test laws back cells one printed in
     record {
       suffice = λ kept x keeps shown.
-          kept_orders_forbid es kept (program_read test) x printed.has_test.code.resolved shown.asked.candidate
+          kept_orders_forbid es kept (program_read test) x printed.has_test.code.coded.laid shown.asked.candidate
           (read_within a arch w name es mode test x laws back cells one printed shown.asked.candidate) keeps (forced.stand x shown.asked) shown.lives;
       needed = λ i link.
           let out = left_out a arch w name es mode test i laws back cells one printed link in

@@ -1,14 +1,7 @@
 -- Each location of a cycle is in the table of its printed test's reading.
-use Rattle.std.proofs.Common.{◌≡◌, ℕ, suc, ◌-◌, ◌==◌, true, false, cond, List, [], ◌∷◌, length, map, Some, slice_get, refl, sym, ap, ◌∙◌, subst, arith}
-use Rattle.std.proofs.{lemmas.List.length-replicate, Math.ListN.replicate}
-use Rattle.std.specs.List.{AllByRecursion}
-use Rattle.list_laws.proofs.Cases.{by_test}
-use Rattle.micro_ops.specs.{declared.operation.Item.Item, declared.operation.Micro.Micro, Renumbering.op_at, Running.Ended}
+use Rattle.bytes_force_cycles.proofs.Vocabulary.{◌≡◌, ℕ, suc, ◌-◌, ◌==◌, true, false, cond, List, [], ◌∷◌, length, map, Some, slice_get, refl, sym, ap, ◌∙◌, subst, arith, length-replicate, replicate, AllByRecursion, by_test, Item, Micro, op_at, Ended}
+use Rattle.bytes_force_cycles.proofs.Vocabulary.{Step, MakesSteps, step_at, renumbered, link_control, ThreadCode, left_after, loads_after, thread_items, loads_in, loads_kept, renumbered_makes, is_in, op_is_in}
 use Rattle.micro_ops.specs.declared.operation.Item.TheVariants as items
-use Rattle.arch_trait.specs.{declared.step.Step.Step, Codes.MakesSteps, PlaceRenumbering.{step_at, renumbered}, Links.link_control}
-use Rattle.arch_trait.specs.Threads.{ThreadCode, left_after, loads_after, thread_items, loads_in}
-use Rattle.arch_trait.proofs.Renumbered.{loads_kept, renumbered_makes}
-use Rattle.litmus_text.specs.TestReadsBack.{is_in, op_is_in}
 
 -- another number for one place
 abbrev pub moved : ℕ → ℕ → ℕ

@@ -1,39 +1,26 @@
 -- No interleaving of a test's program ends in the outcome that its condition asks for, and no sequentially consistent execution.
-use Rattle.std.proofs.Common.{◌≡◌, ℕ, List, length, Option, subst, arith}
-use Rattle.std.specs.Prelude.{is_some}
-use Rattle.relax_edges.specs.{declared.kinds.Value.Value, declared.kinds.ObsMode.ObsMode, declared.edge.Edge.Edge}
-use Rattle.cycle_events.specs.Resolution.{IsResolved}
-use Rattle.final_cond.specs.{Conditions.{LeftSeen, InRegister, AtPlace}, States.Meets}
-use Rattle.arch_trait.specs.{Laws.IsArch, PlaceNames.number_in, SeenTests.TestSeen, Threads.Puts, Writing.Writing}
-use Rattle.litmus_text.specs.TestReading.{TestRead}
-use Rattle.program_meaning.specs.{declared.WriteAt.WriteAt, Executions.Execution, Programs.{Program, IsCandidate, accesses_in}, Standing.AllStand}
-use Rattle.program_meaning.specs.Interleavings.{accesses_on}
-use Rattle.accesses_force_cycles.proofs.ResolvedFacts.{resolves}
-use Rattle.sc_and_interleavings.specs.{CoherenceLaws.WritesWithin, Sequential.IsSequential, Made.{made_by, IsOfInterleaving}}
-use Rattle.sc_and_interleavings.proofs.{SequentialMade.writes_to_own, Made.interleavings_make_executions}
-use Rattle.sc_and_interleavings.proofs.InterleavingLaws.{sequential_is_coherent, standing_is_not_sequential}
-use Rattle.tests_force_cycles.specs.{FinalStates.final_state, TestHeadline.{HasTest, IsRenumbered}, TestOf.test_of, TestPrograms.test_program}
-use Rattle.tests_force_cycles.proofs.{Headline.{renumbered_numbers, renumbered_program}, AccessesMade.makes, TestCodes.{cycle_codes, cycle_program, are_codes}}
+use Rattle.bytes_force_cycles.proofs.Vocabulary.{◌≡◌, ℕ, List, length, Option, subst, arith, is_some, Value, ObsMode, Edge, IsLaidOut, LeftSeen, InRegister, AtPlace, Meets, IsArch, number_in, TestSeen, Puts, Writing, TestRead, WriteAt, Execution}
+use Rattle.bytes_force_cycles.proofs.Vocabulary.{Program, IsCandidate, accesses_in, AllStand, accesses_on, lays_out, WritesWithin, IsSequential, made_by, IsOfInterleaving, writes_to_own, interleavings_make_executions, sequential_is_coherent}
+use Rattle.bytes_force_cycles.proofs.{Vocabulary.{standing_is_not_sequential, final_state, HasLaidCode, IsRenumbered, test_of, test_program, renumbered_numbers, renumbered_program, makes, cycle_codes, cycle_program, are_codes}, BackLaws.numbered_in}
 use Rattle.bytes_force_cycles.specs.Readings.{program_read, ReadingAsks, state_after, InterleavingMeets}
-use Rattle.bytes_force_cycles.proofs.BackLaws.{numbered_in}
 
 -- a candidate execution of a program writes to its places alone
 abbrev pub WritesInside : Execution → Program → Type 0
 WritesInside x p = IsCandidate p x → WritesWithin (accesses_in p x) p.places
 
 -- so does each of a test that is a cycle's test but for the numbers of places
-pub test_writes_within : (a : Puts) (register_name : ℕ → List ℕ) (es : List Edge) (mode : ObsMode) (test : TestSeen) (number : ℕ → ℕ) → IsArch a → HasTest a es mode → IsRenumbered (test_of a register_name es mode) test number → (x : Execution) → WritesInside x (test_program test)
+pub test_writes_within : (a : Puts) (register_name : ℕ → List ℕ) (es : List Edge) (mode : ObsMode) (test : TestSeen) (number : ℕ → ℕ) → IsArch a → HasLaidCode a es mode → IsRenumbered (test_of a register_name es mode) test number → (x : Execution) → WritesInside x (test_program test)
 test_writes_within a register_name es mode test number laws t e x =
     subst (WritesInside x) (renumbered_program a register_name es mode test number e)
-    (λ candidate. writes_to_own es mode number (cycle_program a es mode number) x (resolves es t.code.resolved) (renumbered_numbers a register_name es mode test number t.code e)
-    (makes (cycle_codes a es mode number) es mode number x (are_codes a es mode number laws t.code.resolved t.code.of_arch) candidate) candidate)
+    (λ candidate. writes_to_own es mode number (cycle_program a es mode number) x (lays_out es t.laid) (renumbered_numbers a register_name es mode test number t e)
+    (makes (cycle_codes a es mode number) es mode number x (are_codes a es mode number laws t.laid t.of_arch) candidate) candidate)
 
 -- no sequentially consistent candidate of a reading's program ends in an outcome in which all edges stand
 abbrev pub NotInOrder : Writing → TestRead → Type 0
 NotInOrder w test =
     (x : Execution) → IsCandidate (program_read test) x → Meets (final_state (program_read test) test.places (number_in w.registers) x) test.cond → IsSequential (accesses_in (program_read test) x) x → ⊥
 
-pub not_in_order : (w : Writing) (test : TestRead) (es : List Edge) → IsResolved es → ((x : Execution) → WritesInside x (program_read test)) → ((x : Execution) → ReadingAsks w test x → AllStand es (program_read test) x) → NotInOrder w test
+pub not_in_order : (w : Writing) (test : TestRead) (es : List Edge) → IsLaidOut es → ((x : Execution) → WritesInside x (program_read test)) → ((x : Execution) → ReadingAsks w test x → AllStand es (program_read test) x) → NotInOrder w test
 not_in_order w test es resolved within stand x candidate meets sequential =
     standing_is_not_sequential es (program_read test) x resolved candidate (within x candidate)
     (stand x (record { candidate = candidate; coherent = sequential_is_coherent (program_read test) x candidate (within x candidate) sequential; meets = meets }))

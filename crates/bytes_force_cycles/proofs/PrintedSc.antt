@@ -1,13 +1,6 @@
 -- The law of printed tests: what is read of their text is the test, except for the numbers of places.
-use Rattle.std.proofs.Common.{◌≡◌, ℕ, List, Ok, length, sym, ◌∙◌, subst}
-use Rattle.std.specs.Prelude.{Result}
-use Rattle.litmus_text.specs.{declared.errors.TextError.TextError, TestReadsBack.TestReadsBack, Reread.reread, TestReading.TestRead}
-use Rattle.relax_edges.specs.{declared.kinds.ArchName.ArchName, declared.kinds.ObsMode.ObsMode, declared.edge.Edge.Edge}
-use Rattle.cycle_events.specs.Resolution.{move_count}
-use Rattle.arch_trait.specs.{Cells.{WritesCells, MakesOneAccess}, Laws.IsArch, PlaceNames.letters, Threads.Puts, Writing.{Writing, WritesBack, name_in}}
-use Rattle.bytes_force_cycles.proofs.{BackLaws.reads_back, Readable.readable, ScLaws.tests_are_sc_per_location}
-use Rattle.bytes_force_cycles.proofs.RereadTests.{reread_test, reread_renumbered, by_table, threads_numbered}
-use Rattle.tests_force_cycles.specs.{TestHeadline.HasTest, TestPrograms.test_program, TestOf.test_of}
+use Rattle.bytes_force_cycles.proofs.Vocabulary.{◌≡◌, ℕ, List, Ok, length, sym, ◌∙◌, subst, Result, TextError, TestReadsBack, reread, TestRead, ArchName, ObsMode, Edge, move_count, WritesCells, MakesOneAccess, IsArch, letters, Puts, Writing, WritesBack}
+use Rattle.bytes_force_cycles.proofs.{Vocabulary.{name_in, HasTest, test_program, test_of}, BackLaws.reads_back, Readable.readable, ScLaws.tests_are_sc_per_location, RereadTests.{reread_test, reread_renumbered, by_table, threads_numbered}}
 use Rattle.bytes_force_cycles.specs.{Readings.program_read, ScLaws.{ScDecides, PrintedAreScPerLocation}}
 
 -- the law for what is read back of a printed test
@@ -15,7 +8,7 @@ read_sc : (a : Puts) (arch : ArchName) (w : Writing) (name : List ℕ) (es : Lis
 read_sc a arch w name es mode laws t r =
     subst ScDecides program_is
     (tests_are_sc_per_location a (name_in w.registers) es mode (reread_test r.table (test_of a (name_in w.registers) es mode)) (by_table r.table (letters (move_count es))) laws t
-    (reread_renumbered a (name_in w.registers) es mode r.table laws t.code (record { once = r.once; inside = r.among }) r.codes r.links))
+    (reread_renumbered a (name_in w.registers) es mode r.table laws t.code.coded (record { once = r.once; inside = r.among }) r.codes r.links))
   where
     program_is : test_program (reread_test r.table (test_of a (name_in w.registers) es mode)) ≡ program_read (reread r.table name (test_of a (name_in w.registers) es mode))
     program_is = λ i. record { places = length r.table; threads = threads_numbered r.table (letters (move_count es)) (test_of a (name_in w.registers) es mode).threads i }
@@ -26,5 +19,5 @@ same_test one other e = cc e
 -- the same holds of the candidate executions of what is read of the printed text of a cycle's test
 pub printed_are_sc_per_location : (a : Puts) (arch : ArchName) (w : Writing) → IsArch a → WritesBack a w → WritesCells a w → MakesOneAccess a → PrintedAreScPerLocation a arch w
 printed_are_sc_per_location a arch w laws back cells one name es mode test named t read =
-    let r = reads_back a arch w name (test_of a (name_in w.registers) es mode) back cells (readable a arch w name es mode laws back cells one named t.code) in
+    let r = reads_back a arch w name (test_of a (name_in w.registers) es mode) back cells (readable a arch w name es mode laws back cells one named t.code.coded) in
     subst (λ (test : TestRead). ScDecides (program_read test)) (same_test (reread r.table name (test_of a (name_in w.registers) es mode)) test (sym r.read ∙ read)) (read_sc a arch w name es mode laws t r)

@@ -1,22 +1,9 @@
 -- The test of a cycle, under a name of its form, reads back.
-use Rattle.std.proofs.Common.{◌≡◌, ℕ, ◌+◌, ◌<◌, ◌≤◌, true, List, [], ◌∷◌, ◌++◌, length, map, sym, ◌∙◌, subst, arith, cond, Some}
-use Rattle.std.proofs.{lemmas.Bool.{and_parts, leb-true}, lemmas.List.length-map, lemmas.Option.slice_get_within}
-use Rattle.std.specs.List.{AllByRecursion, list_all}
-use Rattle.relax_edges.specs.{declared.TheConstants.MAX_EDGES, declared.kinds.ArchName.ArchName, declared.kinds.ObsMode.ObsMode, declared.edge.Edge.Edge}
-use Rattle.cycle_events.specs.Resolution.{move_count}
-use Rattle.micro_ops.specs.declared.operation.Micro.{Micro}
-use Rattle.final_cond.specs.{Conditions.TermSeen, ConditionReadBack.IsFormedTerm}
-use Rattle.text_parts.specs.Names.{is_register_name}
-use Rattle.text_parts.proofs.NameLaws.{place_name_short, register_name_short}
-use Rattle.arch_trait.specs.{Cells.{WritesCells, MakesOneAccess, is_access}, LabelOrder.labels_after, Laws.{IsArch, InOrder}}
-use Rattle.arch_trait.specs.{PlaceNames.{letters, location_name}, Threads.{Puts, compiled}, Writing.{Writing, WritesBack, name_in, op_text}}
-use Rattle.arch_trait.proofs.Tables.{length-letters, location_new}
-use Rattle.litmus_text.specs.{Printable.IsTestName, Progress.{CodeFits, code_lands}, Reread.IsReadable, ReadTerms.TermFits}
-use Rattle.bytes_force_cycles.proofs.{FormedFits.links_single, Lengths.{AreShort, IsSmall, text_short}, SomeTerm.some_term}
-use Rattle.bytes_force_cycles.proofs.Fits.{all_links_fit, code_short, each_code, terms_fit, thread_code_fits, thread_is, thread_lands}
-use Rattle.litmus_text.proofs.RowBack.{named_op}
-use Rattle.tests_force_cycles.specs.{TestHeadline.HasCode, CycleSteps.cycle_steps, TestOf.{plain, last_terms, load_terms, test_of}}
-use Rattle.tests_force_cycles.proofs.{ListElements.all_from, PlaceNames.{letter_at, locations_few}, StepsAt.{steps-count, steps_few}, Terms.terms_few}
+use Rattle.bytes_force_cycles.proofs.Vocabulary.{◌≡◌, ℕ, ◌+◌, ◌<◌, ◌≤◌, true, List, [], ◌∷◌, ◌++◌, length, map, sym, ◌∙◌, subst, arith, cond, Some, and_parts, leb-true, length-map, slice_get_within, AllByRecursion, list_all, MAX_EDGES, ArchName, ObsMode}
+use Rattle.bytes_force_cycles.proofs.Vocabulary.{Edge, move_count, Micro, TermSeen, IsFormedTerm, is_register_name, place_name_short, register_name_short, WritesCells, MakesOneAccess, is_access, labels_after, IsArch, InOrder, letters, location_name}
+use Rattle.bytes_force_cycles.proofs.Vocabulary.{Puts, compiled, Writing, WritesBack, name_in, op_text, length-letters, location_new, IsTestName, CodeFits, code_lands, IsReadable, TermFits, named_op, HasLaidCode, cycle_steps, plain, last_terms}
+use Rattle.bytes_force_cycles.proofs.{Vocabulary.{load_terms, test_of, all_from, letter_at, locations_few, steps-count, steps_few, terms_few}, FormedFits.links_single, Lengths.{AreShort, IsSmall, text_short}, SomeTerm.some_term, Fits.all_links_fit}
+use Rattle.bytes_force_cycles.proofs.Fits.{code_short, each_code, terms_fit, thread_code_fits, thread_is, thread_lands}
 
 pub registers_short : (names : List (List ℕ)) → list_all is_register_name names ≡ true → AreShort names
 registers_short [] h = tt
@@ -48,22 +35,22 @@ pub formed_terms : (w : Writing) (threads : ℕ) (table : List (List ℕ)) (term
 formed_terms w threads table [] fit = tt
 formed_terms w threads table (term ∷ terms) fit = (fit.0.formed, formed_terms w threads table terms fit.1)
 
--- the test of a cycle, under a name of a test's form, is within the limits of the format
-pub readable : (a : Puts) (arch : ArchName) (w : Writing) (name : List ℕ) (es : List Edge) (mode : ObsMode) → IsArch a → WritesBack a w → WritesCells a w → MakesOneAccess a → IsTestName name → HasCode a es mode
-    → IsReadable a arch w name (test_of a (name_in w.registers) es mode)
-readable a arch w name es mode laws back cells one named t = record {
+-- the test of a cycle, under a name of a test's form and with any edges that it quotes, is within the limits of the format
+pub readable_with : (a : Puts) (arch : ArchName) (w : Writing) (name : List ℕ) (es quoted : List Edge) (mode : ObsMode) → IsArch a → WritesBack a w → WritesCells a w → MakesOneAccess a → IsTestName name → HasLaidCode a es mode
+    → length quoted ≤ MAX_EDGES → IsReadable a arch w name (record (test_of a (name_in w.registers) es mode) { edges = quoted })
+readable_with a arch w name es quoted mode laws back cells one named t quotes = record {
   named = named;
-  short = text_short arch w name (test_of a (name_in w.registers) es mode) (leb-true (length name) 800 named.short) t.resolved.composes.few (omega (arith, threads, steps, t.resolved.composes.few)) (registers_short w.registers back.formed)
+  short = text_short arch w name (record (test_of a (name_in w.registers) es mode) { edges = quoted }) (leb-true (length name) 800 named.short) quotes (omega (arith, threads, steps, t.laid.composes.few)) (registers_short w.registers back.formed)
       (letters_short (move_count es) (omega (arith, few))) small (formed_terms w (length (map (compiled a) (cycle_steps es mode plain))) (letters (move_count es)) (last_terms es mode ++ load_terms a (name_in w.registers) 0 (cycle_steps es mode plain)) terms) terms_number;
-  threads_some = omega (arith, threads, steps-count es mode plain, t.resolved.threads);
-  threads_few = omega (arith, threads, steps, t.resolved.composes.few);
+  threads_some = omega (arith, threads, steps-count es mode plain, t.laid.threads);
+  threads_few = omega (arith, threads, steps, t.laid.composes.few);
   places_few = omega (arith, length-letters (move_count es), few);
   rows_few = each_code a es mode (λ c. length c.instrs ≤ 1024) (λ k ss g. omega (arith, code_short a es mode k ss laws t g));
   codes = each_code a es mode (λ c. CodeFits a (letters (move_count es)) (name_in (letters (move_count es))) 0 0 c.instrs) (λ k ss g. thread_code_fits a es mode k ss laws one t g);
   lands = each_code a es mode (λ c. code_lands c.instrs c.instrs ≡ true) (λ k ss g. thread_lands a es mode k ss laws t g);
-  links = all_links_fit a w es mode laws back t (omega (arith, steps, t.resolved.composes.few));
+  links = all_links_fit a w es mode laws back t (omega (arith, steps, t.laid.composes.few));
   links_single = links_single a.registers (map (compiled a) (cycle_steps es mode plain)) (each_code a es mode (λ c. InOrder 0 c.links a.registers) (λ k ss g. (thread_is a es mode k ss laws t g).formed.links));
-  terms_some = some_term a (name_in w.registers) es mode t.resolved;
+  terms_some = some_term a (name_in w.registers) es mode t.laid;
   terms_few = omega (arith, terms_number);
   terms = terms;
 }
@@ -75,10 +62,10 @@ readable a arch w name es mode laws back cells one named t = record {
     steps = steps_few es mode plain
 
     terms_number : length (last_terms es mode ++ load_terms a (name_in w.registers) 0 (cycle_steps es mode plain)) ≤ MAX_EDGES
-    terms_number = omega (arith, terms_few a (name_in w.registers) es mode plain t.resolved, t.resolved.composes.few)
+    terms_number = omega (arith, terms_few a (name_in w.registers) es mode plain t.laid, t.laid.composes.few)
 
     few : move_count es < MAX_EDGES
-    few = locations_few es t.resolved
+    few = locations_few es t.laid
 
     small : AllByRecursion (IsSmall w (letters (move_count es))) (map (compiled a) (cycle_steps es mode plain))
     small = each_code a es mode (IsSmall w (letters (move_count es))) (λ k ss g. record {
@@ -88,4 +75,9 @@ readable a arch w name es mode laws back cells one named t = record {
     })
 
     terms : AllByRecursion (TermFits w (length (map (compiled a) (cycle_steps es mode plain))) (letters (move_count es))) (last_terms es mode ++ load_terms a (name_in w.registers) 0 (cycle_steps es mode plain))
-    terms = terms_fit a w es mode laws back t (omega (arith, steps, t.resolved.composes.few))
+    terms = terms_fit a w es mode laws back t (omega (arith, steps, t.laid.composes.few))
+
+-- so it is with its own
+pub readable : (a : Puts) (arch : ArchName) (w : Writing) (name : List ℕ) (es : List Edge) (mode : ObsMode) → IsArch a → WritesBack a w → WritesCells a w → MakesOneAccess a → IsTestName name → HasLaidCode a es mode
+    → IsReadable a arch w name (test_of a (name_in w.registers) es mode)
+readable a arch w name es mode laws back cells one named t = readable_with a arch w name es es mode laws back cells one named t t.laid.composes.few

@@ -1,28 +1,12 @@
 -- What is read of the printed test of a cycle is that test, but for the numbers of places.
-use Rattle.std.proofs.Common.{◌≡◌, ℕ, zero, suc, ◌+◌, ◌<◌, ◌≤◌, Bool, true, List, [], ◌∷◌, get_or, map, Some, slice_get, refl, sym, ap, ◌∙◌, subst, arith}
-use Rattle.std.proofs.{lemmas.List.Folds.find-append, lemmas.Option.{slice_get_within, slice_get-get_or}}
-use Rattle.std.specs.List.{AllByRecursion, find}
-use Rattle.list_laws.proofs.Elements.{all_parts}
-use Rattle.relax_edges.specs.{declared.TheConstants.MAX_EDGES, declared.kinds.ObsMode.ObsMode, declared.edge.Edge.Edge}
+use Rattle.std.proofs.{Common.{◌≡◌, ℕ, zero, suc, ◌+◌, ◌<◌, ◌≤◌, Bool, true, List, [], ◌∷◌, get_or, map, Some, slice_get, refl, sym, ap, ◌∙◌, subst, arith}, lemmas.{List.Folds.find-append, Option.{slice_get_within, slice_get-get_or}}}
+use Rattle.bytes_force_cycles.proofs.Vocabulary.{AllByRecursion, find, all_parts, upto, MAX_EDGES, ObsMode, Edge, Micro, op_at, IsLaidOut, move_count, events_in, slot_of, leaving, thread_below, location_first, event_in_slot, Step, IsArch, location_name}
+use Rattle.bytes_force_cycles.proofs.Vocabulary.{letters, renumbered, initial_values, Puts, ThreadCode, compiled, name_in, TestSeen, length-letters, letters_more, location_new, makes_steps, links_of, is_in, op_is_in, place_in, thread_reread, IsAmong}
+use Rattle.bytes_force_cycles.proofs.Vocabulary.{none_among, push_among, few_names, intended, location_numbered, got_map, map_same, HasLaidCode, IsRenumbered, thread_from, event_step, thread_steps, cycle_steps, plain, test_of, all_gets, letter_at}
+use Rattle.bytes_force_cycles.{proofs.{Vocabulary.{locations_few, thread_steps_at, steps_fit}, BackLaws.numbered_in, MentionedLocations.place_is_in}, specs.Readings.thread_read}
 use Rattle.relax_edges.specs.declared.kinds.Value.TheVariants as values
-use Rattle.micro_ops.specs.{declared.operation.Micro.Micro, Renumbering.op_at}
-use Rattle.list_laws.specs.Numbers.{upto}
-use Rattle.cycle_events.specs.Resolution.{IsResolved, move_count, events_in, slot_of}
 use Rattle.cycle_events.specs.Resolution as resolution
-use Rattle.cycle_events.proofs.{Arcs.{leaving, thread_below}, Locations.location_first, Threads.event_in_slot}
-use Rattle.arch_trait.specs.{declared.step.Step.Step, Laws.IsArch, PlaceNames.{location_name, letters}, PlaceRenumbering.renumbered, Taking.initial_values}
-use Rattle.arch_trait.specs.{Threads.{Puts, ThreadCode, compiled}, Writing.name_in, SeenTests.TestSeen}
-use Rattle.arch_trait.proofs.{Tables.{length-letters, letters_more, location_new}, WholeRuns.makes_steps}
-use Rattle.litmus_text.specs.{Items.links_of, TestReadsBack.{is_in, op_is_in}, Placing.place_in, Reread.thread_reread}
 use Rattle.litmus_text.specs.Placing as placing
-use Rattle.litmus_text.proofs.NamesBack.{IsAmong, none_among, push_among, few_names}
-use Rattle.bytes_force_cycles.proofs.{BackLaws.numbered_in, MentionedLocations.place_is_in}
-use Rattle.program_meaning.specs.Intended.{intended, location_numbered}
-use Rattle.accesses_force_cycles.proofs.Lists.{got_map, map_same}
-use Rattle.tests_force_cycles.specs.{TestHeadline.{HasCode, IsRenumbered}, TestPrograms.thread_from, CycleSteps.{event_step, thread_steps, cycle_steps}}
-use Rattle.tests_force_cycles.specs.TestOf.{plain, test_of}
-use Rattle.tests_force_cycles.proofs.{ListElements.all_gets, PlaceNames.{letter_at, locations_few}, StepsAt.thread_steps_at, StepsFit.steps_fit}
-use Rattle.bytes_force_cycles.specs.Readings.{thread_read}
 
 -- the number that a table gives the place of a location, by the names of a test
 abbrev pub by_table : List (List ℕ) → List (List ℕ) → ℕ → ℕ
@@ -54,7 +38,7 @@ record Visited (es : List Edge) (mode : ObsMode) (location : ℕ) : Type 0 where
   step_at : slice_get steps slot ≡ Some step
   place_is : step.place ≡ location
 
-visited : (es : List Edge) (mode : ObsMode) (location : ℕ) → IsResolved es → location < move_count es → Visited es mode location
+visited : (es : List Edge) (mode : ObsMode) (location : ℕ) → IsLaidOut es → location < move_count es → Visited es mode location
 visited es mode location r h =
     let w = leaving es location h in
     let k = resolution.thread_of es w.event in
@@ -69,14 +53,14 @@ visited es mode location r h =
     }
 
 -- the name of each location is in the table
-location_is_in : (a : Puts) (es : List Edge) (mode : ObsMode) (table : List (List ℕ)) (location : ℕ) → IsArch a → HasCode a es mode
+location_is_in : (a : Puts) (es : List Edge) (mode : ObsMode) (table : List (List ℕ)) (location : ℕ) → IsArch a → HasLaidCode a es mode
     → AllByRecursion (λ (t : ThreadCode). AllByRecursion (λ op. op_is_in table (name_in (letters (move_count es))) op ≡ true) t.instrs) (map (compiled a) (cycle_steps es mode plain))
     → AllByRecursion (λ link. is_in table (name_in (letters (move_count es)) link.1.1) ≡ true) (links_of 0 (map (compiled a) (cycle_steps es mode plain)))
     → location < move_count es → is_in table (location_name location) ≡ true
 location_is_in a es mode table location laws t inside linked h =
     let names = name_in (letters (move_count es)) in
-    let v = visited es mode location t.resolved h in
-    let fit = (steps_fit es mode plain a.name v.thread v.steps t.resolved t.of_arch v.steps_at).fit in
+    let v = visited es mode location t.laid h in
+    let fit = (steps_fit es mode plain a.name v.thread v.steps t.laid t.of_arch v.steps_at).fit in
     let code_at = got_map (compiled a) (cycle_steps es mode plain) v.thread v.steps v.steps_at in
     let threads = map (compiled a) (cycle_steps es mode plain) in
     let ins = all_gets (λ (c : ThreadCode). AllByRecursion (λ op. op_is_in table names op ≡ true) c.instrs) threads v.thread (compiled a v.steps) inside code_at in
@@ -101,13 +85,13 @@ reread_test table test = record {
 }
 
 -- what is read of the printed test by way of a table is the test but for the numbers of places
-pub reread_renumbered : (a : Puts) (register_name : ℕ → List ℕ) (es : List Edge) (mode : ObsMode) (table : List (List ℕ)) → IsArch a → HasCode a es mode → IsAmong table (letters (move_count es))
+pub reread_renumbered : (a : Puts) (register_name : ℕ → List ℕ) (es : List Edge) (mode : ObsMode) (table : List (List ℕ)) → IsArch a → HasLaidCode a es mode → IsAmong table (letters (move_count es))
     → AllByRecursion (λ (t : ThreadCode). AllByRecursion (λ op. op_is_in table (name_in (letters (move_count es))) op ≡ true) t.instrs) (map (compiled a) (cycle_steps es mode plain))
     → AllByRecursion (λ link. is_in table (name_in (letters (move_count es)) link.1.1) ≡ true) (links_of 0 (map (compiled a) (cycle_steps es mode plain)))
     → IsRenumbered (test_of a register_name es mode) (reread_test table (test_of a register_name es mode)) (by_table table (letters (move_count es)))
 reread_renumbered a register_name es mode table laws t among inside linked =
     let n = move_count es in
-    let few = locations_few es t.resolved in
+    let few = locations_few es t.laid in
     let stands : (l : ℕ) → l < n → is_in table (location_name l) ≡ true = λ l h. location_is_in a es mode table l laws t inside linked h in
     let more = few_names (letters n) table (letters_among table n (omega arith) stands) in
     let less = few_names table (letters n) among in

@@ -1,29 +1,13 @@
 -- The program of a cycle's test has an interleaving: its accesses can be made one at a time in a line, and each load then takes what
 -- its location holds.
-use Rattle.std.proofs.Common.{◌≡◌, ℕ, zero, suc, ◌+◌, ◌<◌, ◌≤◌, ◌-◌, Bool, List, [], ◌∷◌, length, map, Option, Some, None, slice_get, take, refl, sym, ◌∙◌, ap, subst, arith}
-use Rattle.std.proofs.{lemmas.List.length-map, lemmas.Option.slice_get-map, lemmas.Option.slice_get_past, lemmas.Option.slice_get_within}
-use Rattle.std.specs.{List.filter, Option.{option_and_then, option_map}}
-use Rattle.list_laws.proofs.Cases.{by_less, by_option}
-use Rattle.relax_edges.specs.declared.{kinds.Dir.Dir, kinds.ObsMode.ObsMode, edge.Edge.Edge}
+use Rattle.std.proofs.{Common.{◌≡◌, ℕ, zero, suc, ◌+◌, ◌<◌, ◌≤◌, ◌-◌, Bool, List, [], ◌∷◌, length, map, Option, Some, None, slice_get, take, refl, sym, ◌∙◌, ap, subst, arith}, lemmas.{List.length-map, Option.{slice_get-map, slice_get_past}}}
+use Rattle.bytes_force_cycles.proofs.Vocabulary.{slice_get_within, filter, option_and_then, option_map, by_less, by_option, Dir, ObsMode, Edge, move_count, Outcome, Step, ThreadCode, WriteAt, Access, read, write, is_read, at_name, got_from, accesses_of}
+use Rattle.bytes_force_cycles.proofs.Vocabulary.{visits_of, name, value_of_access, source_at, Execution, CanRead, made_in, run_of, runs_of, accesses-count, MakesAccesses, accesses_filled, value_taken, values_left, values_read, got_below, got_map}
+use Rattle.bytes_force_cycles.proofs.Vocabulary.{all_reads, before, reads_from, IsWriteTo, ByCo, ByFr, ByPo, ByRf, IsPathBy, IsSequential, Precedes, StepBy, Held, line_of, line_interleaves, before_is, latest_at, passed, to_place, reads_counted}
+use Rattle.bytes_force_cycles.{proofs.{Vocabulary.{reads_values, thread_reads, candidate_lists, makes_enough, planned_at, planned_reads, planned-count}, AnyValues.{candidates_many, many_enough, many_lists, threads_alike}}, specs.AnyValues.RunsThrough}
 use Rattle.relax_edges.specs.declared.kinds.Dir.TheVariants as dirs
-use Rattle.cycle_events.specs.Resolution.{move_count}
-use Rattle.micro_ops.specs.Running.{Outcome}
-use Rattle.arch_trait.specs.{declared.step.Step.Step, Threads.ThreadCode}
-use Rattle.program_meaning.specs.{declared.WriteAt.WriteAt, Accesses.{Access, read, write, is_read, at_name, got_from, accesses_of, visits_of}, Deciding.name}
-use Rattle.program_meaning.specs.{Coherence.{value_of_access, source_at}, Executions.{Execution, CanRead}, Intended.cycle_accesses}
-use Rattle.program_meaning.specs.Interleavings.{IsInterleaving, IsInterleavingOf, GivesValues, accesses_on, latest, runs_on, value_after, writes_in, writes_there}
-use Rattle.program_meaning.specs.Programs.{Program, Thread, HasEnded, IsCandidate, accesses_in, made_in, run_of, runs_of}
-use Rattle.program_meaning.proofs.Runs.{accesses-count}
-use Rattle.accesses_force_cycles.specs.Joining.{MakesAccesses, accesses_filled, value_taken, values_left, values_read}
-use Rattle.accesses_force_cycles.proofs.Lists.{got_below, got_map}
-use Rattle.sc_and_interleavings.specs.{Made.{all_reads, before, reads_from}, Relations.IsWriteTo}
-use Rattle.sc_and_interleavings.specs.Sequential.{ByCo, ByFr, ByPo, ByRf, IsPathBy, IsSequential, Precedes, StepBy}
-use Rattle.sc_and_interleavings.proofs.{Places.Held, Line.{line_of, line_interleaves}, Lines.{before_is, latest_at, passed, to_place}, MadeReads.{reads_counted, reads_values, thread_reads}}
-use Rattle.tests_force_cycles.specs.{CycleSteps.{cycle_steps, numbers_read}, TestPrograms.program_of}
-use Rattle.tests_force_cycles.proofs.{ThreadRuns.{AreCodesOf, AreEnough, all_end}, Terms.reads-count as numbers-count, Visits.step_access}
-use Rattle.tests_force_cycles.proofs.AccessesMade.{candidate_enough, candidate_lists, makes_enough, planned_at, planned_reads, planned-count}
-use Rattle.bytes_force_cycles.specs.AnyValues.{RunsThrough}
-use Rattle.bytes_force_cycles.proofs.AnyValues.{candidates_many, many_enough, many_lists, threads_alike}
+use Rattle.program_meaning.specs.{Intended.cycle_accesses, Interleavings.{IsInterleaving, IsInterleavingOf, GivesValues, accesses_on, latest, runs_on, value_after, writes_in, writes_there}, Programs.{Program, Thread, HasEnded, IsCandidate, accesses_in}}
+use Rattle.tests_force_cycles.{specs.{CycleSteps.{cycle_steps, numbers_read}, TestPrograms.program_of}, proofs.{ThreadRuns.{AreCodesOf, AreEnough, all_end}, Terms.reads-count as numbers-count, Visits.step_access, AccessesMade.candidate_enough}}
 
 -- Accesses without writes: program order alone lets them be made in a line.
 

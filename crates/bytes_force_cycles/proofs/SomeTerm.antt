@@ -1,21 +1,11 @@
 -- The condition of a cycle's test has a term.
-use Rattle.std.proofs.Common.{◌≡◌, ℕ, suc, ◌+◌, ◌-◌, ◌<◌, ◌≤◌, Bool, true, false, cond, List, ◌∷◌, ◌++◌, length, Some, slice_get, refl, ap, ◌∙◌, arith, length-append}
-use Rattle.std.proofs.{lemmas.Bool.{le-leb, and_from}, lemmas.List.length-map, lemmas.List.Sums.{count_by-le-length, length-filter, sum_by-cons}}
-use Rattle.std.specs.{Prelude.{not, nat_le, count_by}, List.{filter, sum_by}}
-use Rattle.list_laws.proofs.{Cases.by_test, Numbers.slice_get-upto, Ranks.rank_upto}
-use Rattle.list_laws.specs.Numbers.{upto}
-use Rattle.relax_edges.specs.{declared.kinds.Dir.Dir, declared.kinds.ObsMode.ObsMode, declared.edge.Edge.Edge, EdgeTable.{is_external, same_dir, source_of}}
+use Rattle.std.proofs.{Common.{◌≡◌, ℕ, suc, ◌+◌, ◌-◌, ◌<◌, ◌≤◌, Bool, true, false, cond, List, ◌∷◌, ◌++◌, length, Some, slice_get, refl, ap, ◌∙◌, arith, length-append}, lemmas.{Bool.{le-leb, and_from}, List.{length-map, Sums.count_by-le-length}}}
+use Rattle.bytes_force_cycles.proofs.Vocabulary.{length-filter, sum_by-cons, not, nat_le, count_by, filter, sum_by, by_test, slice_get-upto, rank_upto, upto, Dir, ObsMode, Edge, is_external, same_dir, source_of, IsLaidOut, edge_at, event_after}
+use Rattle.bytes_force_cycles.proofs.Vocabulary.{events_in, external_count, location_of, move_count, slot_of, is_observed, value_of, write_count, last_keeps, location_below, thread_below, Step, Puts, is_load_dir, loads_in, got_map, event_step}
+use Rattle.bytes_force_cycles.proofs.Vocabulary.{thread_steps, observing, observer_steps, cycle_steps, plain, is_named_location, last_term, last_terms, load_terms, thread_steps_at, observer_steps_at, load_terms-count}
 use Rattle.relax_edges.specs.declared.kinds.Dir.TheVariants as dirs
-use Rattle.cycle_events.specs.Resolution.{IsResolved, edge_at, event_after, events_in, external_count, location_of, move_count, slot_of}
-use Rattle.cycle_events.specs.Values.{is_observed, value_of, write_count}
+use Rattle.cycle_events.proofs.{CycleRound.after_below, Threads.event_in_slot, ValuesAlongEdges.{value_after, value_most, write_value}}
 use Rattle.cycle_events.specs.Resolution as resolution
-use Rattle.cycle_events.proofs.{Arcs.{last_keeps, location_below, thread_below}, CycleRound.after_below, Threads.event_in_slot}
-use Rattle.cycle_events.proofs.ValuesAlongEdges.{value_after, value_most, write_value}
-use Rattle.arch_trait.specs.{declared.step.Step.Step, Threads.{Puts, is_load_dir, loads_in}}
-use Rattle.accesses_force_cycles.proofs.Lists.{got_map}
-use Rattle.tests_force_cycles.specs.CycleSteps.{event_step, thread_steps, observing, observer_steps, cycle_steps}
-use Rattle.tests_force_cycles.specs.TestOf.{plain, is_named_location, last_term, last_terms, load_terms}
-use Rattle.tests_force_cycles.proofs.{StepsAt.{thread_steps_at, observer_steps_at}, Terms.load_terms-count}
 
 -- a term of a sum is at most the sum
 pub term_most : {X : Type 0} (f : X → ℕ) (xs : List X) (k : ℕ) (x : X) → slice_get xs k ≡ Some x → f x ≤ sum_by f xs
@@ -31,7 +21,7 @@ thread_loads : (es : List Edge) (mode : ObsMode) (k j : ℕ) (ss : List Step) (s
 thread_loads es mode k j ss s g h e = grind (arith, counted_one, term_most)
 
 -- an event that reads
-event_loads : (es : List Edge) (mode : ObsMode) (i : ℕ) → IsResolved es → i < length es → is_load_dir (source_of (edge_at es i)) ≡ true → 1 ≤ sum_by loads_in (cycle_steps es mode plain)
+event_loads : (es : List Edge) (mode : ObsMode) (i : ℕ) → IsLaidOut es → i < length es → is_load_dir (source_of (edge_at es i)) ≡ true → 1 ≤ sum_by loads_in (cycle_steps es mode plain)
 event_loads es mode i r h e =
     let k = resolution.thread_of es i in
     thread_loads es mode k (slot_of es i) (thread_steps es plain k) (event_step es plain i) (thread_steps_at es mode plain k (thread_below es i r h))
@@ -56,7 +46,7 @@ writes : (d : Dir) → is_load_dir d ≡ false → same_dir d dirs.W ≡ true
 writes d e = grind arith
 
 -- the condition of a cycle's test has a term
-pub some_term : (a : Puts) (name : ℕ → List ℕ) (es : List Edge) (mode : ObsMode) → IsResolved es → 0 < length (last_terms es mode ++ load_terms a name 0 (cycle_steps es mode plain))
+pub some_term : (a : Puts) (name : ℕ → List ℕ) (es : List Edge) (mode : ObsMode) → IsLaidOut es → 0 < length (last_terms es mode ++ load_terms a name 0 (cycle_steps es mode plain))
 some_term a name es mode r =
     let n = length es - 1 in
     let external = count_by-le-length is_external es in

@@ -4,8 +4,7 @@ use Rattle.std.specs.Prelude.{◌≡◌, ℕ, List, length, map, Some, slice_get
 use Rattle.relax_edges.specs.declared.kinds.Dir.{Dir}
 use Rattle.relax_edges.specs.declared.kinds.Dir.TheVariants as dirs
 use Rattle.micro_ops.specs.Running.{Outcome}
-use Rattle.program_meaning.specs.{declared.WriteAt.WriteAt, Accesses.Visit, Executions.Execution, Interleavings.IsInterleavingOf}
-use Rattle.program_meaning.specs.Programs.{Program, HasEnded, IsCandidate, runs_of, visits_in}
+use Rattle.program_meaning.specs.{declared.WriteAt.WriteAt, Accesses.Visit, Executions.Execution, Interleavings.IsInterleavingOf, Programs.{Program, HasEnded, IsCandidate, runs_of, visits_in}}
 
 -- two executions have as many reads in each thread
 abbrev pub AsManyReads : Execution → Execution → Type 0

@@ -2,12 +2,11 @@
 -- the outcome never comes.
 -- Source: own.
 use Rattle.std.specs.Prelude.{ℕ, ◌≡◌, ◌↔◌, Bool, List, [], Ok}
-use Rattle.relax_edges.specs.declared.{kinds.ArchName.ArchName, kinds.ObsMode.ObsMode, edge.Edge.Edge}
+use Rattle.relax_edges.specs.declared.{kinds.{ArchName.ArchName, ObsMode.ObsMode}, edge.Edge.Edge}
 use Rattle.final_cond.specs.States.{Meets}
-use Rattle.arch_trait.specs.{PlaceNames.number_in, Threads.Puts, Writing.Writing, Writing.name_in}
-use Rattle.litmus_text.specs.{Printable.IsTestName, TestReading.TestRead, TestReading.test_read, TestText.test_text}
-use Rattle.program_meaning.specs.{declared.WriteAt.WriteAt, Executions.Execution, Standing.AllStand, Standing.event_name, Intended.intended, Intended.observed_locations}
-use Rattle.program_meaning.specs.Programs.{Program, IsCandidate, IsCoherentIn, accesses_in}
+use Rattle.arch_trait.specs.{PlaceNames.number_in, Threads.Puts, Writing.{Writing, name_in}}
+use Rattle.litmus_text.specs.{Printable.IsTestName, TestReading.{TestRead, test_read}, TestText.test_text}
+use Rattle.program_meaning.specs.{declared.WriteAt.WriteAt, Executions.Execution, Standing.{AllStand, event_name}, Intended.{intended, observed_locations}, Programs.{Program, IsCandidate, IsCoherentIn, accesses_in}}
 use Rattle.sc_and_interleavings.specs.{Sequential.HasNoCycle, LinkLaws.IsLink, Links.{IsKept, KeepsEach, KeepsOthers, Lives, PrecedesBut}}
 use Rattle.tests_force_cycles.specs.{FinalStates.final_state, TestHeadline.HasTest, TestOf.test_of}
 use Rattle.bytes_force_cycles.specs.Readings.{program_read, place_in_test, ReadingAsks}

@@ -1,7 +1,7 @@
 -- What the bytes of a printed test say of its cycle.
 -- Source: own.
 use Rattle.std.specs.{Prelude.{◌≡◌, ℕ, List, Ok, Some, codes}, List.join_by}
-use Rattle.relax_edges.specs.{declared.kinds.ArchName.ArchName, declared.kinds.ObsMode.ObsMode, declared.edge.Edge.Edge, WordParts.word_of}
+use Rattle.relax_edges.specs.{declared.{kinds.{ArchName.ArchName, ObsMode.ObsMode}, edge.Edge.Edge}, WordParts.word_of}
 use Rattle.final_cond.specs.{declared.cond.Quantifier.TheVariants.Exists, States.Meets}
 use Rattle.arch_trait.specs.{PlaceNames.number_in, Threads.Puts, Writing.{Writing, name_in}}
 use Rattle.litmus_text.specs.{Printable.IsTestName, Reread.IsReadable, TestReading.{TestRead, test_read}, TestText.test_text}

@@ -1,14 +1,12 @@
 -- What the reading of a test's text means: its program, and the executions that it asks for.
 -- Source: own.
 use Rattle.std.specs.{Prelude.{ℕ, List, Option}, Option.{option_and_then, option_map}}
-use Rattle.relax_edges.specs.{declared.kinds.Value.Value, declared.kinds.Value.TheVariants.Num}
+use Rattle.relax_edges.specs.declared.kinds.Value.{Value, TheVariants.Num}
 use Rattle.final_cond.specs.{Conditions.{LeftSeen, InRegister, AtPlace}, States.Meets}
 use Rattle.arch_trait.specs.{PlaceNames.{location_name, number_in}, Writing.Writing}
-use Rattle.litmus_text.specs.Placing.{place_in}
+use Rattle.litmus_text.specs.{Placing.place_in, TestReading.TestRead}
 pub use Rattle.litmus_text.specs.ReadPrograms.{thread_read, program_read}
-use Rattle.litmus_text.specs.TestReading.{TestRead}
-use Rattle.program_meaning.specs.{Executions.Execution, declared.WriteAt.WriteAt, Programs.{Program, IsCandidate, IsCoherentIn}}
-use Rattle.program_meaning.specs.Interleavings.{IsInterleavingOf, accesses_on, register_on, value_after}
+use Rattle.program_meaning.specs.{Executions.Execution, declared.WriteAt.WriteAt, Programs.{Program, IsCandidate, IsCoherentIn}, Interleavings.{IsInterleavingOf, accesses_on, register_on, value_after}}
 use Rattle.tests_force_cycles.specs.FinalStates.{final_state}
 
 -- the number of a cycle's location in a reading: the position of its name in the table of names, 0 if it isn't there

@@ -2,7 +2,7 @@
 -- from its text.
 -- Source: own.
 use Rattle.std.specs.Prelude.{ℕ, ◌≡◌, ◌↔◌, List, Ok}
-use Rattle.relax_edges.specs.{declared.kinds.ArchName.ArchName, declared.kinds.ObsMode.ObsMode, declared.edge.Edge.Edge}
+use Rattle.relax_edges.specs.declared.{kinds.{ArchName.ArchName, ObsMode.ObsMode}, edge.Edge.Edge}
 use Rattle.arch_trait.specs.{Laws.IsArch, Threads.Puts, Writing.{Writing, name_in}, SeenTests.TestSeen}
 use Rattle.litmus_text.specs.{Printable.IsTestName, TestReading.{TestRead, test_read}, TestText.test_text}
 use Rattle.program_meaning.specs.{Executions.Execution, Programs.{Program, IsCandidate, IsCoherentIn, accesses_in}}

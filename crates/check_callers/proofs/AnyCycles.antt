@@ -1,8 +1,7 @@
 -- Answers of a walk whose test takes each cycle.
-use Rattle.std.proofs.Common.{ℕ, Bool, Some, None, Option, List}
-use Rattle.std.specs.Prelude.{⊤}
+use Rattle.std.{proofs.Common.{ℕ, Bool, Some, None, Option, List}, specs.Prelude.⊤}
 use Rattle.relax_edges.specs.declared.edge.Edge.{Edge}
-use Rattle.cycle_enum_laws.specs.Listing.{IsAnswer, IsListed}
+use Rattle.cycle_enum.specs.Listing.{IsAnswer, IsListed}
 
 module _ (takes : List Edge → Type 0) (each : (u : List Edge) → takes u) (relaxes : List (List Edge)) (size : ℕ) (exact : Bool) where
   to_any : (u : List Edge) → IsListed takes relaxes size exact u → IsListed (λ _. ⊤) relaxes size exact u

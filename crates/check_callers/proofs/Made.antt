@@ -1,11 +1,9 @@
 -- What edges that were composed or read are.
-use Rattle.std.proofs.Common.{◌≡◌, ℕ, Bool, true, false, cond, nat_lt, nat_le, List, [], ◌∷◌, ◌++◌, length, Option, Some, None, Ok, Err, sym, ◌∙◌, ap, lit≤}
-use Rattle.std.specs.Option.{option_map}
+use Rattle.std.{proofs.Common.{◌≡◌, ℕ, Bool, true, false, cond, nat_lt, nat_le, List, [], ◌∷◌, ◌++◌, length, Option, Some, None, Ok, Err, sym, ◌∙◌, ap, lit≤}, specs.Option.option_map}
 use Rattle.list_laws.proofs.Cases.{by_test}
 use Rattle.relax_edges.specs.declared.{TheConstants.MAX_EDGES, edge.Edge.Edge}
-use Rattle.edge_algebra_laws.specs.Composable.{first_break}
-use Rattle.edge_algebra.specs.{declared.errors.CycleError.TheVariants.TooLong as TooManyEdges, Compose.{composed, unbroken}}
-use Rattle.edges_from_text.specs.{declared.list.EdgeList.EdgeList, declared.list.EdgeList.TheVariants.{Whole, TooLong}, KeptEdges.{edges_added, kept_edges}, KeptLaws.added_whole}
+use Rattle.edge_algebra.specs.{Composable.first_break, declared.errors.CycleError.TheVariants.TooLong as TooManyEdges, Compose.{composed, unbroken}}
+use Rattle.edges_from_text.specs.{declared.list.EdgeList.{EdgeList, TheVariants.{Whole, TooLong}}, KeptEdges.{edges_added, kept_edges}, KeptLaws.added_whole}
 
 -- the cycle that a list of edges makes is that list
 pub composed_same : (u w : List Edge) → composed u ≡ Ok w → w ≡ u

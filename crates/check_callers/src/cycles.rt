@@ -1,5 +1,5 @@
 ghost use Rattle.std.specs.Prelude.{◌≡◌, ◌↔◌, ◌⊎◌, Err, IfErr, IfOk, IsTrue};
-ghost use Rattle.edge_algebra_laws.specs.Rotation.{IsRotation};
+ghost use Rattle.edge_algebra.specs.Rotation.{IsRotation};
 ghost use Rattle.edge_algebra.specs.Compose.{composed};
 
 use edge_algebra::{CycleError, cycle};

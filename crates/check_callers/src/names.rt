@@ -1,6 +1,6 @@
 ghost use Rattle.std.specs.Prelude.{◌≡◌, List, Some, IfSome};
 ghost use Rattle.relax_edges.specs.declared.edge.Edge.{Edge as AnEdge};
-ghost use Rattle.edge_algebra_laws.specs.Composable.{IsCycle};
+ghost use Rattle.edge_algebra.specs.Composable.{IsCycle};
 ghost use Rattle.edges_from_text.specs.Spelled.{text_edges};
 ghost use Rattle.cycle_names.specs.{Rotations.{family_of}, CycleNames.{name_of}};
 

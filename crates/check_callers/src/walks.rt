@@ -1,6 +1,6 @@
 ghost use Rattle.std.specs.Prelude.{◌≡◌, ◌≤◌, ⊤, None, false, true};
 ghost use Rattle.relax_edges.specs.declared.TheConstants.{MAX_EDGES};
-ghost use Rattle.cycle_enum_laws.specs.Listing.{IsAnswer, IsListed};
+ghost use Rattle.cycle_enum.specs.Listing.{IsAnswer, IsListed};
 
 use cycle_enum::{Limits, Taken, Walk};
 use edge_algebra::Cycle;

@@ -1,7 +1,6 @@
 -- What an observer is, tried on threads written out: no call decides it, since edges are between the cycle's own accesses.
 use Rattle.std.proofs.Common.{ℕ, [], ◌∷◌, refl}
-use Rattle.relax_edges.specs.declared.kinds.{Dir.TheVariants.R, Dir.TheVariants.W, FenceKind.TheVariants.Sync, Mark.TheVariants.Plain}
-use Rattle.relax_edges.specs.declared.kinds.{Mark.TheVariants.Acquire}
+use Rattle.relax_edges.specs.declared.kinds.{Dir.TheVariants.{R, W}, FenceKind.TheVariants.Sync, Mark.TheVariants.{Plain, Acquire}}
 use Rattle.micro_ops.specs.declared.operation.Barrier.TheVariants.{Fence}
 use Rattle.program_meaning.specs.{Accesses.Visit, Standing.Observes}
 

@@ -1,10 +1,8 @@
 -- What each operation does, tried on code written out: the accesses with the loads that they depend on and their marks, and operands
 -- that no rule fits. `run_thread` of `micro_ops` answers as `runs` does, and `step` of its `Machine` as `step` does.
-use Rattle.std.proofs.Common.{ℕ, ◌≡◌, ◌^◌, ◌-◌, refl, Bool, true, false, not, List, [], ◌∷◌, Option, Some, None, is_some}
-use Rattle.std.specs.List.{list_all}
-use Rattle.relax_edges.specs.{declared.kinds.Mark.TheVariants.{Plain, Acquire, Release}, declared.kinds.Value.TheVariants.{Num, Place}}
-use Rattle.relax_edges.specs.declared.kinds.Dir.TheVariants.{R, W}
-use Rattle.micro_ops.specs.{declared.operation.Micro.Micro, declared.operation.Item.Item, Machine.step, Running.{Outcome, Ended, initial_state, runs}}
+use Rattle.std.{proofs.Common.{ℕ, ◌≡◌, ◌^◌, ◌-◌, refl, Bool, true, false, not, List, [], ◌∷◌, Option, Some, None, is_some}, specs.List.list_all}
+use Rattle.relax_edges.specs.declared.kinds.{Mark.TheVariants.{Plain, Acquire, Release}, Value.TheVariants.{Num, Place}, Dir.TheVariants.{R, W}}
+use Rattle.micro_ops.specs.{declared.operation.{Micro.Micro, Item.Item}, Machine.step, Running.{Outcome, Ended, initial_state, runs}}
 use Rattle.micro_ops.specs.declared.operation.Micro.TheVariants as ops
 use Rattle.micro_ops.specs.declared.operation.Item.TheVariants as items
 use Rattle.micro_ops.specs.declared.operation.Barrier.TheVariants as barriers

@@ -3,11 +3,12 @@ ghost use Rattle.diy_io.specs.Shelf.{Idle};
 
 use arch_x86::X86;
 use diy_io::{NoMemory, Words};
-use judged_states::{judged_states, write_judged};
 use litmus_text::read_test;
 use log_sum::Summer;
 use memory_devices::{MemShelf, MemSink, MemSource};
-use states_of_logs::{StatesEnd, StatesWords, judge_files, judge_input};
+use states_of_logs::{
+    StatesEnd, StatesWords, judge_files, judge_input, judged_states, write_judged,
+};
 use std::alloc::Global;
 use std::test::Fail;
 

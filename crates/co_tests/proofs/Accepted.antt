@@ -1,5 +1,7 @@
 -- A cycle that isn't refused has a coherence test, once it is turned so that its last edge leads to another thread.
-use Rattle.co_tests.proofs.Vocabulary.{◌≡◌, ℕ, ◌≤◌, Bool, true, false, not, List, drop, take, None, sym, ◌∙◌, ap, subst, arith, ◌||◌, list_all, list_any, ltb-false, take-append-drop, list_all-append, list_any-append, sum_by-append, Edge, is_diff, is_of_arch, IsCycle, rotated, rotated_cycle, external_count, turned, turn_of, external_count-rotated, Puts, room_left, Refusal, TooFewThreads, NotCoherence, ManyWrites, is_ordering, writes_in, AcceptedHaveTests, reason_if}
+use Rattle.co_tests.proofs.Vocabulary.{◌≡◌, ℕ, ◌≤◌, Bool, true, false, not, List, drop, take, None, sym, ◌∙◌, ap, subst, arith, ◌||◌, list_all, list_any, ltb-false, take-append-drop, list_all-append, list_any-append, sum_by-append, Edge, is_diff}
+use Rattle.co_tests.proofs.Vocabulary.{is_of_arch, IsCycle, rotated, rotated_cycle, external_count, turned, turn_of, external_count-rotated, Puts, room_left, Refusal, TooFewThreads, NotCoherence, ManyWrites, is_ordering, writes_in, AcceptedHaveTests}
+use Rattle.co_tests.proofs.Vocabulary.{reason_if}
 use Rattle.test_maker.proofs.HavingTests.{neither, none_found, not_foreign}
 
 no_reason : (b : Bool) (reason : Refusal) → reason_if b reason ≡ None → b ≡ false

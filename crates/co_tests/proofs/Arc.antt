@@ -1,9 +1,10 @@
 -- The arc of a cut cycle begins behind the cut, and the values count the writes along it.
-use Rattle.co_tests.proofs.Vocabulary.{◌≡◌, ℕ, zero, suc, ◌+◌, ◌<◌, ◌≤◌, Bool, true, false, not, List, [], ◌∷◌, ◌++◌, length, drop, take, Some, slice_get, refl, sym, ◌∙◌, ap, arith, add-one, eq-eqb, count_by, filter, ne_eqb, slice_get-get_or, take-append-le, drop-append-le, take_all, drop_all, upto, by_less, length-upto, filter_upto_yes, filter_upto_no, Internal, Rf, Edge, source_of, same_dir, edge_at, is_after_moves, way, arc, arc_of, writes_counted, value_on_arc, filter_all, position_first, is_ordering, cut_of, cut_open, arc_behind, ValuesCountAlongArc}
+use Rattle.co_tests.proofs.Vocabulary.{◌≡◌, ℕ, zero, suc, ◌+◌, ◌<◌, ◌≤◌, Bool, true, false, not, List, [], ◌∷◌, ◌++◌, length, drop, take, Some, slice_get, refl, sym, ◌∙◌, ap, arith, add-one, eq-eqb, count_by, filter, ne_eqb, slice_get-get_or}
+use Rattle.co_tests.proofs.Vocabulary.{take-append-le, drop-append-le, take_all, drop_all, upto, by_less, length-upto, filter_upto_yes, filter_upto_no, Internal, Rf, Edge, source_of, same_dir, edge_at, is_after_moves, way, arc, arc_of, writes_counted}
+use Rattle.co_tests.proofs.{Vocabulary.{value_on_arc, filter_all, position_first, is_ordering, cut_of, cut_open, arc_behind, ValuesCountAlongArc}, Opened.{source_same, same_at, opened-length}, Printed.has_loop, Values.{Cut, IsCut, one_move}}
+use Rattle.co_tests.proofs.Values.{one_location, moves_early, moves_late}
 use Rattle.relax_edges.specs.declared.kinds.Dir.TheVariants as dirs
 use Rattle.relax_edges.specs.declared.edge.Edge.TheVariants as edges
-use Rattle.co_tests.proofs.{Opened.source_same, Opened.same_at, Opened.opened-length, Printed.has_code}
-use Rattle.co_tests.proofs.Values.{Cut, IsCut, one_move, one_location, moves_early, moves_late}
 
 -- a test that the numbers above c pass, and no other
 record Above (c m : ℕ) (p : ℕ → Bool) : Type 0 where
@@ -68,7 +69,7 @@ cut_is es c k h =
 -- the value of an event is the number of writes on the arc up to it and with it
 pub values_count_along_arc : ValuesCountAlongArc
 values_count_along_arc a es cut i k t h g =
-    let c = (has_code a es t).loop_of.loop.is_cut in
+    let c = (has_loop a es t).is_cut in
     let at : arc_of (cut_open es) i ≡ arc_behind es cut = arc_is es i c ∙ ap (arc_behind es) (cut_is es c.cut cut h) in
     value_on_arc (cut_open es) i k (ap (λ events. slice_get events k) at ∙ g)
     ∙ ap (λ events. writes_counted (cut_open es) events k) at

@@ -1,33 +1,12 @@
 -- That a coherence test has the parts of its definition, and can be printed.
-use Rattle.std.proofs.Common.{◌≡◌, ℕ, ◌+◌, ◌<◌, ◌≤◌, Bool, true, false, not, cond, nat_lt, List, [], ◌∷◌, ◌++◌, length, get_or, map, Option, Some, None, Result, Ok, Err, refl, sym, ◌∙◌, ap, subst, arith, slice_get}
-use Rattle.std.proofs.{lemmas.Bool.{ltb-false, leb-false, leb-true, ne_eqb}, lemmas.List.{length-map, get_or-map}, lemmas.List.Sums.count_by-le-length}
-use Rattle.std.proofs.lemmas.Option.{slice_get-get_or}
-use Rattle.std.specs.{Prelude.{◌||◌, nat_le, OnOk}, Option.{option_map, option_or}, List.{All, list_all, list_any, filter, position_from}}
-use Rattle.list_laws.specs.Numbers.{upto}
-use Rattle.list_laws.proofs.Cases.{by_test}
-use Rattle.relax_edges.specs.{declared.kinds.ObsMode.TheVariants.Avoid, declared.edge.Edge.Edge, EdgeTable.{is_diff, is_of_arch}}
-use Rattle.edge_algebra_laws.specs.{Composable.IsCycle, Rotation.rotated}
-use Rattle.edge_algebra_laws.proofs.Composing.{rotated_cycle}
-use Rattle.cycle_events.specs.{Resolution.{external_count, events_in, move_count, turned}, Values.write_count}
-use Rattle.cycle_events.proofs.Turning.{turn_of, external_count-rotated}
-use Rattle.accesses_force_cycles.proofs.Lists.{image_of}
-use Rattle.arrayvec.specs.ArrayVec.{ArrayVec}
-use Rattle.final_cond.specs.{declared.cond.Cond.Cond, declared.cond.Quantifier.Quantifier, declared.cond.Quantifier.TheVariants.Exists}
-use Rattle.final_cond.specs.Conditions.{TermSeen, cond_view, term_view}
-use Rattle.arch_trait.specs.{declared.code.Code.Code, declared.step.Step.Step, Codes.{IsFormedCode, thread_code_of}, Laws.IsArch, Links.branches}
-use Rattle.arch_trait.specs.{PlaceNames.letters, SeenTests.TestSeen, Threads.{Puts, ThreadCode, compiled, shape_of}}
-use Rattle.arch_trait.proofs.WholeRuns.{is_formed}
-use Rattle.litmus_text.specs.Tests.{IsPrintable}
-use Rattle.tests_force_cycles.specs.{CycleSteps.event_step, TestOf.{plain, is_named_location, last_term, last_terms, load_terms}}
-use Rattle.tests_force_cycles.proofs.{Headline.room_left, StepsAt.by_steps}
-use Rattle.test_maker.specs.{Made.AreOfArch, Refusals.{foreign_edge, is_crowded}}
-use Rattle.test_maker.specs.declared.refusal.Refusal.TheVariants.{TooManyRegisters}
-use Rattle.co_tests.specs.{declared.refusal.CoRefusal.CoRefusal, CutResolution.{cut_open, is_ordering}, CoRefusals.{crowded_thread, is_no_coherence}}
-use Rattle.co_tests.specs.CoherenceTests.{HasCoherenceTest, coherence_steps, coherence_test_of, writes_in}
-use Rattle.co_tests.proofs.{Values.{IsCut, one_location, one_move, write_count_is}, Events.unobserved, Fits.{IsLoopOf, loop_thread}}
-use Rattle.co_tests.proofs.Accepted.{accepted_has_test, writes_rotated, all_rotated, any_rotated}
-use Rattle.co_tests.specs.{Made.{MakesOfArch, MakesTurned, refusal_of_arch}, Shape.HasShape, Terms.last_of_writes, Threads.PutsThreads}
-use Rattle.test_maker.proofs.Printing.{ArePlaced, formed_printable}
+use Rattle.co_tests.proofs.Vocabulary.{◌≡◌, ℕ, ◌+◌, ◌<◌, ◌≤◌, Bool, true, false, not, cond, nat_lt, List, [], ◌∷◌, ◌++◌, length, get_or, map, Option, Some, None, Result, Ok, Err, refl, sym, ◌∙◌, ap, subst, arith, slice_get, ltb-false, leb-false}
+use Rattle.co_tests.proofs.Vocabulary.{position_from, upto, by_test, Avoid, Edge, is_diff, is_of_arch, IsCycle, rotated, rotated_cycle, external_count, events_in, move_count, turned, write_count, turn_of, external_count-rotated, image_of, ArrayVec, Cond}
+use Rattle.co_tests.proofs.Vocabulary.{Quantifier, Exists, TermSeen, cond_view, term_view, is_formed, IsPrintable, event_step, plain, is_named_location, last_term, last_terms, load_terms, room_left, by_steps, AreOfArch, foreign_edge, is_crowded}
+use Rattle.co_tests.proofs.{Vocabulary.{TooManyRegisters, ArePlaced, formed_printable}, Values.{IsCut, one_location, one_move, write_count_is}, Loops.{IsLoop, unobserved, loop_thread}, Accepted.{accepted_has_test, writes_rotated, all_rotated}}
+use Rattle.co_tests.{proofs.Accepted.any_rotated, specs.{declared.refusal.CoRefusal.CoRefusal, CutResolution.{cut_open, is_ordering}, CoRefusals.{crowded_thread, is_no_coherence}, CoherenceTests.{HasCoherenceTest, coherence_steps, coherence_test_of}}}
+use Rattle.co_tests.specs.{CoherenceTests.writes_in, Made.{MakesOfArch, MakesTurned, refusal_of_arch}, Shape.HasShape, Terms.last_of_writes, Threads.PutsThreads}
+use Rattle.std.{proofs.lemmas.{Bool.{leb-true, ne_eqb}, List.{length-map, get_or-map, Sums.count_by-le-length}, Option.slice_get-get_or}, specs.{Prelude.{◌||◌, nat_le, OnOk}, Option.{option_map, option_or}, List.{All, list_all, list_any, filter}}}
+use Rattle.arch_trait.specs.{declared.{code.Code.Code, step.Step.Step}, Codes.{IsFormedCode, thread_code_of}, Laws.IsArch, Links.branches, PlaceNames.letters, SeenTests.TestSeen, Threads.{Puts, ThreadCode, compiled, shape_of}}
 
 -- where a test passes nowhere there is no first place
 pub none_found : (p : Edge → Bool) (es : List Edge) (k : ℕ) → position_from p k es ≡ None → list_any p es ≡ false
@@ -100,24 +79,24 @@ none_crowded : (found : Option ℕ) → option_map (λ thread. TooManyRegisters 
 none_crowded None e = refl
 none_crowded (Some thread) e = cc
 
-thread_printable : (a : Puts) → IsArch a → (es : List Edge) (k : ℕ) (steps : List Step) (code : Code) → IsLoopOf a.name es → crowded_thread a es ≡ None → slice_get (coherence_steps es) k ≡ Some steps
+thread_printable : (a : Puts) → IsArch a → (es : List Edge) (k : ℕ) (steps : List Step) (code : Code) → IsLoop es → AreOfArch a es → crowded_thread a es ≡ None → slice_get (coherence_steps es) k ≡ Some steps
     → thread_code_of code ≡ compiled a steps → IsPrintable a.has a.registers 1 code
-thread_printable a laws es k steps code l free got same =
-    let thread = loop_thread es plain a.name k steps l got in
+thread_printable a laws es k steps code l o free got same =
+    let thread = loop_thread es a.name k steps l o got in
     let fits : a.need (shape_of steps) ≤ a.registers = room_left a (coherence_steps es) k steps (none_crowded (position_from (is_crowded a) 0 (coherence_steps es)) free) got in
     let formed : IsFormedCode a steps (thread_code_of code) = subst (IsFormedCode a steps) (sym same) (is_formed a laws steps thread.fit fits) in
-    formed_printable a 1 steps code formed (omega (arith, count_by-le-length (λ (s : Step). branches s.link) steps, thread.few)) (placed es k steps l.loop.is_cut got)
+    formed_printable a 1 steps code formed (omega (arith, count_by-le-length (λ (s : Step). branches s.link) steps, thread.few)) (placed es k steps l.is_cut got)
 
 -- the code of each thread of a coherence test can be printed
-pub all_printable : (a : Puts) → IsArch a → (es : List Edge) (codes : List Code) → IsLoopOf a.name es → crowded_thread a es ≡ None
+pub all_printable : (a : Puts) → IsArch a → (es : List Edge) (codes : List Code) → IsLoop es → AreOfArch a es → crowded_thread a es ≡ None
     → map thread_code_of codes ≡ map (compiled a) (coherence_steps es) → All (λ code. IsPrintable a.has a.registers 1 code) codes
-all_printable a laws es codes l free same i d k =
+all_printable a laws es codes l o free same i d k =
     let threads = coherence_steps es in
     let count : length codes ≡ length threads = sym (length-map codes thread_code_of) ∙ (ap length same ∙ length-map threads (compiled a)) in
     let got = slice_get-get_or threads i [] (omega (arith, count, k)) in
     let left = get_or-map thread_code_of codes i d (thread_code_of d) k in
     let right = get_or-map (compiled a) threads i [] (thread_code_of d) (omega (arith, count, k)) in
-    thread_printable a laws es i (get_or threads i []) (get_or codes i d) l free got
+    thread_printable a laws es i (get_or threads i []) (get_or codes i d) l o free got
     (sym left ∙ (ap (λ xs. get_or xs i (thread_code_of d)) same ∙ right))
 
 -- what the threads that are put make of a turned cycle
@@ -133,13 +112,13 @@ made_turned a name es kept places threads cond0 cond1 writes (Err refusal) c few
 
 -- and it can be printed
 pub made_printable : (a : Puts) (registers : ℕ) → a.registers ≡ registers → IsArch a → (es : List Edge) (places : List (List ℕ)) (threads : ArrayVec Code) (name : ℕ → List ℕ) (cond0 cond1 : Cond) (result : Result (Unit {0}) CoRefusal)
-    → IsLoopOf a.name es → places ≡ letters 1 → PutsThreads a name es threads cond0 cond1 result
+    → IsLoop es → AreOfArch a es → places ≡ letters 1 → PutsThreads a name es threads cond0 cond1 result
     → OnOk result (All (λ code. IsPrintable a.has registers (length places) code) threads.items)
-made_printable a registers count laws es places threads name cond0 cond1 (Ok _) l p put =
+made_printable a registers count laws es places threads name cond0 cond1 (Ok _) l o p put =
     let few : length places ≡ 1 = ap length p in
     subst (λ n. All (λ code. IsPrintable a.has n (length places) code) threads.items) count
-    (subst (λ n. All (λ code. IsPrintable a.has a.registers n code) threads.items) (sym few) (all_printable a laws es threads.items l put.0 put.1))
-made_printable a registers count laws es places threads name cond0 cond1 (Err refusal) l p put = tt
+    (subst (λ n. All (λ code. IsPrintable a.has a.registers n code) threads.items) (sym few) (all_printable a laws es threads.items l o put.0 put.1))
+made_printable a registers count laws es places threads name cond0 cond1 (Err refusal) l o p put = tt
 
 -- no edge leads to another location, and one is no communication
 pub no_reason : (es : List Edge) (moves cut : Bool) → moves ≡ list_any is_diff es → moves ≡ false → cut ≡ list_any is_ordering es → cut ≡ true → is_no_coherence es ≡ false

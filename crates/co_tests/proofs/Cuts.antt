@@ -1,19 +1,8 @@
 -- The cut of a cycle at one location by its place, and the accesses of the cut resolution.
-use Rattle.std.proofs.Common.{◌≡◌, ℕ, zero, suc, ◌+◌, ◌-◌, ◌<◌, ◌≤◌, true, false, cond, List, [], ◌∷◌, length, take, Some, refl, sym, ◌∙◌, ap, arith, add-one}
-use Rattle.std.proofs.lemmas.Bool.{ne_eqb}
-use Rattle.std.specs.{Prelude.{◌==◌, if◌then◌else◌}, List.position_from}
-use Rattle.list_laws.proofs.Cases.{by_test, by_less}
-use Rattle.relax_edges.specs.{declared.kinds.Dir.Dir, declared.kinds.Mark.Mark, declared.kinds.Kind.Kind, declared.edge.Edge.Edge}
-use Rattle.relax_edges.specs.EdgeTable.{kind_of, source_of, source_mark, is_external}
-use Rattle.relax_edges.specs.declared.kinds.Kind.TheVariants as kinds
-use Rattle.cycle_events.specs.{Resolution.{edge_at, slot_of}, Values.value_of}
-use Rattle.cycle_events.proofs.{Threads.slot_in, Locations.ends_with}
-use Rattle.arch_trait.specs.{declared.link.Link.Link, declared.link.Link.TheVariants.Plain, declared.step.Step.Step, Links.edge_link}
-use Rattle.tests_force_cycles.specs.{CycleSteps.{event_link, event_step}, TestOf.plain}
-use Rattle.co_tests.specs.{CutResolution.{cut_of, cut_open, is_ordering, orders_by}, CoherenceTests.writes_in}
-use Rattle.co_tests.proofs.{Opened.{same_at, source_same, source_mark_same}, Events.IsLoop}
-use Rattle.co_tests.proofs.Values.{Cut, IsCut, one_location, written, value_early, value_late, later_cut, first_cut, none_diff}
-use Rattle.co_tests.specs.Shape.{HasShape}
+use Rattle.std.{proofs.{Common.{◌≡◌, ℕ, zero, suc, ◌+◌, ◌-◌, ◌<◌, ◌≤◌, true, false, cond, List, [], ◌∷◌, length, take, Some, refl, sym, ◌∙◌, ap, arith, add-one}, lemmas.Bool.ne_eqb}, specs.{Prelude.{◌==◌, if◌then◌else◌}, List.position_from}}
+use Rattle.co_tests.proofs.{Vocabulary.{by_test, Dir, Mark, Edge, source_of, source_mark, is_external, edge_at, slot_of, value_of, slot_in, event_link, event_step, plain}, Opened.{same_at, source_same, source_mark_same}, Loops.{IsLoop, cut_within}}
+use Rattle.co_tests.{proofs.Values.{Cut, IsCut, one_location, written, value_early, value_late, later_cut, first_cut, none_diff}, specs.{CutResolution.{cut_of, cut_open, is_ordering}, CoherenceTests.writes_in, Shape.HasShape}}
+use Rattle.arch_trait.specs.{declared.{link.Link.{Link, TheVariants.Plain}, step.Step.Step}, Links.edge_link}
 
 -- the cut of edges of which the first has a number is at this place
 record FoundCut (es : List Edge) (first cut : ℕ) : Type 0 where
@@ -31,13 +20,6 @@ find_cut (e ∷ es) first cut h =
     (λ f. let r = find_cut es (first + 1) cut (sym (ap (λ b. cond b (Some first) (position_from is_ordering (first + 1) es)) f) ∙ h) in
     let z : (later_cut e es f r.found).at ≡ suc r.found.at = refl in record { found = later_cut e es f r.found; place = omega (arith, r.place, z) })
 
-inside_by_kind : (k : Kind) (e : Edge) → kind_of e ≡ k → orders_by k ≡ true → is_external e ≡ false
-inside_by_kind (kinds.Com c r) e q h = cc
-inside_by_kind (kinds.Po s f t) e q h = rw q refl
-inside_by_kind (kinds.Fenced k s f t) e q h = rw q refl
-inside_by_kind (kinds.Dep k s t) e q h = rw q refl
-inside_by_kind (kinds.Data s) e q h = rw q refl
-
 -- a cycle at one location that is cut at this place
 pub record LoopAt (es : List Edge) (cut : ℕ) : Type 0 where
   pub loop : IsLoop es
@@ -52,10 +34,7 @@ loop_at es cut s h = record {
     is_cut = record {
       cut = c;
       same = λ i l. none_diff es i s.one_location l;
-      within = by_less (c.at + 1) (length es) (λ l. l)
-          (λ g. let e : length es ≡ c.at + 1 = omega (arith, g, c.below) in
-          let out : is_external (edge_at es c.at) ≡ true = sym (ends_with es c.at e) ∙ s.outside in
-          let f : true ≡ false = sym out ∙ inside_by_kind (kind_of (edge_at es c.at)) (edge_at es c.at) refl c.ordering in cc);
+      within = cut_within es c s.outside;
     };
   };
   place = omega (arith, (find_cut es 0 cut h).place);

@@ -1,18 +1,8 @@
 -- The threads of a coherence test, and the accesses of one of them so far.
-use Rattle.std.proofs.Common.{◌≡◌, ℕ, ◌+◌, ◌<◌, ◌≤◌, ◌==◌, Bool, true, List, [], ◌∷◌, ◌++◌, length, map, Some, sym, ◌∙◌, ap, arith, slice_get, eq-eqb, ne_eqb}
-use Rattle.std.proofs.lemmas.List.{length-map, map-append}
-use Rattle.std.specs.List.{filter}
-use Rattle.list_laws.specs.Numbers.{upto}
-use Rattle.list_laws.proofs.{Counts.count_upto-le, Ranks.{filter_yes, length-filter-upto}}
-use Rattle.relax_edges.specs.{declared.kinds.ObsMode.TheVariants.Avoid, declared.edge.Edge.Edge, EdgeTable.is_external}
-use Rattle.cycle_events.specs.Resolution.{edge_at, events_in, external_count, thread_of}
-use Rattle.cycle_events.proofs.Threads.{thread_end, thread_out, thread_up}
+use Rattle.std.{proofs.{Common.{◌≡◌, ℕ, ◌+◌, ◌<◌, ◌≤◌, ◌==◌, Bool, true, List, [], ◌∷◌, ◌++◌, length, map, Some, sym, ◌∙◌, ap, arith, slice_get, eq-eqb, ne_eqb}, lemmas.List.{length-map, map-append}}, specs.List.filter}
+use Rattle.co_tests.proofs.Vocabulary.{upto, count_upto-le, filter_yes, length-filter-upto, Avoid, Edge, is_external, edge_at, events_in, external_count, thread_of, thread_end, thread_out, thread_up, event_step, thread_steps, plain, steps-count}
+use Rattle.co_tests.{proofs.{Vocabulary.{thread_steps_at, filter_until, filter_none}, Opened.{opened-threads, opened_events}, Loops.none_observed}, specs.{CutResolution.cut_open, CoherenceTests.coherence_steps}}
 use Rattle.arch_trait.specs.declared.step.Step.{Step}
-use Rattle.tests_force_cycles.specs.{CycleSteps.{event_step, thread_steps}, TestOf.plain}
-use Rattle.tests_force_cycles.proofs.StepsAt.{steps-count, thread_steps_at}
-use Rattle.co_tests.specs.{CutResolution.cut_open, CoherenceTests.coherence_steps}
-use Rattle.co_tests.proofs.{Opened.{opened-threads, opened_events}, Events.none_observed}
-use Rattle.test_maker.proofs.Ranges.{filter_until, filter_none}
 
 -- the accesses of a thread among the first events
 abbrev pub steps_so_far : List Edge → ℕ → ℕ → List Step

@@ -1,8 +1,10 @@
 -- The values of a cycle over one location that is cut open: how many writes there are on the arc, which begins behind the
 -- cut and goes once round, up to an event and with it.
-use Rattle.co_tests.proofs.Vocabulary.{nat_tests, ◌≡◌, ℕ, zero, suc, ◌+◌, ◌-◌, ◌<◌, ◌≤◌, Bool, true, false, cond, List, [], ◌∷◌, length, take, refl, sym, ◌∙◌, ap, arith, add-one, eq-eqb, ◌&&◌, ◌||◌, if◌then◌else◌, nat_le, min, count_by, list_any, le-leb, lt-leb, take_all, upto, by_test, by_less, count_upto-suc, count_upto_same, count_upto_none, Dir, Edge, source_of, is_diff, same_dir, edge_at, location_of, move_count, moves_before, event_after, counted_on, counted_kept, counted_up, passing, moves-zero, moves_on, moves_end, same_moves, by_after, way_after, way_ahead, is_write, is_write_at, way_place, value_of, write_count, is_ordering, elsewhere, cut_open, writes_in, is_writing, written_by}
+use Rattle.co_tests.proofs.Vocabulary.{nat_tests, ◌≡◌, ℕ, zero, suc, ◌+◌, ◌-◌, ◌<◌, ◌≤◌, Bool, true, false, cond, List, [], ◌∷◌, length, take, refl, sym, ◌∙◌, ap, arith, add-one, eq-eqb, ◌&&◌, ◌||◌, if◌then◌else◌, nat_le, min, count_by, list_any, le-leb}
+use Rattle.co_tests.proofs.Vocabulary.{lt-leb, take_all, upto, by_test, by_less, count_upto-suc, count_upto_same, count_upto_none, Dir, Edge, source_of, is_diff, same_dir, edge_at, location_of, move_count, moves_before, counted_on, counted_kept}
+use Rattle.co_tests.proofs.{Vocabulary.{counted_up, moves-zero, moves_on, moves_end, same_moves, way_after, way_ahead, is_write, is_write_at, way_place, value_of, write_count, is_ordering, elsewhere, cut_open, writes_in, written_by}, Opened.source_same}
+use Rattle.co_tests.proofs.Opened.{elsewhere_moves, same_at, opened-length}
 use Rattle.relax_edges.specs.declared.kinds.Dir.TheVariants as dirs
-use Rattle.co_tests.proofs.Opened.{source_same, elsewhere_moves, same_at, opened-length}
 
 -- the cut of a cycle: its first edge in a thread that is no communication, which leads elsewhere once the cycle is cut open
 pub record Cut (es : List Edge) : Type 0 where
@@ -261,35 +263,6 @@ one_for d = grind arith
 pub next_written : (es : List Edge) (i : ℕ) → i < length es → written es (i + 1) ≡ written es i + written_by (source_of (edge_at es i))
 next_written es i h = rw (← add-one i) at (written_more es i h) ∙ ap (λ n. written es i + n) (one_for (source_of (edge_at es i)))
 
--- along each edge but the cut the value grows by one into a write, and stays into a read
-pub value_along : (es : List Edge) (i : ℕ) (c : IsCut es) → i < length es → (i ≡ c.cut.at → ⊥)
-    → value_of (cut_open es) (event_after es i) ≡ value_of (cut_open es) i + written_by (source_of (edge_at es (event_after es i)))
-value_along es i c h d =
-    by_after es i h
-    (λ l e. rw e
-    (by_less i c.cut.at
-    (λ g. omega (arith, value_early es i c (omega (arith, g)), value_early es (i + 1) c (omega (arith, g)), next_written es (i + 1) l))
-    (λ g. omega (arith, value_late es i c (omega (arith, g, d)) h, value_late es (i + 1) c (omega (arith, g, d)) l, next_written es (i + 1) l))))
-    (λ l e. rw e
-    (let z : written es (0 + 1) ≡ written es 0 + written_by (source_of (edge_at es 0)) = next_written es 0 (omega (arith, h)) in
-    let w : written es (length es) ≡ written es (i + 1) = ap (written es) l in
-    omega (arith, value_late es i c (omega (arith, c.within, l)) h, value_early es 0 c (omega arith), z, written-zero es, w, written-all es)))
-
--- behind the cut it begins anew
-pub value_begins : (es : List Edge) (c : IsCut es) → value_of (cut_open es) (c.cut.at + 1) ≡ written_by (source_of (edge_at es (c.cut.at + 1)))
-value_begins es c = omega (arith, value_late es (c.cut.at + 1) c (omega arith) c.within, next_written es (c.cut.at + 1) c.within)
-
--- the event that the cut leaves comes after all writes
-pub value_ends : (es : List Edge) (c : IsCut es) → value_of (cut_open es) c.cut.at ≡ writes_in es
-value_ends es c = omega (arith, value_early es c.cut.at c (omega arith))
-
--- values are at most as many as the writes
-pub value_within : (es : List Edge) (i : ℕ) → IsCut es → i < length es → value_of (cut_open es) i ≤ writes_in es
-value_within es i c h =
-    by_less c.cut.at i
-    (λ g. omega (arith, value_late es i c g h, written_up es (i + 1) (length es) (omega (arith, h)) (omega arith), written-all es))
-    (λ g. omega (arith, value_early es i c g, written_up es (i + 1) (c.cut.at + 1) (omega (arith, g)) (omega (arith, c.within))))
-
 -- a write has a value of at least one
 pub value_positive : (es : List Edge) (i : ℕ) → IsCut es → i < length es → source_of (edge_at es i) ≡ dirs.W → 0 < value_of (cut_open es) i
 value_positive es i c h w =
@@ -304,33 +277,3 @@ value_positive es i c h w =
       written_up es (c.cut.at + 1) (length es) (omega (arith, c.within)) (omega arith),
       written-all es,
     ))
-
--- a write with a value
-pub record Writes (es : List Edge) (k : ℕ) : Type 0 where
-  pub event : ℕ
-  pub below : event < length es
-  pub writes : source_of (edge_at es event) ≡ dirs.W
-  pub value : value_of (cut_open es) event ≡ suc k
-
--- each value up to the number of the writes is that of a write
-pub value_written : (es : List Edge) (k : ℕ) → IsCut es → k < writes_in es → Writes es k
-unfolding written
-value_written es k c h =
-    by_less (k + written es (c.cut.at + 1)) (writes_in es)
-    (λ l. let w = passing leaves_write es (k + written es (c.cut.at + 1)) l in
-    let d : source_of (edge_at es w.event) ≡ dirs.W = is_writing (source_of (edge_at es w.event)) w.passes in
-    let one : written_by (source_of (edge_at es w.event)) ≡ 1 = ap written_by d in
-    let before : written es w.event ≡ k + written es (c.cut.at + 1) = w.counted in
-    let more = next_written es w.event w.below in
-    by_less c.cut.at w.event
-    (λ g. record { event = w.event; below = w.below; writes = d; value = omega (arith, value_late es w.event c g w.below, more, one, before) })
-    (λ g. absurd (omega (arith, more, one, before, written_up es (w.event + 1) (c.cut.at + 1) (omega (arith, g)) (omega (arith, c.within))))))
-    (λ l. let w = passing leaves_write es (k + written es (c.cut.at + 1) - writes_in es)
-    (omega (arith, l, h, written_up es (c.cut.at + 1) (length es) (omega (arith, c.within)) (omega arith), written-all es)) in
-    let d : source_of (edge_at es w.event) ≡ dirs.W = is_writing (source_of (edge_at es w.event)) w.passes in
-    let one : written_by (source_of (edge_at es w.event)) ≡ 1 = ap written_by d in
-    let before : written es w.event ≡ k + written es (c.cut.at + 1) - writes_in es = w.counted in
-    let more = next_written es w.event w.below in
-    by_less c.cut.at w.event
-    (λ g. absurd (omega (arith, before, h, l, written_up es (c.cut.at + 1) w.event (omega (arith, g)) (omega (arith, w.below)))))
-    (λ g. record { event = w.event; below = w.below; writes = d; value = omega (arith, value_early es w.event c g, more, one, before, l) }))

@@ -1,5 +1,6 @@
 -- The definitions tried on worked tests: where a cycle is cut, the values, the condition's first term and the refusals.
-use Rattle.co_tests.proofs.Vocabulary.{◌≡◌, ℕ, true, List, [], ◌∷◌, map, Some, refl, Same, Diff, External, Avoid, Edge, thread_of, slot_of, location_of, events_in, moves_before, way_place, value_of, write_count, is_observed, location_name, AtPlace, cycle_steps, last_terms, cut_of, cut_open, writes_in, coherence_steps, is_no_coherence}
+use Rattle.co_tests.proofs.Vocabulary.{◌≡◌, ℕ, true, List, [], ◌∷◌, map, Some, refl, Same, Diff, External, Avoid, Edge, thread_of, slot_of, location_of, events_in, moves_before, way_place, value_of, write_count, is_observed, location_name, AtPlace}
+use Rattle.co_tests.proofs.Vocabulary.{cycle_steps, last_terms, cut_of, cut_open, writes_in, coherence_steps, is_no_coherence}
 use Rattle.relax_edges.specs.declared.kinds.Dir.TheVariants as dirs
 use Rattle.relax_edges.specs.declared.kinds.Com.TheVariants as coms
 use Rattle.relax_edges.specs.declared.edge.Edge.TheVariants as edges

@@ -3,10 +3,10 @@
 use Rattle.std.specs.Prelude.{◌≡◌, ℕ, ◌+◌, List, length, Some, slice_get}
 use Rattle.relax_edges.specs.declared.edge.Edge.{Edge}
 use Rattle.list_laws.specs.Numbers.{upto}
-use Rattle.edge_algebra_laws.specs.Rotation.{rotated}
+use Rattle.edge_algebra.specs.Rotation.{rotated}
 use Rattle.cycle_events.specs.Values.{value_of, writes_counted}
 use Rattle.arch_trait.specs.Threads.{Puts}
-use Rattle.co_tests.specs.{CutResolution.cut_of, CutResolution.cut_open, CoherenceTests.HasCoherenceTest}
+use Rattle.co_tests.specs.{CutResolution.{cut_of, cut_open}, CoherenceTests.HasCoherenceTest}
 
 -- the arc behind a cut: the events from the one that the cut enters, once round to the one that it leaves
 abbrev pub arc_behind : List Edge → ℕ → List ℕ

@@ -1,15 +1,12 @@
 -- Why a cycle has no coherence test: the first reason that holds; and the text of the test of one that has.
 -- Source: own, after the refusals of diy.
-use Rattle.std.specs.{Prelude.{ℕ, Bool, not, ◌||◌, nat_lt, List, Option, Some, None, if◌then◌else◌}, List.{list_any, position_from}}
-use Rattle.std.specs.Option.{option_map, option_or}
+use Rattle.std.specs.{Prelude.{ℕ, Bool, not, ◌||◌, nat_lt, List, Option, Some, None, if◌then◌else◌}, List.{list_any, position_from}, Option.{option_map, option_or}}
 use Rattle.relax_edges.specs.{declared.edge.Edge.Edge, EdgeTable.is_diff}
 use Rattle.cycle_events.specs.Resolution.{external_count, turned}
 use Rattle.arch_trait.specs.{Threads.Puts, Writing.{Writing, name_in}, SeenTests.TestSeen}
 use Rattle.litmus_text.specs.TestText.{test_text}
-use Rattle.test_maker.specs.declared.refusal.Refusal.{Refusal}
-use Rattle.test_maker.specs.Refusals.{foreign_edge, is_crowded}
-use Rattle.co_tests.specs.{CutResolution.is_ordering, CoherenceTests.{writes_in, coherence_steps, coherence_test_of}}
-use Rattle.co_tests.specs.declared.refusal.CoRefusal.{CoRefusal}
+use Rattle.test_maker.specs.{declared.refusal.Refusal.Refusal, Refusals.{foreign_edge, is_crowded}}
+use Rattle.co_tests.specs.{CutResolution.is_ordering, CoherenceTests.{writes_in, coherence_steps, coherence_test_of}, declared.refusal.CoRefusal.CoRefusal}
 use Rattle.co_tests.specs.declared.refusal.CoRefusal.TheVariants as reasons
 use Rattle.test_maker.specs.declared.refusal.Refusal.TheVariants as refusals
 

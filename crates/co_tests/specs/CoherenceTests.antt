@@ -4,8 +4,8 @@
 -- Source: own, after the way diy takes from a cycle to a test.
 use Rattle.std.specs.{Prelude.{ℕ, ◌≡◌, ◌≤◌, true, false, List, Some, count_by, slice_get}, List.{list_all, list_any}}
 use Rattle.relax_edges.specs.declared.kinds.Dir.TheVariants as dirs
-use Rattle.relax_edges.specs.{declared.kinds.ObsMode.TheVariants.Avoid, declared.edge.Edge.Edge, EdgeTable.{source_of, same_dir, is_diff, is_of_arch}}
-use Rattle.edge_algebra_laws.specs.Composable.{IsCycle}
+use Rattle.relax_edges.specs.{declared.{kinds.ObsMode.TheVariants.Avoid, edge.Edge.Edge}, EdgeTable.{source_of, same_dir, is_diff, is_of_arch}}
+use Rattle.edge_algebra.specs.Composable.{IsCycle}
 use Rattle.cycle_events.specs.Resolution.{ends_outside, external_count}
 use Rattle.arch_trait.specs.{declared.step.Step.Step, Threads.{Puts, shape_of}, SeenTests.TestSeen}
 use Rattle.program_meaning.specs.{Executions.Execution, Intended.intended}

@@ -4,8 +4,7 @@
 -- threads are counted.
 -- Source: own; that a thread's accesses to one location keep their order is the coherence of the literature.
 use Rattle.std.specs.{Prelude.{ℕ, Bool, true, false, if◌then◌else◌, List, [], ◌∷◌, Option}, List.position_from}
-use Rattle.relax_edges.specs.{declared.kinds.Sd.TheVariants.Diff, declared.kinds.Kind.Kind, declared.marked.MarkableKind.MarkableKind, declared.edge.Edge.Edge}
-use Rattle.relax_edges.specs.EdgeTable.{kind_of}
+use Rattle.relax_edges.specs.{declared.{kinds.{Sd.TheVariants.Diff, Kind.Kind}, marked.MarkableKind.MarkableKind, edge.Edge.Edge}, EdgeTable.kind_of}
 use Rattle.relax_edges.specs.declared.kinds.Kind.TheVariants as kinds
 use Rattle.relax_edges.specs.declared.marked.MarkableKind.TheVariants as markables
 use Rattle.relax_edges.specs.declared.edge.Edge.TheVariants as edges

@@ -2,14 +2,13 @@
 -- Source: own; that coherence forbids a cycle in program order at one location, reads-from, coherence order and from-read is
 -- SC per location ('uniproc') of Alglave, Maranget and Tautschnig, 'Herding Cats', 2014.
 use Rattle.std.specs.{Prelude.{◌≡◌, ℕ, List, None, Ok, Some, codes}, List.join_by}
-use Rattle.relax_edges.specs.{declared.kinds.ArchName.ArchName, declared.edge.Edge.Edge, WordParts.word_of}
+use Rattle.relax_edges.specs.{declared.{kinds.ArchName.ArchName, edge.Edge.Edge}, WordParts.word_of}
 use Rattle.final_cond.specs.{declared.cond.Quantifier.TheVariants.Exists, States.Meets}
-use Rattle.edge_algebra_laws.specs.Composable.{IsCycle}
+use Rattle.edge_algebra.specs.Composable.{IsCycle}
 use Rattle.cycle_events.specs.Resolution.{turned}
 use Rattle.arch_trait.specs.{PlaceNames.number_in, Threads.Puts, Writing.{Writing, name_in}}
 use Rattle.litmus_text.specs.{Printable.IsTestName, TestReading.{TestRead, test_read}, TestText.test_text}
-use Rattle.program_meaning.specs.{declared.WriteAt.WriteAt, Accesses.Access, Executions.Execution, Programs.{IsCandidate, IsCoherentIn, accesses_in}}
-use Rattle.program_meaning.specs.Standing.{AllStand}
+use Rattle.program_meaning.specs.{declared.WriteAt.WriteAt, Accesses.Access, Executions.Execution, Programs.{IsCandidate, IsCoherentIn, accesses_in}, Standing.AllStand}
 use Rattle.sc_and_interleavings.specs.Relations.{IsPathOfSteps}
 use Rattle.tests_force_cycles.specs.FinalStates.{final_state}
 use Rattle.bytes_force_cycles.specs.{AnyValues.RunsThrough, Readings.program_read}

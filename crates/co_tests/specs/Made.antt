@@ -5,9 +5,8 @@ use Rattle.relax_edges.specs.declared.edge.Edge.{Edge}
 use Rattle.cycle_events.specs.Resolution.{external_count, turned}
 use Rattle.arch_trait.specs.{Threads.Puts, SeenTests.TestSeen}
 use Rattle.litmus_text.specs.{declared.test.Test.Test, Tests.test_seen}
-use Rattle.test_maker.specs.declared.refusal.{Refusal.Refusal, Refusal.TheVariants.{TooFewThreads, NotCoherence, ManyWrites}}
-use Rattle.co_tests.specs.{declared.refusal.CoRefusal.CoRefusal, CoherenceTests.{coherence_test_of, writes_in}}
-use Rattle.co_tests.specs.CoRefusals.{co_refusal, coherence_refusal_of, crowded_thread, is_no_coherence, reason_if}
+use Rattle.test_maker.specs.declared.refusal.Refusal.{Refusal, TheVariants.{TooFewThreads, NotCoherence, ManyWrites}}
+use Rattle.co_tests.specs.{declared.refusal.CoRefusal.CoRefusal, CoherenceTests.{coherence_test_of, writes_in}, CoRefusals.{co_refusal, coherence_refusal_of, crowded_thread, is_no_coherence, reason_if}}
 
 -- a call makes the coherence test of a cycle that has no reason against it, or returns the first reason why it has none
 abbrev pub MakesSeen : Puts → (ℕ → List ℕ) → List Edge → TestSeen → Result (Unit {0}) CoRefusal → Type 0

@@ -1,7 +1,7 @@
 -- The cycles that the code makes coherence tests of: the premise of `value_of`, and otherwise for clauses of private functions.
 use Rattle.std.specs.{Prelude.{◌≡◌, ◌≤◌, true, false, List}, List.list_any}
 use Rattle.relax_edges.specs.{declared.edge.Edge.Edge, EdgeTable.is_diff}
-use Rattle.edge_algebra_laws.specs.Composable.{IsCycle}
+use Rattle.edge_algebra.specs.Composable.{IsCycle}
 use Rattle.cycle_events.specs.Resolution.{ends_outside, external_count}
 use Rattle.co_tests.specs.{CutResolution.is_ordering, CoherenceTests.writes_in}
 

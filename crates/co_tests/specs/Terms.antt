@@ -1,7 +1,7 @@
 -- The terms of the condition of a coherence test: for clauses of private functions.
-use Rattle.std.specs.{Prelude.{ℕ, ◌==◌, if◌then◌else◌, List, [], ◌∷◌}}
+use Rattle.std.specs.Prelude.{ℕ, ◌==◌, if◌then◌else◌, List, [], ◌∷◌}
 use Rattle.final_cond.specs.Conditions.{TermSeen, AtPlace}
-use Rattle.arch_trait.specs.{PlaceNames.location_name}
+use Rattle.arch_trait.specs.PlaceNames.{location_name}
 
 -- the last value of the one location, if it has two writes
 abbrev pub last_of_writes : ℕ → List TermSeen

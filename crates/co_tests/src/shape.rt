@@ -1,5 +1,5 @@
 ghost use Rattle.std.specs.{Prelude.{◌≡◌, ◌<◌, ◌≤◌, length, position}, List.{list_any, position_from}};
-ghost use Rattle.edge_algebra_laws.specs.Rotation.{rotated};
+ghost use Rattle.edge_algebra.specs.Rotation.{rotated};
 ghost use Rattle.relax_edges.specs.EdgeTable.{is_diff, is_external};
 ghost use Rattle.cycle_events.specs.Resolution.{ends_outside, external_count, turned};
 ghost use Rattle.co_tests.specs.{CutResolution.{cut_of, is_ordering}, CoherenceTests.{writes_in}};

@@ -1,20 +1,11 @@
 -- The steps of a walk along the arcs.
-use Rattle.std.proofs.Common.{◌≡◌, ℕ, zero, suc, ◌+◌, ◌-◌, ◌<◌, ◌≤◌, Bool, true, false, ◌==◌, ◌&&◌, cond, List, [], ◌∷◌, ◌++◌, length, get_or, map, Option, Some, None, refl, sym, ◌∙◌, ap, arith, add-one}
-use Rattle.std.proofs.lemmas.Bool.{eq-eqb, ne_eqb, cond-true, cond-false, and_from, and_left, and_right, lt-ltb, le-ltb, le-leb, lt-leb}
-use Rattle.std.specs.{Prelude.{not, nat_lt, nat_le}, Option.option_or}
+use Rattle.coherence_values.proofs.Vocabulary.{◌≡◌, ℕ, zero, suc, ◌+◌, ◌-◌, ◌<◌, ◌≤◌, Bool, true, false, ◌==◌, ◌&&◌, cond, List, [], ◌∷◌, ◌++◌, length, get_or, map, Option, Some, None, refl, sym, ◌∙◌, ap, arith, add-one, eq-eqb, ne_eqb, cond-true}
+use Rattle.coherence_values.proofs.Vocabulary.{cond-false, and_from, and_left, and_right, lt-ltb, le-ltb, le-leb, lt-leb, not, nat_lt, nat_le, option_or, Edge, same_dir, is_external, is_diff, upto, by_test, by_less, by_same, by_option}
+use Rattle.coherence_values.proofs.Vocabulary.{count_upto_one_more, count_upto_same, map-upto_more, length-map-upto, get_or-map-upto, Event, move_count, edge_at, event_of, events_of, event_before, moves_before, location_of, slot_of, IsResolved}
+use Rattle.coherence_values.proofs.Vocabulary.{edge_into, is_write_at, way_place, value_of, write_count, write_at, is_later_entry, first_entry, inner_entry, last_entry, slot-zero, slot_in, slot_out, several_locations, moved_location, only_on_way}
+use Rattle.coherence_values.proofs.Vocabulary.{find_more, laid_out, external_keeps, ends_with, moves-zero, moves_on, moves_kept, moves_most, moves_end, location_first, location_wrapped, location_kept, is_write, value_at_end, value_most, write_count_most}
+use Rattle.coherence_values.{proofs.Vocabulary.{write_of, is_write_number, write_at_from, value_from}, specs.{declared.valued.Arc.Arc, Arc.{seen_of, writes_before, seen_with, LeadsOn, all_seen}}}
 use Rattle.relax_edges.specs.declared.kinds.Dir.TheVariants as dirs
-use Rattle.relax_edges.specs.{declared.edge.Edge.Edge, EdgeTable.{same_dir, is_external, is_diff}}
-use Rattle.list_laws.specs.Numbers.{upto}
-use Rattle.list_laws.proofs.{Cases.{by_test, by_less, by_same, by_option}, Counts.{count_upto_one_more, count_upto_same}}
-use Rattle.list_laws.proofs.Numbers.{map-upto_more, length-map-upto, get_or-map-upto}
-use Rattle.cycle_events.specs.declared.event.Event.{Event}
-use Rattle.cycle_events.specs.Resolution.{move_count, edge_at, event_of, events_of, event_before, moves_before, location_of, slot_of, IsResolved}
-use Rattle.cycle_events.specs.Values.{edge_into, is_write_at, way_place, value_of, write_count, write_at}
-use Rattle.cycle_events.specs.Entries.{is_later_entry, first_entry, inner_entry, last_entry}
-use Rattle.cycle_events.proofs.{Threads.{slot-zero, slot_in, slot_out}, Arcs.{several_locations, moved_location}, TurnedRound.only_on_way, Entries.find_more}
-use Rattle.cycle_events.proofs.Locations.{external_keeps, ends_with, moves-zero, moves_on, moves_kept, moves_most, moves_end, location_first, location_wrapped, location_kept}
-use Rattle.cycle_events.proofs.{ValuesAlongEdges.{is_write, value_at_end, value_most, write_count_most}, Writes.{write_of, is_write_number, write_at_from, value_from}}
-use Rattle.coherence_values.specs.{declared.valued.Arc.Arc, Arc.{seen_of, writes_before, seen_with, LeadsOn, all_seen}}
 
 -- an arc with one event more
 abbrev pub arc_with : Arc → ℕ → Event → Arc
@@ -71,7 +62,7 @@ value_split es i h =
 
 -- the writes of an arc before an event are those up to the event before it on the arc
 pub writes_before_is : (es : List Edge) (i : ℕ) → IsResolved es → i < length es → writes_before es i ≡ writes_so_far es i
-writes_before_is es i r h = omega (arith, value_split es i h, value_from es i r h)
+writes_before_is es i r h = omega (arith, value_split es i h, value_from es i (laid_out r) h)
 
 -- the first write isn't an entry
 first_isnt : (es : List Edge) (l : ℕ) → first_entry es l (0 ∷ []) ≡ None
@@ -106,7 +97,7 @@ same_arc a b x y u v e f g = cc
 -- what is kept, with the event that comes next on the arc
 pub arc_step : (es : List Edge) (i : ℕ) → IsResolved es → i < length es → arc_with (seen_of es (location_of es i) (writes_so_far es i)) i (event_of es i) ≡ seen_of es (location_of es i) (value_of es i)
 arc_step es i r h =
-    let from : value_of es i ≡ writes_so_far es i + cond (is_write es i) 1 0 = value_from es i r h in
+    let from : value_of es i ≡ writes_so_far es i + cond (is_write es i) 1 0 = value_from es i (laid_out r) h in
     let l = location_of es i in
     let n = writes_so_far es i in
     let more_arc : Arc = record { writes = n + 1; inner = option_or (inner_entry es l n) (last_entry es l n); entered = cond ((slot_of es i == 0) && nat_lt 0 n) (Some i) None } in
@@ -186,7 +177,7 @@ pub arcs_more : (es : List Edge) (i : ℕ) → IsResolved es → i < length es �
 arcs_more es i r h t =
     let on = moves_on es i h t in
     let first : location_of es i ≡ moves_before es i = location_first es i (omega (arith, on, moves_most es (i + 1) (omega arith))) in
-    let whole : value_of es i ≡ write_count es (moves_before es i) = value_at_end es i r h t ∙ ap (write_count es) first in
+    let whole : value_of es i ≡ write_count es (moves_before es i) = value_at_end es i (laid_out r) h t ∙ ap (write_count es) first in
     rw (on, whole, first) (map-upto_more (λ l. seen_of es l (write_count es l)) (moves_before es i))
 
 -- no arc more is walked at any other edge

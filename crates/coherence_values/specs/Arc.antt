@@ -3,8 +3,7 @@
 use Rattle.std.specs.Prelude.{◌≡◌, ℕ, ◌<◌, ◌&&◌, nat_lt, List, length, map, count_by}
 use Rattle.relax_edges.specs.declared.edge.Edge.{Edge}
 use Rattle.list_laws.specs.Numbers.{upto}
-use Rattle.cycle_events.specs.{declared.event.Event.Event, Resolution.{event_of, move_count, location_of, IsResolved}}
-use Rattle.cycle_events.specs.{Values.{is_write_at, way_place, value_of, write_count}, Entries.{inner_entry, last_entry}}
+use Rattle.cycle_events.specs.{declared.event.Event.Event, Resolution.{event_of, move_count, location_of, IsResolved}, Values.{is_write_at, way_place, value_of, write_count}, Entries.{inner_entry, last_entry}}
 use Rattle.coherence_values.specs.declared.valued.Arc.{Arc}
 
 -- what is kept about the first n writes of a location

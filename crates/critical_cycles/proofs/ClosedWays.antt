@@ -1,9 +1,8 @@
 -- Ways: segments and the arcs between them, where the two accesses of a segment may be one, or at one location. A way may begin with
 -- another
 -- segment that leads on to the same access, and ways that meet join.
-use Rattle.critical_cycles.proofs.Vocabulary.{◌≡◌, ℕ, ◌+◌, ◌≤◌, List, [], ◌∷◌, ◌++◌, Option, Some, None, inl, inr, ◌∙◌, ap, arith, by_same}
-use Rattle.critical_cycles.proofs.Vocabulary.{WriteAt, Access, Execution, IsCoherent, Held, IsArc, Segment, place_at}
-use Rattle.critical_cycles.proofs.Keys.{Arc, Exists, Goes, key_at, arc_goes, stays}
+use Rattle.critical_cycles.proofs.{Vocabulary.{◌≡◌, ℕ, ◌+◌, ◌≤◌, List, [], ◌∷◌, ◌++◌, Option, Some, None, inl, inr, ◌∙◌, ap, arith, by_same, WriteAt, Access, Execution, IsCoherent, Held, IsArc, Segment, place_at}, Keys.{Arc, Exists, Goes, key_at}}
+use Rattle.critical_cycles.proofs.Keys.{arc_goes, stays}
 
 -- what is needed of an execution
 pub record Facts (threads : List (List Access)) (x : Execution) : Type 0 where

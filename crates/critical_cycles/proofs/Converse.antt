@@ -1,22 +1,11 @@
 -- Accesses that are the events of a resolved cycle of parts make a critical cycle: the numbers of threads and locations that the cycle
 -- counts
 -- are different, so the threads and the locations are.
-use Rattle.critical_cycles.proofs.Vocabulary.{Bool, List, Some, [], ap, arith, false, length, length-append, map, refl, slice_get, subst}
-use Rattle.critical_cycles.proofs.Vocabulary.{suc, sym, take, zero, ℕ, ◌++◌, ◌+◌, ◌<◌, ◌==◌, ◌∙◌, ◌∷◌, ◌≡◌, eq-eqb, ne_eqb, length-map}
-use Rattle.critical_cycles.proofs.Vocabulary.{IsDistinct-from_apart, get_or_from_slice_get, slice_get-map, slice_get_within, AllByRecursion}
-use Rattle.critical_cycles.proofs.Vocabulary.{count_by, flat_map, option_map, by_after, several_locations, passing, location_first}
-use Rattle.critical_cycles.proofs.Vocabulary.{distinct_push, Access, Execution, WriteAt, Edge, is_diff, is_external, Held, held, AreArcs}
-use Rattle.critical_cycles.proofs.Vocabulary.{CriticalCycle, Moves, Segment, place_at, threads_of, AreEvents, EdgeLeads}
-use Rattle.critical_cycles.proofs.Vocabulary.{accesses_of_segment, critical_edges, critical_events, edges_along, plain_edge, Part}
-use Rattle.critical_cycles.proofs.Vocabulary.{edges_of_part}
-use Rattle.std.specs.List.{IsDistinct}
-use Rattle.std.proofs.Common.{get_or}
-use Rattle.cycle_events.specs.Resolution.{moves_before, thread_of}
-use Rattle.critical_cycles.proofs.{Linked.{GoesOn, all_go_on}, Parts.{Along, Leads, along}}
-use Rattle.critical_cycles.proofs.{PlacesAlongSteps.{passed, passed_at, passed_count, places_passed, threads_passed}}
-use Rattle.critical_cycles.proofs.EdgeSteps.{AllNext, Leaving, begins, edge_is, edges_are, edges_in, events_are, events_in, leaving, step_below}
-use Rattle.critical_cycles.proofs.EdgeSteps.{steps_along}
-use Rattle.critical_cycles.proofs.Resolved.{all_plain, arc_places, got_left}
+use Rattle.critical_cycles.proofs.Vocabulary.{Bool, List, Some, [], ap, arith, false, length, length-append, map, refl, slice_get, subst, suc, sym, take, zero, ℕ, ◌++◌, ◌+◌, ◌<◌, ◌==◌, ◌∙◌, ◌∷◌, ◌≡◌, eq-eqb, ne_eqb, length-map, IsDistinct-from_apart}
+use Rattle.critical_cycles.proofs.Vocabulary.{get_or_from_slice_get, slice_get-map, slice_get_within, AllByRecursion, count_by, flat_map, option_map, by_after, several_locations, passing, location_first, distinct_push, Access, Execution, WriteAt, Edge}
+use Rattle.critical_cycles.proofs.Vocabulary.{is_diff, is_external, Held, held, AreArcs, CriticalCycle, Moves, Segment, place_at, threads_of, AreEvents, EdgeLeads, accesses_of_segment, critical_edges, critical_events, edges_along, plain_edge, Part}
+use Rattle.critical_cycles.proofs.{Vocabulary.{edges_of_part, IsDistinct, get_or, moves_before, thread_of}, Linked.{GoesOn, all_go_on}, Parts.{Along, Leads, along}, PlacesAlongSteps.{passed, passed_at, passed_count, places_passed, threads_passed}}
+use Rattle.critical_cycles.proofs.{EdgeSteps.{AllNext, Leaving, begins, edge_is, edges_are, edges_in, events_are, events_in, leaving, step_below, steps_along}, Resolved.{all_plain, arc_places, got_left}}
 
 -- edges and events, side by side
 pub zipped : List Edge → List WriteAt → List Leaving

@@ -1,13 +1,8 @@
 -- The laws of this crate.
-use Rattle.critical_cycles.specs.CriticalLaws.{CandidatesShowCycles, CriticalCyclesAreShort, CriticalCyclesHaveEvents}
-use Rattle.critical_cycles.specs.CriticalLaws.{CriticalIsNotSequential, SequentialOrCritical, ShowsCycle, TwoThreadsShowSix}
-use Rattle.critical_cycles.proofs.Vocabulary.{◌⊎◌, List, inl, inr, arith, Access, accesses_in, IsSequential, CriticalCycle, held}
-use Rattle.program_meaning.proofs.Runs.{accesses-count}
+use Rattle.critical_cycles.{specs.CriticalLaws.{CandidatesShowCycles, CriticalCyclesAreShort, CriticalCyclesHaveEvents, CriticalIsNotSequential, SequentialOrCritical, ShowsCycle, TwoThreadsShowSix}, proofs.Vocabulary.{◌⊎◌, List, inl, inr, arith, Access}}
+use Rattle.critical_cycles.proofs.{Vocabulary.{accesses_in, IsSequential, CriticalCycle, held, accesses-count}, Short.critical_is_short, SixNamed.one_of_six, Resolved.critical_events_are}
 use Rattle.critical_cycles.proofs.RelationCycles as back
 use Rattle.critical_cycles.proofs.Reached as reached
-use Rattle.critical_cycles.proofs.Short.{critical_is_short}
-use Rattle.critical_cycles.proofs.SixNamed.{one_of_six}
-use Rattle.critical_cycles.proofs.Resolved.{critical_events_are}
 
 pub sequential_or_critical : SequentialOrCritical
 sequential_or_critical threads places x h within coherent =

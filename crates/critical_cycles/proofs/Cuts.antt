@@ -1,12 +1,7 @@
 -- Where a cycle of parts can be cut: between two parts, or in an arc of two edges.
-use Rattle.critical_cycles.proofs.Vocabulary.{append-nil, List, [], ap, append_assoc, arith, false, inl, inr, length, refl, subst, sym}
-use Rattle.critical_cycles.proofs.Vocabulary.{◌++◌, ◌∙◌, ◌∷◌, ◌≡◌, flat_map-append, map-append, flat_map, ◌⊎◌, outside_after, Access}
-use Rattle.critical_cycles.proofs.Vocabulary.{Execution, WriteAt, Edge, Dir, fre, pod, rfe, wse, Held, held, AreEvents, Arc, IsCriticalBy}
-use Rattle.critical_cycles.proofs.Vocabulary.{ListedAreCritical, Part, edges_of_arc, edges_of_part}
-use Rattle.cycle_events.specs.Resolution.{ends_outside}
-use Rattle.critical_cycles.specs.Listed.{Fre, FreRfe, Rfe, Wse, WseRfe}
-use Rattle.critical_cycles.proofs.{Converse.{parts_are_critical, zipped, zipped_edges, zipped_events}, EdgeSteps.{edges_in, events_in, leaving}}
-use Rattle.critical_cycles.proofs.{Turned.turned}
+use Rattle.critical_cycles.proofs.Vocabulary.{append-nil, List, [], ap, append_assoc, arith, false, inl, inr, length, refl, subst, sym, ◌++◌, ◌∙◌, ◌∷◌, ◌≡◌, flat_map-append, map-append, flat_map, ◌⊎◌, outside_after, Access, Execution, WriteAt, Edge, Dir}
+use Rattle.critical_cycles.proofs.{Vocabulary.{fre, pod, rfe, wse, Held, held, AreEvents, Arc, IsCriticalBy, ListedAreCritical, Part, edges_of_arc, edges_of_part, ends_outside}, Converse.{parts_are_critical, zipped, zipped_edges, zipped_events}}
+use Rattle.critical_cycles.{proofs.{EdgeSteps.{edges_in, events_in, leaving}, Turned.turned}, specs.Listed.{Fre, FreRfe, Rfe, Wse, WseRfe}}
 
 abbrev flat : List Part → List Edge
 flat parts = flat_map edges_of_part parts

@@ -1,10 +1,7 @@
 -- The edges and events of a cycle side by side, and what holds of each edge with its event and the next one.
-use Rattle.critical_cycles.proofs.Vocabulary.{append-nil, List, None, Option, Some, [], ap, arith, length, map, refl, slice_get, subst, suc}
-use Rattle.critical_cycles.proofs.Vocabulary.{sym, zero, ℕ, ◌++◌, ◌+◌, ◌<◌, ◌∙◌, ◌∷◌, ◌≡◌, length-map, map-append, get_or_from_slice_get}
-use Rattle.critical_cycles.proofs.Vocabulary.{slice_get-map, slice_get_within, AllByRecursion, flat_map, option_map, by_after, Access}
-use Rattle.critical_cycles.proofs.Vocabulary.{Execution, WriteAt, Edge, Dir, Rf, Internal, rfe, AreArcs, IsArc, Segment, dir_at}
-use Rattle.critical_cycles.proofs.Vocabulary.{accesses_of_segment, arc_edges, edge_to_write, edges_along}
-use Rattle.cycle_events.specs.Resolution.{edge_at, event_after}
+use Rattle.critical_cycles.proofs.Vocabulary.{append-nil, List, None, Option, Some, [], ap, arith, length, map, refl, slice_get, subst, suc, sym, zero, ℕ, ◌++◌, ◌+◌, ◌<◌, ◌∙◌, ◌∷◌, ◌≡◌, length-map, map-append, get_or_from_slice_get, slice_get-map}
+use Rattle.critical_cycles.proofs.Vocabulary.{slice_get_within, AllByRecursion, flat_map, option_map, by_after, Access, Execution, WriteAt, Edge, Dir, Rf, Internal, rfe, AreArcs, IsArc, Segment, dir_at, accesses_of_segment, arc_edges, edge_to_write}
+use Rattle.critical_cycles.proofs.Vocabulary.{edges_along, edge_at, event_after}
 use Rattle.relax_edges.specs.declared.kinds.Dir.TheVariants as dirs
 use Rattle.relax_edges.specs.declared.edge.Edge.TheVariants as edges
 

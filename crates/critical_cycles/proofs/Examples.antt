@@ -1,14 +1,9 @@
 -- The definitions tried on two executions: store buffering, and two threads that read two writes in different orders, whose critical cycle
 -- has
 -- two middle writes.
-use Rattle.critical_cycles.proofs.Vocabulary.{Bool, List, None, Some, [], arith, inr, refl, true, ℕ, ◌||◌, ◌∷◌, ◌≡◌, ltb-true, nat_lt}
-use Rattle.critical_cycles.proofs.Vocabulary.{Access, IsCoherent, Execution, IsExecutionOf, fre, pod, rfe, WritesWithin, CriticalCycle}
-use Rattle.critical_cycles.proofs.Vocabulary.{critical_edges}
-use Rattle.std.specs.List.{IsDistinct}
+use Rattle.critical_cycles.proofs.Vocabulary.{Bool, List, None, Some, [], arith, inr, refl, true, ℕ, ◌||◌, ◌∷◌, ◌≡◌, ltb-true, nat_lt, Access, IsCoherent, Execution, IsExecutionOf, fre, pod, rfe, WritesWithin, CriticalCycle, critical_edges, IsDistinct}
+use Rattle.critical_cycles.proofs.Vocabulary.{is_read, read, write, are_distinct, are_reads, every, name, execution_means, coheres_means, every_name}
 use Rattle.relax_edges.specs.declared.kinds.Dir.TheVariants as dirs
-use Rattle.program_meaning.specs.Accesses.{is_read, read, write}
-use Rattle.program_meaning.specs.Deciding.{are_distinct, are_reads, every, name}
-use Rattle.program_meaning.proofs.{Candidates.execution_means, CoherenceLaws.coheres_means, ElementTests.every_name}
 
 -- each write is to a location below a number, tried by computing
 abbrev writes_within : ℕ → List (List Access) → Bool

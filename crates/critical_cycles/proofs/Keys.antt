@@ -1,11 +1,8 @@
 -- The key of an access is twice its coherence place, and one more of a read. An arc leads to an access of a greater key at its location,
 -- an arc leads to each such access, and along a thread the key of a location doesn't fall.
-use Rattle.critical_cycles.proofs.Vocabulary.{◌≡◌, ℕ, ◌+◌, ◌<◌, ◌≤◌, Option, Some, None, List, inl, inr, sym, ap, subst, arith, ◌∙◌, Dir}
-use Rattle.critical_cycles.proofs.Vocabulary.{by_less, WriteAt, Access, read, write, at_name, Execution, CanRead, MayFollow, IsCoherent}
-use Rattle.critical_cycles.proofs.Vocabulary.{coherence_place, order_place, order_at, source_at, key, Held, place_in, read_before}
-use Rattle.critical_cycles.proofs.Vocabulary.{writes_ordered, writes_same, CoherenceOrder, FromRead, IsReadOf, IsWriteTo, ReadsFrom}
-use Rattle.critical_cycles.proofs.Vocabulary.{Precedes, IsArc, dir_at, dir_of_access, place_at, place_of_access}
-use Rattle.sc_and_interleavings.specs.Relations.{IsBefore}
+use Rattle.critical_cycles.proofs.Vocabulary.{◌≡◌, ℕ, ◌+◌, ◌<◌, ◌≤◌, Option, Some, None, List, inl, inr, sym, ap, subst, arith, ◌∙◌, Dir, by_less, WriteAt, Access, read, write, at_name, Execution, CanRead, MayFollow, IsCoherent, coherence_place}
+use Rattle.critical_cycles.proofs.Vocabulary.{order_place, order_at, source_at, key, Held, place_in, read_before, writes_ordered, writes_same, CoherenceOrder, FromRead, IsReadOf, IsWriteTo, ReadsFrom, Precedes, IsArc, dir_at, dir_of_access, place_at}
+use Rattle.critical_cycles.proofs.Vocabulary.{place_of_access, IsBefore}
 use Rattle.relax_edges.specs.declared.kinds.Dir.TheVariants as dirs
 
 -- there is an access of this name

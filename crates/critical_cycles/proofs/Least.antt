@@ -1,12 +1,7 @@
 -- A closed way is critical, or there is a shorter one: each segment is tried against all others. So the shortest is a critical cycle.
-use Rattle.critical_cycles.proofs.Vocabulary.{◌≡◌, ◌≢◌, ℕ, zero, suc, ◌+◌, ◌≤◌, false, ◌==◌, List, [], ◌∷◌, ◌++◌, map, Option, Some, None}
-use Rattle.critical_cycles.proofs.Vocabulary.{refl, sym, ◌∙◌, ap, subst, arith, append-nil, append_assoc, eq-eqb, eqb-true, by_same}
-use Rattle.critical_cycles.proofs.Vocabulary.{by_less, by_test, AllByRecursion, flat_map, all_append, all_parts, WriteAt, Access, Execution}
-use Rattle.critical_cycles.proofs.Vocabulary.{AreArcs, CriticalCycle, Moves, Segment, place_at, threads_of}
-use Rattle.std.specs.List.{IsDistinct}
-use Rattle.critical_cycles.proofs.ClosedWays.{Facts, IsWithin, Way, goes, joined, size, size-append}
-use Rattle.critical_cycles.proofs.Shorter.{Around, Closed, Shorter, middle_here, middle_there, middles, not_alone, one_place, one_thread}
-use Rattle.critical_cycles.proofs.Shorter.{size_around, turned}
+use Rattle.critical_cycles.proofs.Vocabulary.{◌≡◌, ◌≢◌, ℕ, zero, suc, ◌+◌, ◌≤◌, false, ◌==◌, List, [], ◌∷◌, ◌++◌, map, Option, Some, None, refl, sym, ◌∙◌, ap, subst, arith, append-nil, append_assoc, eq-eqb, eqb-true, by_same, by_less, by_test}
+use Rattle.critical_cycles.proofs.{Vocabulary.{AllByRecursion, flat_map, all_append, all_parts, WriteAt, Access, Execution, AreArcs, CriticalCycle, Moves, Segment, place_at, threads_of, IsDistinct}, ClosedWays.{Facts, IsWithin, Way, goes, joined, size}}
+use Rattle.critical_cycles.proofs.{ClosedWays.size-append, Shorter.{Around, Closed, Shorter, middle_here, middle_there, middles, not_alone, one_place, one_thread, size_around, turned}}
 
 -- each number of a list differs from each of another
 abbrev pub Differ : List ℕ → List ℕ → Type 0

@@ -19,3 +19,18 @@ pub mod Cuts
 pub mod Standing
 pub mod CriticalLaws
 mod Examples
+pub mod Upto
+pub mod Normal
+pub mod Reading
+pub mod SixCycles
+pub mod Chains
+pub mod MadeOfRelaxations
+pub mod Writes
+pub mod Counting
+pub mod Externals
+pub mod AcceptedChains
+pub mod Small
+pub mod Listing
+pub mod SixListed
+pub mod Rooms
+pub mod ListedConverse

@@ -1,13 +1,9 @@
 -- The edges of a critical cycle lead from each of its accesses to the next.
-use Rattle.critical_cycles.proofs.Vocabulary.{List, None, Option, Some, [], false, inl, inr, refl, subst, sym, ◌∷◌, ◌≡◌, AllByRecursion}
-use Rattle.critical_cycles.proofs.Vocabulary.{Access, Execution, AreAt, WriteAt, Edge, Dir, Kind, Plain, Internal, Diff, is_diff}
-use Rattle.critical_cycles.proofs.Vocabulary.{is_external, kind_of, kind_place, reach_of, sd_of, source_mark, source_of, target_mark}
-use Rattle.critical_cycles.proofs.Vocabulary.{target_of, rfe, Held, moves, ReadsFrom, Precedes, AreArcs, IsArc, IsBeforeWrite, Moves}
-use Rattle.critical_cycles.proofs.Vocabulary.{Segment, dir_at, place_at, AreRelated, EdgeLeads, edge_to_write}
+use Rattle.critical_cycles.proofs.Vocabulary.{List, None, Option, Some, [], false, inl, inr, refl, subst, sym, ◌∷◌, ◌≡◌, AllByRecursion, Access, Execution, AreAt, WriteAt, Edge, Dir, Kind, Plain, Internal, Diff, is_diff, is_external, kind_of, kind_place}
+use Rattle.critical_cycles.proofs.Vocabulary.{reach_of, sd_of, source_mark, source_of, target_mark, target_of, rfe, Held, moves, ReadsFrom, Precedes, AreArcs, IsArc, IsBeforeWrite, Moves, Segment, dir_at, place_at, AreRelated, EdgeLeads, edge_to_write}
+use Rattle.critical_cycles.proofs.{Keys.{Exists, arc_goes, co_dirs, fr_dirs, rf_dirs}, EdgeSteps.{AllNext, Leaving, all_next, arc_steps, leaving, steps_along}}
 use Rattle.relax_edges.specs.declared.kinds.Dir.TheVariants as dirs
 use Rattle.relax_edges.specs.declared.kinds.Kind.TheVariants as kinds
-use Rattle.critical_cycles.proofs.{Keys.{Exists, arc_goes, co_dirs, fr_dirs, rf_dirs}}
-use Rattle.critical_cycles.proofs.{EdgeSteps.{AllNext, Leaving, all_next, arc_steps, leaving, steps_along}}
 
 -- an edge fits a segment: it stays in its thread, leads to another location, has no marks, and its accesses do what those of the
 -- segment do

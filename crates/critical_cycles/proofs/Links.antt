@@ -1,18 +1,9 @@
 -- Links fit the segments in which they stand.
-use Rattle.critical_cycles.proofs.Vocabulary.{List, None, Option, Some, [], ap, arith, false, inl, inr, length, refl, slice_get, subst, sym}
-use Rattle.critical_cycles.proofs.Vocabulary.{ℕ, ◌<◌, ◌∙◌, ◌∷◌, ◌≡◌, AllByRecursion, flat_map, ◌≢◌, Access, at_name, Execution, AreAt}
-use Rattle.critical_cycles.proofs.Vocabulary.{WriteAt, Program, accesses_in, visits_in, Edge, Dir, Internal, Diff, is_external, reach_of}
-use Rattle.critical_cycles.proofs.Vocabulary.{sd_of, held, access_of_visit, AreArcs, Moves, Segment, dir_at, dir_of_access, place_of_access}
-use Rattle.critical_cycles.proofs.Vocabulary.{AreEvents, accesses_of_segment, edges_along, AreLinkedEvents, IsPlainOrLink}
-use Rattle.critical_cycles.proofs.Vocabulary.{LinkedCyclesHaveEvents}
-use Rattle.cycle_events.specs.Resolution.{edge_at, event_after}
-use Rattle.critical_cycles.proofs.Linked.{FitsSegment}
-use Rattle.critical_cycles.proofs.EdgeSteps.{AllNext, Leaving, all_next, arc_steps, each_next, edges_are, events_are, leaving, steps_along}
-use Rattle.critical_cycles.proofs.Resolved.{cycle_events, plain_fits}
+use Rattle.critical_cycles.proofs.Vocabulary.{List, None, Option, Some, [], ap, arith, false, inl, inr, length, refl, slice_get, subst, sym, ℕ, ◌<◌, ◌∙◌, ◌∷◌, ◌≡◌, AllByRecursion, flat_map, ◌≢◌, Access, at_name, Execution, AreAt, WriteAt, Program}
+use Rattle.critical_cycles.proofs.Vocabulary.{accesses_in, visits_in, Edge, Dir, Internal, Diff, is_external, reach_of, sd_of, held, access_of_visit, AreArcs, Moves, Segment, dir_at, dir_of_access, place_of_access, AreEvents, accesses_of_segment}
+use Rattle.critical_cycles.proofs.{Vocabulary.{edges_along, AreLinkedEvents, IsPlainOrLink, LinkedCyclesHaveEvents, edge_at, event_after, Reach, External, Sd, Same, Reaches}, Linked.FitsSegment, EdgeSteps.{AllNext, Leaving, all_next, arc_steps}}
+use Rattle.critical_cycles.proofs.{EdgeSteps.{each_next, edges_are, events_are, leaving, steps_along}, Resolved.{cycle_events, plain_fits}}
 use Rattle.relax_edges.specs.declared.kinds.Dir.TheVariants as dirs
-use Rattle.relax_edges.specs.{declared.kinds.Reach.Reach, declared.kinds.Reach.TheVariants.External, declared.kinds.Sd.Sd}
-use Rattle.relax_edges.specs.{declared.kinds.Sd.TheVariants.Same}
-use Rattle.program_meaning.specs.Standing.{Reaches}
 
 module _ (p : Program) (x : Execution) where
   abbrev threads : List (List Access)

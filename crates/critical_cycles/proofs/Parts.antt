@@ -1,10 +1,7 @@
 -- A list of steps that consists of parts is that of segments and arcs.
-use Rattle.critical_cycles.proofs.Vocabulary.{append-nil, List, None, Option, Some, [], ap, inl, inr, map, refl, subst, sym, ◌++◌, ◌∙◌, ◌∷◌}
-use Rattle.critical_cycles.proofs.Vocabulary.{◌≡◌, AllByRecursion, flat_map, Access, Execution, WriteAt, Edge, Dir, fre, pod, rfe, wse}
-use Rattle.critical_cycles.proofs.Vocabulary.{AreArcs, IsArc, Moves, Segment, dir_at, EdgeLeads, accesses_of_segment, arc_edges}
-use Rattle.critical_cycles.proofs.Vocabulary.{edge_to_write, edges_along, plain_edge, Arc, Part, edges_of_arc, edges_of_part}
-use Rattle.critical_cycles.specs.Listed.{Fre, FreRfe, Rfe, Wse, WseRfe}
-use Rattle.critical_cycles.proofs.EdgeSteps.{AllNext, Leaving, begins}
+use Rattle.critical_cycles.proofs.Vocabulary.{append-nil, List, None, Option, Some, [], ap, inl, inr, map, refl, subst, sym, ◌++◌, ◌∙◌, ◌∷◌, ◌≡◌, AllByRecursion, flat_map, Access, Execution, WriteAt, Edge, Dir, fre, pod, rfe, wse, AreArcs, IsArc, Moves}
+use Rattle.critical_cycles.{proofs.{Vocabulary.{Segment, dir_at, EdgeLeads, accesses_of_segment, arc_edges, edge_to_write, edges_along, plain_edge, Arc, Part, edges_of_arc, edges_of_part}, EdgeSteps.{AllNext, Leaving, begins}}, specs.Listed.Fre}
+use Rattle.critical_cycles.specs.Listed.{FreRfe, Rfe, Wse, WseRfe}
 
 -- a segment and an arc that steps begin with
 pub record Piece (threads : List (List Access)) (x : Execution) (l : List Leaving) (z : WriteAt) (es : List Edge) : Type 0 where

@@ -1,13 +1,10 @@
 -- Threads and locations along steps: how many edges before an event leave their thread, or their location, says which of the threads, or of
 -- the
 -- locations, is the event's.
-use Rattle.critical_cycles.proofs.Vocabulary.{append-nil, Bool, List, None, Option, Some, [], ap, append_assoc, arith, cond, false, length}
-use Rattle.critical_cycles.proofs.Vocabulary.{map, refl, slice_get, suc, sym, take, true, zero, ℕ, ◌++◌, ◌+◌, ◌∙◌, ◌∷◌, ◌≡◌, cond-false}
-use Rattle.critical_cycles.proofs.Vocabulary.{cond-true, sum_by-cons, AllByRecursion, count_by, flat_map, by_test, Access, Execution}
-use Rattle.critical_cycles.proofs.Vocabulary.{WriteAt, Edge, Dir, Internal, is_diff, is_external, reach_of, moves, Moves, Segment, dir_at}
-use Rattle.critical_cycles.proofs.Vocabulary.{place_at, threads_of}
+use Rattle.critical_cycles.proofs.Vocabulary.{append-nil, Bool, List, None, Option, Some, [], ap, append_assoc, arith, cond, false, length, map, refl, slice_get, suc, sym, take, true, zero, ℕ, ◌++◌, ◌+◌, ◌∙◌, ◌∷◌, ◌≡◌, cond-false, cond-true, sum_by-cons}
+use Rattle.critical_cycles.proofs.{Vocabulary.{AllByRecursion, count_by, flat_map, by_test, Access, Execution, WriteAt, Edge, Dir, Internal, is_diff, is_external, reach_of, moves, Moves, Segment, dir_at, place_at, threads_of}, Linked.FitsSegment}
+use Rattle.critical_cycles.proofs.{Linked.GoesOn, EdgeSteps.{AllNext, Leaving, arc_steps, begins, leaving, steps_along}}
 use Rattle.relax_edges.specs.declared.kinds.Dir.TheVariants as dirs
-use Rattle.critical_cycles.proofs.{Linked.{FitsSegment, GoesOn}, EdgeSteps.{AllNext, Leaving, arc_steps, begins, leaving, steps_along}}
 
 -- the values of the events whose edges pass a test, and a last value
 abbrev pub passed : (Edge → Bool) → (WriteAt → ℕ) → List Leaving → ℕ → List ℕ

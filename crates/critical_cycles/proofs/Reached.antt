@@ -1,14 +1,9 @@
 -- Paths of program order and arcs: each is program order, or a way with program order before and after it. One that leads back to its
 -- beginning
 -- makes a closed way. Whether there is one is decided by Warshall's algorithm over all accesses.
-use Rattle.critical_cycles.proofs.Vocabulary.{◌≡◌, Bool, true, false, ◌==◌, ◌&&◌, ◌||◌, List, [], ◌∷◌, ◌++◌, Option, Some, inl, inr, ◌⊎◌}
-use Rattle.critical_cycles.proofs.Vocabulary.{refl, sym, ◌∙◌, ap, subst, arith, nat_lt, and_parts, and_from, eqb-true, ltb-true, by_option}
-use Rattle.critical_cycles.proofs.Vocabulary.{by_test, WriteAt, Access, at_name, Execution, comes, earlier_comes, key, lesser_comes}
-use Rattle.critical_cycles.proofs.Vocabulary.{Precedes, StepBy, ByPo, ByRf, ByCo, ByFr, IsPathBy, IsSequential, CriticalCycle, Segment}
-use Rattle.critical_cycles.proofs.Vocabulary.{place_of_access}
-use Rattle.sc_and_interleavings.proofs.{Listed.{all_names, listed}, Sorting.In, AccessOrder.comes_by, AccessOrder.comes_first}
-use Rattle.critical_cycles.proofs.Keys.{Arc, Exists, Goes, arc_goes, arrives, key_is}
-use Rattle.critical_cycles.proofs.{ClosedWays.{Facts, IsWithin, Way, goes, joined, leaving, segment, size, within}, Least.critical}
+use Rattle.critical_cycles.proofs.Vocabulary.{◌≡◌, Bool, true, false, ◌==◌, ◌&&◌, ◌||◌, List, [], ◌∷◌, ◌++◌, Option, Some, inl, inr, ◌⊎◌, refl, sym, ◌∙◌, ap, subst, arith, nat_lt, and_parts, and_from, eqb-true, ltb-true, by_option, by_test, WriteAt}
+use Rattle.critical_cycles.proofs.Vocabulary.{Access, at_name, Execution, comes, earlier_comes, key, lesser_comes, Precedes, StepBy, ByPo, ByRf, ByCo, ByFr, IsPathBy, IsSequential, CriticalCycle, Segment, place_of_access, all_names, listed, In, comes_by}
+use Rattle.critical_cycles.proofs.{Vocabulary.comes_first, Keys.{Arc, Exists, Goes, arc_goes, arrives, key_is}, ClosedWays.{Facts, IsWithin, Way, goes, joined, leaving, segment, size, within}, Least.critical}
 
 -- a way from an access, or from a later one of its thread, that ends at or before another in its thread
 pub record Around (threads : List (List Access)) (x : Execution) (e f : WriteAt) : Type 0 where

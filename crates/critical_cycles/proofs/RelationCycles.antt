@@ -1,7 +1,6 @@
 -- A critical cycle is a cycle of program order, reads-from, coherence order and from-read.
-use Rattle.critical_cycles.proofs.Vocabulary.{List, [], ◌∷◌, Option, Some, None, inl, inr, WriteAt, Access, Execution, AllByRecursion}
-use Rattle.critical_cycles.proofs.Vocabulary.{AreArcs, CriticalCycle, IsArc, IsBeforeWrite, Moves, Segment, ByCo, ByFr, ByPo, ByRf}
-use Rattle.critical_cycles.proofs.Vocabulary.{IsPathBy, IsSequential, Precedes, StepBy}
+use Rattle.critical_cycles.proofs.Vocabulary.{List, [], ◌∷◌, Option, Some, None, inl, inr, WriteAt, Access, Execution, AllByRecursion, AreArcs, CriticalCycle, IsArc, IsBeforeWrite, Moves, Segment, ByCo, ByFr, ByPo, ByRf, IsPathBy, IsSequential, Precedes}
+use Rattle.critical_cycles.proofs.Vocabulary.{StepBy}
 
 module _ (threads : List (List Access)) (x : Execution) where
   -- a path from an access to another

@@ -1,23 +1,13 @@
 -- The edges of a critical cycle are a resolved cycle, and its accesses are the events.
-use Rattle.critical_cycles.proofs.Vocabulary.{List, None, Option, Some, [], ap, arith, cond, false, length, length-append, map, refl}
-use Rattle.critical_cycles.proofs.Vocabulary.{slice_get, subst, suc, sym, true, zero, ℕ, ◌&&◌, ◌++◌, ◌+◌, ◌<◌, ◌==◌, ◌∙◌, ◌∷◌, ◌≡◌, ◌≤◌}
-use Rattle.critical_cycles.proofs.Vocabulary.{and_parts, eq-eqb, ne_eqb, sum_by-cons, length-map, apart_from_distinct}
-use Rattle.critical_cycles.proofs.Vocabulary.{get_or_from_slice_get, slice_get_within, AllByRecursion, count_by, flat_map, ◌↔◌, ◌≢◌}
-use Rattle.critical_cycles.proofs.Vocabulary.{location_cases, thread_below, edge_second, thread_first, thread-zero, thread_end, by_less}
-use Rattle.critical_cycles.proofs.Vocabulary.{by_same, all_parts, count_upto_less, any_upto_none, count_all, upto, Access, Execution}
-use Rattle.critical_cycles.proofs.Vocabulary.{WriteAt, MAX_EDGES, Edge, Dir, Rf, Plain, Internal, is_joined, is_diff, is_external, joins_to}
-use Rattle.critical_cycles.proofs.Vocabulary.{same_dir, source_mark, source_of, target_mark, target_of, Held, held, moves, AreArcs}
-use Rattle.critical_cycles.proofs.Vocabulary.{CriticalCycle, Moves, Segment, dir_at, place_at, threads_of, AreEvents, accesses_of_segment}
-use Rattle.critical_cycles.proofs.Vocabulary.{arc_edges, critical_edges, critical_events, edges_along, linked_edges, plain_edge}
-use Rattle.std.specs.List.{IsDistinct}
-use Rattle.cycle_events.specs.Resolution.{IsResolved, edge_at, ends_outside, external_count, is_coherence_only, location_of, move_count}
-use Rattle.cycle_events.specs.Resolution.{moves_before, moves_in, thread_of}
+use Rattle.critical_cycles.proofs.Vocabulary.{List, None, Option, Some, [], ap, arith, cond, false, length, length-append, map, refl, slice_get, subst, suc, sym, true, zero, ℕ, ◌&&◌, ◌++◌, ◌+◌, ◌<◌, ◌==◌, ◌∙◌, ◌∷◌, ◌≡◌, ◌≤◌, and_parts, eq-eqb, ne_eqb}
+use Rattle.critical_cycles.proofs.Vocabulary.{sum_by-cons, length-map, apart_from_distinct, get_or_from_slice_get, slice_get_within, AllByRecursion, count_by, flat_map, ◌↔◌, ◌≢◌, location_cases, thread_below, edge_second, thread_first, thread-zero}
+use Rattle.critical_cycles.proofs.Vocabulary.{thread_end, by_less, by_same, all_parts, count_upto_less, any_upto_none, count_all, upto, Access, Execution, WriteAt, MAX_EDGES, Edge, Dir, Rf, Plain, Internal, is_joined, is_diff, is_external, joins_to}
+use Rattle.critical_cycles.proofs.Vocabulary.{same_dir, source_mark, source_of, target_mark, target_of, Held, held, moves, AreArcs, CriticalCycle, Moves, Segment, dir_at, place_at, threads_of, AreEvents, accesses_of_segment, arc_edges, critical_edges}
+use Rattle.critical_cycles.proofs.Vocabulary.{critical_events, edges_along, linked_edges, plain_edge, IsDistinct, IsResolved, edge_at, ends_outside, external_count, is_coherence_only, location_of, move_count, moves_before, moves_in, thread_of, laid_out}
+use Rattle.critical_cycles.proofs.{Keys.Exists, ClosedWays.goes, Linked.{FitsSegment, GoesOn, all_go_on}, EdgeSteps.{AllNext, Leaving, begins, each_next, edges_are, edges_in, events_are, events_in, image, leaving, next_at, step_below, steps_along}}
+use Rattle.critical_cycles.proofs.PlacesAlongSteps.{passed, passed_at, passed_count, threads_passed, places_passed}
 use Rattle.relax_edges.specs.declared.kinds.Dir.TheVariants as dirs
 use Rattle.relax_edges.specs.declared.edge.Edge.TheVariants as edges
-use Rattle.critical_cycles.proofs.{Keys.Exists, ClosedWays.goes, Linked.{FitsSegment, GoesOn, all_go_on}}
-use Rattle.critical_cycles.proofs.EdgeSteps.{AllNext, Leaving, begins, each_next, edges_are, edges_in, events_are, events_in, image, leaving}
-use Rattle.critical_cycles.proofs.EdgeSteps.{next_at, step_below, steps_along}
-use Rattle.critical_cycles.proofs.PlacesAlongSteps.{passed, passed_at, passed_count, threads_passed, places_passed}
 
 -- an element of the first of two lists is one of both
 pub got_left : {X : Type 0} (xs ys : List X) (k : ℕ) → k < length xs → slice_get (xs ++ ys) k ≡ slice_get xs k
@@ -150,7 +140,7 @@ module _ (threads : List (List Access)) (x : Execution) (l : List Leaving) (z : 
       let n : thread_of es i < length ts =
       omega (
         arith,
-        thread_below es i resolved (step_below l i q g),
+        thread_below es i (laid_out resolved) (step_below l i q g),
         passed_count is_external (λ e. e.thread) l z.thread,
         ap (length {A =
             ℕ}) are,

@@ -1,13 +1,8 @@
 -- A critical cycle goes through at most as many threads as there are, and has at most twice as many edges.
-use Rattle.critical_cycles.proofs.Vocabulary.{◌≡◌, ℕ, ◌+◌, ◌<◌, ◌≤◌, true, ◌==◌, List, [], ◌∷◌, length, Option, Some, None, slice_get}
-use Rattle.critical_cycles.proofs.Vocabulary.{arith, inr, eqb-true, by_test, AllByRecursion, all_append, flat_map, list_any, WriteAt}
-use Rattle.critical_cycles.proofs.Vocabulary.{Access, Dir, Edge, Execution, Held, AreArcs, CriticalCycle, IsArc, Moves, Segment, dir_at}
-use Rattle.critical_cycles.proofs.Vocabulary.{threads_of}
-use Rattle.std.proofs.{Common.length-append, lemmas.Map.Steps.length-le_from_distinct_below, lemmas.Option.slice_get_within}
-use Rattle.program_meaning.proofs.Names.{got_from_list}
-use Rattle.critical_cycles.proofs.Keys.{Exists, arc_goes}
+use Rattle.critical_cycles.proofs.Vocabulary.{◌≡◌, ℕ, ◌+◌, ◌<◌, ◌≤◌, true, ◌==◌, List, [], ◌∷◌, length, Option, Some, None, slice_get, arith, inr, eqb-true, by_test, AllByRecursion, all_append, flat_map, list_any, WriteAt, Access, Dir, Edge, Execution}
+use Rattle.critical_cycles.{proofs.{Vocabulary.{Held, AreArcs, CriticalCycle, IsArc, Moves, Segment, dir_at, threads_of, length-append, length-le_from_distinct_below, slice_get_within, got_from_list}, Keys.{Exists, arc_goes}}, specs.CycleEdges.arc_edges}
+use Rattle.critical_cycles.specs.{CycleEdges.{edges_along, plain_edge}, CriticalLaws.IsWithinThreads}
 use Rattle.relax_edges.specs.declared.kinds.Dir.TheVariants as dirs
-use Rattle.critical_cycles.specs.{CycleEdges.{arc_edges, edges_along, plain_edge}, CriticalLaws.IsWithinThreads}
 
 -- an access is in one of the threads
 thread_exists : (threads : List (List Access)) (e : WriteAt) → Exists threads e → e.thread < length threads

@@ -1,10 +1,7 @@
 -- A closed way that isn't critical has a shorter one: where two of its segments are in one thread or at one location, or a middle write
 -- is in the thread of a segment or of another middle write.
-use Rattle.critical_cycles.proofs.Vocabulary.{◌≡◌, ℕ, ◌+◌, ◌<◌, ◌≤◌, List, [], ◌∷◌, ◌++◌, Some, None, inl, inr, sym, ◌∙◌, ap, subst, arith}
-use Rattle.critical_cycles.proofs.Vocabulary.{by_less, WriteAt, Access, Execution, ReadsFrom, IsArc, IsBeforeWrite, Segment, place_at}
-use Rattle.critical_cycles.proofs.Keys.{Exists, Goes, key_at, arc_goes, arrives}
-use Rattle.critical_cycles.proofs.ClosedWays.{Facts, Way, few, first_arc, goes, joined, keeps, leaving, leaving_by, more, segment, size}
-use Rattle.critical_cycles.proofs.ClosedWays.{size-append, within}
+use Rattle.critical_cycles.proofs.{Vocabulary.{◌≡◌, ℕ, ◌+◌, ◌<◌, ◌≤◌, List, [], ◌∷◌, ◌++◌, Some, None, inl, inr, sym, ◌∙◌, ap, subst, arith, by_less, WriteAt, Access, Execution, ReadsFrom, IsArc, IsBeforeWrite, Segment, place_at}, Keys.{Exists, Goes}}
+use Rattle.critical_cycles.proofs.{Keys.{key_at, arc_goes, arrives}, ClosedWays.{Facts, Way, few, first_arc, goes, joined, keeps, leaving, leaving_by, more, segment, size, size-append, within}}
 
 -- a way back to its own beginning
 abbrev pub Closed : List (List Access) → Execution → Segment → List Segment → Type 0

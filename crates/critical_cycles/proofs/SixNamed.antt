@@ -1,12 +1,7 @@
 -- With at most two threads, a critical cycle has two segments and no middle writes. Its edges are found by what its four accesses do.
-use Rattle.critical_cycles.proofs.Vocabulary.{◌≡◌, ◌<◌, ◌≤◌, List, [], ◌∷◌, ◌++◌, length, Option, Some, None, refl, arith, inl, inr}
-use Rattle.critical_cycles.proofs.Vocabulary.{WriteAt, Access, Dir, Execution, Held, CriticalCycle, IsArc, AreArcs, Segment, flat_map}
-use Rattle.critical_cycles.proofs.Vocabulary.{dir_at, threads_of}
-use Rattle.std.proofs.Common.{length-append}
+use Rattle.critical_cycles.proofs.Vocabulary.{◌≡◌, ◌<◌, ◌≤◌, List, [], ◌∷◌, ◌++◌, length, Option, Some, None, refl, arith, inl, inr, WriteAt, Access, Dir, Execution, Held, CriticalCycle, IsArc, AreArcs, Segment, flat_map, dir_at, threads_of}
+use Rattle.critical_cycles.{proofs.{Vocabulary.{length-append, pod, rfe, fre, wse}, Keys.{co_dirs, fr_dirs, rf_dirs}}, specs.{CycleEdges.{arc_edges, edges_along, plain_edge}, TwoThreads.IsOneOfSix}}
 use Rattle.relax_edges.specs.declared.kinds.Dir.TheVariants as dirs
-use Rattle.relax_edges.specs.NamedEdges.{pod, rfe, fre, wse}
-use Rattle.critical_cycles.specs.{CycleEdges.{arc_edges, edges_along, plain_edge}, TwoThreads.IsOneOfSix}
-use Rattle.critical_cycles.proofs.Keys.{co_dirs, fr_dirs, rf_dirs}
 
 -- of two accesses of an arc, one writes
 one_writes : (threads : List (List Access)) (x : Execution) (e f : WriteAt) → Held threads x → IsArc threads x e None f

@@ -1,36 +1,13 @@
 -- The events of a cycle's test are the events of its edges, if all edges stand; so they are the accesses of a critical cycle.
-use Rattle.critical_cycles.proofs.Vocabulary.{List, Some, ap, arith}
-use Rattle.critical_cycles.proofs.Vocabulary.{length, map, refl, slice_get, subst, sym, ℕ}
-use Rattle.critical_cycles.proofs.Vocabulary.{◌<◌, ◌∙◌, ◌≡◌}
-use Rattle.critical_cycles.proofs.Vocabulary.{slice_get_within}
-use Rattle.critical_cycles.proofs.Vocabulary.{location_below}
-use Rattle.critical_cycles.proofs.Vocabulary.{upto, Access, at_name}
-use Rattle.critical_cycles.proofs.Vocabulary.{coherence_place, order_at, order_place, source_at, Execution}
-use Rattle.critical_cycles.proofs.Vocabulary.{AreAt, WriteAt, IsCandidate, Program, accesses_in, visits_in}
-use Rattle.critical_cycles.proofs.Vocabulary.{Edge, Dir, Kind, Internal}
-use Rattle.critical_cycles.proofs.Vocabulary.{kind_of, kind_place, sd_of}
-use Rattle.critical_cycles.proofs.Vocabulary.{Held, held}
-use Rattle.critical_cycles.proofs.Vocabulary.{read_before, writes_ordered, access_of_visit, WritesWithin}
-use Rattle.critical_cycles.proofs.Vocabulary.{IsWriteTo}
-use Rattle.critical_cycles.proofs.Vocabulary.{Precedes}
-use Rattle.critical_cycles.proofs.Vocabulary.{dir_of_access, place_at, place_of_access, AreEvents}
-use Rattle.critical_cycles.proofs.Vocabulary.{AreRelated, EdgeLeads}
+use Rattle.critical_cycles.proofs.Vocabulary.{List, Some, ap, arith, length, map, refl, slice_get, subst, sym, ℕ, ◌<◌, ◌∙◌, ◌≡◌, slice_get_within, location_below, upto, Access, at_name, coherence_place, order_at, order_place, source_at, Execution, AreAt}
+use Rattle.critical_cycles.proofs.Vocabulary.{WriteAt, IsCandidate, Program, accesses_in, visits_in, Edge, Dir, Kind, Internal, kind_of, kind_place, sd_of, Held, held, read_before, writes_ordered, access_of_visit, WritesWithin, IsWriteTo, Precedes}
+use Rattle.critical_cycles.proofs.Vocabulary.{dir_of_access, place_at, place_of_access, AreEvents, AreRelated, EdgeLeads, ObsMode, kind_reach, kind_source, kind_target, IsResolved, edge_at, event_after, location_of, after_below, laid_out}
+use Rattle.critical_cycles.proofs.Vocabulary.{length-map-upto, slice_get-map-upto, got_from, read, placed_by, IsNumbering, cycle_accesses, event_access, AllStand, CommunicatesBy, IsEvent, NamedAccess, Reaches, event_name, GotFrom, got_from_list}
+use Rattle.critical_cycles.{proofs.{Vocabulary.{accesses-count, Filled, filled_from, writes_to_own}, Cuts.listed_are_critical}, specs.Listed.StandingIsCritical}
 use Rattle.relax_edges.specs.declared.kinds.Dir.TheVariants as dirs
 use Rattle.relax_edges.specs.declared.kinds.Com.TheVariants as coms
 use Rattle.relax_edges.specs.declared.kinds.Kind.TheVariants as kinds
-use Rattle.relax_edges.specs.{declared.kinds.ObsMode.ObsMode}
-use Rattle.relax_edges.specs.{EdgeTable.{kind_reach, kind_source, kind_target}}
-use Rattle.cycle_events.specs.Resolution.{IsResolved, edge_at, event_after, location_of}
-use Rattle.cycle_events.proofs.CycleRound.{after_below}
-use Rattle.list_laws.proofs.Numbers.{length-map-upto, slice_get-map-upto}
-use Rattle.program_meaning.specs.{Accesses.{got_from, read}, Coherence.placed_by, Intended.{IsNumbering, cycle_accesses, event_access}}
-use Rattle.program_meaning.specs.Standing.{AllStand, CommunicatesBy, IsEvent, NamedAccess, Reaches, event_name}
-use Rattle.program_meaning.proofs.{Names.{GotFrom, got_from_list}, Runs.accesses-count}
-use Rattle.accesses_force_cycles.specs.Joining.{MakesAccesses, accesses_filled, values_read}
-use Rattle.accesses_force_cycles.proofs.{Accesses.event_at_name, ResolvedFacts.resolves, Lists.{Got, got_below}, Resolves.Resolves}
-use Rattle.sc_and_interleavings.proofs.SequentialMade.{Filled, filled_from, writes_to_own}
-use Rattle.critical_cycles.specs.Listed.{StandingIsCritical}
-use Rattle.critical_cycles.proofs.Cuts.{listed_are_critical}
+use Rattle.accesses_force_cycles.{specs.Joining.{MakesAccesses, accesses_filled, values_read}, proofs.{Accesses.event_at_name, ResolvedFacts.resolves, Lists.{Got, got_below}, Resolves.Resolves}}
 
 -- an event of a cycle's test is at the location that the test gives it
 event_place : (es : List Edge) (mode : ObsMode) (number : ℕ → ℕ) (p : Program) (x : Execution) (i : ℕ) (a : Access) → Resolves es
@@ -65,7 +42,7 @@ event_place es mode number p x i a resolved l makes candidate h = plan.place ∙
     planned : plan.plan ≡ event_access es number i
     planned =
         let s : at_name (cycle_accesses es mode number) w ≡ Some plan.plan = ap (λ o. got_from o w.access) t.got ∙ plan.got in
-        let q : Some plan.plan ≡ Some (event_access es number i) = sym s ∙ event_at_name es mode number i resolved l in cc q
+        let q : Some plan.plan ≡ Some (event_access es number i) = sym s ∙ event_at_name es mode number i resolved.laid l in cc q
 
 -- an edge that joins two accesses leads from the one to the other
 module _ (threads : List (List Access)) (x : Execution) (held : Held threads x) (e f : WriteAt) (a b : Access)
@@ -119,7 +96,7 @@ module _ (es : List Edge) (mode : ObsMode) (number : ℕ → ℕ) (p : Program) 
   events = map (event_name es) (upto (length es))
 
   within : WritesWithin threads p.places
-  within = writes_to_own es mode number p x (resolves es resolved) numbering makes candidate
+  within = writes_to_own es mode number p x (resolves es resolved).laid numbering makes candidate
 
   -- an event of the list, by its number
   record Event (i : ℕ) (e : WriteAt) : Type 0 where
@@ -180,8 +157,8 @@ module _ (es : List Edge) (mode : ObsMode) (number : ℕ → ℕ) (p : Program) 
         (λ s. sym a ∙ s ∙ b, λ s. a ∙ s ∙ sym b));
     one_place = λ i j e f h k. (let a = event i e h in
         let b = event j f k in (
-          λ s. numbering.injective (location_of es i) (location_of es j) (location_below es i resolved a.below)
-              (location_below es j resolved b.below)
+          λ s. numbering.injective (location_of es i) (location_of es j) (location_below es i (laid_out resolved) a.below)
+              (location_below es j (laid_out resolved) b.below)
               (sym a.place ∙ s ∙ b.place),
           λ s. a.place ∙ ap number s ∙ sym b.place,
         ));

@@ -1,16 +1,9 @@
 -- Events from the second one on and round to the first: if the first edge is external, they are the events of the edges from the second one
 -- on.
-use Rattle.critical_cycles.proofs.Vocabulary.{List, Some, [], ap, arith, cond, inl, inr, length, length-append, refl, slice_get, subst, suc}
-use Rattle.critical_cycles.proofs.Vocabulary.{sym, true, zero, ℕ, ◌++◌, ◌+◌, ◌<◌, ◌∙◌, ◌∷◌, ◌≡◌, cond-false, cond-true, sum_by-cons}
-use Rattle.critical_cycles.proofs.Vocabulary.{length-map, map-append, slice_get_within, ◌↔◌, ◌⊎◌, thread_below, location_below}
-use Rattle.critical_cycles.proofs.Vocabulary.{external_keeps, location-zero, coherence_alike, external_count-append, move_count-append}
-use Rattle.critical_cycles.proofs.Vocabulary.{outside_after, renumbered, thread-zero, turned_cycle, count_exchanged, Access, Execution}
-use Rattle.critical_cycles.proofs.Vocabulary.{WriteAt, Edge, is_diff, is_external, place_at, AreEvents}
-use Rattle.std.proofs.Math.Nat.{mod-eq_of_lt, mod_self}
-use Rattle.std.specs.Prelude.{◌%◌}
-use Rattle.cycle_events.specs.Resolution.{IsResolved, ends_outside, external_count, location_of, move_count, thread_of}
-use Rattle.critical_cycles.proofs.EdgeSteps.{AllNext, Leaving, begins, each_next, edges_in, events_in, next_append}
-use Rattle.critical_cycles.proofs.{Converse.all_lead, Parts.Leads}
+use Rattle.critical_cycles.proofs.Vocabulary.{List, Some, [], ap, arith, cond, inl, inr, length, length-append, refl, slice_get, subst, suc, sym, true, zero, ℕ, ◌++◌, ◌+◌, ◌<◌, ◌∙◌, ◌∷◌, ◌≡◌, cond-false, cond-true, sum_by-cons, length-map, map-append}
+use Rattle.critical_cycles.proofs.Vocabulary.{slice_get_within, ◌↔◌, ◌⊎◌, thread_below, location_below, external_keeps, location-zero, coherence_alike, external_count-append, move_count-append, outside_after, renumbered, thread-zero, turned_cycle}
+use Rattle.critical_cycles.proofs.Vocabulary.{count_exchanged, Access, Execution, WriteAt, Edge, is_diff, is_external, place_at, AreEvents, mod-eq_of_lt, mod_self, ◌%◌, IsResolved, ends_outside, external_count, location_of, move_count, thread_of}
+use Rattle.critical_cycles.proofs.{Vocabulary.laid_out, EdgeSteps.{AllNext, Leaving, begins, each_next, edges_in, events_in, next_append}, Converse.all_lead, Parts.Leads}
 
 -- an element of a list with one more at the end
 got_either : {X G : Type 0} (xs : List X) (y : X) (i : ℕ) (x : X) → slice_get (xs ++ y ∷ []) i ≡ Some x → (slice_get xs i ≡ Some x → G)
@@ -79,7 +72,7 @@ module _ (threads : List (List Access)) (x : Execution) (q : Leaving) (l : List 
       let m : location_of fs i < move_count es =
       omega (
         arith,
-        location_below fs i resolved (omega (arith, b, length-append (edges_in l) (q.edge ∷ []), ap (length {A = Edge}) edges_turned)),
+        location_below fs i (laid_out resolved) (omega (arith, b, length-append (edges_in l) (q.edge ∷ []), ap (length {A = Edge}) edges_turned)),
         ap move_count edges_turned,
         count_exchanged is_diff (q.edge ∷ []) (edges_in l),
       ) in
@@ -139,11 +132,11 @@ module _ (threads : List (List Access)) (x : Execution) (q : Leaving) (l : List 
       by_both (inl p) (inl r) = (λ s. omega (arith, one.0 s, p, r), λ s. one.1 (omega (arith, s, p, r)))
       by_both (inl p) (inr r) = (
         λ s. absurd (omega (arith, one.0 s, p, ap (thread_of es) r.0, thread-zero es)),
-        λ s. absurd (omega (arith, s, p, r.1, thread_below es a.original shown.resolved a.below)),
+        λ s. absurd (omega (arith, s, p, r.1, thread_below es a.original (laid_out shown.resolved) a.below)),
       )
       by_both (inr p) (inl r) = (
         λ s. absurd (omega (arith, one.0 s, r, ap (thread_of es) p.0, thread-zero es)),
-        λ s. absurd (omega (arith, s, r, p.1, thread_below es b.original shown.resolved b.below)),
+        λ s. absurd (omega (arith, s, r, p.1, thread_below es b.original (laid_out shown.resolved) b.below)),
       )
       by_both (inr p) (inr r) = (λ s. omega (arith, p.1, r.1), λ s. one.1 (ap (thread_of es) (p.0 ∙ sym r.0)))
 

@@ -2,8 +2,7 @@
 -- segments, each of two accesses of a thread at two locations, and along arcs between them, each of communications at one location.
 -- Source: Shasha and Snir, 'Efficient and Correct Execution of Parallel Programs that Share Memory', 1988, for conflicts between
 -- accesses; with the relations of an execution as in Alglave, Maranget and Tautschnig, 'Herding Cats', 2014.
-use Rattle.std.specs.Prelude.{ℕ, ◌≢◌, ◌<◌, ◌==◌, ◌⊎◌, List, [], ◌∷◌, length, map, Option, Some, None}
-use Rattle.std.specs.List.{flat_map, IsDistinct, AllByRecursion}
+use Rattle.std.specs.{Prelude.{ℕ, ◌≢◌, ◌<◌, ◌==◌, ◌⊎◌, List, [], ◌∷◌, length, map, Option, Some, None}, List.{flat_map, IsDistinct, AllByRecursion}}
 use Rattle.relax_edges.specs.declared.kinds.Dir.{Dir}
 use Rattle.relax_edges.specs.declared.kinds.Dir.TheVariants as dirs
 use Rattle.program_meaning.specs.{declared.WriteAt.WriteAt, Accesses.{Access, at_name}, Executions.Execution}

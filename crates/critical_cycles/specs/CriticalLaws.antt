@@ -1,11 +1,9 @@
 -- The laws of critical cycles.
 use Rattle.std.specs.{Prelude.{ℕ, ◌+◌, ◌≤◌, ◌⊎◌, List, length}, List.flat_map}
 use Rattle.relax_edges.specs.declared.TheConstants.{MAX_EDGES}
-use Rattle.program_meaning.specs.{Accesses.Access, Executions.{Execution, IsExecutionOf}, Coherence.IsCoherent}
-use Rattle.program_meaning.specs.Programs.{Program, IsCandidate, IsCoherentIn, accesses_in}
+use Rattle.program_meaning.specs.{Accesses.Access, Executions.{Execution, IsExecutionOf}, Coherence.IsCoherent, Programs.{Program, IsCandidate, IsCoherentIn, accesses_in}}
 use Rattle.sc_and_interleavings.specs.{CoherenceLaws.WritesWithin, Sequential.IsSequential}
-use Rattle.critical_cycles.specs.Critical.{CriticalCycle, segments_of, threads_of}
-use Rattle.critical_cycles.specs.{CycleEdges.{critical_edges, critical_events, AreEvents}, TwoThreads.IsOneOfSix}
+use Rattle.critical_cycles.specs.{Critical.{CriticalCycle, segments_of, threads_of}, CycleEdges.{critical_edges, critical_events, AreEvents}, TwoThreads.IsOneOfSix}
 
 -- an execution that is coherent per location, and whose writes are to its locations, is sequentially consistent or has a critical cycle
 abbrev pub SequentialOrCritical : Type 0

@@ -1,9 +1,7 @@
 -- The edges of a critical cycle, and its accesses as the events of a cycle of edges.
 -- Source: the names of edges in the diy part of the herdtools manual; own.
 use Rattle.std.specs.{Prelude.{ℕ, ◌≡◌, ◌↔◌, List, [], ◌∷◌, ◌++◌, length, Option, Some, None, slice_get}, List.flat_map}
-use Rattle.relax_edges.specs.{declared.kinds.Dir.Dir, declared.kinds.Kind.Kind, declared.edge.Edge.Edge}
-use Rattle.relax_edges.specs.EdgeTable.{source_of, target_of, sd_of, kind_of}
-use Rattle.relax_edges.specs.NamedEdges.{pod, rfe, fre, wse}
+use Rattle.relax_edges.specs.{declared.{kinds.{Dir.Dir, Kind.Kind}, edge.Edge.Edge}, EdgeTable.{source_of, target_of, sd_of, kind_of}, NamedEdges.{pod, rfe, fre, wse}}
 use Rattle.relax_edges.specs.declared.kinds.Dir.TheVariants as dirs
 use Rattle.relax_edges.specs.declared.kinds.Com.TheVariants as coms
 use Rattle.relax_edges.specs.declared.kinds.Kind.TheVariants as kinds

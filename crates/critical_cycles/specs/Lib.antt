@@ -4,3 +4,7 @@ pub mod TwoThreads
 pub mod Links
 pub mod Listed
 pub mod CriticalLaws
+pub mod Relaxes
+pub mod Accepted
+pub mod ListedCriticals
+pub mod Converse

@@ -3,15 +3,11 @@
 -- between their two, nor of accesses with marks: their cycle is shown with plain program order.
 -- Source: own.
 use Rattle.std.specs.{Prelude.{ℕ, ◌≡◌, ◌≤◌, ◌⊎◌, false, List, length, Some, slice_get}, List.AllByRecursion}
-use Rattle.relax_edges.specs.{declared.TheConstants.MAX_EDGES, declared.kinds.Mark.TheVariants.Plain, declared.edge.Edge.Edge}
-use Rattle.relax_edges.specs.EdgeTable.{source_mark, target_mark, is_external}
-use Rattle.relax_edges.specs.NamedEdges.{pod}
+use Rattle.relax_edges.specs.{declared.{TheConstants.MAX_EDGES, kinds.Mark.TheVariants.Plain, edge.Edge.Edge}, EdgeTable.{source_mark, target_mark, is_external}, NamedEdges.pod}
 use Rattle.cycle_events.specs.Resolution.{edge_at, event_after}
-use Rattle.program_meaning.specs.{declared.WriteAt.WriteAt, Accesses.{Visit, at_name}, Executions.Execution, Standing.Stands}
-use Rattle.program_meaning.specs.Programs.{Program, IsCandidate, accesses_in, visits_in}
+use Rattle.program_meaning.specs.{declared.WriteAt.WriteAt, Accesses.{Visit, at_name}, Executions.Execution, Standing.Stands, Programs.{Program, IsCandidate, accesses_in, visits_in}}
 use Rattle.sc_and_interleavings.specs.CoherenceLaws.{WritesWithin}
-use Rattle.critical_cycles.specs.Critical.{Segment, CriticalCycle, segments_of, dir_at}
-use Rattle.critical_cycles.specs.CycleEdges.{AreEvents, critical_events, linked_edges}
+use Rattle.critical_cycles.specs.{Critical.{Segment, CriticalCycle, segments_of, dir_at}, CycleEdges.{AreEvents, critical_events, linked_edges}}
 
 -- a link between two accesses: an edge without marks that stands from the first to the second
 pub record IsLink (p : Program) (x : Execution) (edge : Edge) (e f : WriteAt) : Type 0 where

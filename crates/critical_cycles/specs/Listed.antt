@@ -1,13 +1,11 @@
 -- The converse: accesses that show a cycle of `Pod**` edges and arcs make a critical cycle.
 -- Source: the names of edges in the diy part of the herdtools manual; own.
 use Rattle.std.specs.{Prelude.{ℕ, ◌≡◌, List, [], ◌∷◌, length, map}, List.flat_map}
-use Rattle.relax_edges.specs.{declared.kinds.Dir.Dir, declared.kinds.ObsMode.ObsMode, declared.edge.Edge.Edge}
-use Rattle.relax_edges.specs.{NamedEdges.{pod, rfe, fre, wse}}
+use Rattle.relax_edges.specs.{declared.{kinds.{Dir.Dir, ObsMode.ObsMode}, edge.Edge.Edge}, NamedEdges.{pod, rfe, fre, wse}}
 use Rattle.list_laws.specs.Numbers.{upto}
-use Rattle.edge_algebra_laws.specs.Rotation.{IsRotation, rotated}
+use Rattle.edge_algebra.specs.Rotation.{IsRotation, rotated}
 use Rattle.cycle_events.specs.Resolution.{IsResolved}
-use Rattle.program_meaning.specs.{declared.WriteAt.WriteAt, Accesses.Access, Executions.{Execution, IsExecutionOf}, Intended.IsNumbering}
-use Rattle.program_meaning.specs.{Programs.{Program, IsCandidate, accesses_in}, Standing.{AllStand, event_name}}
+use Rattle.program_meaning.specs.{declared.WriteAt.WriteAt, Accesses.Access, Executions.{Execution, IsExecutionOf}, Intended.IsNumbering, Programs.{Program, IsCandidate, accesses_in}, Standing.{AllStand, event_name}}
 use Rattle.accesses_force_cycles.specs.Joining.{MakesAccesses}
 use Rattle.sc_and_interleavings.specs.CoherenceLaws.{WritesWithin}
 use Rattle.critical_cycles.specs.{Critical.CriticalCycle, CycleEdges.{AreEvents, critical_edges, critical_events}}

@@ -1,9 +1,8 @@
 -- The six critical cycles of two threads.
 -- Source: the names are those of the literature, as in Alglave, Maranget and Tautschnig, 'Herding Cats', 2014.
 use Rattle.std.specs.Prelude.{ℕ, ◌≡◌, List, [], ◌∷◌, Some, slice_get}
-use Rattle.relax_edges.specs.declared.kinds.Dir.TheVariants.{R, W}
-use Rattle.relax_edges.specs.{declared.edge.Edge.Edge, NamedEdges.{pod, rfe, fre, wse}}
-use Rattle.edge_algebra_laws.specs.Rotation.{IsRotation}
+use Rattle.relax_edges.specs.{declared.{kinds.Dir.TheVariants.{R, W}, edge.Edge.Edge}, NamedEdges.{pod, rfe, fre, wse}}
+use Rattle.edge_algebra.specs.Rotation.{IsRotation}
 
 -- store buffering: SB
 abbrev pub store_buffering : List Edge

@@ -1,9 +1,6 @@
 -- When a list that grows edge by edge is a cycle.
-use Rattle.std.proofs.Common.{◌≡◌, ◌<◌, ℕ, true, false, List, [], ◌∷◌, ◌++◌, length, get_or, suc, take, drop, ◌&&◌, refl, sym, ap, ◌∙◌, arith}
-use Rattle.std.proofs.{lemmas.Bool.{and_parts, true≢false}, lemmas.List.take-append-drop, Math.Seq.drop-cons}
-use Rattle.relax_edges.specs.{declared.edge.Edge.Edge, JoinedEdges.is_joined}
-use Rattle.edge_algebra_laws.specs.Composable.{IsCycle, last_joins}
-use Rattle.edge_algebra_laws.proofs.Composing.{joined_parts, joined_prefix}
+use Rattle.std.proofs.{Common.{◌≡◌, ◌<◌, ℕ, true, false, List, [], ◌∷◌, ◌++◌, length, get_or, suc, take, drop, ◌&&◌, refl, sym, ap, ◌∙◌, arith}, lemmas.{Bool.{and_parts, true≢false}, List.take-append-drop}, Math.Seq.drop-cons}
+use Rattle.cycle_enum.proofs.Vocabulary.{Edge, is_joined, IsCycle, last_joins, joined_parts, joined_prefix}
 
 -- of the edges that come after a list the first decides whether the last edge of the list joins them
 last_joins_head : (v u : List Edge) (x : Edge) → last_joins v (x ∷ u) ≡ last_joins v (x ∷ [])

@@ -1,9 +1,6 @@
 -- What is kept of each prefix of a list: how its edges lead to other threads and locations.
-use Rattle.std.proofs.Common.{◌≡◌, ◌<◌, ◌+◌, ◌-◌, ℕ, zero, suc, Bool, true, false, cond, List, [], ◌∷◌, ◌++◌, length, take, get_or, refl, sym, ◌∙◌, ap, arith}
-use Rattle.std.proofs.lemmas.List.Sums.{sum_by-cons}
-use Rattle.relax_edges.specs.{declared.edge.Edge.Edge, EdgeTable.{is_external}}
-use Rattle.cycle_enum.specs.{declared.crossing.Crossing.Crossing, Spreads.{outside_count, spread_after}}
-use Rattle.cycle_enum.specs.Crossings.{crossing_none, crossing_next, crossing_after, crossings_after, IsCrossing}
+use Rattle.std.proofs.{Common.{◌≡◌, ◌<◌, ◌+◌, ◌-◌, ℕ, zero, suc, Bool, true, false, cond, List, [], ◌∷◌, ◌++◌, length, take, get_or, refl, sym, ◌∙◌, ap, arith}, lemmas.List.Sums.sum_by-cons}
+use Rattle.cycle_enum.{proofs.Vocabulary.{Edge, is_external}, specs.{declared.crossing.Crossing.Crossing, Spreads.{outside_count, spread_after}, Crossings.{crossing_none, crossing_next, crossing_after, crossings_after, IsCrossing}}}
 
 crossings-length : (c : Crossing) (u : List Edge) → length (crossings_after c u) ≡ length u
 crossings-length c [] = refl

@@ -1,15 +1,8 @@
 -- Which edges a walk passes over after a list.
-use Rattle.std.proofs.Common.{◌≡◌, inl, inr, ℕ, ◌+◌, ◌<◌, ◌&&◌, map, option_map, slice_index_or, true, false, Option, Some, None, List, [], ◌∷◌, sym, ◌∙◌, arith}
-use Rattle.std.proofs.lemmas.Bool.{cases_Bool, true≢false}
-use Rattle.std.specs.Prelude.{IfSome}
+use Rattle.std.{proofs.{Common.{◌≡◌, inl, inr, ℕ, ◌+◌, ◌<◌, ◌&&◌, map, option_map, slice_index_or, true, false, Option, Some, None, List, [], ◌∷◌, sym, ◌∙◌, arith}, lemmas.Bool.{cases_Bool, true≢false}}, specs.Prelude.IfSome}
 use denote.Ref.{Bor}
-use Rattle.relax_edges.specs.{declared.kinds.Dir.Dir, declared.kinds.Mark.Mark, declared.order.TheConstants.EDGES, declared.edge.Edge.Edge}
-use Rattle.relax_edges.specs.{EdgeTable.{same_dir, same_mark, source_of, source_mark}, Order.rank_of}
-use Rattle.edge_algebra_laws.proofs.{Ordering.by_rank, RankLaws.rank_below}
-use Rattle.edge_algebra_laws.specs.Composable.{last_joins}
-use Rattle.cycle_enum_laws.specs.Search.{IsListCandidate, IsNextEdge, NoneBetween, OccursIn}
-use Rattle.cycle_enum_laws.proofs.Candidates.{unused_nowhere, unjoined_next, none_smaller}
-use Rattle.cycle_enum.specs.{declared.letter.Letter.Letter, Letters.{NoLetter, IsFirstLetter, IsLetterFrom, OccursAndLeaves, least_rank}}
+use Rattle.cycle_enum.{proofs.{Vocabulary.{Dir, Mark, EDGES, Edge, same_dir, same_mark, source_of, source_mark, rank_of, by_rank, rank_below, last_joins}, Candidates.{unused_nowhere, unjoined_next, none_smaller}}, specs.Search.IsListCandidate}
+use Rattle.cycle_enum.specs.{Search.{IsNextEdge, NoneBetween, OccursIn}, declared.letter.Letter.Letter, Letters.{NoLetter, IsFirstLetter, IsLetterFrom, OccursAndLeaves, least_rank}}
 
 -- a letter that leaves another access is passed over
 module _ (relaxes : List (List Edge)) (dir : Dir) (mark : Mark) (from : ℕ) where

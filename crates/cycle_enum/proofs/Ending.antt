@@ -1,15 +1,11 @@
 -- That rows of bounds are ones for all edges that end a cycle, and that a list that none end leads to no listed cycle.
-use Rattle.std.proofs.Common.{◌≡◌, ◌<◌, ◌≤◌, ◌+◌, ◌-◌, ℕ, suc, true, cond, Some, None, List, [], ◌∷◌, ◌++◌, length, take, drop, get_or, inl, inr, refl, sym, ◌∙◌, ap, arith, subst, length-append}
-use Rattle.std.proofs.{lemmas.Bool.{and_parts, cases_lt}, lemmas.List.{get_or_append_left, get_or_push, take_all}, lemmas.List.Sums.{sum_by-append, sum_by-cons}}
-use Rattle.std.specs.List.{AllByRecursion}
-use Rattle.relax_edges.specs.{declared.kinds.Dir.Dir, declared.kinds.Mark.Mark, declared.edge.Edge.Edge, EdgeTable.{is_external, same_dir, same_mark, joins_to, source_of, source_mark, target_of, target_mark}, JoinedEdges.{is_joined, joins_first}}
+use Rattle.std.proofs.{Common.{◌≡◌, ◌<◌, ◌≤◌, ◌+◌, ◌-◌, ℕ, suc, true, cond, Some, None, List, [], ◌∷◌, ◌++◌, length, take, drop, get_or, inl, inr, refl, sym, ◌∙◌, ap, arith, subst, length-append}, lemmas.Bool.{and_parts, cases_lt}}
+use Rattle.cycle_enum.proofs.Vocabulary.{get_or_append_left, get_or_push, take_all, sum_by-append, sum_by-cons, AllByRecursion, Dir, Mark, Edge, is_external, same_dir, same_mark, joins_to, source_of, source_mark, target_of, target_mark, is_joined}
+use Rattle.cycle_enum.{proofs.{Vocabulary.joins_first, SpreadLaws.spread_both}, specs.{Search.{IsIn, LeadsNowhere, OccursIn}, declared.spread.Spread.{Spread, TheVariants.{Bare, Moved, Neither, Running, First, Ends, Between, Two}}}}
+use Rattle.cycle_enum.specs.{declared.endings.{Access.Access, Bounds.Bounds, Endings.Endings, Row.Row}, Spreads.{is_two, outside_count, spread_after, spread_next}, Endings.{access_of, access_begun, access_entered, access_left, bounds_at, row_bound}}
+use Rattle.cycle_enum.specs.Endings.{rows_to, AreBefore, AreBelow, AreRows, BoundsWith, Completes, EndsWithin, HasRows, IsRow, IsRowBelow, IsWithin, RowsBelow}
 use Rattle.relax_edges.specs.declared.kinds.Dir.TheVariants as dirs
 use Rattle.relax_edges.specs.declared.kinds.Mark.TheVariants as marks
-use Rattle.cycle_enum_laws.specs.Search.{IsIn, LeadsNowhere, OccursIn}
-use Rattle.cycle_enum.specs.{declared.spread.Spread.Spread, declared.endings.{Access.Access, Bounds.Bounds, Endings.Endings, Row.Row}, Spreads.{is_two, outside_count, spread_after, spread_next}}
-use Rattle.cycle_enum.specs.declared.spread.Spread.TheVariants.{Bare, Moved, Neither, Running, First, Ends, Between, Two}
-use Rattle.cycle_enum.proofs.SpreadLaws.{spread_both}
-use Rattle.cycle_enum.specs.Endings.{access_of, access_begun, access_entered, access_left, bounds_at, row_bound, rows_to, AreBefore, AreBelow, AreRows, BoundsWith, Completes, EndsWithin, HasRows, IsRow, IsRowBelow, IsWithin, RowsBelow}
 
 -- what an edge joins leaves the access that it enters
 dirs_same : (a b : Dir) → same_dir a b ≡ true → a ≡ b

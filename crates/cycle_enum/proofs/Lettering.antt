@@ -1,8 +1,6 @@
 -- The table of letters: by another test of which edges are letters, and which edges are marked.
-use Rattle.std.proofs.{Common.{◌↔◌, ℕ, Bool, Option, Some, None, List, [], ◌∷◌, map, refl, get_or}, lemmas.Bool.{and_parts, and_from}}
-use Rattle.std.specs.{Prelude.IsTrue, List.{AllByRecursion, list_all}}
-use Rattle.relax_edges.specs.{declared.edge.Edge.Edge, Order.rank_of}
-use Rattle.cycle_enum.specs.{Letters.{IsLetterFrom, HasLettersFrom}, LetterMarks.{is_marked_at, MarksExactly}, declared.letter.Letter.Letter}
+use Rattle.std.{proofs.{Common.{◌↔◌, ℕ, Bool, Option, Some, None, List, [], ◌∷◌, map, refl, get_or}, lemmas.Bool.{and_parts, and_from}}, specs.{Prelude.IsTrue, List.{AllByRecursion, list_all}}}
+use Rattle.cycle_enum.{proofs.Vocabulary.{Edge, rank_of}, specs.{Letters.{IsLetterFrom, HasLettersFrom}, LetterMarks.{is_marked_at, MarksExactly}, declared.letter.Letter.Letter}}
 
 module _ (one other : Edge → Type 0) (same : (e : Edge) → one e ↔ other e) where
   same_from : (from : ℕ) (found : Option Letter) → IsLetterFrom one from found → IsLetterFrom other from found

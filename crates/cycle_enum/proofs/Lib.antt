@@ -1,3 +1,4 @@
+pub mod Vocabulary
 pub mod Composing
 pub mod Lettering
 pub mod Marking
@@ -11,3 +12,16 @@ pub mod PassedOver
 pub mod SetPlaces
 pub mod SetReading
 pub mod Turning
+pub mod SearchAnswers
+pub mod Candidates
+pub mod Counts
+pub mod Listings
+pub mod DroppedPrefixes
+pub mod GrowingLists
+pub mod Relaxing
+pub mod Searching
+pub mod Stepping
+pub mod Standing
+pub mod Scanning
+pub mod ItemLengths
+pub mod FoundItems

@@ -1,10 +1,6 @@
 -- Marking the edges of relaxations.
-use Rattle.std.proofs.Common.{◌≡◌, ◌<◌, ◌↔◌, ◌⊎◌, inl, inr, ◌-◌, Bool, true, false, List, [], ◌∷◌, length, take, drop, get_or, set, sym, ◌∙◌, arith}
-use Rattle.std.proofs.{lemmas.List.{take_all, get_or-replicate, get_or-set_same, get_or-set_other}, Math.ListN.replicate}
-use Rattle.relax_edges.specs.{declared.order.TheConstants.EDGES, declared.edge.Edge.Edge, Order.rank_of}
-use Rattle.edge_algebra_laws.proofs.{RankLaws.rank_below, Ordering.by_rank}
-use Rattle.cycle_enum_laws.specs.Search.{OccursIn, IsIn}
-use Rattle.cycle_enum.specs.LetterMarks.{IsMarked, MarksAlso, MarksAlphabet}
+use Rattle.std.proofs.{Common.{◌≡◌, ◌<◌, ◌↔◌, ◌⊎◌, inl, inr, ◌-◌, Bool, true, false, List, [], ◌∷◌, length, take, drop, get_or, set, sym, ◌∙◌, arith}, lemmas.List.{take_all, get_or-replicate, get_or-set_same, get_or-set_other}, Math.ListN.replicate}
+use Rattle.cycle_enum.{proofs.Vocabulary.{EDGES, Edge, rank_of, rank_below, by_rank}, specs.{Search.{OccursIn, IsIn}, LetterMarks.{IsMarked, MarksAlso, MarksAlphabet}}}
 
 -- one edge is marked
 marked_one : (old : List Bool) (x e : Edge) → rank_of x < length old → IsMarked (set old (rank_of x) true) e ↔ ((IsMarked old e) ⊎ (x ≡ e))

@@ -1,8 +1,6 @@
 -- A step of the search past a list with which no listed cycle of the length begins.
 use Rattle.std.proofs.Common.{◌<◌, ℕ, List, length}
-use Rattle.relax_edges.specs.declared.edge.Edge.{Edge}
-use Rattle.cycle_enum_laws.specs.Search.{LeadsNowhere, OfLength, IsRaised}
-use Rattle.cycle_enum_laws.proofs.{GrowingLists.raised_within, Searching.search_raised, Stepping.SearchAt}
+use Rattle.cycle_enum.{proofs.{Vocabulary.Edge, GrowingLists.raised_within, Searching.search_raised, Stepping.SearchAt}, specs.Search.{LeadsNowhere, OfLength, IsRaised}}
 
 -- such a list is passed over with all that begin with it
 pub search_at_nowhere : (listed : List Edge → Type 0) (keeps : List Edge → Type 0) (n : ℕ) (start list new : List Edge) → SearchAt listed keeps n start list → 0 < length list

@@ -1,6 +1,6 @@
 -- The ranks beside the edges of a prefix, where it gets or loses its last edge.
 use Rattle.std.proofs.{Common.{◌≡◌, ℕ, ◌-◌, List, [], ◌∷◌, ◌++◌, length, map, take, sym}, lemmas.List.{length-map, map-append, take-map}}
-use Rattle.relax_edges.specs.{declared.edge.Edge.Edge, Order.rank_of}
+use Rattle.cycle_enum.proofs.Vocabulary.{Edge, rank_of}
 
 -- with the rank of an edge that is appended
 pub ranks_pushed : (edges new : List Edge) (ranks others : List ℕ) (e : Edge) (rank : ℕ) → ranks ≡ map rank_of edges → rank ≡ rank_of e → new ≡ edges ++ e ∷ [] → others ≡ ranks ++ rank ∷ []

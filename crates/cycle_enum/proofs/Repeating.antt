@@ -1,13 +1,7 @@
 -- How the end of a list repeats its beginning, where the list gets one edge more.
-use Rattle.std.proofs.Common.{◌≡◌, ◌<◌, inl, inr, ℕ, ◌+◌, List, [], ◌∷◌, ◌++◌, length, refl, sym, ◌∙◌, ap, subst, ◌-◌, take, get_or, map, arith, append_assoc, length-append}
-use Rattle.std.proofs.lemmas.List.{append-nil, nil_from_length, take-append-le, get_or_append_left, take_all, length-take-le, get_or-take, take-take, map-append, length-map, get_or_default}
-use Rattle.std.proofs.{Math.Seq.get_or-append_seam, lemmas.Bool.cases_lt}
-use Rattle.relax_edges.specs.{declared.edge.Edge.Edge, Order.rank_of}
-use Rattle.edge_algebra_laws.specs.CycleOrder.{Above, IsNormal}
-use Rattle.cycle_enum_laws.specs.Search.{LeadsNowhere}
-use Rattle.cycle_enum.specs.{declared.prefix.Repeat.Repeat, declared.prefix.Repeat.TheVariants.{First, Less}}
-use Rattle.cycle_enum.specs.Repeats.{IsAtLeast, RepeatsFirst, IsRepeat, HasRepeats}
-use Rattle.edge_algebra_laws.proofs.{Ordering.{above_irreflexive, above_one_way, above_longer, above_before, by_rank}, Rotating.{before, remainder, cuts}}
+use Rattle.std.proofs.{Common.{◌≡◌, ◌<◌, inl, inr, ℕ, ◌+◌, List, [], ◌∷◌, ◌++◌, length, refl, sym, ◌∙◌, ap, subst, ◌-◌, take, get_or, map, arith, append_assoc, length-append}, lemmas.List.{append-nil, nil_from_length, take-append-le, get_or_append_left}}
+use Rattle.cycle_enum.proofs.Vocabulary.{take_all, length-take-le, get_or-take, take-take, map-append, length-map, get_or_default, cases_lt, get_or-append_seam, Edge, rank_of, Above, IsNormal, above_irreflexive, above_one_way, above_longer, above_before}
+use Rattle.cycle_enum.{proofs.Vocabulary.{by_rank, before, remainder, cuts}, specs.{Search.LeadsNowhere, declared.prefix.Repeat.{Repeat, TheVariants.{First, Less}}, Repeats.{IsAtLeast, RepeatsFirst, IsRepeat, HasRepeats}}}
 
 -- a list is at least itself
 at_least_same : (u : List Edge) → IsAtLeast u u

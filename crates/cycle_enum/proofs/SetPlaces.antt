@@ -1,11 +1,7 @@
 -- Putting relaxations to the places of their edges: each is then in the sets for these, and no set loses any.
 use Rattle.std.proofs.Common.{◌≡◌, ◌<◌, ◌≤◌, ◌+◌, ◌-◌, ◌*◌, ◌/◌, ◌%◌, ◌^◌, w64, nat_eq, ◌⊎◌, inl, inr, ℕ, zero, suc, Bool, true, false, List, [], ◌∷◌, ◌++◌, length, take, drop, get_or, set, refl, sym, ◌∙◌, ap, arith, length-append}
-use Rattle.std.proofs.Math.ListN.{replicate}
-use Rattle.std.proofs.lemmas.{List.{take_all}, Nat.Bits.{bit_at_and, bit_at_or, bit_at-lt, bit_at-zero, bit_at-suc, bit_at_lowest, bit_at_set_same, bit_at_set_other}, Bool.{eqb-true, eq-eqb, true≢false}}
-use Rattle.std.specs.Int.{bit_at, Bits.{bit_and, bit_or}}
-use Rattle.relax_edges.specs.{declared.edge.Edge.Edge, Order.rank_of}
-use Rattle.cycle_enum.specs.declared.{relax_set.RelaxSet.RelaxSet, places.Places.Places}
-use Rattle.cycle_enum.specs.RelaxSets.{InSet, ArePlaces, set_at, row_at, IsAt, KeepsPlaces, HasEdges, HasPlaces, AddsToRow, AddsToRows, AddsEdges, AddsPlaces, IsPlace, IsEnd, AreApart, Meet}
+use Rattle.cycle_enum.proofs.Vocabulary.{replicate, take_all, bit_at_and, bit_at_or, bit_at-lt, bit_at-zero, bit_at-suc, bit_at_lowest, bit_at_set_same, bit_at_set_other, eqb-true, eq-eqb, true≢false, bit_at, bit_and, bit_or, Edge, rank_of}
+use Rattle.cycle_enum.specs.{declared.{relax_set.RelaxSet.RelaxSet, places.Places.Places}, RelaxSets.{InSet, ArePlaces, set_at, row_at, IsAt, KeepsPlaces, HasEdges, HasPlaces, AddsToRow, AddsToRows, AddsEdges, AddsPlaces, IsPlace, IsEnd, AreApart, Meet}}
 
 -- a list and its last edge
 pub record Snoc (w : List Edge) : Type 0 where

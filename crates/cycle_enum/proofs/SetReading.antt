@@ -1,13 +1,7 @@
 -- Reading a list as relaxations by sets of them: the sets have exactly the relaxations that may be read.
-use Rattle.std.proofs.Common.{◌≡◌, ◌↔◌, ◌<◌, ◌+◌, ◌-◌, map, take, drop, get_or, ◌⊎◌, inl, inr, ℕ, zero, suc, Bool, true, false, List, [], ◌∷◌, ◌++◌, length, refl, sym, subst, ◌∙◌, ap, arith, append_assoc, length-append}
-use Rattle.std.proofs.{lemmas.List.{append-nil, take_all}}
-use Rattle.std.specs.List.{AllByRecursion}
-use Rattle.relax_edges.specs.{declared.edge.Edge.Edge, Order.rank_of}
-use Rattle.edge_algebra_laws.proofs.{RankLaws.rank_injective, Rotating.{before, remainder, cuts}}
-use Rattle.cycle_enum_laws.specs.{Search.LeadsNowhere, Listing.{IsOneOf, concatenated, IsConcatenation, IsMadeOf}}
-use Rattle.cycle_enum.specs.declared.{places.Places.Places, progress.Progress.Progress}
-use Rattle.cycle_enum.proofs.SetPlaces.{snoc}
-use Rattle.cycle_enum.specs.RelaxSets.{InSet, set_at, row_at, IsAt, ArePlaces, ReadsTo, IsProgress, IsAfter, IsRowEmpty}
+use Rattle.std.proofs.{Common.{◌≡◌, ◌↔◌, ◌<◌, ◌+◌, ◌-◌, map, take, drop, get_or, ◌⊎◌, inl, inr, ℕ, zero, suc, Bool, true, false, List, [], ◌∷◌, ◌++◌, length, refl, sym, subst, ◌∙◌, ap, arith, append_assoc, length-append}, lemmas.List.append-nil}
+use Rattle.cycle_enum.{proofs.{Vocabulary.{take_all, AllByRecursion, Edge, rank_of, rank_injective, before, remainder, cuts}, SetPlaces.snoc}, specs.{Search.LeadsNowhere, Listing.{IsOneOf, concatenated, IsConcatenation, IsMadeOf}}}
+use Rattle.cycle_enum.specs.{declared.{places.Places.Places, progress.Progress.Progress}, RelaxSets.{InSet, set_at, row_at, IsAt, ArePlaces, ReadsTo, IsProgress, IsAfter, IsRowEmpty}}
 
 snoc_same : (u v : List Edge) (x y : Edge) → u ++ x ∷ [] ≡ v ++ y ∷ [] → (u ≡ v) × (x ≡ y)
 snoc_same [] [] x y e = (refl, cc)

@@ -1,9 +1,7 @@
 -- How the spreads of two lists join, and that a cycle is as spread as each of its rotations.
-use Rattle.std.proofs.Common.{◌≡◌, inl, inr, List, [], ◌∷◌, ◌++◌, refl, sym, ◌∙◌, ap}
-use Rattle.std.proofs.lemmas.Bool.{cases_Bool}
-use Rattle.relax_edges.specs.{declared.edge.Edge.Edge, EdgeTable.{is_diff, is_external}}
-use Rattle.cycle_enum.specs.{declared.spread.Spread.Spread, Spreads.{is_spread, is_two, spread_after, spread_kept, spread_left, spread_moved, spread_next}}
-use Rattle.cycle_enum.specs.declared.spread.Spread.TheVariants.{Bare, Moved, Neither, Running, First, Ends, Between, Two}
+use Rattle.std.proofs.{Common.{◌≡◌, inl, inr, List, [], ◌∷◌, ◌++◌, refl, sym, ◌∙◌, ap}, lemmas.Bool.cases_Bool}
+use Rattle.cycle_enum.{proofs.Vocabulary.{Edge, is_diff, is_external}, specs.{declared.spread.Spread.{Spread, TheVariants.{Bare, Moved, Neither, Running, First, Ends, Between, Two}}, Spreads.{is_spread, is_two, spread_after, spread_kept, spread_left}}}
+use Rattle.cycle_enum.specs.Spreads.{spread_moved, spread_next}
 
 -- what holds of each spread
 each : (P : Spread → Type 0) → P Bare → P Moved → P Neither → P Running → P First → P Ends → P Between → P Two → (s : Spread) → P s

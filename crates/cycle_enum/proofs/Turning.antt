@@ -1,9 +1,6 @@
 -- The ranks of a cycle's rotations.
-use Rattle.std.proofs.Common.{◌≡◌, ◌<◌, ◌+◌, ◌-◌, ◌⊎◌, inl, inr, ℕ, zero, suc, List, [], ◌∷◌, length, map, take, drop, refl, ◌∙◌, ap, arith, length-drop}
-use Rattle.std.proofs.lemmas.List.{take_all, take-map, drop-map}
-use Rattle.std.specs.List.{AllByRecursion}
-use Rattle.relax_edges.specs.{declared.order.TheConstants.EDGES, declared.edge.Edge.Edge, Order.rank_of}
-use Rattle.edge_algebra_laws.proofs.RankLaws.{rank_below}
+use Rattle.std.{proofs.{Common.{◌≡◌, ◌<◌, ◌+◌, ◌-◌, ◌⊎◌, inl, inr, ℕ, zero, suc, List, [], ◌∷◌, length, map, take, drop, refl, ◌∙◌, ap, arith, length-drop}, lemmas.List.{take_all, take-map, drop-map}}, specs.List.AllByRecursion}
+use Rattle.cycle_enum.proofs.Vocabulary.{EDGES, Edge, rank_of, rank_below}
 
 -- the ranks of edges are below the number of edges
 pub all_below : (u : List Edge) → AllByRecursion (λ rank. rank < EDGES) (map rank_of u)

@@ -1,8 +1,8 @@
 -- How many edges of a list lead to another thread, and in which threads others lead to another location, for each prefix.
 -- Source: own.
 use Rattle.std.specs.Prelude.{◌≡◌, ◌+◌, if◌then◌else◌, List, [], ◌∷◌}
-use Rattle.relax_edges.specs.{declared.edge.Edge.Edge, EdgeTable.{is_external}}
-use Rattle.cycle_enum.specs.{declared.crossing.Crossing.Crossing, declared.spread.Spread.TheVariants.{Bare}, Spreads.{outside_count, spread_after, spread_next}}
+use Rattle.relax_edges.specs.{declared.edge.Edge.Edge, EdgeTable.is_external}
+use Rattle.cycle_enum.specs.{declared.{crossing.Crossing.Crossing, spread.Spread.TheVariants.Bare}, Spreads.{outside_count, spread_after, spread_next}}
 
 -- without edges
 abbrev pub crossing_none : Crossing

@@ -1,16 +1,12 @@
 -- How few edges to another thread the edges have that end a cycle in which two threads have edges to another location.
 -- Source: own.
 use Rattle.std.specs.{Prelude.{◌≡◌, ◌≤◌, ◌<◌, ◌+◌, ℕ, cond, Option, Some, None, List, [], ◌∷◌, length, get_or}, List.AllByRecursion}
-use Rattle.relax_edges.specs.{declared.kinds.Dir.Dir, declared.kinds.Mark.Mark, declared.edge.Edge.Edge}
-use Rattle.relax_edges.specs.EdgeTable.{is_external, source_of, source_mark, target_of, target_mark}
+use Rattle.relax_edges.specs.{declared.{kinds.{Dir.Dir, Mark.Mark}, edge.Edge.Edge}, EdgeTable.{is_external, source_of, source_mark, target_of, target_mark}}
 use Rattle.relax_edges.specs.declared.kinds.Dir.TheVariants as dirs
 use Rattle.relax_edges.specs.declared.kinds.Mark.TheVariants as marks
-use Rattle.edge_algebra_laws.specs.Composable.{IsCycle}
-use Rattle.cycle_enum_laws.specs.Search.{LeadsNowhere, OccursIn}
-use Rattle.cycle_enum.specs.{declared.spread.Spread.Spread, declared.endings.{Access.Access, Bounds.Bounds, Row.Row, Endings.Endings}}
-use Rattle.cycle_enum.specs.Spreads.{IsSpreadOver, outside_count, spread_left, spread_next}
-use Rattle.cycle_enum.specs.declared.endings.Access.TheVariants.{Read, Write, Acquire, Release}
-use Rattle.cycle_enum.specs.declared.spread.Spread.TheVariants.{Bare, Moved, Neither, Running, First, Ends, Between, Two}
+use Rattle.edge_algebra.specs.Composable.{IsCycle}
+use Rattle.cycle_enum.specs.{Search.{LeadsNowhere, OccursIn}, declared.{spread.Spread.{Spread, TheVariants.{Bare, Moved, Neither, Running, First, Ends, Between, Two}}, endings.Access.{Access, TheVariants.{Read, Write, Acquire, Release}}}}
+use Rattle.cycle_enum.specs.{declared.endings.{Bounds.Bounds, Row.Row, Endings.Endings}, Spreads.{IsSpreadOver, outside_count, spread_left, spread_next}}
 
 -- an access, by what it does and its mark
 abbrev pub access_of : Dir → Mark → Access

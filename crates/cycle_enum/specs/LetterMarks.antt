@@ -2,7 +2,7 @@
 -- Source: own.
 use Rattle.std.specs.Prelude.{◌≡◌, ◌↔◌, ◌⊎◌, ℕ, Bool, true, false, List, get_or}
 use Rattle.relax_edges.specs.{declared.edge.Edge.Edge, Order.rank_of}
-use Rattle.cycle_enum_laws.specs.Search.{IsIn, OccursIn}
+use Rattle.cycle_enum.specs.Search.{IsIn, OccursIn}
 
 -- whether the edge of a rank is marked
 abbrev pub is_marked_at : List Bool → ℕ → Bool

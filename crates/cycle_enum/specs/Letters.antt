@@ -1,11 +1,8 @@
 -- The letters of a walk: the edges that occur in its relaxations.
 -- Source: own.
 use Rattle.std.specs.{Prelude.{◌≡◌, ◌<◌, ◌&&◌, ◌≤◌, ◌+◌, ℕ, Bool, true, Option, Some, None, List, [], ◌∷◌, length, get_or}, List.AllByRecursion}
-use Rattle.relax_edges.specs.{declared.order.TheConstants.EDGES, declared.edge.Edge.Edge, declared.kinds.Dir.Dir, declared.kinds.Mark.Mark}
-use Rattle.relax_edges.specs.{EdgeTable.{same_dir, same_mark, source_of, source_mark}, Order.rank_of}
-use Rattle.cycle_enum_laws.specs.Search.{OccursIn, IsSingle}
-use Rattle.cycle_enum.specs.{LetterMarks.MarksExactly, Endings.HasRows, RelaxSets.ArePlaces}
-use Rattle.cycle_enum.specs.declared.{letter.Letter.Letter, endings.Endings.Endings, places.Places.Places}
+use Rattle.relax_edges.specs.{declared.{order.TheConstants.EDGES, edge.Edge.Edge, kinds.{Dir.Dir, Mark.Mark}}, EdgeTable.{same_dir, same_mark, source_of, source_mark}, Order.rank_of}
+use Rattle.cycle_enum.specs.{Search.{OccursIn, IsSingle}, LetterMarks.MarksExactly, Endings.HasRows, RelaxSets.ArePlaces, declared.{letter.Letter.Letter, endings.Endings.Endings, places.Places.Places}}
 
 -- no letter has rank `from` or more, and below `to`
 abbrev pub NoLetter : (Edge → Type 0) → ℕ → ℕ → Type 0

@@ -7,3 +7,10 @@ pub mod Spreads
 pub mod Crossings
 pub mod Endings
 pub mod RelaxSets
+pub mod Asked
+pub mod Counting
+pub mod Listing
+pub mod Search
+pub mod Idle
+pub mod Positions
+pub mod Laws

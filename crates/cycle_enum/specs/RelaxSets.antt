@@ -1,9 +1,8 @@
 -- Sets of relaxations, where edges stand in relaxations, and how far relaxations are read at the end of a list of edges.
 -- Source: own; reading by such sets is the Shift-And algorithm of Baeza-Yates and Gonnet, for texts of several patterns.
-use Rattle.std.specs.{Prelude.{◌≡◌, ◌≤◌, ◌<◌, ◌+◌, ◌⊎◌, ℕ, zero, suc, Bool, true, List, [], ◌∷◌, ◌++◌, length, get_or}, List.AllByRecursion, Int.{bit_at}}
+use Rattle.std.specs.{Prelude.{◌≡◌, ◌≤◌, ◌<◌, ◌+◌, ◌⊎◌, ℕ, zero, suc, Bool, true, List, [], ◌∷◌, ◌++◌, length, get_or}, List.AllByRecursion, Int.bit_at}
 use Rattle.relax_edges.specs.{declared.edge.Edge.Edge, Order.rank_of}
-use Rattle.cycle_enum_laws.specs.Listing.{IsOneOf, concatenated}
-use Rattle.cycle_enum.specs.declared.{relax_set.RelaxSet.RelaxSet, places.Places.Places, progress.Progress.Progress}
+use Rattle.cycle_enum.specs.{Listing.{IsOneOf, concatenated}, declared.{relax_set.RelaxSet.RelaxSet, places.Places.Places, progress.Progress.Progress}}
 
 -- a relaxation, by its position in a list, is in a set
 abbrev pub InSet : RelaxSet → ℕ → Type 0

@@ -2,9 +2,8 @@
 -- Source: own; the repeats are those of the algorithm of Fredricksen, Kessler and Maiorana, which lists necklaces.
 use Rattle.std.specs.Prelude.{◌≡◌, ◌<◌, ◌+◌, ◌⊎◌, ⊤, ℕ, List, [], ◌∷◌, ◌++◌, length, take, get_or}
 use Rattle.relax_edges.specs.{declared.edge.Edge.Edge, Order.rank_of}
-use Rattle.edge_algebra_laws.specs.CycleOrder.{Above, IsNormal}
-use Rattle.cycle_enum_laws.specs.Search.{LeadsNowhere}
-use Rattle.cycle_enum.specs.{declared.prefix.Repeat.Repeat, declared.prefix.Repeat.TheVariants.{First, Less}}
+use Rattle.edge_algebra.specs.CycleOrder.{Above, IsNormal}
+use Rattle.cycle_enum.specs.{Search.LeadsNowhere, declared.prefix.Repeat.{Repeat, TheVariants.{First, Less}}}
 
 -- the second list is above u, or u begins with it
 abbrev pub IsAtLeast : List Edge → List Edge → Type 0

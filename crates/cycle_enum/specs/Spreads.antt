@@ -2,7 +2,7 @@
 -- Source: own; that a test needs two such threads is from diy.
 use Rattle.std.specs.{Prelude.{◌≡◌, ◌≤◌, ℕ, Bool, true, false, if◌then◌else◌, List, [], ◌∷◌}, List.count_by}
 use Rattle.relax_edges.specs.{declared.edge.Edge.Edge, EdgeTable.{is_diff, is_external}}
-use Rattle.cycle_enum.specs.declared.spread.{Spread.Spread, Spread.TheVariants.{Bare, Moved, Neither, Running, First, Ends, Between, Two}}
+use Rattle.cycle_enum.specs.declared.spread.Spread.{Spread, TheVariants.{Bare, Moved, Neither, Running, First, Ends, Between, Two}}
 
 -- an edge more leads to another location
 abbrev pub spread_moved : Spread → Spread

@@ -3,10 +3,8 @@
 use Rattle.std.specs.Prelude.{◌≡◌, ⊤, Bool, true, List, Option}
 use denote.Ref.{Bor}
 use Rattle.relax_edges.specs.declared.edge.Edge.{Edge}
-use Rattle.edge_algebra_laws.specs.Composable.{IsCycle}
-use Rattle.cycle_enum_laws.specs.{Asked.Knows, Asked.SayYes, Listing.IsListed}
-use Rattle.cycle_enum.specs.{declared.limits.Limits.Limits, declared.taken.Taken.Taken, Spreads.IsSpreadOver}
-use Rattle.cycle_enum.specs.declared.taken.Taken.TheVariants.{Any, SpreadOver}
+use Rattle.edge_algebra.specs.Composable.{IsCycle}
+use Rattle.cycle_enum.specs.{Asked.{Knows, SayYes}, Listing.IsListed, declared.{limits.Limits.Limits, taken.Taken.{Taken, TheVariants.{Any, SpreadOver}}}, Spreads.IsSpreadOver}
 
 -- a walk: the relaxations, the limits, what it may rely on, the two pruners, the test, and the last cycle, if there is one
 pub record Walking (K J P : Type 0) : Type 0 where

@@ -1,7 +1,7 @@
 ghost use Rattle.std.specs.{Prelude.{◌≡◌, ◌<◌, ◌≤◌, ◌+◌, ◌↔◌, ◌∷◌, [], IsTrue, IsFalse, IfSome, length, map, option_map, true}, List.{AllByRecursion}};
 ghost use Rattle.relax_edges.specs.Order.{rank_of};
-ghost use Rattle.edge_algebra_laws.specs.Composable.{IsCycle, last_joins};
-ghost use Rattle.cycle_enum_laws.specs.{Listing.{IsMadeOf}, Search.{IsListCandidate, IsExtended, IsNextEdge, IsRaised, IsSingle, LeadsNowhere, OccursIn}};
+ghost use Rattle.edge_algebra.specs.Composable.{IsCycle, last_joins};
+ghost use Rattle.cycle_enum.specs.{Listing.{IsMadeOf}, Search.{IsListCandidate, IsExtended, IsNextEdge, IsRaised, IsSingle, LeadsNowhere, OccursIn}};
 ghost use Rattle.cycle_enum.specs.{Endings.{EndsWithin}, Letters.{IsLetter, IsLetterFrom, OccursAndLeaves, least_rank}};
 
 use crate::endings::Endings;
@@ -68,7 +68,7 @@ impl Alphabet {
 
     /// Skips the list and all that begin with it: goes on to the first list in order after these whose
     /// last edge may follow the others. The list becomes empty if there is none.
-    #[tactic(auto, using(edge_algebra_laws::proofs::RankLaws::rank_below))]
+    #[tactic(auto, using(edge_algebra::proofs::RankLaws::rank_below))]
     pub(crate) fn raise(&self, list: &mut Prefix)
         ensures { IsRaised (IsListCandidate self.now) list.old list.new }
     {

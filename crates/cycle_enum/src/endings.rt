@@ -1,6 +1,6 @@
 ghost use Rattle.std.specs.Prelude.{◌≡◌, ◌↔◌, ◌<◌, ◌≤◌, ◌+◌, ◌∷◌, List, Option, Some, None, ℕ, IsTrue, IsFalse, length, true};
 ghost use Rattle.relax_edges.specs.{declared.TheConstants.{MAX_EDGES}, declared.edge.Edge.{Edge as EdgeValue}};
-ghost use Rattle.cycle_enum_laws.specs.Search.{IsIn, OccursIn};
+ghost use Rattle.cycle_enum.specs.Search.{IsIn, OccursIn};
 ghost use Rattle.cycle_enum.specs.{declared.spread.Spread.{Spread as SpreadValue}, Crossings.{IsCrossing}, Spreads.{spread_moved}};
 ghost use Rattle.cycle_enum.specs.Endings.{access_of, access_entered, access_left, bound_in, bounds_at, rows_to, AreRows, HasRows, IsRow};
 ghost use Rattle.cycle_enum.specs.Endings.{AreBefore, AreBelow, AreBeforeLeaving, BoundsWith, EndsNowhere, IsBelow, IsOneMore, IsRowBelow, NoneEnds};

@@ -1,5 +1,5 @@
 ghost use Rattle.std.specs.{Prelude.{◌≡◌, ◌<◌, ◌+◌}, List.{list_all}};
-ghost use Rattle.cycle_enum_laws.specs.Search.{OccursIn};
+ghost use Rattle.cycle_enum.specs.Search.{OccursIn};
 ghost use Rattle.cycle_enum.specs.{Letters.{HasLettersFrom, IsLetterFrom}, LetterMarks.{is_marked_at, IsMarked, MarksAlphabet, MarksAlso, MarksExactly}};
 
 use crate::letter::Letter;

@@ -1,5 +1,5 @@
 ghost use Rattle.std.specs.Prelude.{◌↔◌, IsTrue};
-ghost use Rattle.cycle_enum_laws.specs.Listing.{KeepsLimits};
+ghost use Rattle.cycle_enum.specs.Listing.{KeepsLimits};
 
 /// How many edges the cycles of a listing have.
 #[derive(Clone, Copy)]

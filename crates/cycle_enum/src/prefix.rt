@@ -1,7 +1,7 @@
 ghost use Rattle.std.specs.Prelude.{◌≡◌, ◌<◌, ◌≤◌, ◌+◌, ◌↔◌, ◌++◌, ◌∷◌, [], get_or, length, map, IsFalse, IfSome, IfNone, IsTrue, true};
 ghost use Rattle.relax_edges.specs.{Order.{rank_of}, JoinedEdges.{is_joined}, declared.edge.Edge.{Edge as EdgeValue}};
-ghost use Rattle.edge_algebra_laws.specs.{Composable.{last_joins}, CycleOrder.{IsNormal}};
-ghost use Rattle.cycle_enum_laws.specs.Search.{LeadsNowhere};
+ghost use Rattle.edge_algebra.specs.{Composable.{last_joins}, CycleOrder.{IsNormal}};
+ghost use Rattle.cycle_enum.specs.Search.{LeadsNowhere};
 ghost use Rattle.cycle_enum.specs.{Crossings.{IsCrossing, crossing_after, crossing_none}, Letters.{IsLetter}, Repeats.{NoneLess, IsRepeat}, declared.prefix.Repeat.TheVariants.{First, Less}};
 
 use crate::crossing::Crossing;

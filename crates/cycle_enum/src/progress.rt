@@ -1,7 +1,7 @@
 ghost use Rattle.std.specs.Prelude.{◌≡◌, ◌<◌, ◌↔◌, ◌++◌, [], Bool, List, map, ℕ, true, false, IsFalse, IsTrue};
 ghost use Rattle.relax_edges.specs.{declared.edge.Edge.{Edge as EdgeValue}, Order.{rank_of}};
 ghost use Rattle.std.specs.List.{AllByRecursion};
-ghost use Rattle.cycle_enum_laws.specs.{Listing.{IsConcatenation, IsMadeOf}, Search.{LeadsNowhere}};
+ghost use Rattle.cycle_enum.specs.{Listing.{IsConcatenation, IsMadeOf}, Search.{LeadsNowhere}};
 ghost use Rattle.cycle_enum.specs.RelaxSets.{ArePlaces, AreApart, InSet, Meet, IsAfter, IsProgress, IsRowEmpty};
 ghost use Rattle.cycle_enum.specs.declared.places.Places.{Places as PlacesValue};
 

@@ -1,6 +1,6 @@
 ghost use Rattle.std.specs.Prelude.{◌≡◌, ◌<◌, ◌↔◌, List, map, IsTrue};
 ghost use Rattle.relax_edges.specs.{declared.edge.Edge.{Edge as EdgeValue}, Order.{rank_of}};
-ghost use Rattle.cycle_enum_laws.specs.Listing.{IsMadeOf};
+ghost use Rattle.cycle_enum.specs.Listing.{IsMadeOf};
 ghost use Rattle.cycle_enum.specs.RelaxSets.{ArePlaces};
 
 use crate::places::Places;

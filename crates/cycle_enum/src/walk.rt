@@ -1,8 +1,8 @@
 ghost use Rattle.std.specs.Prelude.{◌≡◌, ◌<◌, ◌≤◌, ◌⊎◌, [], Some, None, IfSome, IfNone, MatchOption, IsTrue, IsFalse, length, map, true};
-ghost use Rattle.cycle_enum_laws.specs.{Asked.{KeptBelow, KeptWhole}, Counting.{later}, Listing.{IsAnswer, KeepsLimits}};
-ghost use Rattle.cycle_enum_laws.specs.Search.{IsCut, IsFirst, LeadsNowhere, LongerThan, OfLength};
+ghost use Rattle.cycle_enum.specs.{Asked.{KeptBelow, KeptWhole}, Counting.{later}, Listing.{IsAnswer, KeepsLimits}};
+ghost use Rattle.cycle_enum.specs.Search.{IsCut, IsFirst, LeadsNowhere, LongerThan, OfLength};
 ghost use Rattle.relax_edges.specs.{Order.{rank_of}, JoinedEdges.{is_joined}};
-ghost use Rattle.edge_algebra_laws.specs.{Composable.{IsCycle}, CycleOrder.{IsLeast, IsNormal}};
+ghost use Rattle.edge_algebra.specs.{Composable.{IsCycle}, CycleOrder.{IsLeast, IsNormal}};
 ghost use Rattle.cycle_enum.specs.{Walking.{KeepsList, KnowsOf, Lists}, WalkEnds.{IsAtLast}};
 
 use crate::alphabet::{Alphabet, closes};

@@ -1,29 +1,25 @@
 -- The locations of a resolved cycle: there are several, which events of a thread share one, and where each one is left.
-use Rattle.std.proofs.Common.{◌≡◌, ℕ, zero, suc, ◌+◌, ◌-◌, ◌<◌, ◌≤◌, true, false, ◌==◌, ◌&&◌, List, length, refl, sym, ◌∙◌, ap, arith}
-use Rattle.std.proofs.lemmas.Bool.{eq-eqb, and_from}
-use Rattle.relax_edges.specs.declared.{kinds.Reach.TheVariants.Internal, kinds.Com.TheVariants.Rf, edge.Edge.Edge}
+use Rattle.std.proofs.{Common.{◌≡◌, ℕ, zero, suc, ◌+◌, ◌-◌, ◌<◌, ◌≤◌, true, false, ◌==◌, ◌&&◌, List, length, refl, sym, ◌∙◌, ap, arith}, lemmas.Bool.{eq-eqb, and_from}}
+use Rattle.cycle_events.proofs.{Vocabulary.{Internal, Rf, Edge, is_external, is_diff, by_less, count_upto_up, count_upto_past, counted, count_all}, EdgeCounts.{PassingEdge, passing}, Threads.{thread_up, thread_end, thread_out}, Locations.ends_with}
+use Rattle.cycle_events.proofs.Locations.{external_keeps, moves_on, moves_kept, moves_up, moves_end, moves_most, location_wrapped, location_first, same_moves_location, moves_in_before, moves_between, moves_in_fewer, laid_out}
+use Rattle.cycle_events.specs.Resolution.{external_count, move_count, edge_at, thread_of, moves_before, location_of, moves_in, IsLaidOut, IsResolved}
 use Rattle.relax_edges.specs.declared.edge.Edge.TheVariants as edges
-use Rattle.relax_edges.specs.EdgeTable.{is_external, is_diff}
-use Rattle.list_laws.proofs.{Cases.by_less, Counts.count_upto_up, Counts.count_upto_past, Counts.counted, Prefixes.count_all}
-use Rattle.cycle_events.specs.Resolution.{external_count, move_count, edge_at, thread_of, moves_before, location_of, moves_in, IsResolved}
-use Rattle.cycle_events.proofs.{EdgeCounts.PassingEdge, EdgeCounts.passing, Threads.thread_up, Threads.thread_end, Threads.thread_out}
-use Rattle.cycle_events.proofs.Locations.{ends_with, external_keeps, moves_on, moves_kept, moves_up, moves_end, moves_most, location_wrapped, location_first, same_moves_location, moves_in_before, moves_between, moves_in_fewer}
 
 -- the last edge is external
-pub last_outside : (es : List Edge) (n : ℕ) → IsResolved es → length es ≡ n + 1 → is_external (edge_at es n) ≡ true
+pub last_outside : (es : List Edge) (n : ℕ) → IsLaidOut es → length es ≡ n + 1 → is_external (edge_at es n) ≡ true
 last_outside es n r h = sym (ends_with es n h) ∙ r.outside
 
 -- the last edge keeps the location
-pub last_keeps : (es : List Edge) (n : ℕ) → IsResolved es → length es ≡ n + 1 → is_diff (edge_at es n) ≡ false
+pub last_keeps : (es : List Edge) (n : ℕ) → IsLaidOut es → length es ≡ n + 1 → is_diff (edge_at es n) ≡ false
 last_keeps es n r h = external_keeps (edge_at es n) (last_outside es n r h)
 
 -- the threads of events are below the number of threads
-pub thread_below : (es : List Edge) (i : ℕ) → IsResolved es → i < length es → thread_of es i < external_count es
+pub thread_below : (es : List Edge) (i : ℕ) → IsLaidOut es → i < length es → thread_of es i < external_count es
 thread_below es i r h =
     grind (arith, (thread_up es i (length es - 1) (omega arith) (omega arith)), (thread_out es (length es - 1) (omega arith)), (last_outside es (length es - 1) r), (thread_end es))
 
 -- at the last event all moves are made
-pub moves_last : (es : List Edge) (n : ℕ) → IsResolved es → length es ≡ n + 1 → moves_before es n ≡ move_count es
+pub moves_last : (es : List Edge) (n : ℕ) → IsLaidOut es → length es ≡ n + 1 → moves_before es n ≡ move_count es
 moves_last es n r h = omega (arith, moves_kept es n (omega (arith, h)) (last_keeps es n r h), ap (moves_before es) h, moves_end es)
 
 -- a move is counted in its thread
@@ -41,7 +37,7 @@ pub several_locations : (es : List Edge) → IsResolved es → 2 ≤ move_count 
 several_locations es r =
     let first = moves_in_fewer es 0 r (omega (arith, r.threads)) in
     let w = counted (λ j. is_diff (edge_at es j)) (length es) (omega (arith, first, count_all is_diff es (edges.Com Rf Internal))) in
-    omega (arith, move_in_thread es w.number w.below w.passes, moves_in_fewer es (thread_of es w.number) r (thread_below es w.number r w.below))
+    omega (arith, move_in_thread es w.number w.below w.passes, moves_in_fewer es (thread_of es w.number) r (thread_below es w.number (laid_out r) w.below))
 
 -- each location is that of some event, which a `d` edge leaves
 pub leaving : (es : List Edge) (l : ℕ) → l < move_count es → PassingEdge is_diff (moves_before es) es l
@@ -57,10 +53,10 @@ location_cases es i h wrapped first =
     (λ g. let e : moves_before es i ≡ move_count es = omega (arith, g, moves_most es i (omega arith)) in wrapped e (location_wrapped es i e))
 
 -- the locations of events are below the number of locations
-pub location_below : (es : List Edge) (i : ℕ) → IsResolved es → i < length es → location_of es i < move_count es
+pub location_below : (es : List Edge) (i : ℕ) → IsLaidOut es → i < length es → location_of es i < move_count es
 location_below es i r h =
     location_cases es i h
-    (λ w z. omega (arith, z, several_locations es r))
+    (λ w z. omega (arith, z, r.moves))
     (λ l e. omega (arith, l, e))
 
 -- two events of a thread at one location have the same moves before them
@@ -69,7 +65,7 @@ unfolding moves_in_before moves_in
 one_location es i j r h l t e =
     let k = thread_of es j in
     let apart = moves_between es i j (thread_of es j) h (omega arith) t refl in
-    let fewer = moves_in_fewer es (thread_of es j) r (thread_below es j r l) in
+    let fewer = moves_in_fewer es (thread_of es j) r (thread_below es j (laid_out r) l) in
     let part = count_upto_up (λ m. is_diff (edge_at es m) && (thread_of es m == thread_of es j)) j (length es) (omega arith) in
     let up = moves_up es i j h (omega arith) in
     location_cases es i (omega arith)

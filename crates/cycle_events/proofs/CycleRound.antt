@@ -1,15 +1,8 @@
 -- The way round a cycle: where each edge leads, the last one back to event 0 included.
-use Rattle.std.proofs.Common.{◌≡◌, ℕ, zero, suc, ◌+◌, ◌-◌, ◌<◌, true, false, ◌==◌, cond, List, [], ◌∷◌, ◌++◌, length, get_or, refl, sym, ◌∙◌, ap, arith, length-append}
-use Rattle.std.proofs.{lemmas.List.{get_or_append_left, get_or_push}, lemmas.Bool.{eq-eqb, ne_eqb, and_parts, cond-true, cond-false}}
-use Rattle.relax_edges.specs.{declared.edge.Edge.Edge, EdgeTable.{source_of, target_of, source_mark, target_mark, joins_to, is_external, is_diff}}
-use Rattle.relax_edges.specs.JoinedEdges.{is_joined}
-use Rattle.edge_algebra_laws.specs.Composable.{IsCycle}
-use Rattle.edge_algebra_laws.proofs.Joining.{joined_dirs, joined_marks}
-use Rattle.list_laws.proofs.Cases.{by_same}
-use Rattle.cycle_events.specs.Resolution.{external_count, edge_at, thread_of, slot_of, location_of, event_after, event_before, IsResolved}
-use Rattle.cycle_events.proofs.Threads.{thread-zero, thread_out, thread_in, thread_end, slot-zero, slot_out, slot_in}
-use Rattle.cycle_events.proofs.Locations.{location-zero, location_kept, location_wrapped}
-use Rattle.cycle_events.proofs.Arcs.{last_outside, last_keeps, moves_last, moved_location, thread_below}
+use Rattle.std.proofs.{Common.{◌≡◌, ℕ, zero, suc, ◌+◌, ◌-◌, ◌<◌, true, false, ◌==◌, cond, List, [], ◌∷◌, ◌++◌, length, get_or, refl, sym, ◌∙◌, ap, arith, length-append}, lemmas.{List.{get_or_append_left, get_or_push}, Bool.{eq-eqb, ne_eqb, and_parts}}}
+use Rattle.cycle_events.proofs.{Vocabulary.{cond-true, cond-false, Edge, source_of, target_of, source_mark, target_mark, joins_to, is_external, is_diff, is_joined, IsCycle, joined_dirs, joined_marks, by_same}, Threads.{thread-zero, thread_out}}
+use Rattle.cycle_events.proofs.{Threads.{thread_in, thread_end, slot-zero, slot_out, slot_in}, Locations.{location-zero, location_kept, location_wrapped, laid_out}, Arcs.{last_outside, last_keeps, moves_last, moved_location, thread_below}}
+use Rattle.cycle_events.specs.Resolution.{external_count, edge_at, thread_of, slot_of, location_of, event_after, event_before, IsLaidOut, IsResolved}
 
 -- after the last event comes event 0, after any other the next one
 pub by_after : {G : Type 0} (es : List Edge) (i : ℕ) → i < length es → (i + 1 < length es → event_after es i ≡ i + 1 → G) → (length es ≡ i + 1 → event_after es i ≡ 0 → G) → G
@@ -73,7 +66,7 @@ pub record Follows (es : List Edge) (i : ℕ) : Type 0 where
   pub slot : slot_of es (i + 1) ≡ slot_of es i + 1
 
 -- each internal edge of a resolved cycle does so
-pub internal_follows : (es : List Edge) (i : ℕ) → IsResolved es → i < length es → is_external (edge_at es i) ≡ false → Follows es i
+pub internal_follows : (es : List Edge) (i : ℕ) → IsLaidOut es → i < length es → is_external (edge_at es i) ≡ false → Follows es i
 internal_follows es i r h f =
     by_after es i h
     (λ l e. record { within = l; next = e; thread = thread_in es i h f; slot = slot_in es i h f })
@@ -85,21 +78,21 @@ pub record Leads (es : List Edge) (i : ℕ) : Type 0 where
   pub slot : slot_of es (event_after es i) ≡ 0
 
 -- each external edge of a resolved cycle does so
-pub external_leads : (es : List Edge) (i : ℕ) → IsResolved es → i < length es → is_external (edge_at es i) ≡ true → Leads es i
+pub external_leads : (es : List Edge) (i : ℕ) → IsLaidOut es → i < length es → is_external (edge_at es i) ≡ true → Leads es i
 external_leads es i r h t =
     by_after es i h
-    (λ l e. grind (arith, thread_out, cond-false, ne_eqb, thread_below, slot_out))
+    (λ l e. grind (arith, (thread_out es i h t), (cond-false {A = ℕ} (thread_of es i + 1 == external_count es) 0 (thread_of es i + 1)), (ne_eqb (thread_of es i + 1) (external_count es)), (thread_below es (i + 1) r l), (slot_out es i h t)))
     (λ l e. grind (arith, (thread_out es i h t), (thread_end es), (thread-zero es), (cond-true {A = ℕ} (thread_of es i + 1 == external_count es) 0 (thread_of es i + 1)), (eq-eqb (thread_of es i + 1) (external_count es)), (slot-zero es)))
 
 -- an edge that isn't a `d` edge keeps the location, also the last one
-pub keeps_location : (es : List Edge) (i : ℕ) → IsResolved es → i < length es → is_diff (edge_at es i) ≡ false → location_of es (event_after es i) ≡ location_of es i
+pub keeps_location : (es : List Edge) (i : ℕ) → IsLaidOut es → i < length es → is_diff (edge_at es i) ≡ false → location_of es (event_after es i) ≡ location_of es i
 keeps_location es i r h f =
     by_after es i h
     (λ l e. rw e (location_kept es i h f))
     (λ l e. rw e (location-zero es ∙ sym (location_wrapped es i (moves_last es i r l))))
 
 -- a `d` edge isn't the last one
-pub moves_within : (es : List Edge) (i : ℕ) → IsResolved es → i < length es → is_diff (edge_at es i) ≡ true → i + 1 < length es
+pub moves_within : (es : List Edge) (i : ℕ) → IsLaidOut es → i < length es → is_diff (edge_at es i) ≡ true → i + 1 < length es
 moves_within es i r h t = grind (arith, last_keeps)
 
 -- a `d` edge enters an event at another location
@@ -107,4 +100,4 @@ pub changes_location : (es : List Edge) (i : ℕ) → IsResolved es → i < leng
 changes_location es i r h t q =
     by_after es i h
     (λ l e. moved_location es i r l t (ap (location_of es) (sym e) ∙ q))
-    (λ l e. let a : false ≡ true = sym (last_keeps es i r l) ∙ t in cc)
+    (λ l e. let a : false ≡ true = sym (last_keeps es i (laid_out r) l) ∙ t in cc)

@@ -1,12 +1,7 @@
 -- How many of the first edges of a list pass a test: one edge further, in all, and up to the edge of a given number.
-use Rattle.std.proofs.{Common.{◌≡◌, ℕ, ◌+◌, ◌<◌, ◌≤◌, Bool, true, false, List, length, take, get_or, ◌∙◌, arith}, lemmas.Bool.{cond-true, cond-false}}
-use Rattle.std.proofs.lemmas.Option.{slice_get-get_or}
-use Rattle.std.specs.List.{count_by, filter}
-use Rattle.relax_edges.specs.{declared.kinds.Reach.TheVariants.Internal, declared.kinds.Com.TheVariants.Rf, declared.edge.Edge.Edge}
+use Rattle.cycle_events.proofs.Vocabulary.{◌≡◌, ℕ, ◌+◌, ◌<◌, ◌≤◌, Bool, true, false, List, length, take, get_or, ◌∙◌, arith, cond-true, cond-false, slice_get-get_or, count_by, filter, Internal, Rf, Edge, upto, count_upto_up, count_upto-le, count_all}
+use Rattle.cycle_events.{proofs.Vocabulary.{count_take, count_take_more, unrank_upto, length-filter-upto}, specs.Resolution.edge_at}
 use Rattle.relax_edges.specs.declared.edge.Edge.TheVariants as edges
-use Rattle.list_laws.specs.Numbers.{upto}
-use Rattle.list_laws.proofs.{Counts.{count_upto_up, count_upto-le}, Prefixes.{count_all, count_take, count_take_more}, Ranks.{unrank_upto, length-filter-upto}}
-use Rattle.cycle_events.specs.Resolution.{edge_at}
 
 -- an edge that passes is counted
 pub counted_on : (p : Edge → Bool) (es : List Edge) (i : ℕ) → i < length es → p (edge_at es i) ≡ true → count_by p (take (i + 1) es) ≡ count_by p (take i es) + 1

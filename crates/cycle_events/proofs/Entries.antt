@@ -1,13 +1,8 @@
 -- The writes that need an observer: the first one of a location, and whether there is one.
-use Rattle.std.proofs.Common.{◌≡◌, ℕ, zero, suc, ◌+◌, ◌-◌, ◌<◌, Bool, true, false, ◌&&◌, List, [], ◌∷◌, ◌++◌, length, Option, Some, None, Ok, Err, refl, sym, ◌∙◌, ap, arith, add-one}
-use Rattle.std.proofs.{lemmas.List.Elements.filter_map-append, lemmas.List.Folds.find-append, lemmas.Bool.lt-ltb, Math.Bool.and-true}
-use Rattle.std.specs.{Prelude.nat_lt, List.{find, filter_map, list_any}, Option.{option_or, is_some}}
-use Rattle.list_laws.proofs.{Elements.option_or-none, Cases.by_test, Finds.{any_upto_passing, any_upto_fails}}
-use Rattle.relax_edges.specs.{declared.edge.Edge.Edge, declared.kinds.ObsMode.ObsMode, declared.kinds.ObsMode.TheVariants.Avoid, EdgeTable.is_external}
-use Rattle.list_laws.specs.Numbers.{upto}
-use Rattle.cycle_events.specs.Values.{edge_into, is_write_at, value_of, write_count, write_at, is_inner_entry, first_inner_entry, need_at, first_need, observer_need, valuation_of}
-use Rattle.cycle_events.specs.{Resolution.move_count, Entries.{is_later_entry, first_entry, inner_entry}, declared.needs.NeedsObserver.NeedsObserver}
-use Rattle.cycle_events.proofs.Writes.{Write, write_of, is_write_number}
+use Rattle.cycle_events.proofs.Vocabulary.{◌≡◌, ℕ, zero, suc, ◌+◌, ◌-◌, ◌<◌, Bool, true, false, ◌&&◌, List, [], ◌∷◌, ◌++◌, length, Option, Some, None, Ok, Err, refl, sym, ◌∙◌, ap, arith, add-one, filter_map-append, find-append, option_or-none, by_test}
+use Rattle.cycle_events.{proofs.{Vocabulary.{any_upto_passing, any_upto_fails, upto, Edge, ObsMode, Avoid, is_external}, Writes.{Write, write_of, is_write_number}}, specs.Values.{edge_into, is_write_at, value_of, write_count, write_at, is_inner_entry}}
+use Rattle.cycle_events.specs.{Values.{first_inner_entry, need_at, first_need, observer_need, valuation_of}, Resolution.move_count, Entries.{is_later_entry, first_entry, inner_entry}, declared.needs.NeedsObserver.NeedsObserver}
+use Rattle.std.{proofs.{lemmas.Bool.lt-ltb, Math.Bool.and-true}, specs.{Prelude.nat_lt, List.{find, filter_map, list_any}, Option.{option_or, is_some}}}
 
 -- what is found among one number more
 pub find_more : (p : ℕ → Bool) (w : ℕ → Option ℕ) (n : ℕ) → find p (filter_map w (upto (suc n))) ≡ option_or (find p (filter_map w (upto n))) (find p (filter_map w (n ∷ [])))

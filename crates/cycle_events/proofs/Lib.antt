@@ -1,3 +1,4 @@
+pub mod Vocabulary
 pub mod EdgeCounts
 pub mod Threads
 pub mod Locations

@@ -1,12 +1,7 @@
 -- Lists: the elements of a filter by their places, and counts along a list on which a number grows.
-use Rattle.std.proofs.Common.{◌≡◌, ℕ, zero, suc, ◌+◌, ◌<◌, ◌≤◌, Bool, true, false, ◌==◌, ◌&&◌, cond, List, [], ◌∷◌, ◌++◌, length, take, get_or, Some, slice_get, refl, sym, ◌∙◌, ap, arith}
-use Rattle.std.proofs.{lemmas.Grind.flat_map-append, lemmas.List.append-nil, lemmas.List.Elements.{All-append, All-head, All-tail}}
-use Rattle.std.proofs.{lemmas.List.Kept.AllPairs-cons, lemmas.List.Sums.sum_by-cons, lemmas.Bool.{cond-true, cond-false, le-ltb}}
-use Rattle.std.proofs.lemmas.Option.{slice_get-get_or, slice_get_within, get_or_from_slice_get}
-use Rattle.std.specs.{Prelude.{nat_lt, nat_le}, List.{All, AllPairs, count_by, filter, flat_map}}
-use Rattle.list_laws.specs.Numbers.{upto}
-use Rattle.list_laws.proofs.{Cases.{by_test, by_less, by_same}, Prefixes.{count_take, count_all}, Numbers.{length-upto, get_or-upto}}
-use Rattle.list_laws.proofs.Counts.{counted, count_upto_past, count_upto_same, count_upto_stays}
+use Rattle.cycle_events.proofs.Vocabulary.{◌≡◌, ℕ, zero, suc, ◌+◌, ◌<◌, ◌≤◌, Bool, true, false, ◌==◌, ◌&&◌, cond, List, [], ◌∷◌, ◌++◌, length, take, get_or, Some, slice_get, refl, sym, ◌∙◌, ap, arith, flat_map-append, append-nil, nat_le, All, AllPairs}
+use Rattle.cycle_events.proofs.Vocabulary.{count_by, filter, flat_map, upto, by_test, by_less, by_same, count_take, count_all, length-upto, get_or-upto, counted, count_upto_past, count_upto_same, count_upto_stays}
+use Rattle.std.{proofs.lemmas.{List.{Elements.{All-append, All-head, All-tail}, Kept.AllPairs-cons, Sums.sum_by-cons}, Bool.{cond-true, cond-false, le-ltb}, Option.{slice_get-get_or, slice_get_within, get_or_from_slice_get}}, specs.Prelude.nat_lt}
 
 -- one element more at the head
 count_yes : (p : ℕ → Bool) (x : ℕ) (xs : List ℕ) → p x ≡ true → count_by p (x ∷ xs) ≡ suc (count_by p xs)

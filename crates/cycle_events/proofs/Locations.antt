@@ -1,16 +1,9 @@
 -- Locations: how they change along an edge, which events are at one location, and that an arc meets a thread in one run.
-use Rattle.std.proofs.Common.{◌≡◌, ℕ, zero, suc, ◌+◌, ◌%◌, ◌<◌, ◌≤◌, true, false, ◌==◌, ◌&&◌, cond, List, [], ◌∷◌, length, take, refl, ◌∙◌, ap, arith, add-one, eq-eqb}
-use Rattle.std.proofs.{lemmas.List.take_all, lemmas.Bool.{eqb-false, ne_eqb, cond-true, cond-false, and_parts, and_right}}
-use Rattle.std.proofs.Math.Nat.{mod-eq_of_lt, mod_self, mod-le, zero-mod}
-use Rattle.std.specs.List.{count_by}
-use Rattle.relax_edges.specs.{declared.kinds.Reach.TheVariants.Internal, declared.kinds.Com.TheVariants.Rf, declared.kinds.Kind.Kind, declared.edge.Edge.Edge}
-use Rattle.relax_edges.specs.EdgeTable.{kind_of, is_external, is_diff}
+use Rattle.std.proofs.{Common.{◌≡◌, ℕ, zero, suc, ◌+◌, ◌%◌, ◌<◌, ◌≤◌, true, false, ◌==◌, ◌&&◌, cond, List, [], ◌∷◌, length, take, refl, ◌∙◌, ap, arith, add-one, eq-eqb}, lemmas.{List.take_all, Bool.{eqb-false, ne_eqb, cond-true, cond-false, and_parts}}}
+use Rattle.cycle_events.proofs.Vocabulary.{and_right, mod-eq_of_lt, mod_self, mod-le, zero-mod, count_by, Internal, Rf, Kind, Edge, kind_of, is_external, is_diff, upto, by_less, count_take_more, count_all, any_upto_fails, count_upto-le, count_upto_more}
+use Rattle.cycle_events.{proofs.{Vocabulary.{count_upto_fewer, count_upto_none, count_upto_stays}, EdgeCounts.{counted_on, counted_kept, counted_up, counted_most}, Threads.{thread_up, thread_out}}, specs.Resolution.{external_count, move_count, edge_at}}
+use Rattle.cycle_events.specs.Resolution.{ends_outside, thread_of, moves_before, location_of, moves_in, is_coherence_only, IsLaidOut, IsResolved}
 use Rattle.relax_edges.specs.declared.edge.Edge.TheVariants as edges
-use Rattle.list_laws.specs.Numbers.{upto}
-use Rattle.list_laws.proofs.{Cases.by_less, Prefixes.{count_take_more, count_all}, Finds.any_upto_fails}
-use Rattle.list_laws.proofs.Counts.{count_upto-le, count_upto_more, count_upto_fewer, count_upto_none, count_upto_stays}
-use Rattle.cycle_events.specs.Resolution.{external_count, move_count, edge_at, ends_outside, thread_of, moves_before, location_of, moves_in, is_coherence_only, IsResolved}
-use Rattle.cycle_events.proofs.{EdgeCounts.{counted_on, counted_kept, counted_up, counted_most}, Threads.{thread_up, thread_out}}
 
 -- what leads to another thread keeps the location, by the kind of the edge
 keeps_by_kind : (k : Kind) (e : Edge) → kind_of e ≡ k → is_external e ≡ true → is_diff e ≡ false
@@ -103,6 +96,16 @@ unfolding is_coherence_only
 moves_in_fewer es k r h =
     let f = any_upto_fails (λ j. moves_in es j == move_count es) (external_count es) k r.spread h in
     omega (arith, moves_in_most es k, eqb-false (moves_in es k) (move_count es) f)
+
+-- a resolved cycle is laid out: where thread 0 doesn't have all moves, there are some
+pub laid_out : {es : List Edge} → IsResolved es → IsLaidOut es
+laid_out r =
+    record {
+      composes = r.composes;
+      outside = r.outside;
+      threads = r.threads;
+      moves = omega (arith, moves_in_fewer _ 0 r (omega (arith, r.threads)));
+    }
 
 -- the moves of a thread among the edges before event x
 unfoldable pub moves_in_before : List Edge → ℕ → ℕ → ℕ

@@ -1,19 +1,9 @@
 -- Rotations of a cycle: they are refused alike, and their events are the same with other numbers.
-use Rattle.std.proofs.Common.{◌≡◌, ℕ, ◌+◌, ◌-◌, ◌%◌, ◌<◌, ◌≤◌, Bool, true, ◌==◌, ◌&&◌, ◌||◌, nat_lt, cond, List, [], ◌∷◌, ◌++◌, length, take, Ok, Err, sym, ◌∙◌, ap, arith, length-append}
-use Rattle.std.specs.List.{count_by, list_any}
-use Rattle.std.proofs.{lemmas.List.take-append-le, lemmas.List.get_or_append_left, lemmas.List.get_or-append-add, lemmas.List.Sums.sum_by-append}
-use Rattle.std.proofs.{lemmas.Bool.ne_eqb, lemmas.Bool.and_right, lemmas.Bool.ltb-false, Math.Bool.or_comm, Math.Nat.add-mod-mod}
-use Rattle.relax_edges.specs.declared.{kinds.Reach.TheVariants.Internal, kinds.Com.TheVariants.Rf, edge.Edge.Edge}
+use Rattle.std.proofs.{Common.{◌≡◌, ℕ, ◌+◌, ◌-◌, ◌%◌, ◌<◌, ◌≤◌, Bool, true, ◌==◌, ◌&&◌, ◌||◌, nat_lt, cond, List, [], ◌∷◌, ◌++◌, length, take, Ok, Err, sym, ◌∙◌, ap, arith, length-append}, lemmas.List.{take-append-le, get_or_append_left}}
+use Rattle.cycle_events.proofs.Vocabulary.{get_or-append-add, sum_by-append, ne_eqb, and_right, ltb-false, or_comm, add-mod-mod, count_by, list_any, Internal, Rf, Edge, is_external, is_diff, IsRotation, rotation_back, rotation_on, rotation_of_place}
+use Rattle.cycle_events.proofs.{Vocabulary.{upto, count_upto_same, count_upto_none, count_exchanged, count_upto-add, any_upto-add, any_upto_same, take-append-add}, Threads.{thread_up, thread_out, thread_end}, Locations.ends_with, Turning.turn_of}
+use Rattle.cycle_events.specs.{declared.errors.ResolveError.ResolveError, Resolution.{external_count, move_count, edge_at, ends_outside, turned, thread_of, slot_of, moves_before, location_of, moves_in, is_coherence_only, resolution_of}}
 use Rattle.relax_edges.specs.declared.edge.Edge.TheVariants as edges
-use Rattle.relax_edges.specs.EdgeTable.{is_external, is_diff}
-use Rattle.edge_algebra_laws.specs.Rotation.{IsRotation}
-use Rattle.edge_algebra_laws.proofs.Rotating.{rotation_back, rotation_on, rotation_of_place}
-use Rattle.list_laws.specs.Numbers.{upto}
-use Rattle.list_laws.proofs.{Counts.count_upto_same, Counts.count_upto_none, Prefixes.count_exchanged}
-use Rattle.list_laws.proofs.Parts.{count_upto-add, any_upto-add, any_upto_same, take-append-add}
-use Rattle.cycle_events.specs.declared.errors.ResolveError.{ResolveError}
-use Rattle.cycle_events.specs.Resolution.{external_count, move_count, edge_at, ends_outside, turned, thread_of, slot_of, moves_before, location_of, moves_in, is_coherence_only, resolution_of}
-use Rattle.cycle_events.proofs.{Threads.thread_up, Threads.thread_out, Threads.thread_end, Locations.ends_with, Turning.turn_of}
 
 -- counts over two parts
 pub external_count-append : (a b : List Edge) → external_count (a ++ b) ≡ external_count a + external_count b

@@ -1,10 +1,6 @@
 -- The threads of a resolved cycle: each has an event, and together they have all.
-use Rattle.std.proofs.Common.{◌≡◌, ℕ, ◌+◌, ◌<◌, ◌≤◌, ◌==◌, cond, List, [], ◌∷◌, length, get_or, Some, slice_get, ◌∙◌, arith}
-use Rattle.std.proofs.{lemmas.Option.{slice_get-get_or, slice_get_within}, lemmas.List.Sums.sum_by-cons}
-use Rattle.relax_edges.specs.{declared.edge.Edge.Edge, EdgeTable.{is_external, is_diff}}
-use Rattle.list_laws.proofs.{Counts.count_upto-le, Ranks.length-filter-upto}
-use Rattle.cycle_events.specs.Resolution.{external_count, move_count, thread_of, slot_of, events_in}
-use Rattle.cycle_events.proofs.{EdgeCounts.passing, Threads.{event_in_slot, slot_of_event, IsAt}}
+use Rattle.cycle_events.proofs.Vocabulary.{◌≡◌, ℕ, ◌+◌, ◌<◌, ◌≤◌, ◌==◌, cond, List, [], ◌∷◌, length, get_or, Some, slice_get, ◌∙◌, arith, slice_get-get_or, slice_get_within, sum_by-cons, Edge, is_external, is_diff, count_upto-le, length-filter-upto}
+use Rattle.cycle_events.{proofs.{EdgeCounts.passing, Threads.{event_in_slot, slot_of_event, IsAt}}, specs.Resolution.{external_count, move_count, thread_of, slot_of, events_in}}
 
 -- the slot of an event is below the size of its thread
 pub slot_below : (es : List Edge) (i : ℕ) → i < length es → slot_of es i < length (events_in es (thread_of es i))

@@ -1,10 +1,7 @@
 -- Threads and slots: how they change along an edge, and that an event and its thread and slot name one another.
-use Rattle.std.proofs.{Common.{◌≡◌, ℕ, ◌+◌, ◌<◌, ◌≤◌, true, false, ◌==◌, List, length, Some, slice_get, refl, ap, arith, eq-eqb}, lemmas.List.take_all}
-use Rattle.std.proofs.lemmas.Bool.{eqb-true, ne_eqb}
-use Rattle.relax_edges.specs.{declared.edge.Edge.Edge, EdgeTable.is_external}
-use Rattle.list_laws.proofs.{Counts.{count_upto_more_yes, count_upto_none, count_upto-le}, Ranks.{rank_upto, unrank_upto}}
-use Rattle.cycle_events.specs.Resolution.{external_count, edge_at, thread_of, slot_of, events_in}
-use Rattle.cycle_events.proofs.EdgeCounts.{counted_on, counted_kept, counted_up, counted_most}
+use Rattle.std.proofs.{Common.{◌≡◌, ℕ, ◌+◌, ◌<◌, ◌≤◌, true, false, ◌==◌, List, length, Some, slice_get, refl, ap, arith, eq-eqb}, lemmas.{List.take_all, Bool.{eqb-true, ne_eqb}}}
+use Rattle.cycle_events.{proofs.{Vocabulary.{Edge, is_external, count_upto_more_yes, count_upto_none, count_upto-le, rank_upto, unrank_upto}, EdgeCounts.{counted_on, counted_kept, counted_up, counted_most}}, specs.Resolution.{external_count, edge_at}}
+use Rattle.cycle_events.specs.Resolution.{thread_of, slot_of, events_in}
 
 -- event 0 is in thread 0
 pub thread-zero : (es : List Edge) → thread_of es 0 ≡ 0

@@ -1,9 +1,7 @@
 -- The way round a cycle that begins after the last edge to another location: its places, and which event is at each.
 use Rattle.std.proofs.{Common.{◌≡◌, ℕ, ◌+◌, ◌<◌, ◌≤◌, true, false, ◌==◌, List, length, arith, eq-eqb}, lemmas.Bool.{ne_eqb, cond-true, cond-false}}
-use Rattle.relax_edges.specs.{declared.edge.Edge.Edge, EdgeTable.is_diff}
-use Rattle.cycle_events.specs.{Resolution.{move_count, edge_at, event_after, thread_of, moves_before, location_of, IsResolved}, Values.way_place}
-use Rattle.cycle_events.proofs.Locations.{moves-zero, moves_on, moves_kept, moves_up, moves_most}
-use Rattle.cycle_events.proofs.{Arcs.{several_locations, moves_last, location_cases, one_location}, CycleRound.{by_after, moves_within}}
+use Rattle.cycle_events.{proofs.{Vocabulary.{Edge, is_diff}, Locations.{moves-zero, moves_on, moves_kept, moves_up, moves_most}, Arcs.{moves_last, location_cases, one_location}, CycleRound.{by_after, moves_within}}, specs.Resolution.move_count}
+use Rattle.cycle_events.specs.{Resolution.{edge_at, event_after, thread_of, moves_before, location_of, IsLaidOut, IsResolved}, Values.way_place}
 
 -- after the last move the way begins
 pub way_after : (es : List Edge) (i : ℕ) → moves_before es i ≡ move_count es → way_place es i ≡ i
@@ -30,20 +28,18 @@ only_on_way es i j h l e =
     (λ a b c. by_way es j l (λ x y z. absurd (omega (arith, e, c, z, l))) (λ x y z. omega (arith, e, c, z)))
 
 -- an edge that keeps the location leads one place further, also the last one
-pub way_next : (es : List Edge) (i : ℕ) → IsResolved es → i < length es → is_diff (edge_at es i) ≡ false → way_place es (event_after es i) ≡ way_place es i + 1
+pub way_next : (es : List Edge) (i : ℕ) → IsLaidOut es → i < length es → is_diff (edge_at es i) ≡ false → way_place es (event_after es i) ≡ way_place es i + 1
 way_next es i r h f =
-    let two = several_locations es r in
     by_after es i h
     (λ l e. rw e (let k = moves_kept es i h f in
     by_way es i h
     (λ a b c. omega (arith, c, way_after es (i + 1) (omega (arith, a, k))))
     (λ a b c. omega (arith, c, way_ahead es (i + 1) (omega (arith, a, k))))))
-    (λ l e. rw e (omega (arith, l, way_after es i (moves_last es i r l), way_ahead es 0 (omega (arith, two, moves-zero es)))))
+    (λ l e. rw e (omega (arith, l, way_after es i (moves_last es i r l), way_ahead es 0 (omega (arith, r.moves, moves-zero es)))))
 
 -- the event after a `d` edge is the first of its arc
-pub first_on_arc : (es : List Edge) (i j : ℕ) → IsResolved es → i < length es → is_diff (edge_at es i) ≡ true → j < length es → location_of es j ≡ location_of es (i + 1) → way_place es j ≤ way_place es (i + 1) → j ≡ i + 1
+pub first_on_arc : (es : List Edge) (i j : ℕ) → IsLaidOut es → i < length es → is_diff (edge_at es i) ≡ true → j < length es → location_of es j ≡ location_of es (i + 1) → way_place es j ≤ way_place es (i + 1) → j ≡ i + 1
 first_on_arc es i j r h t l e w =
-    let two = several_locations es r in
     let within = moves_within es i r h t in
     let on = moves_on es i h t in
     let later : (j ≤ i → moves_before es j ≤ moves_before es i) = λ g. moves_up es j i g (omega arith) in
@@ -56,7 +52,7 @@ first_on_arc es i j r h t l e w =
     (λ x y z. grind arith))
 
 -- the event that a `d` edge leaves is the last of its arc
-pub last_on_arc : (es : List Edge) (i j : ℕ) → IsResolved es → i < length es → is_diff (edge_at es i) ≡ true → j < length es → location_of es j ≡ location_of es i → way_place es j ≤ way_place es i
+pub last_on_arc : (es : List Edge) (i j : ℕ) → IsLaidOut es → i < length es → is_diff (edge_at es i) ≡ true → j < length es → location_of es j ≡ location_of es i → way_place es j ≤ way_place es i
 last_on_arc es i j r h t l e =
     let on = moves_on es i h t in
     let most = moves_most es (i + 1) (omega arith) in

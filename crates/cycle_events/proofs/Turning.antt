@@ -1,18 +1,9 @@
 -- The turn after which the last edge is external: which one it is, and that it is a rotation.
-use Rattle.std.proofs.Common.{◌≡◌, ℕ, zero, suc, ◌+◌, ◌<◌, ◌≤◌, Bool, true, false, List, [], ◌∷◌, ◌++◌, length, take, drop, map, Some, None, Ok, nat_lt, refl, sym, ◌∙◌, ap, arith, add-one, append_assoc}
-use Rattle.std.proofs.{lemmas.List.{append-nil, take_more, take-append-drop}, lemmas.List.Quantifiers.position-Some, lemmas.List.Sums.fails_before_first}
-use Rattle.std.proofs.lemmas.Bool.{ltb-false}
-use Rattle.std.specs.{List.{find, position}, Option.option_map}
-use Rattle.relax_edges.specs.{declared.kinds.Reach.TheVariants.Internal, declared.kinds.Com.TheVariants.Rf, declared.edge.Edge.Edge}
-use Rattle.relax_edges.specs.EdgeTable.{is_external, is_diff}
+use Rattle.std.proofs.{Common.{◌≡◌, ℕ, zero, suc, ◌+◌, ◌<◌, ◌≤◌, Bool, true, false, List, [], ◌∷◌, ◌++◌, length, take, drop, map, Some, None, Ok, nat_lt, refl, sym, ◌∙◌, ap, arith, add-one, append_assoc}, lemmas.List.{append-nil, take_more}}
+use Rattle.cycle_events.proofs.Vocabulary.{take-append-drop, position-Some, fails_before_first, ltb-false, find, position, option_map, Internal, Rf, Edge, is_external, is_diff, IsCycle, rotated, rotated_cycle, upto, by_test, by_less, by_option}
+use Rattle.cycle_events.{proofs.{Vocabulary.{count_exchanged, count_all, Passing, counted, find-map, find_upto_first, find_upto_none, find_upto, none_before}, Locations.ends_with}, specs.Resolution.{external_count, move_count, edge_at, ends_outside}}
+use Rattle.cycle_events.specs.Resolution.{turned, is_coherence_only, resolution_of, IsResolved}
 use Rattle.relax_edges.specs.declared.edge.Edge.TheVariants as edges
-use Rattle.edge_algebra_laws.specs.{Composable.IsCycle, Rotation.rotated}
-use Rattle.edge_algebra_laws.proofs.Composing.{rotated_cycle}
-use Rattle.list_laws.specs.Numbers.{upto}
-use Rattle.list_laws.proofs.{Cases.{by_test, by_less, by_option}, Prefixes.{count_exchanged, count_all}, Counts.{Passing, counted}}
-use Rattle.list_laws.proofs.Finds.{find-map, find_upto_first, find_upto_none, find_upto, none_before}
-use Rattle.cycle_events.specs.Resolution.{external_count, move_count, edge_at, ends_outside, turned, is_coherence_only, resolution_of, IsResolved}
-use Rattle.cycle_events.proofs.Locations.{ends_with}
 
 -- a list ends outside exactly where its last edge is external
 pub outside_at_end : (xs : List Edge) (e : Edge) → ends_outside (xs ++ e ∷ []) ≡ is_external e

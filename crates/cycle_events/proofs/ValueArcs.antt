@@ -1,17 +1,10 @@
 -- The arcs as lists: which events they have, the place on the way along them, and the values and writes on them.
-use Rattle.std.proofs.Common.{◌≡◌, ℕ, ◌+◌, ◌<◌, ◌≤◌, Bool, true, false, not, ◌==◌, ◌&&◌, cond, List, length, take, Some, slice_get, refl, sym, ◌∙◌, ap, arith, eq-eqb}
-use Rattle.std.proofs.{lemmas.List.Elements.{All-filter, All-append, filter_passes}, lemmas.List.Filters.sum_by-filter_both, lemmas.List.Kept.AllPairs-filter}
-use Rattle.std.proofs.{lemmas.List.Sums.{sum_by-append, count_by_more_yes}, lemmas.Option.{slice_get_within, get_or_from_slice_get}}
-use Rattle.std.proofs.lemmas.Bool.{eqb-true, ne_eqb, and_parts, and_from, and_left, and_right, lt-ltb, le-ltb, ltb-true}
-use Rattle.std.specs.{Prelude.nat_lt, List.{All, AllPairs, count_by, filter, flat_map}}
-use Rattle.relax_edges.specs.declared.edge.Edge.{Edge}
-use Rattle.list_laws.specs.Numbers.{upto}
-use Rattle.list_laws.proofs.{Cases.{by_test, by_less, by_option}, Counts.{count_upto_same, count_upto_one_more, count_upto_none}}
-use Rattle.list_laws.proofs.Numbers.{length-upto, get_or-upto}
-use Rattle.cycle_events.specs.{Resolution.{move_count, location_of, IsResolved}, Values.{is_write, is_after_moves, way, arc, way_place, value_of, write_at}}
-use Rattle.cycle_events.proofs.{Locations.moves_up, Arcs.location_below, TurnedRound.by_way}
-use Rattle.cycle_events.proofs.Lists.{count_filter, found_counted, counted_found, rank_filter, unrank_filter, pairs_append, pairs_change, upto_grows, count_along, filter_everything, classes_follow}
-use Rattle.cycle_events.proofs.Writes.{write_of, write_at_parts, write_at_from, is_write_number}
+use Rattle.std.proofs.{Common.{◌≡◌, ℕ, ◌+◌, ◌<◌, ◌≤◌, Bool, true, false, not, ◌==◌, ◌&&◌, cond, List, length, take, Some, slice_get, refl, sym, ◌∙◌, ap, arith, eq-eqb}, lemmas.{List.Elements.{All-filter, All-append, filter_passes}, Bool.le-ltb}}
+use Rattle.std.{proofs.lemmas.Bool.ltb-true, specs.{Prelude.nat_lt, List.{All, AllPairs, count_by, filter, flat_map}}}
+use Rattle.cycle_events.proofs.Vocabulary.{sum_by-filter_both, AllPairs-filter, sum_by-append, count_by_more_yes, slice_get_within, get_or_from_slice_get, eqb-true, ne_eqb, and_parts, and_from, and_left, and_right, lt-ltb, Edge, upto, by_test, by_less}
+use Rattle.cycle_events.proofs.{Vocabulary.{by_option, count_upto_same, count_upto_one_more, count_upto_none, length-upto, get_or-upto}, Locations.moves_up, Arcs.location_below, TurnedRound.by_way, Lists.{count_filter, found_counted, counted_found}}
+use Rattle.cycle_events.{proofs.{Lists.{rank_filter, unrank_filter, pairs_append, pairs_change, upto_grows, count_along, filter_everything, classes_follow}, Writes.{write_of, write_at_parts, write_at_from, is_write_number}}, specs.Resolution.move_count}
+use Rattle.cycle_events.specs.{Resolution.{location_of, IsLaidOut}, Values.{is_write, is_after_moves, way, arc, way_place, value_of, write_at}}
 
 -- a count along the way is a count of all events
 way_count : (es : List Edge) (p : ℕ → Bool) → count_by p (way es) ≡ count_by p (upto (length es))
@@ -150,7 +143,7 @@ way_below es =
     (All-filter (λ i. not (is_after_moves es i)) (λ i. i < length es) (upto (length es)) (below_all (length es)))
 
 -- the way is the arcs of all locations, one after the other
-pub way_of_arcs : (es : List Edge) → IsResolved es → way es ≡ flat_map (arc es) (upto (move_count es))
+pub way_of_arcs : (es : List Edge) → IsLaidOut es → way es ≡ flat_map (arc es) (upto (move_count es))
 unfolding arc
 way_of_arcs es r =
     let rise : AllPairs (λ i j. location_of es i ≤ location_of es j) (way es) =

@@ -1,11 +1,6 @@
 -- What values say of communications, of reads, and of the locations that have no observer.
-use Rattle.std.proofs.{Common.{◌≡◌, ℕ, ◌+◌, ◌≤◌, true, List, length, arith}, lemmas.Bool.leb-true}
-use Rattle.std.specs.List.{count_by}
-use Rattle.relax_edges.specs.{declared.kinds.ObsMode.ObsMode, declared.kinds.ObsMode.TheVariants.{Accept, Avoid, Force}, declared.edge.Edge.Edge}
-use Rattle.list_laws.specs.Numbers.{upto}
-use Rattle.list_laws.proofs.{Counts.count_upto-le, Finds.any_upto_passing}
+use Rattle.cycle_events.proofs.{Vocabulary.{◌≡◌, ℕ, ◌+◌, ◌≤◌, true, List, length, arith, leb-true, count_by, ObsMode, Accept, Avoid, Force, Edge, upto, count_upto-le, any_upto_passing}, Sizes.external_and_moves, Entries.inner_parts}
 use Rattle.cycle_events.specs.{Resolution.{external_count, move_count}, Values.{write_count, is_inner_entry, is_observed}}
-use Rattle.cycle_events.proofs.{Sizes.external_and_moves, Entries.inner_parts}
 
 -- an observed location has at least two writes
 pub observed_writes : (es : List Edge) (mode : ObsMode) (l : ℕ) → is_observed es mode l ≡ true → 2 ≤ write_count es l

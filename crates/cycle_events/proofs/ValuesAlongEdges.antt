@@ -1,16 +1,9 @@
 -- Values along the edges: at a write the value grows by one, at a read it stays, and after a `d` edge it begins at 0.
-use Rattle.std.proofs.Common.{◌≡◌, ℕ, ◌+◌, ◌<◌, ◌≤◌, Bool, true, false, ◌==◌, ◌&&◌, cond, List, length, refl, sym, ◌∙◌, arith, eq-eqb}
-use Rattle.std.proofs.lemmas.Bool.{eqb-true, leb-true, le-leb, lt-leb, and_parts, and_from, and_right}
-use Rattle.std.specs.{List.count_by, Prelude.nat_le}
-use Rattle.relax_edges.specs.{declared.edge.Edge.Edge, EdgeTable.is_diff}
-use Rattle.list_laws.specs.Numbers.{upto}
-use Rattle.list_laws.proofs.Cases.{by_test, by_same}
-use Rattle.list_laws.proofs.Counts.{count_upto_one_more, count_upto_same, count_upto_none, count_upto_fewer, count_upto_less, count_upto-le}
-use Rattle.cycle_events.specs.Resolution.{edge_at, event_after, event_before, thread_of, location_of, IsResolved}
-use Rattle.cycle_events.specs.Values.{is_write_at, way_place, value_of, write_count}
-use Rattle.cycle_events.proofs.CycleRound.{by_after, after_below, before_below, after_before, moves_within, keeps_location}
+use Rattle.std.{proofs.{Common.{◌≡◌, ℕ, ◌+◌, ◌<◌, ◌≤◌, Bool, true, false, ◌==◌, ◌&&◌, cond, List, length, refl, sym, ◌∙◌, arith, eq-eqb}, lemmas.Bool.{eqb-true, leb-true, le-leb, lt-leb, and_parts, and_from, and_right}}, specs.List.count_by}
+use Rattle.cycle_events.proofs.{Vocabulary.{nat_le, Edge, is_diff, upto, by_test, by_same, count_upto_one_more, count_upto_same, count_upto_none, count_upto_fewer, count_upto_less, count_upto-le}, CycleRound.{by_after, after_below, before_below}}
+use Rattle.cycle_events.{proofs.{CycleRound.{after_before, moves_within, keeps_location}, TurnedRound.{only_on_way, way_next, first_on_arc, last_on_arc, way_in_thread}}, specs.Resolution.{edge_at, event_after, event_before, thread_of, location_of}}
+use Rattle.cycle_events.specs.{Resolution.{IsLaidOut, IsResolved}, Values.{is_write_at, way_place, value_of, write_count}}
 pub use Rattle.cycle_events.specs.Values.{is_write}
-use Rattle.cycle_events.proofs.TurnedRound.{only_on_way, way_next, first_on_arc, last_on_arc, way_in_thread}
 
 -- the writes of a location up to a place of the way
 unfoldable pub writes_up_to : List Edge → ℕ → ℕ → ℕ → Bool
@@ -36,7 +29,7 @@ value_one_on es i k h l e w =
     rw f (omega (arith, count_upto_same q p (length es) (λ j a. by_same j k (λ z. rw z (none ∙ sym old)) (others j a)))))
 
 -- after a `d` edge an arc begins
-value_begins : (es : List Edge) (i : ℕ) → IsResolved es → i < length es → is_diff (edge_at es i) ≡ true → value_of es (i + 1) ≡ cond (is_write es (i + 1)) 1 0
+value_begins : (es : List Edge) (i : ℕ) → IsLaidOut es → i < length es → is_diff (edge_at es i) ≡ true → value_of es (i + 1) ≡ cond (is_write es (i + 1)) 1 0
 unfolding value_of writes_up_to
 value_begins es i r h t =
     let q : ℕ → Bool = writes_up_to es (location_of es (i + 1)) (way_place es (i + 1)) in
@@ -49,7 +42,7 @@ value_begins es i r h t =
     rw f (count_upto_none q (length es) (λ j l. by_same j (i + 1) (λ z. rw z none) (others j l))))
 
 -- along every edge, the last one back to event 0 included: the value of what it enters
-pub value_after : (es : List Edge) (i : ℕ) → IsResolved es → i < length es → value_of es (event_after es i) ≡ cond (is_diff (edge_at es i)) 0 (value_of es i) + cond (is_write es (event_after es i)) 1 0
+pub value_after : (es : List Edge) (i : ℕ) → IsLaidOut es → i < length es → value_of es (event_after es i) ≡ cond (is_diff (edge_at es i)) 0 (value_of es i) + cond (is_write es (event_after es i)) 1 0
 value_after es i r h =
     by_test (is_diff (edge_at es i))
     (λ t. by_after es i h
@@ -82,12 +75,12 @@ unfolding write_count
 write_count_most es l = count_upto-le (is_write_at es l) (length es)
 
 -- at the event that a `d` edge leaves, all writes of the location are counted
-pub value_at_end : (es : List Edge) (i : ℕ) → IsResolved es → i < length es → is_diff (edge_at es i) ≡ true → value_of es i ≡ write_count es (location_of es i)
+pub value_at_end : (es : List Edge) (i : ℕ) → IsLaidOut es → i < length es → is_diff (edge_at es i) ≡ true → value_of es i ≡ write_count es (location_of es i)
 unfolding value_of write_count
 value_at_end es i r h t = grind (arith, count_upto_same, eqb-true, and_parts, le-leb, last_on_arc)
 
 -- a write's value is at least 1
-pub write_value : (es : List Edge) (i : ℕ) → IsResolved es → i < length es → is_write es i ≡ true → 1 ≤ value_of es i
+pub write_value : (es : List Edge) (i : ℕ) → IsLaidOut es → i < length es → is_write es i ≡ true → 1 ≤ value_of es i
 write_value es i r h t = grind (arith, (value_after es (event_before es i) r (before_below es i h)), (before_below es i h), (after_before es i h))
 
 -- in one thread at one location values don't fall

@@ -1,11 +1,8 @@
 -- The steps of a walk over the edges that counts threads, slots, locations and the moves of a thread.
-use Rattle.std.proofs.Common.{◌≡◌, ℕ, ◌+◌, ◌<◌, ◌≤◌, true, false, ◌==◌, List, length, refl, sym, ◌∙◌, arith}
-use Rattle.std.proofs.lemmas.Bool.{eq-eqb, ne_eqb, cond-true, cond-false}
-use Rattle.relax_edges.specs.{declared.edge.Edge.Edge, EdgeTable.{is_external, is_diff}}
-use Rattle.list_laws.proofs.Finds.{any_upto, any_upto_none}
-use Rattle.cycle_events.specs.Resolution.{external_count, move_count, edge_at, thread_of, slot_of, location_of, moves_in, is_coherence_only}
-use Rattle.cycle_events.proofs.Threads.{thread-zero, thread_most, slot-zero, slot_most, thread_out, thread_in, thread_up, thread_end, slot_in, slot_out}
-use Rattle.cycle_events.proofs.Locations.{external_keeps, location_on, location_kept, moves_in_before, moves_counted-zero, one_move_more, no_moves_yet, all_moves_made, location_most, location-zero, moves_few}
+use Rattle.std.proofs.{Common.{◌≡◌, ℕ, ◌+◌, ◌<◌, ◌≤◌, true, false, ◌==◌, List, length, refl, sym, ◌∙◌, arith}, lemmas.Bool.{eq-eqb, ne_eqb, cond-true, cond-false}}
+use Rattle.cycle_events.proofs.{Vocabulary.{Edge, is_external, is_diff, any_upto, any_upto_none}, Threads.{thread-zero, thread_most, slot-zero, slot_most, thread_out, thread_in, thread_up, thread_end, slot_in, slot_out}, Locations.external_keeps}
+use Rattle.cycle_events.{proofs.Locations.{location_on, location_kept, moves_in_before, moves_counted-zero, one_move_more, no_moves_yet, all_moves_made, location_most, location-zero, moves_few}, specs.Resolution.{external_count, move_count, edge_at}}
+use Rattle.cycle_events.specs.Resolution.{thread_of, slot_of, location_of, moves_in, is_coherence_only}
 
 -- a `d` edge adds one to the moves of its thread
 counts_move : (es : List Edge) (i m n : ℕ) → n ≡ moves_in_before es (thread_of es i) i → m ≡ n + 1 → is_diff (edge_at es i) ≡ true → m ≡ moves_in_before es (thread_of es i) (i + 1)

@@ -1,12 +1,8 @@
 -- The writes of a location: they have the values 1, 2, .., each once, and a value names its write.
-use Rattle.std.proofs.Common.{◌≡◌, ℕ, zero, suc, ◌+◌, ◌<◌, ◌≤◌, true, false, ◌==◌, ◌&&◌, cond, List, length, Some, refl, ◌∙◌, arith, eq-eqb}
-use Rattle.std.proofs.lemmas.Bool.{eqb-true, and_parts, and_from}
-use Rattle.relax_edges.specs.{declared.edge.Edge.Edge, EdgeTable.is_diff}
-use Rattle.list_laws.proofs.{Cases.{by_test, by_same}, Counts.counted, Finds.{find_upto, find_upto_only}}
-use Rattle.cycle_events.specs.Resolution.{move_count, edge_at, event_before, location_of, IsResolved}
-use Rattle.cycle_events.specs.Values.{is_write_at, way_place, value_of, write_count, write_at}
-use Rattle.cycle_events.proofs.{Locations.location_first, Arcs.{leaving, location_below}, CycleRound.{before_below, after_before, keeps_location}}
-use Rattle.cycle_events.proofs.{TurnedRound.{only_on_way, way_next}, ValuesAlongEdges.{is_write, value_after, value_at_end, values_grow}}
+use Rattle.std.proofs.{Common.{◌≡◌, ℕ, zero, suc, ◌+◌, ◌<◌, ◌≤◌, true, false, ◌==◌, ◌&&◌, cond, List, length, Some, refl, ◌∙◌, arith, eq-eqb}, lemmas.Bool.{eqb-true, and_parts, and_from}}
+use Rattle.cycle_events.proofs.{Vocabulary.{Edge, is_diff, by_test, by_same, counted, find_upto, find_upto_only}, Locations.location_first, Arcs.{leaving, location_below}, CycleRound.{before_below, after_before, keeps_location}, TurnedRound.only_on_way}
+use Rattle.cycle_events.{proofs.{TurnedRound.way_next, ValuesAlongEdges.{is_write, value_after, value_at_end, values_grow}}, specs.{Resolution.{move_count, edge_at, event_before, location_of, IsLaidOut}, Values.{is_write_at, way_place, value_of}}}
+use Rattle.cycle_events.specs.Values.{write_count, write_at}
 
 -- a write at a location is a write, and is at that location
 pub write_at_parts : (es : List Edge) (l i : ℕ) → is_write_at es l i ≡ true → (is_write es i ≡ true) × (location_of es i ≡ l)
@@ -50,16 +46,16 @@ record IsNextPlace (es : List Edge) (i : ℕ) : Type 0 where
   location : location_of es (event_before es i) ≡ location_of es i
   place : way_place es i ≡ way_place es (event_before es i) + 1
 
-remainder : (es : List Edge) (i : ℕ) → IsResolved es → i < length es → is_diff (edge_at es (event_before es i)) ≡ false → IsNextPlace es i
+remainder : (es : List Edge) (i : ℕ) → IsLaidOut es → i < length es → is_diff (edge_at es (event_before es i)) ≡ false → IsNextPlace es i
 remainder es i r h f =
     grind (arith, (before_below es i h), (after_before es i h), (keeps_location es (event_before es i) r), (way_next es (event_before es i) r))
 
 -- the value of an event, from the one before it
-pub value_from : (es : List Edge) (i : ℕ) → IsResolved es → i < length es → value_of es i ≡ cond (is_diff (edge_at es (event_before es i))) 0 (value_of es (event_before es i)) + cond (is_write es i) 1 0
+pub value_from : (es : List Edge) (i : ℕ) → IsLaidOut es → i < length es → value_of es i ≡ cond (is_diff (edge_at es (event_before es i))) 0 (value_of es (event_before es i)) + cond (is_write es i) 1 0
 value_from es i r h = rw (after_before es i h) at (value_after es (event_before es i) r (before_below es i h))
 
 -- back along the arc from an event, each value from 1 to its own is that of a write
-write_back : (es : List Edge) (l k i m : ℕ) → IsResolved es → i < length es → location_of es i ≡ l → k + 1 ≤ value_of es i → way_place es i < m → SomeWrite es l k
+write_back : (es : List Edge) (l k i m : ℕ) → IsLaidOut es → i < length es → location_of es i ≡ l → k + 1 ≤ value_of es i → way_place es i < m → SomeWrite es l k
 write_back es l k i zero r h e v w = absurd (omega (arith, w))
 write_back es l k i (suc m) r h e v w =
     let from = value_from es i r h in
@@ -74,19 +70,19 @@ write_back es l k i (suc m) r h e v w =
     (λ f. grind (arith, (write_back es l k (event_before es i) m r b.below (b.location ∙ e)))))
 
 -- each value from 1 to that of an event is the value of a write of its location
-pub write_with_value : (es : List Edge) (k i : ℕ) → IsResolved es → i < length es → k + 1 ≤ value_of es i → SomeWrite es (location_of es i) k
+pub write_with_value : (es : List Edge) (k i : ℕ) → IsLaidOut es → i < length es → k + 1 ≤ value_of es i → SomeWrite es (location_of es i) k
 write_with_value es k i r h v = write_back es (location_of es i) k i (way_place es i + 1) r h refl v (omega arith)
 
 -- a location with writes is one of the cycle's
-written_below : (es : List Edge) (l : ℕ) → IsResolved es → 0 < write_count es l → l < move_count es
+written_below : (es : List Edge) (l : ℕ) → IsLaidOut es → 0 < write_count es l → l < move_count es
 unfolding write_count
 written_below es l r h = grind (arith, (counted (is_write_at es l) (length es) h), (location_below es), (write_at_parts es l))
 
 -- a location has a write with the value k + 1, for each k below the number of its writes
-pub some_write : (es : List Edge) (l k : ℕ) → IsResolved es → k < write_count es l → SomeWrite es l k
+pub some_write : (es : List Edge) (l k : ℕ) → IsLaidOut es → k < write_count es l → SomeWrite es l k
 some_write es l k r h =
     grind (arith, (written_below es l r (omega (arith, h))), (leaving es l), (location_first es), (value_at_end es), (write_with_value es k))
 
 -- there is a write number k of a location, for each k below the number of its writes
-pub write_number : (es : List Edge) (l k : ℕ) → IsResolved es → k < write_count es l → (i : ℕ) × (write_at es l k ≡ Some i)
+pub write_number : (es : List Edge) (l k : ℕ) → IsLaidOut es → k < write_count es l → (i : ℕ) × (write_at es l k ≡ Some i)
 write_number es l k r h = let w = some_write es l k r h in (w.event, is_write_number es l k w.event w.is)

@@ -1,15 +1,12 @@
 -- The resolution of a cycle: in which thread, in which slot and at which location each event is. Event i is the access
 -- that edge i leaves; thread, slot and location are counts over prefixes of the list of edges. Source: the diy part of the
 -- herdtools manual (external edges change the thread, `d` edges the location); where counting begins is own.
-use Rattle.std.specs.Prelude.{◌≡◌, ℕ, zero, suc, ◌+◌, ◌-◌, ◌%◌, ◌≤◌, Bool, true, false, ◌==◌, ◌&&◌, nat_lt, if◌then◌else◌, List, [], ◌∷◌, length, map, take, count_by, unwrap_or, slice_index_or, Result, Ok, Err}
-use Rattle.std.specs.List.{filter, find, list_any}
-use Rattle.relax_edges.specs.declared.{kinds.Reach.TheVariants.Internal, kinds.Com.TheVariants.Rf, edge.Edge.Edge}
+use Rattle.std.specs.{Prelude.{◌≡◌, ℕ, zero, suc, ◌+◌, ◌-◌, ◌%◌, ◌<◌, ◌≤◌, Bool, true, false, ◌==◌, ◌&&◌, nat_lt, if◌then◌else◌, List, [], ◌∷◌, length, map, take, count_by, unwrap_or, slice_index_or, Result, Ok, Err}, List.{filter, find, list_any}}
+use Rattle.relax_edges.specs.{declared.{kinds.{Reach.TheVariants.Internal, Com.TheVariants.Rf}, edge.Edge.Edge}, EdgeTable.{source_of, is_external, is_diff}}
 use Rattle.relax_edges.specs.declared.edge.Edge.TheVariants as edges
-use Rattle.relax_edges.specs.EdgeTable.{source_of, is_external, is_diff}
 use Rattle.list_laws.specs.Numbers.{upto}
-use Rattle.edge_algebra_laws.specs.{Composable.IsCycle, Rotation.rotated}
-use Rattle.cycle_events.specs.declared.{event.Event.Event, errors.ResolveError.ResolveError, errors.ResolveError.TheVariants.TooFewThreads}
-use Rattle.cycle_events.specs.declared.{errors.ResolveError.TheVariants.CoherenceOnly}
+use Rattle.edge_algebra.specs.{Composable.IsCycle, Rotation.rotated}
+use Rattle.cycle_events.specs.declared.{event.Event.Event, errors.ResolveError.{ResolveError, TheVariants.{TooFewThreads, CoherenceOnly}}}
 
 -- how many edges of a list lead to another thread
 abbrev pub external_count : List Edge → ℕ
@@ -92,3 +89,11 @@ pub record IsResolved (es : List Edge) : Type 0 where
   pub outside : ends_outside es ≡ true
   pub threads : 2 ≤ external_count es
   pub spread : is_coherence_only es ≡ false
+
+-- a list of edges in which threads and locations are counted: its last edge leads to another thread, at least two edges
+-- do, and some edge leads to another location. The `d` edges may all lie in one thread
+pub record IsLaidOut (es : List Edge) : Type 0 where
+  pub composes : IsCycle es
+  pub outside : ends_outside es ≡ true
+  pub threads : 2 ≤ external_count es
+  pub moves : 0 < move_count es

@@ -1,11 +1,10 @@
 -- The arcs of the locations of a resolved cycle, the values of its events, and the locations that have an observer. `es`
 -- is the list of edges in which threads and locations are counted. Source: the diy part of the herdtools manual (values
 -- along the coherence order, observers); which locations are observed in which mode is own.
-use Rattle.std.specs.Prelude.{ℕ, ◌+◌, Bool, false, not, ◌==◌, ◌&&◌, nat_lt, nat_le, if◌then◌else◌, List, [], ◌∷◌, ◌++◌, length, take, count_by, Option, Some, None, Result, Ok, Err}
-use Rattle.std.specs.{List.{filter, find, list_any, filter_map}, Option.{option_map, option_or}}
+use Rattle.std.specs.{Prelude.{ℕ, ◌+◌, Bool, false, not, ◌==◌, ◌&&◌, nat_lt, nat_le, if◌then◌else◌, List, [], ◌∷◌, ◌++◌, length, take, count_by, Option, Some, None, Result, Ok, Err}, List.{filter, find, list_any, filter_map}, Option.option_map}
+use Rattle.std.specs.Option.{option_or}
 use Rattle.relax_edges.specs.declared.kinds.Dir.TheVariants as dirs
-use Rattle.relax_edges.specs.{declared.kinds.ObsMode.ObsMode, declared.kinds.ObsMode.TheVariants.{Accept, Avoid, Force}, declared.edge.Edge.Edge}
-use Rattle.relax_edges.specs.EdgeTable.{source_of, is_external, same_dir}
+use Rattle.relax_edges.specs.{declared.{kinds.ObsMode.{ObsMode, TheVariants.{Accept, Avoid, Force}}, edge.Edge.Edge}, EdgeTable.{source_of, is_external, same_dir}}
 use Rattle.list_laws.specs.Numbers.{upto}
 use Rattle.cycle_events.specs.{Resolution.{edge_at, event_before, move_count, moves_before, location_of}, declared.needs.NeedsObserver.NeedsObserver}
 

@@ -2,7 +2,7 @@
 ghost use Rattle.std.specs.{Prelude.{◌≡◌, ℕ, ◌<◌, ◌==◌, if◌then◌else◌, List, count_by, Some}, List.{AllPairs, filter, flat_map, slice_get}};
 ghost use Rattle.relax_edges.specs.declared.edge.Edge.{Edge};
 ghost use Rattle.list_laws.specs.Numbers.{upto};
-ghost use Rattle.cycle_events.specs.Resolution.{move_count, IsResolved};
+ghost use Rattle.cycle_events.specs.Resolution.{move_count, IsLaidOut};
 ghost use Rattle.cycle_events.specs.Values.{is_write, way, arc, way_place, value_of, write_at, arc_of, is_event_at, writes_counted};
 
 /// The arc of a location has the events of the location, each once, and nothing else.
@@ -11,10 +11,10 @@ pub fn arcs_have_their_events()
     ensures { (es : List Edge) → (location i : ℕ) → count_by (λ j. j == i) (arc es location) ≡ (if is_event_at es location i then 1 else 0) }
 {}
 
-/// The way round a resolved cycle consists of the arcs of all locations, from location 0 on, one after another.
+/// The way round a cycle that is laid out consists of the arcs of all locations, from location 0 on, one after another.
 #[tactic(auto, using(crate::proofs::ValueArcs::way_of_arcs))]
 pub fn arcs_make_the_way()
-    ensures { (es : List Edge) → IsResolved es → way es ≡ flat_map (arc es) (upto (move_count es)) }
+    ensures { (es : List Edge) → IsLaidOut es → way es ≡ flat_map (arc es) (upto (move_count es)) }
 {}
 
 /// The position on the way grows along an arc: each event has a lower one than each later event.

@@ -1,6 +1,9 @@
 -- What is read is the cycle of the name, and what is refused is no name.
-use Rattle.cycle_names.proofs.Vocabulary.{◌≡◌, ◌≤◌, ℕ, suc, true, false, Option, Some, None, nat_lt, Result, Ok, Err, IsOk, List, [], ◌∷◌, ◌++◌, length, drop, codes, bytes_eq, bytes_decides, sym, ◌∙◌, ap, arith, and_parts, cond-true, cond-false, false≢true, by_test, by_option, MAX_EDGES, ArchName, Mark, Plain, Edge, target_mark, word_of, join_by, same_Some, IsCycle, first_break, IsLeast, rotated, rotation_length, CycleError, TooLong, composed, unbroken, composes_exactly, MAX_CYCLE_NAME, Family, family_word, family_edges, all_families, link_words, found_family, named_rotation, links_text, name_from, name_of, IsNamedAt, begins_with_word, named_family, marked_between, first_mark, last_mark, marked_along, marked_around, marked_if, slots_filled, words_read, edges_read, AddsEdges, are_of_arch, IsNamed, NamesNone, before_edges}
-use Rattle.cycle_names.proofs.{Members.found_passes, NamedRotations.{named_rotates, least_named}, ReadBack.name_back, NameLaws.{named, arch_turned, names_of_cycles}}
+use Rattle.cycle_names.proofs.Vocabulary.{◌≡◌, ◌≤◌, ℕ, suc, true, false, Option, Some, None, nat_lt, Result, Ok, Err, IsOk, List, [], ◌∷◌, ◌++◌, length, drop, codes, bytes_eq, bytes_decides, sym, ◌∙◌, ap, arith, and_parts, cond-true, cond-false}
+use Rattle.cycle_names.proofs.Vocabulary.{false≢true, by_test, by_option, MAX_EDGES, ArchName, Mark, Plain, Edge, target_mark, word_of, join_by, same_Some, IsCycle, first_break, IsLeast, rotated, rotation_length, CycleError, TooLong, composed, unbroken}
+use Rattle.cycle_names.proofs.Vocabulary.{composes_exactly, MAX_CYCLE_NAME, Family, family_word, family_edges, all_families, link_words, found_family, named_rotation, links_text, name_from, name_of, IsNamedAt, begins_with_word, named_family}
+use Rattle.cycle_names.proofs.{Vocabulary.{marked_between, first_mark, last_mark, marked_along, marked_around, marked_if, slots_filled, words_read, edges_read, AddsEdges, are_of_arch, IsNamed, NamesNone, before_edges}, Members.found_passes}
+use Rattle.cycle_names.proofs.{NamedRotations.{named_rotates, least_named}, ReadBack.name_back, NameLaws.{named, arch_turned, names_of_cycles}}
 
 -- the name that a cycle of a family gets
 pub name_in_family : (u : List Edge) (f : Family) (place : ℕ) → IsNamedAt u f place → name_of u ≡ family_word f ++ links_text (link_words (rotated place u))

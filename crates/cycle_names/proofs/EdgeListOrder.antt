@@ -1,6 +1,6 @@
 -- The order of lists of edges by numbers of the edges: strict, and total on lists of one length.
-use Rattle.cycle_names.proofs.Vocabulary.{◌≡◌, ◌<◌, ℕ, Bool, true, false, not, ◌&&◌, nat_lt, nat_eq, Some, List, [], ◌∷◌, length, list_any, refl, sym, ◌∙◌, inl, inr, arith, cases_order, or_cases, and_parts, or_left, or_right, ltb-true, lt-ltb, eqb-true, eq-eqb, by_test, ranks_below, least_of}
-use Rattle.cycle_names.proofs.Members.{Member, any_of_member, any_none, find_only}
+use Rattle.cycle_names.proofs.Vocabulary.{◌≡◌, ◌<◌, ℕ, Bool, true, false, not, ◌&&◌, nat_lt, nat_eq, Some, List, [], ◌∷◌, length, list_any, refl, sym, ◌∙◌, inl, inr, arith, cases_order, or_cases, and_parts, or_left, or_right, ltb-true, lt-ltb, eqb-true}
+use Rattle.cycle_names.proofs.{Vocabulary.{eq-eqb, by_test, ranks_below, least_of}, Members.{Member, any_of_member, any_none, find_only}}
 
 -- the ranks of two lists, at the first place where they differ
 pub data Below (x y : ℕ) (u v : List ℕ) : Type 0 where

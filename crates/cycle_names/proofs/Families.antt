@@ -1,8 +1,9 @@
 -- The table of families: no rotation of one is another, each has two links or more and at most six edges, and no name begins another.
-use Rattle.cycle_names.proofs.Vocabulary.{◌≡◌, ◌<◌, ◌≤◌, ◌==◌, ◌&&◌, ◌||◌, ℕ, Bool, true, not, Some, None, List, [], ◌∷◌, ◌++◌, length, filter, nat_le, slice_get, codes, list_any, list_all, refl, ◌∙◌, ap, subst, arith, eqb-true, leb-true, and_parts, or_cases, length-map, implied, Edge, is_diff, rank_of, is_same, IsRotation, rotated, rotation_back, rotation_on, rotation_length, place_of_rotation, rotation_of_place, Family, family_edges, family_word, all_families, edge_of_slot, outline, rotations, fits_family, is_of_family, found_family, is_name_byte, named_family}
+use Rattle.cycle_names.proofs.Vocabulary.{◌≡◌, ◌<◌, ◌≤◌, ◌==◌, ◌&&◌, ◌||◌, ℕ, Bool, true, not, Some, None, List, [], ◌∷◌, ◌++◌, length, filter, nat_le, slice_get, codes, list_any, list_all, refl, ◌∙◌, ap, subst, arith, eqb-true, leb-true, and_parts}
+use Rattle.cycle_names.proofs.Vocabulary.{or_cases, length-map, implied, Edge, is_diff, rank_of, is_same, IsRotation, rotated, rotation_back, rotation_on, rotation_length, place_of_rotation, rotation_of_place, Family, family_edges, family_word}
+use Rattle.cycle_names.proofs.{Vocabulary.{all_families, edge_of_slot, outline, rotations, fits_family, is_of_family, found_family, is_name_byte, named_family}, Members.{Member, member_at, member_either, all_of_member, any_of_member, member_of_any}}
+use Rattle.cycle_names.proofs.{Members.{member_upto, upto_member, find_none, find_only, found_passes, map_rotated}, Tables.{slot_is_diff, slot_is_external}, Marks.is_either, Outlines.{edges_are_same, outline_of_fits}}
 use Rattle.cycle_names.specs.declared.family.Family.TheVariants as families
-use Rattle.cycle_names.proofs.Members.{Member, member_at, member_either, all_of_member, any_of_member, member_of_any, member_upto, upto_member, find_none, find_only, found_passes, map_rotated}
-use Rattle.cycle_names.proofs.{Tables.slot_is_diff, Tables.slot_is_external, Marks.is_either, Outlines.edges_are_same, Outlines.outline_of_fits}
 
 -- the place of a family in the table
 family_place : Family → ℕ

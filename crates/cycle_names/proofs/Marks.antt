@@ -1,6 +1,7 @@
 -- The marks of the external edges of a cycle of a family follow from the edges beside them.
-use Rattle.cycle_names.proofs.Vocabulary.{arith, ◌≡◌, ◌||◌, Bool, true, false, cond, Option, Some, List, [], ◌∷◌, ◌++◌, map, list_all, refl, sym, ◌∙◌, ap, and_parts, cond-true, cond-false, Kind, Mark, Plain, Edge, kind_of, source_mark, target_mark, joins_to, is_external, is_diff, unmarked, marked_edge, is_joined, is_closed, same_mark_is, joined_marks, marked_edge_of, marked_edge_is, edge_of_slot, is_plain_before, all_unmarked, is_plain_outside, last_mark, marked_between, marked_along, marked_around, before_edges}
-use Rattle.cycle_names.proofs.Tables.{slot_is_external, external_same}
+use Rattle.cycle_names.proofs.Vocabulary.{arith, ◌≡◌, ◌||◌, Bool, true, false, cond, Option, Some, List, [], ◌∷◌, ◌++◌, map, list_all, refl, sym, ◌∙◌, ap, and_parts, cond-true, cond-false, Kind, Mark, Plain, Edge, kind_of, source_mark, target_mark}
+use Rattle.cycle_names.proofs.Vocabulary.{joins_to, is_external, is_diff, unmarked, marked_edge, is_joined, is_closed, same_mark_is, joined_marks, marked_edge_of, marked_edge_is, edge_of_slot, is_plain_before, all_unmarked, is_plain_outside, last_mark}
+use Rattle.cycle_names.proofs.{Vocabulary.{marked_between, marked_along, marked_around, before_edges}, Tables.{slot_is_external, external_same}}
 
 -- what a name says of an edge: a link with its marks, another edge without
 abbrev pub said_of : Edge → Edge

@@ -1,5 +1,6 @@
 -- Members of lists, those that pass a test, and the one before which none comes.
-use Rattle.cycle_names.proofs.Vocabulary.{◌≡◌, ◌<◌, ◌⊎◌, ℕ, zero, suc, Bool, true, false, Some, None, List, [], ◌∷◌, ◌++◌, map, filter, take, drop, slice_get, find, list_any, list_all, refl, sym, ◌∙◌, ap, inl, inr, arith, and_parts, cond-true, cond-false, same_Some, map_push, map-append, drop-map, take-map, list_all-append, and_comm, take-append-drop, upto, by_test, by_less, rotated}
+use Rattle.cycle_names.proofs.Vocabulary.{◌≡◌, ◌<◌, ◌⊎◌, ℕ, zero, suc, Bool, true, false, Some, None, List, [], ◌∷◌, ◌++◌, map, filter, take, drop, slice_get, find, list_any, list_all, refl, sym, ◌∙◌, ap, inl, inr, arith, and_parts, cond-true}
+use Rattle.cycle_names.proofs.Vocabulary.{cond-false, same_Some, map_push, map-append, drop-map, take-map, list_all-append, and_comm, take-append-drop, upto, by_test, by_less, rotated}
 
 module _ {A : Type 0} where
   -- x is a member of a list

@@ -1,5 +1,6 @@
 -- Names of cycles, computed from the definition.
-use Rattle.cycle_names.proofs.Vocabulary.{◌≡◌, ℕ, List, [], ◌∷◌, Option, Some, refl, slice_split, option_map, codes, R, W, Diff, Internal, rank_of, edges_in_order, edge_of, pod, rfe, fre, wse, found_family, named_rotation, links_text, name_from, name_of, is_dash, edges_of_words}
+use Rattle.cycle_names.proofs.Vocabulary.{◌≡◌, ℕ, List, [], ◌∷◌, Option, Some, refl, slice_split, option_map, codes, R, W, Diff, Internal, rank_of, edges_in_order, edge_of, pod, rfe, fre, wse, found_family, named_rotation, links_text, name_from, name_of}
+use Rattle.cycle_names.proofs.Vocabulary.{is_dash, edges_of_words}
 use Rattle.relax_edges.specs.declared.kinds.FenceKind.TheVariants as fences
 use Rattle.relax_edges.specs.declared.kinds.DepKind.TheVariants as deps
 use Rattle.relax_edges.specs.declared.kinds.Com.TheVariants as coms

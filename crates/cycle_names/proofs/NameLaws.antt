@@ -1,8 +1,9 @@
 -- The laws of names, each from its lemmas.
-use Rattle.cycle_names.proofs.Vocabulary.{◌≡◌, ◌≤◌, ◌+◌, ◌*◌, ℕ, Bool, true, Option, Some, None, List, [], ◌∷◌, ◌++◌, length, codes, nat_le, list_all, flat_map, join_by, bytes_eq, refl, sym, ◌∙◌, ap, subst, arith, length-append, and_parts, cond_both, leb-true, le-leb, list_all-append, and_comm, same_Some, MAX_EDGES, ArchName, Edge, word_of, word_short, IsCycle, IsRotation, cycle_of_rotation, rotation_back, rotation_on, rotation_length, Family, link_words, found_family, named_rotation, is_name_byte, after_plus, all_equal, plural, links_text, name_from, name_of, edges_read, are_of_arch, NamesDecide, NamesReadBack, FamiliesApart, IsName, NamesAreNames}
-use Rattle.cycle_names.proofs.{Tables.link_word_short, Tables.link_word_bytes, Tables.word_bytes, Outlines.words_of_link, Outlines.words_of_plain}
-use Rattle.cycle_names.proofs.{Outlines.each_word, NamedRotations.family_turned, NamedRotations.named_turned, NamedRotations.named_rotates, ReadBack.name_back}
-use Rattle.cycle_names.proofs.Families.{one_family, family_word_short, family_word_some, family_word_bytes}
+use Rattle.cycle_names.proofs.Vocabulary.{◌≡◌, ◌≤◌, ◌+◌, ◌*◌, ℕ, Bool, true, Option, Some, None, List, [], ◌∷◌, ◌++◌, length, codes, nat_le, list_all, flat_map, join_by, bytes_eq, refl, sym, ◌∙◌, ap, subst, arith, length-append, and_parts, cond_both}
+use Rattle.cycle_names.proofs.Vocabulary.{leb-true, le-leb, list_all-append, and_comm, same_Some, MAX_EDGES, ArchName, Edge, word_of, word_short, IsCycle, IsRotation, cycle_of_rotation, rotation_back, rotation_on, rotation_length, Family, link_words}
+use Rattle.cycle_names.proofs.Vocabulary.{found_family, named_rotation, is_name_byte, after_plus, all_equal, plural, links_text, name_from, name_of, edges_read, are_of_arch, NamesDecide, NamesReadBack, FamiliesApart, IsName, NamesAreNames}
+use Rattle.cycle_names.proofs.{Tables.{link_word_short, link_word_bytes, word_bytes}, Outlines.{words_of_link, words_of_plain, each_word}, NamedRotations.{family_turned, named_turned, named_rotates}, ReadBack.name_back, Families.one_family}
+use Rattle.cycle_names.proofs.Families.{family_word_short, family_word_some, family_word_bytes}
 
 -- cycles with one name are named from one rotation
 pub one_rotation : (u v : List Edge) → IsCycle u → IsCycle v → name_of u ≡ name_of v → named_rotation u ≡ named_rotation v

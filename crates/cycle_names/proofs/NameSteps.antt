@@ -1,6 +1,8 @@
 -- Steps of reading a name and of looking at its links: what one edge more means.
-use Rattle.cycle_names.proofs.Vocabulary.{◌≡◌, ◌<◌, ◌≤◌, ◌+◌, ◌-◌, ◌&&◌, ℕ, true, false, Option, Some, None, Result, IsOk, List, [], ◌∷◌, ◌++◌, length, take, drop, slice_split, position_or_len, onto_first, refl, sym, ◌∙◌, ap, arith, get_or, append_assoc, length-append, and_parts, cond-true, cond-false, append-nil, bytes_eq, bytes_decides, same_Some, common_steps, by_test, by_less, rest-cons, MAX_EDGES, EDGES, Dir, Edge, source_of, target_of, is_diff, same_dir, rank_of, edge_of, before_edges, edges_in_order, rank_injective, rank_below, position_or_len-no, link_word, is_dash, is_link, link_between, link_with, first_name_word, after_word, filled_each, edges_of_words, AddsEdges, same_dir_is}
-use Rattle.cycle_names.proofs.{Tables.link_found_back, Members.find_none}
+use Rattle.cycle_names.proofs.Vocabulary.{◌≡◌, ◌<◌, ◌≤◌, ◌+◌, ◌-◌, ◌&&◌, ℕ, true, false, Option, Some, None, Result, IsOk, List, [], ◌∷◌, ◌++◌, length, take, drop, slice_split, position_or_len, onto_first, refl, sym, ◌∙◌, ap, arith, get_or, append_assoc}
+use Rattle.cycle_names.proofs.Vocabulary.{length-append, and_parts, cond-true, cond-false, append-nil, bytes_eq, bytes_decides, same_Some, common_steps, by_test, by_less, rest-cons, MAX_EDGES, EDGES, Dir, Edge, source_of, target_of, is_diff, same_dir}
+use Rattle.cycle_names.proofs.Vocabulary.{rank_of, edge_of, before_edges, edges_in_order, rank_injective, rank_below, position_or_len-no, link_word, is_dash, is_link, link_between, link_with, first_name_word, after_word, filled_each, edges_of_words}
+use Rattle.cycle_names.proofs.{Vocabulary.{AddsEdges, same_dir_is}, Tables.link_found_back, Members.find_none}
 
 -- a list without its first element, as slice patterns give it
 abbrev pub rest_of : {A : Type 0} → List A → List A

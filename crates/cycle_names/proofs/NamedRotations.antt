@@ -1,9 +1,9 @@
 -- The rotation that a cycle is named from: there is one, and it is the same for all rotations of the cycle.
-use Rattle.cycle_names.proofs.Vocabulary.{◌≡◌, ◌<◌, ℕ, Bool, true, Some, None, List, [], ◌∷◌, length, map, filter, unwrap_or, refl, sym, ◌∙◌, ap, subst, arith, length-map, same_Some, by_option, Edge, rank_of, rank_injective, IsCycle, IsRotation, rotated, ranks_below, IsLeast, cycle_of_rotation, rotation_same, rotation_back, rotation_on, rotation_length, place_of_rotation, rotation_of_place, above_of_ranks, Family, family_edges, edge_of_slot, outline, word_rank, marked_around, rotations, fits_family, is_of_family, found_family, words_below, edges_below, rotation_in, named_rotation}
-use Rattle.cycle_names.proofs.Members.{Member, any_of_member, member_of_any, member_upto, upto_member, find_same, filter_among, filter_passes, filter_member, same_head, same_tail}
-use Rattle.cycle_names.proofs.EdgeListOrder.{below_irreflexive, below_transitive, neither_below, IsFirst, HasFirst, has_first, first_is_least}
-use Rattle.cycle_names.proofs.{Marks.said_of, Marks.around_back, Families.fitting, Families.found_is_of, Families.fits_either}
-use Rattle.cycle_names.proofs.Outlines.{outline_of_fits, plain_of_fits, words_by_ranks, same_lists}
+use Rattle.cycle_names.proofs.Vocabulary.{◌≡◌, ◌<◌, ℕ, Bool, true, Some, None, List, [], ◌∷◌, length, map, filter, unwrap_or, refl, sym, ◌∙◌, ap, subst, arith, length-map, same_Some, by_option, Edge, rank_of, rank_injective, IsCycle, IsRotation, rotated}
+use Rattle.cycle_names.proofs.Vocabulary.{ranks_below, IsLeast, cycle_of_rotation, rotation_same, rotation_back, rotation_on, rotation_length, place_of_rotation, rotation_of_place, above_of_ranks, Family, family_edges, edge_of_slot, outline, word_rank}
+use Rattle.cycle_names.proofs.{Vocabulary.{marked_around, rotations, fits_family, is_of_family, found_family, words_below, edges_below, rotation_in, named_rotation}, Members.{Member, any_of_member, member_of_any, member_upto, upto_member, find_same}}
+use Rattle.cycle_names.proofs.{Members.{filter_among, filter_passes, filter_member, same_head, same_tail}, EdgeListOrder.{below_irreflexive, below_transitive, neither_below, IsFirst, HasFirst, has_first, first_is_least}, Marks.{said_of, around_back}}
+use Rattle.cycle_names.proofs.{Families.{fitting, found_is_of, fits_either}, Outlines.{outline_of_fits, plain_of_fits, words_by_ranks, same_lists}}
 
 -- the members of the list of rotations are the rotations
 pub rotation_of_member : (u v : List Edge) → Member v (rotations u) → IsRotation u v

@@ -1,7 +1,8 @@
 -- Rotations that fit: their slots, and that a name says what their edges join and the words of their links.
-use Rattle.cycle_names.proofs.Vocabulary.{◌≡◌, ◌==◌, ◌&&◌, ℕ, Bool, true, false, cond, List, [], ◌∷◌, length, map, nat_eq, nat_lt, ◌||◌, Ordering, Less, Equal, Greater, list_all, nat_cmp, is_lt, ordering_then, slice_cmp, bytes_decides, refl, sym, ◌∙◌, ap, arith, eqb-true, eq-eqb, and_parts, ltb-true, length-map, same_Some, by_test, Edge, is_diff, rank_of, is_same, rank_injective, ranks_below, Family, family_edges, edge_of_slot, outline, link_word, link_words, joins_as, is_plain_outside, fits_family, words_below, word_rank, link_with}
-use Rattle.cycle_names.proofs.{Members.same_head, Members.same_tail, Marks.said_of, Marks.said_link, Marks.said_slot}
-use Rattle.cycle_names.proofs.Tables.{link_words_order, link_words_equal, link_back, slot_is_diff, no_rank}
+use Rattle.cycle_names.proofs.Vocabulary.{◌≡◌, ◌==◌, ◌&&◌, ℕ, Bool, true, false, cond, List, [], ◌∷◌, length, map, nat_eq, nat_lt, ◌||◌, Ordering, Less, Equal, Greater, list_all, nat_cmp, is_lt, ordering_then, slice_cmp, bytes_decides, refl, sym, ◌∙◌}
+use Rattle.cycle_names.proofs.Vocabulary.{ap, arith, eqb-true, eq-eqb, and_parts, ltb-true, length-map, same_Some, by_test, Edge, is_diff, rank_of, is_same, rank_injective, ranks_below, Family, family_edges, edge_of_slot, outline, link_word, link_words}
+use Rattle.cycle_names.proofs.{Vocabulary.{joins_as, is_plain_outside, fits_family, words_below, word_rank, link_with}, Members.{same_head, same_tail}, Marks.{said_of, said_link, said_slot}, Tables.{link_words_order, link_words_equal, link_back}}
+use Rattle.cycle_names.proofs.Tables.{slot_is_diff, no_rank}
 
 -- two lists of edges pass the test for being the same exactly where they are
 pub same_edges : (u v : List Edge) → is_same u v ≡ true → u ≡ v

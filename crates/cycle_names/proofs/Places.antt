@@ -1,8 +1,9 @@
 -- The places from which rotations fit, as the code finds them, and the rotation that it names a cycle from.
-use Rattle.cycle_names.proofs.Vocabulary.{◌≡◌, ◌<◌, ◌+◌, ◌&&◌, ℕ, true, false, Option, Some, None, MatchOption, List, [], ◌∷◌, ◌++◌, length, map, take, drop, list_all, refl, sym, ◌∙◌, ap, arith, inl, inr, get_or, and_parts, length-map, length-take, length-drop, map-append, take-append-drop, list_all_at, and-true, Edge, is_same, IsCycle, rotated, Family, Slot, family_edges, all_families, outline, is_plain_outside, rotations, fits_family, is_of_family, found_family, slot_edge, edge_slot, word_ranks_below, comes_before, joins_at, JoinsNone, JoinNone, JoinsLeast, IsNamedAt}
-use Rattle.cycle_names.proofs.Members.{Member, find_none, filter_among, filter_passes, filter_member, member_upto, upto_member, all_rotated, map_rotated}
-use Rattle.cycle_names.proofs.{EdgeListOrder.{below_irreflexive, below_transitive}, PlainEvents.plain_rotated, Tables.no_slot, Marks.is_either, Outlines.plain_of_fits}
-use Rattle.cycle_names.proofs.{NamedRotations.{first_by_words, named_in_family}, Families.{fitting, fits_either, family_found, is_of_fitting, listed, never_other}}
+use Rattle.cycle_names.proofs.Vocabulary.{◌≡◌, ◌<◌, ◌+◌, ◌&&◌, ℕ, true, false, Option, Some, None, MatchOption, List, [], ◌∷◌, ◌++◌, length, map, take, drop, list_all, refl, sym, ◌∙◌, ap, arith, inl, inr, get_or, and_parts, length-map, length-take}
+use Rattle.cycle_names.proofs.Vocabulary.{length-drop, map-append, take-append-drop, list_all_at, and-true, Edge, is_same, IsCycle, rotated, Family, Slot, family_edges, all_families, outline, is_plain_outside, rotations, fits_family, is_of_family}
+use Rattle.cycle_names.proofs.{Vocabulary.{found_family, slot_edge, edge_slot, word_ranks_below, comes_before, joins_at, JoinsNone, JoinNone, JoinsLeast, IsNamedAt}, Members.{Member, find_none, filter_among, filter_passes, filter_member, member_upto}}
+use Rattle.cycle_names.proofs.{Members.{upto_member, all_rotated, map_rotated}, EdgeListOrder.{below_irreflexive, below_transitive}, PlainEvents.plain_rotated, Tables.no_slot, Marks.is_either, Outlines.plain_of_fits, NamedRotations.first_by_words}
+use Rattle.cycle_names.proofs.{NamedRotations.named_in_family, Families.{fitting, fits_either, family_found, is_of_fitting, listed, never_other}}
 
 -- of a cycle that is plain between external edges, a rotation fits where it joins the same
 fits_said : (f : Family) (u : List Edge) (k : ℕ) → is_plain_outside u ≡ true → fits_family f (rotated k u) ≡ joins_at u f k

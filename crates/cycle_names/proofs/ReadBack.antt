@@ -1,9 +1,10 @@
 -- Reading a name gives the edges of the rotation that it was made from.
-use Rattle.cycle_names.proofs.Vocabulary.{◌≡◌, ◌<◌, ◌≤◌, ◌-◌, ◌||◌, ℕ, Bool, true, false, not, Some, None, List, [], ◌∷◌, ◌++◌, length, map, filter, codes, list_any, list_all, flat_map, join_by, before_first, slice_split, bytes_eq, bytes_decides, refl, sym, ◌∙◌, ap, arith, length-append, drop-append_seam, and_parts, or_right, cond-true, cond-false, cond_both, not-true, list_any-append, append-nil, take_at, by_test, by_option, implied, Edge, is_diff, word_of, edge_of, before_edges, edge_of-word_of, before_first-no, split_whole, split_off, IsCycle, cycle_of_rotation, rotation_length, Family, family_word, all_families, edge_of_slot, outline, link_word, link_words, fits_family, found_family, named_rotation, after_plus, all_equal, plural, links_text, name_from, name_of, is_plus, is_dash, named_family, link_with, slot_with, filled_alike, first_name_word, after_word, filled_each, without_last_byte, slots_filled, edges_of_words, edges_read}
-use Rattle.cycle_names.proofs.{Tables.{slot_is_diff, link_back, link_word_whole, word_whole}, Marks.{said_of, said_link, said_slot, both_there}}
-use Rattle.cycle_names.proofs.Outlines.{outline_of_fits, words_of_link, words_of_plain, each_word}
-use Rattle.cycle_names.proofs.{Families.{never_other, found_is_of, family_links, words_named}, NamedRotations.{fit_back, named_fits, named_rotates}}
-use Rattle.cycle_names.proofs.Texts.{all_links_cons}
+use Rattle.cycle_names.proofs.Vocabulary.{◌≡◌, ◌<◌, ◌≤◌, ◌-◌, ◌||◌, ℕ, Bool, true, false, not, Some, None, List, [], ◌∷◌, ◌++◌, length, map, filter, codes, list_any, list_all, flat_map, join_by, before_first, slice_split, bytes_eq, bytes_decides, refl}
+use Rattle.cycle_names.proofs.Vocabulary.{sym, ◌∙◌, ap, arith, length-append, drop-append_seam, and_parts, or_right, cond-true, cond-false, cond_both, not-true, list_any-append, append-nil, take_at, by_test, by_option, implied, Edge, is_diff, word_of}
+use Rattle.cycle_names.proofs.Vocabulary.{edge_of, before_edges, edge_of-word_of, before_first-no, split_whole, split_off, IsCycle, cycle_of_rotation, rotation_length, Family, family_word, all_families, edge_of_slot, outline, link_word, link_words}
+use Rattle.cycle_names.proofs.Vocabulary.{fits_family, found_family, named_rotation, after_plus, all_equal, plural, links_text, name_from, name_of, is_plus, is_dash, named_family, link_with, slot_with, filled_alike, first_name_word, after_word}
+use Rattle.cycle_names.proofs.{Vocabulary.{filled_each, without_last_byte, slots_filled, edges_of_words, edges_read}, Tables.{slot_is_diff, link_back, link_word_whole, word_whole}, Marks.{said_of, said_link, said_slot, both_there}}
+use Rattle.cycle_names.proofs.{Outlines.{outline_of_fits, words_of_link, words_of_plain, each_word}, Families.{never_other, found_is_of, family_links, words_named}, NamedRotations.{fit_back, named_fits, named_rotates}, Texts.all_links_cons}
 use Rattle.cycle_names.specs.declared.family.Family.TheVariants as families
 
 -- a word up to a byte that doesn't occur in it, with which what follows it begins, if anything does

@@ -1,5 +1,7 @@
 -- Facts about all edges, each computed once over the list of all.
-use Rattle.cycle_names.proofs.Vocabulary.{arith, ◌≡◌, ◌≤◌, ◌+◌, ◌==◌, ◌||◌, ℕ, Bool, true, false, not, Option, Some, None, List, [], length, nat_le, nat_cmp, ordering_index, booleans_Decides, slice_cmp, list_all, bytes_eq, refl, sym, ◌∙◌, ap, beq, eqb-true, leb-true, not-true, Edge, source_of, target_of, is_external, is_diff, rank_of, word_of, edges_in_order, kind_of, source_mark, target_mark, each_edge, rank_injective, Slot, edge_of_slot, link_word, mark_letters, kind_link_text, slot_edge, edge_slot, word_rank, is_name_byte, is_plus, is_dash, link_between, link_with, same_index, implied}
+use Rattle.cycle_names.proofs.Vocabulary.{arith, ◌≡◌, ◌≤◌, ◌+◌, ◌==◌, ◌||◌, ℕ, Bool, true, false, not, Option, Some, None, List, [], length, nat_le, nat_cmp, ordering_index, booleans_Decides, slice_cmp, list_all, bytes_eq, refl, sym, ◌∙◌, ap, beq}
+use Rattle.cycle_names.proofs.Vocabulary.{eqb-true, leb-true, not-true, Edge, source_of, target_of, is_external, is_diff, rank_of, word_of, edges_in_order, kind_of, source_mark, target_mark, each_edge, rank_injective, Slot, edge_of_slot, link_word}
+use Rattle.cycle_names.proofs.Vocabulary.{mark_letters, kind_link_text, slot_edge, edge_slot, word_rank, is_name_byte, is_plus, is_dash, link_between, link_with, same_index, implied}
 
 -- a test of two edges that passes for all that are listed passes for each two
 each_pair : (test : Edge → Edge → Bool) → list_all (λ a. list_all (test a) edges_in_order) edges_in_order ≡ true → (a b : Edge) → test a b ≡ true

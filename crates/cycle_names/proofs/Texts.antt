@@ -1,7 +1,7 @@
 -- What comes after a family's word in a name, by the links of a cycle.
-use Rattle.cycle_names.proofs.Vocabulary.{arith, ◌≡◌, ◌==◌, ◌&&◌, ◌||◌, ℕ, Bool, true, not, cond, Option, Some, None, List, [], ◌∷◌, ◌++◌, drop, take, codes, find, find-append, option_or, option_map, list_all, flat_map, join_by, bytes_eq, bytes_decides, by_test, refl, sym, ◌∙◌, ap, append_assoc, cond-true, cond-false, flat_map-append, R, Edge, is_diff, word_of, rotated, PO_RANK, link_word, link_words, after_plus, all_equal, plural, links_text, pod, link_text, word_rank, has_word_rank}
-use Rattle.cycle_names.proofs.Members.{found_first, found_later, found_in, found_nowhere, all_rotated}
-use Rattle.cycle_names.proofs.{Tables.link_words_equal, Outlines.words_of_link, Outlines.words_of_plain}
+use Rattle.cycle_names.proofs.Vocabulary.{arith, ◌≡◌, ◌==◌, ◌&&◌, ◌||◌, ℕ, Bool, true, not, cond, Option, Some, None, List, [], ◌∷◌, ◌++◌, drop, take, codes, find, find-append, option_or, option_map, list_all, flat_map, join_by, bytes_eq, bytes_decides}
+use Rattle.cycle_names.proofs.Vocabulary.{by_test, refl, sym, ◌∙◌, ap, append_assoc, cond-true, cond-false, flat_map-append, R, Edge, is_diff, word_of, rotated, PO_RANK, link_word, link_words, after_plus, all_equal, plural, links_text, pod, link_text}
+use Rattle.cycle_names.proofs.{Vocabulary.{word_rank, has_word_rank}, Members.{found_first, found_later, found_in, found_nowhere, all_rotated}, Tables.link_words_equal, Outlines.{words_of_link, words_of_plain}}
 
 -- a test of the words of the links, by the first edge
 pub all_links_cons : (p : List ℕ → Bool) (e : Edge) (v : List Edge) → list_all p (link_words (e ∷ v)) ≡ ((not (is_diff e) || p (link_word e)) && list_all p (link_words v))

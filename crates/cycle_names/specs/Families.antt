@@ -1,7 +1,7 @@
 -- The table of the families: the name of each, and its cycle, in which each `PodXY` represents a link from X to Y.
 -- Source: the names of litmus tests in the diy part of the herdtools manual.
 use Rattle.std.specs.Prelude.{ℕ, List, [], ◌∷◌, codes}
-use Rattle.relax_edges.specs.{declared.kinds.Dir.TheVariants.{R, W}, declared.edge.Edge.Edge, NamedEdges.{pod, rfe, fre, wse}}
+use Rattle.relax_edges.specs.{declared.{kinds.Dir.TheVariants.{R, W}, edge.Edge.Edge}, NamedEdges.{pod, rfe, fre, wse}}
 use Rattle.cycle_names.specs.declared.family.Family.{Family}
 use Rattle.cycle_names.specs.declared.family.Family.TheVariants as families
 

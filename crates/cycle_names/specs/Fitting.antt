@@ -1,19 +1,14 @@
 -- How the code finds the family of a cycle and the rotation that it is named from.
 -- Source: own.
 use Rattle.std.specs.Prelude.{◌≡◌, ◌<◌, ◌≤◌, ℕ, ◌+◌, ◌*◌, ◌==◌, ◌||◌, not, nat_lt, cond, Bool, true, false, Option, Some, None, List, [], ◌∷◌, ◌++◌, length, map, codes}
-use Rattle.relax_edges.specs.{declared.kinds.Dir.Dir, declared.kinds.Dir.TheVariants.{R, W}, declared.kinds.Sd.TheVariants.Diff}
-use Rattle.relax_edges.specs.{declared.kinds.Reach.TheVariants.External, declared.kinds.Com.Com, declared.kinds.FenceKind.FenceKind}
-use Rattle.relax_edges.specs.{declared.kinds.DepKind.DepKind, declared.kinds.Kind.Kind, declared.kinds.Mark.Mark}
-use Rattle.relax_edges.specs.{declared.kinds.Mark.TheVariants.{Plain, Acquire, Release}, declared.edge.Edge.Edge}
+use Rattle.relax_edges.specs.declared.{kinds.{Dir.{Dir, TheVariants.{R, W}}, Sd.TheVariants.Diff, Reach.TheVariants.External, Com.Com, FenceKind.FenceKind, DepKind.DepKind, Kind.Kind, Mark.{Mark, TheVariants.{Plain, Acquire, Release}}}, edge.Edge.Edge}
 use Rattle.relax_edges.specs.{EdgeTable.{kind_of, source_mark, target_mark, is_diff}, NamedEdges.{pod, rfe, fre, wse}, Order.{pick_rank, is_same}}
 use Rattle.relax_edges.specs.declared.kinds.Com.TheVariants as coms
 use Rattle.relax_edges.specs.declared.kinds.FenceKind.TheVariants as fences
 use Rattle.relax_edges.specs.declared.kinds.DepKind.TheVariants as deps
 use Rattle.relax_edges.specs.declared.kinds.Kind.TheVariants as kinds
-use Rattle.edge_algebra_laws.specs.{Rotation.rotated, CycleOrder.ranks_below}
-use Rattle.cycle_names.specs.{declared.link.TheConstants.{DATA_RANK, PO_RANK}, declared.slot.Slot.Slot, declared.family.TheConstants.LONGEST}
-use Rattle.cycle_names.specs.{declared.fit.Fit.Fit, declared.fit.Turned.Turned, declared.words.Separator.Separator}
-use Rattle.cycle_names.specs.{declared.words.Separator.TheVariants.{Dash, Blank}, declared.family.Family.Family, Families.family_edges}
+use Rattle.edge_algebra.specs.{Rotation.rotated, CycleOrder.ranks_below}
+use Rattle.cycle_names.specs.{declared.{link.TheConstants.{DATA_RANK, PO_RANK}, slot.Slot.Slot, family.{TheConstants.LONGEST, Family.Family}, fit.{Fit.Fit, Turned.Turned}, words.Separator.{Separator, TheVariants.{Dash, Blank}}}, Families.family_edges}
 use Rattle.cycle_names.specs.{LinkWords.{outline, link_word}, Rotations.{found_family, named_rotation}, CycleNames.after_plus}
 use Rattle.cycle_names.specs.declared.slot.Slot.TheVariants as slots
 

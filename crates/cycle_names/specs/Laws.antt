@@ -1,9 +1,8 @@
 -- The cycle of a name, and the laws of names, as statements.
 use Rattle.std.specs.{Prelude.{◌≡◌, ◌<◌, ◌≤◌, ◌↔◌, ℕ, Bool, true, List, length}, List.list_all}
-use Rattle.relax_edges.specs.{declared.kinds.ArchName.ArchName, declared.edge.Edge.Edge, EdgeTable.is_of_arch}
-use Rattle.edge_algebra_laws.specs.{Composable.IsCycle, Rotation.IsRotation}
-use Rattle.cycle_names.specs.{declared.name.TheConstants.MAX_CYCLE_NAME, declared.family.Family.Family, Rotations.{is_of_family, named_rotation}}
-use Rattle.cycle_names.specs.CycleNames.{name_of}
+use Rattle.relax_edges.specs.{declared.{kinds.ArchName.ArchName, edge.Edge.Edge}, EdgeTable.is_of_arch}
+use Rattle.edge_algebra.specs.{Composable.IsCycle, Rotation.IsRotation}
+use Rattle.cycle_names.specs.{declared.{name.TheConstants.MAX_CYCLE_NAME, family.Family.Family}, Rotations.{is_of_family, named_rotation}, CycleNames.name_of}
 use Rattle.text_parts.specs.Names.{is_name_byte}
 
 -- whether an architecture has all edges of a cycle

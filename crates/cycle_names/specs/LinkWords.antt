@@ -1,9 +1,8 @@
 -- The links of a cycle, its edges to another location: what each joins, and its word in a name.
 -- Source: the names of litmus tests in the diy part of the herdtools manual.
 use Rattle.std.specs.Prelude.{ℕ, cond, List, [], ◌++◌, map, filter, codes}
-use Rattle.relax_edges.specs.{declared.kinds.Sd.TheVariants.Diff, declared.kinds.FenceKind.FenceKind, declared.kinds.DepKind.DepKind, declared.kinds.Kind.Kind}
-use Rattle.relax_edges.specs.{declared.kinds.Mark.Mark, declared.kinds.Mark.TheVariants.{Plain, Acquire, Release}, declared.edge.Edge.Edge}
-use Rattle.relax_edges.specs.{EdgeTable.{kind_of, source_of, target_of, source_mark, target_mark, is_diff, unmarked}, WordParts.pick_word}
+use Rattle.relax_edges.specs.{declared.{kinds.{Sd.TheVariants.Diff, FenceKind.FenceKind, DepKind.DepKind, Kind.Kind, Mark.{Mark, TheVariants.{Plain, Acquire, Release}}}, edge.Edge.Edge}, EdgeTable.{kind_of, source_of, target_of, source_mark}}
+use Rattle.relax_edges.specs.{EdgeTable.{target_mark, is_diff, unmarked}, WordParts.pick_word}
 use Rattle.relax_edges.specs.declared.kinds.FenceKind.TheVariants as fences
 use Rattle.relax_edges.specs.declared.kinds.DepKind.TheVariants as deps
 use Rattle.relax_edges.specs.declared.kinds.Kind.TheVariants as kinds

@@ -1,10 +1,8 @@
 -- How a name is read: the edges that a text would name. Whether they have this name is checked afterwards.
 -- Source: own.
-use Rattle.std.specs.Prelude.{◌≡◌, ◌≤◌, ℕ, ◌+◌, ◌-◌, ◌==◌, Bool, true, false, ◌&&◌, cond, Option, Some, None, Result, IsOk, List, [], ◌∷◌, ◌++◌, length, take, drop, codes, nat_eq}
-use Rattle.std.specs.{List.{find, list_any, before_first, slice_split, starts_with}, Str.bytes_eq}
-use Rattle.relax_edges.specs.{declared.TheConstants.MAX_EDGES, declared.kinds.Dir.Dir, declared.kinds.Mark.Mark, declared.kinds.Mark.TheVariants.Plain}
-use Rattle.relax_edges.specs.declared.edge.Edge.{Edge}
-use Rattle.relax_edges.specs.EdgeTable.{kind_of, source_of, target_of, source_mark, target_mark, is_external, is_diff, same_dir, marked_edge}
+use Rattle.std.specs.{Prelude.{◌≡◌, ◌≤◌, ℕ, ◌+◌, ◌-◌, ◌==◌, Bool, true, false, ◌&&◌, cond, Option, Some, None, Result, IsOk, List, [], ◌∷◌, ◌++◌, length, take, drop, codes, nat_eq}, List.{find, list_any, before_first, slice_split, starts_with}}
+use Rattle.std.specs.Str.{bytes_eq}
+use Rattle.relax_edges.specs.{declared.{TheConstants.MAX_EDGES, kinds.{Dir.Dir, Mark.{Mark, TheVariants.Plain}}, edge.Edge.Edge}, EdgeTable.{kind_of, source_of, target_of, source_mark, target_mark, is_external, is_diff, same_dir, marked_edge}}
 use Rattle.relax_edges.specs.{AllEdges.edges_in_order, Spelling.edge_of, ReadEdges.before_edges}
 use Rattle.cycle_names.specs.{declared.family.Family.Family, Families.{family_word, family_edges, all_families}, LinkWords.link_word}
 

@@ -1,11 +1,9 @@
 -- The family of a cycle, and the rotation of a cycle from which it is named.
 -- Source: own, after the names of litmus tests in the diy part of the herdtools manual.
-use Rattle.std.specs.Prelude.{Bool, true, not, ◌&&◌, ◌||◌, Option, Some, None, List, [], ◌∷◌, ◌++◌, take, map, filter, length, unwrap_or}
-use Rattle.std.specs.{List.{find, list_any}, Cmp.Lexicographic.slice_cmp, Ordering.{nat_cmp, is_lt}}
-use Rattle.relax_edges.specs.{declared.kinds.Mark.TheVariants.Plain, declared.edge.Edge.Edge, EdgeTable.{target_mark, same_mark, is_external}, Order.rank_of}
-use Rattle.relax_edges.specs.Order.{is_same}
+use Rattle.std.specs.{Prelude.{Bool, true, not, ◌&&◌, ◌||◌, Option, Some, None, List, [], ◌∷◌, ◌++◌, take, map, filter, length, unwrap_or}, List.{find, list_any}, Cmp.Lexicographic.slice_cmp, Ordering.{nat_cmp, is_lt}}
+use Rattle.relax_edges.specs.{declared.{kinds.Mark.TheVariants.Plain, edge.Edge.Edge}, EdgeTable.{target_mark, same_mark, is_external}, Order.{rank_of, is_same}}
 use Rattle.list_laws.specs.Numbers.{upto}
-use Rattle.edge_algebra_laws.specs.{Rotation.rotated, CycleOrder.ranks_below}
+use Rattle.edge_algebra.specs.{Rotation.rotated, CycleOrder.ranks_below}
 use Rattle.cycle_names.specs.{declared.family.Family.Family, Families.{family_edges, all_families}, LinkWords.{outline, link_words}}
 use Rattle.cycle_names.specs.declared.family.Family.TheVariants as families
 

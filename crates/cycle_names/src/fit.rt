@@ -1,7 +1,7 @@
 ghost use Rattle.std.specs.Prelude.{[], ◌≡◌, ◌==◌, ◌+◌, ◌≤◌, ◌++◌, ◌∷◌, ◌||◌, ◌&&◌, not, cond, length, map, None, MatchOption};
 ghost use Rattle.relax_edges.specs.{declared.kinds.Mark.TheVariants.{Plain}, EdgeTable.{target_mark, same_mark, is_external}, Order.{rank_of}};
 ghost use Rattle.relax_edges.specs.Order.{is_same};
-ghost use Rattle.edge_algebra_laws.specs.{Composable.{IsCycle}, Rotation.{rotated}};
+ghost use Rattle.edge_algebra.specs.{Composable.{IsCycle}, Rotation.{rotated}};
 ghost use Rattle.cycle_names.specs.{LinkWords.{outline}, Rotations.{all_unmarked, is_plain_outside, found_family}};
 ghost use Rattle.cycle_names.specs.Fitting.{slot_edge, joins_at, JoinsNone, JoinNone, JoinsLeast, IsFitOf, comes_before, word_ranks_below, in_order};
 

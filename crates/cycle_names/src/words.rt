@@ -1,6 +1,6 @@
 ghost use Rattle.std.specs.{Prelude.{◌≡◌, ◌+◌, ◌*◌, ◌<◌, ◌≤◌, ◌++◌, length, option_map}, List.{find, list_all, flat_map, join_by}};
 ghost use Rattle.relax_edges.specs.{EdgeTable.{is_diff}, WordParts.{word_of}};
-ghost use Rattle.edge_algebra_laws.specs.Rotation.{rotated};
+ghost use Rattle.edge_algebra.specs.Rotation.{rotated};
 ghost use Rattle.cycle_names.specs.{LinkWords.{link_words}, CycleNames.{links_text}, Fitting.{link_text, has_word_rank, separator_text}};
 
 use crate::family::LONGEST;

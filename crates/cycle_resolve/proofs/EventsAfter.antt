@@ -1,6 +1,5 @@
 -- Which event an edge enters, by whether it is the last.
-use Rattle.std.proofs.Common.{◌≡◌, ℕ, ◌+◌, ◌<◌, length, arith, false, ◌==◌, List, refl}
-use Rattle.std.proofs.{lemmas.Bool.Decides.nat_tests, lemmas.Bool.eq-eqb}
+use Rattle.std.proofs.{Common.{◌≡◌, ℕ, ◌+◌, ◌<◌, length, arith, false, ◌==◌, List, refl}, lemmas.Bool.{Decides.nat_tests, eq-eqb}}
 use Rattle.relax_edges.specs.declared.edge.Edge.{Edge}
 use Rattle.cycle_events.specs.Resolution.{event_after}
 

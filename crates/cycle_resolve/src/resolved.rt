@@ -1,5 +1,5 @@
 ghost use Rattle.std.specs.Prelude.{◌≡◌, ◌≤◌, ◌<◌, false, [], length, IfOk, position};
-ghost use Rattle.edge_algebra_laws.specs.Rotation.{rotated};
+ghost use Rattle.edge_algebra.specs.Rotation.{rotated};
 ghost use Rattle.relax_edges.specs.EdgeTable.{is_external};
 ghost use Rattle.cycle_events.specs.Resolution.{external_count, move_count, ends_outside, turned, event_after, event_of, events_of, is_coherence_only, resolution_of, IsResolved};
 

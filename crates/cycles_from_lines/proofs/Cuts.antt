@@ -1,10 +1,6 @@
 -- Where a text is cut.
-use Rattle.std.proofs.Common.{◌≡◌, ◌==◌, ℕ, List, [], ◌∷◌, ◌++◌, get_or, Some, None, true, refl, sym, ap, ◌∙◌}
-use Rattle.std.specs.Prelude.{not, unwrap_or}
-use Rattle.std.proofs.lemmas.{List.Sums.AllPass-from_list_all, Bool.not-true}
-use Rattle.text_parts.specs.Cuts.{is_without, CutParts}
-use Rattle.cycles_from_lines.specs.{Cycles.after_colon, Cycles.without_label, LineSteps.Without, LineSteps.CutsAtSign}
-use Rattle.cycles_from_lines.proofs.LineLaws.{without_first, without_rest}
+use Rattle.std.{proofs.{Common.{◌≡◌, ◌==◌, ℕ, List, [], ◌∷◌, ◌++◌, get_or, Some, None, true, refl, sym, ap, ◌∙◌}, lemmas.{List.Sums.AllPass-from_list_all, Bool.not-true}}, specs.Prelude.{not, unwrap_or}}
+use Rattle.cycles_from_lines.{proofs.{Vocabulary.{is_without, CutParts}, LineLaws.{without_first, without_rest}}, specs.{Cycles.{after_colon, without_label}, LineSteps.{Without, CutsAtSign}}}
 
 -- bytes that pass a test that no byte is a sign hold none
 pub without_is : (sign : ℕ) (text : List ℕ) → is_without sign text ≡ true → Without sign text

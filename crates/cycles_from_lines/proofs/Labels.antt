@@ -1,15 +1,7 @@
 -- A text whose words all spell edges has no label.
-use Rattle.std.proofs.{Common.{◌≡◌, ◌==◌, ℕ, Bool, true, not, List, [], ◌∷◌, Option, Some, None, Ok, refl, sym, ap, ◌∙◌}, lemmas.Bool.eqb-true}
-use Rattle.std.specs.List.{slice_split, list_all}
-use Rattle.list_laws.proofs.Cases.{by_test}
-use Rattle.text_parts.specs.{Blanks.is_blank, Cuts.is_without}
-use Rattle.text_parts.proofs.PieceLaws.{first_piece}
-use Rattle.relax_edges.specs.{declared.kinds.ArchName.ArchName, declared.edge.Edge.Edge, AllEdges.edges_in_order, Spelling.{edge_of, spellings_of}}
-use Rattle.relax_edges.specs.ReadEdges.{before_edges}
-use Rattle.edge_algebra_laws.proofs.SpellingLaws.{each_spelling}
-use Rattle.edges_from_text.specs.Spelled.{edges_spelled, text_edges}
-use Rattle.cycles_from_lines.specs.Cycles.{spelled_made, without_label}
-use Rattle.cycles_from_lines.proofs.Cuts.{label_none}
+use Rattle.std.{proofs.{Common.{◌≡◌, ◌==◌, ℕ, Bool, true, not, List, [], ◌∷◌, Option, Some, None, Ok, refl, sym, ap, ◌∙◌}, lemmas.Bool.eqb-true}, specs.List.{slice_split, list_all}}
+use Rattle.cycles_from_lines.{proofs.{Vocabulary.{by_test, is_blank, is_without, first_piece, ArchName, Edge, edges_in_order, edge_of, spellings_of, before_edges, each_spelling, edges_spelled, text_edges}, Cuts.label_none}, specs.Cycles.spelled_made}
+use Rattle.cycles_from_lines.specs.Cycles.{without_label}
 
 -- no edge is spelled with a colon
 are_without : Bool

@@ -1,3 +1,4 @@
+pub mod Vocabulary
 pub mod Joined
 pub mod Words
 pub mod LineLaws

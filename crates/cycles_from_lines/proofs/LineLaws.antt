@@ -1,11 +1,7 @@
 -- How the lines of a text follow from those of its parts.
-use Rattle.std.proofs.Common.{◌≡◌, ◌==◌, ℕ, suc, ◌+◌, ◌<◌, ◌≤◌, List, [], ◌∷◌, ◌++◌, length, true, false, refl, sym, ap, ◌∙◌, arith, append-nil, append_assoc, length-append}
-use Rattle.std.specs.{Prelude.map, List.slice_split}
-use Rattle.std.proofs.lemmas.{List.map-append, List.length-map, List.Splits.slice_split_none, List.Splits.length-slice_split, Bool.Decides.nat_tests}
-use Rattle.list_laws.proofs.Cases.{by_test}
-use Rattle.diy_io.specs.Sink.{line_feed_count}
-use Rattle.text_parts.specs.Lines.{is_line_feed, without_return, but_last, last_of, whole_lines, ended_lines, unended, last_line, lines_of}
-use Rattle.text_parts.proofs.PieceLaws.{first_piece, split_append, but_last_append, last_append, length-but_last}
+use Rattle.std.proofs.{Common.{◌≡◌, ◌==◌, ℕ, suc, ◌+◌, ◌<◌, ◌≤◌, List, [], ◌∷◌, ◌++◌, length, true, false, refl, sym, ap, ◌∙◌, arith, append-nil, append_assoc, length-append}, lemmas.List.{map-append, length-map, Splits.slice_split_none}}
+use Rattle.std.{proofs.lemmas.{List.Splits.length-slice_split, Bool.Decides.nat_tests}, specs.{Prelude.map, List.slice_split}}
+use Rattle.cycles_from_lines.proofs.Vocabulary.{by_test, line_feed_count, is_line_feed, without_return, but_last, last_of, whole_lines, ended_lines, unended, last_line, lines_of, first_piece, split_append, but_last_append, last_append, length-but_last}
 use Rattle.cycles_from_lines.specs.{Cycles.is_long_line, LineSteps.Without}
 
 -- new lines begin after a line feed

@@ -1,13 +1,7 @@
 -- Names that are kept in byte order, of which some are known.
-use Rattle.std.proofs.{Common.{◌≡◌, ℕ, Bool, true, false, List, [], ◌∷◌, refl, sym, ap, ◌∙◌}, lemmas.List.Sorted.list_any-IsPermutation}
-use Rattle.std.proofs.lemmas.Slice.Eq.{bytes_eq-Decides}
-use Rattle.std.specs.{Prelude.{map, not, ◌||◌, String, Result, Ok, Err, OnOk, OnErr, IfOk}, Bool.MatchBool, List.{list_any, AllByRecursion}}
-use Rattle.std.specs.{List.Sorted.{IsPermutation, IsStrictlySortedBy}, Ordering.{nat_cmp, match_ordering}, Cmp.Lexicographic.slice_cmp, Str.bytes_eq}
-use Rattle.std.specs.{String.string_bytes, BTreeSet.{BTreeSet, insert_key}, declared.cmp.Ordering.Ordering}
-use Rattle.std.specs.{declared.cmp.Ordering.TheVariants.{Less, Equal, Greater}, declared.alloc.Global.Global}
-use Rattle.list_laws.proofs.Cases.{by_test}
-use Rattle.text_parts.proofs.OrderLaws.{Above, Ascends, above_all, not_equal, none_above, any_insert, bytes_same}
-use Rattle.cycles_from_lines.specs.{Classified.with_cycle_name, KeptNames.{names_in_set, is_absent, AreAmong}}
+use Rattle.std.{proofs.{Common.{◌≡◌, ℕ, Bool, true, false, List, [], ◌∷◌, refl, sym, ap, ◌∙◌}, lemmas.{List.Sorted.list_any-IsPermutation, Slice.Eq.bytes_eq-Decides}}, specs.Prelude.{map, not, ◌||◌, String, Result, Ok, Err, OnOk, OnErr, IfOk}}
+use Rattle.cycles_from_lines.proofs.Vocabulary.{MatchBool, list_any, AllByRecursion, IsPermutation, IsStrictlySortedBy, nat_cmp, match_ordering, slice_cmp, bytes_eq, string_bytes, BTreeSet, insert_key, Ordering, Less, Equal, Greater, Global, by_test}
+use Rattle.cycles_from_lines.{proofs.Vocabulary.{Above, Ascends, above_all, not_equal, none_above, any_insert, bytes_same}, specs.{Classified.with_cycle_name, KeptNames.{names_in_set, is_absent, AreAmong}}}
 
 -- where a text that is there is put in order, nothing changes
 pub present_same : (k : List ℕ) (xs : List (List ℕ)) → Ascends xs → list_any (bytes_eq k) xs ≡ true → with_cycle_name xs k ≡ xs

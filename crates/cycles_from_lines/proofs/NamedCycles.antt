@@ -1,15 +1,7 @@
 -- The cycle that a name is read as is the one that has it.
-use Rattle.std.proofs.Common.{◌≡◌, ℕ, true, List, Option, Some, None, Result, Ok, Err, refl, sym, ap, ◌∙◌, subst, arith}
-use Rattle.std.specs.{Prelude.{is_ok, MatchOption, if◌then◌else◌}, Str.{bytes_eq, IsUtf8}, Char.is_ascii, List.list_all}
-use Rattle.std.proofs.lemmas.{Bool.and_parts, Slice.Eq.bytes_eq-Decides}
-use Rattle.list_laws.proofs.{Cases.by_test, Elements.list_all-weaker}
-use Rattle.text_parts.{specs.Names.is_name_byte, proofs.NameLaws.utf8_from_ascii}
-use Rattle.relax_edges.specs.{declared.kinds.ArchName.ArchName, declared.edge.Edge.Edge}
-use Rattle.edge_algebra_laws.specs.Composable.{IsCycle}
-use Rattle.edge_algebra.specs.{declared.errors.CycleError.CycleError, Compose.composed, ComposingLaws.composes_exactly}
-use Rattle.cycle_names.specs.{CycleNames.name_of, NameReading.edges_read, Laws.{are_of_arch, IsNamed, NamesNone}, Rotations.named_rotation}
-use Rattle.cycle_names.proofs.{ReadBack.name_back, CycleOf.made_of, NameLaws.arch_turned, NameLaws.{named, names_of_cycles}, NamedRotations.named_rotates}
-use Rattle.cycles_from_lines.specs.NamedCycles.{makes_named, if_named, cycle_named, NamedCyclesAreFound}
+use Rattle.std.{proofs.{Common.{◌≡◌, ℕ, true, List, Option, Some, None, Result, Ok, Err, refl, sym, ap, ◌∙◌, subst, arith}, lemmas.{Bool.and_parts, Slice.Eq.bytes_eq-Decides}}, specs.{Prelude.{is_ok, MatchOption, if◌then◌else◌}, Str.{bytes_eq, IsUtf8}}}
+use Rattle.cycles_from_lines.proofs.Vocabulary.{is_ascii, list_all, by_test, list_all-weaker, is_name_byte, utf8_from_ascii, ArchName, Edge, IsCycle, CycleError, composed, composes_exactly, name_of, edges_read, are_of_arch, IsNamed, NamesNone}
+use Rattle.cycles_from_lines.{proofs.Vocabulary.{named_rotation, name_back, made_of, arch_turned, named, names_of_cycles, named_rotates}, specs.NamedCycles.{makes_named, if_named, cycle_named, NamedCyclesAreFound}}
 
 -- edges that compose make a cycle
 composed_cycle : (edges : List Edge) (made : Result (List Edge) CycleError) → composed edges ≡ made → is_ok made ≡ true → IsCycle edges

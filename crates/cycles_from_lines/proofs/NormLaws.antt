@@ -1,18 +1,10 @@
 -- How the lines of cycles are written one after another.
-use Rattle.std.proofs.Common.{◌≡◌, ◌==◌, ◌≤◌, ◌<◌, ℕ, true, List, [], ◌∷◌, ◌++◌, length, Option, Some, None, Ok, Err, refl, sym, ap, ◌∙◌, subst, arith, append-nil, length-append}
-use Rattle.std.proofs.{lemmas.Bool.Decides.nat_tests, lemmas.Grind.flat_map-append}
+use Rattle.std.proofs.{Common.{◌≡◌, ◌==◌, ◌≤◌, ◌<◌, ℕ, true, List, [], ◌∷◌, ◌++◌, length, Option, Some, None, Ok, Err, refl, sym, ap, ◌∙◌, subst, arith, append-nil, length-append}, lemmas.{Bool.Decides.nat_tests, Grind.flat_map-append}}
 use Rattle.std.specs.{Prelude.{codes, Result}, List.join_by}
-use Rattle.diy_io.specs.{declared.page.TheConstants.{SPILL, LINE_ROOM}, Page.{page_after, SentAll, Sends}, Taken.SourceSeen}
-use Rattle.diy_io.specs.{Wrote.{SinkSeen, WroteAll, WrotePart}, WroteLaws.{all_then_all, all_then_part, part_more}}
-use Rattle.diy_io.specs.PageLaws.{sent_nothing, sent_same, sent_both, sent_part, sent_line}
-use Rattle.relax_edges.specs.{declared.edge.Edge.Edge, WordParts.word_of}
-use Rattle.cycle_names.specs.{CycleNames.name_of, Rotations.named_rotation}
-use Rattle.cycles_from_lines.specs.declared.line.LineForm.{LineForm}
-use Rattle.cycles_from_lines.specs.{declared.errors.LineKind.LineKind, declared.errors.LinesError.LinesError, declared.errors.LinesError.TheVariants.Wrong}
-use Rattle.cycles_from_lines.specs.{declared.errors.NormError.NormError, declared.errors.NormError.TheVariants.{Lines, OutFault}}
-use Rattle.cycles_from_lines.specs.{LineReading.{ReadAll, ReadUpTo}, Normed.{name_line, name_lines, last_lines, WritesLast, NormedUpTo, NormedPart, Norms}}
-use Rattle.cycles_from_lines.specs.LineSteps.{ReaderSeen, HasRead, GivesLine, last_cycle}
-use Rattle.cycles_from_lines.proofs.ReadLaws.{Before, nothing_read, line_given, fault_given, no_cycles, given_before, all_before}
+use Rattle.cycles_from_lines.proofs.Vocabulary.{SPILL, LINE_ROOM, page_after, SentAll, Sends, SourceSeen, SinkSeen, WroteAll, WrotePart, all_then_all, all_then_part, part_more, sent_nothing, sent_same, sent_both, sent_part, sent_line, Edge, word_of}
+use Rattle.cycles_from_lines.{proofs.{Vocabulary.{name_of, named_rotation}, ReadLaws.{Before, nothing_read, line_given, fault_given, no_cycles, given_before, all_before}}, specs.declared.{line.LineForm.LineForm, errors.LineKind.LineKind}}
+use Rattle.cycles_from_lines.specs.{declared.errors.{LinesError.{LinesError, TheVariants.Wrong}, NormError.{NormError, TheVariants.{Lines, OutFault}}}, LineReading.{ReadAll, ReadUpTo}, Normed.{name_line, name_lines, last_lines, WritesLast, NormedUpTo}}
+use Rattle.cycles_from_lines.specs.{Normed.{NormedPart, Norms}, LineSteps.{ReaderSeen, HasRead, GivesLine, last_cycle}}
 
 -- a name, a colon and a blank, the words of the edges and a line feed make the line of a cycle
 pub line_text : (cycle : List Edge) → ((name_of cycle ++ codes ": ") ++ join_by word_of (codes " ") (named_rotation cycle)) ++ codes "\n" ≡ name_line cycle

@@ -1,20 +1,11 @@
 -- How what was read of a source goes on.
 use Rattle.std.proofs.Common.{◌≡◌, ◌==◌, ℕ, zero, suc, ◌+◌, ◌-◌, ◌<◌, ◌≤◌, List, [], ◌∷◌, ◌++◌, length, take, drop, Option, Some, None, Result, Ok, Err, true, false, refl, sym, ap, inl, inr, ◌∙◌, subst, arith, append-nil, append_assoc, length-append}
-use Rattle.std.proofs.{lemmas.List.{drop-drop, length-drop, length-take-le}, lemmas.List.Folds.list_all-append, lemmas.List.Sums.take_while-cons}
-use Rattle.std.proofs.{lemmas.Grind.flat_map-append, Math.Seq.take-add}
-use Rattle.std.specs.{Prelude.{unwrap_or, MatchOption}, Result.result_err, List.take_while, Io.KnownBytes.{Consumes, IsAtEnd, Keeps}}
-use Rattle.list_laws.proofs.Cases.{by_test}
-use Rattle.diy_io.specs.{declared.source.TheConstants.MAX_INPUT, Count.{Rose, count_of, last_count, next_count}, Sink.line_feed_count, Taken.{SourceSeen, Took, EndedOnce, NotEnded, EndedAtMostOnce}}
-use Rattle.relax_edges.specs.declared.edge.Edge.{Edge}
-use Rattle.cycles_from_lines.specs.declared.line.LineForm.{LineForm}
-use Rattle.cycles_from_lines.specs.{declared.errors.LineKind.LineKind, declared.errors.LineKind.TheVariants.LineTooLong, declared.errors.LinesError.LinesError}
-use Rattle.cycles_from_lines.specs.{declared.reader.Found.Found, declared.reader.Found.TheVariants.{Next, Last}, declared.reader.Line.Line}
-use Rattle.cycles_from_lines.specs.Cycles.{line_said, line_fault, is_sound, are_sound, cycle_said, cycles_of, is_long_line}
-use Rattle.cycles_from_lines.specs.LineReading.{TookUpTo, Untouched, ReadAll, ReadToFault, ReadToLimit, ReadToStop, ReadSome, IsSeenIn, whole_of, cycles_before}
-use Rattle.cycles_from_lines.specs.LineSteps.{Without, CutsAtSign, ReaderSeen, HasRead, HasReadAll, but_for_ends, Refilled, GivesLine, GivesNext, line_said_by, Fills, FillsBuffer, Ended, Stops, Ends, LessToDo, Continues, last_cycle}
-use Rattle.text_parts.specs.Lines.{without_return, ended_lines, unended, last_line, lines_of}
-use Rattle.cycles_from_lines.proofs.LineLaws.{ended_after, unended_after, lines_after, ended_none, unended_all, ended_nil, unended_nil, short_pending, long_first, ended_count}
-use Rattle.text_parts.proofs.LineLaws.{ended_cut, unended_cut, lines_cut}
+use Rattle.cycles_from_lines.proofs.Vocabulary.{drop-drop, length-drop, length-take-le, list_all-append, take_while-cons, flat_map-append, take-add, unwrap_or, MatchOption, result_err, take_while, Consumes, IsAtEnd, Keeps, by_test, MAX_INPUT, Rose}
+use Rattle.cycles_from_lines.proofs.Vocabulary.{count_of, last_count, next_count, line_feed_count, SourceSeen, Took, EndedOnce, NotEnded, EndedAtMostOnce, Edge, without_return, ended_lines, unended, last_line, lines_of, ended_cut, unended_cut, lines_cut}
+use Rattle.cycles_from_lines.{proofs.LineLaws.{ended_after, unended_after, lines_after, ended_none, unended_all, ended_nil, unended_nil, short_pending, long_first, ended_count}, specs.declared.{line.LineForm.LineForm, errors.LineKind.LineKind}}
+use Rattle.cycles_from_lines.specs.{declared.{errors.{LineKind.TheVariants.LineTooLong, LinesError.LinesError}, reader.{Found.{Found, TheVariants.{Next, Last}}, Line.Line}}, Cycles.{line_said, line_fault, is_sound, are_sound, cycle_said, cycles_of}}
+use Rattle.cycles_from_lines.specs.{Cycles.is_long_line, LineReading.{TookUpTo, Untouched, ReadAll, ReadToFault, ReadToLimit, ReadToStop, ReadSome, IsSeenIn, whole_of, cycles_before}, LineSteps.{Without, CutsAtSign, ReaderSeen, HasRead, HasReadAll}}
+use Rattle.cycles_from_lines.specs.LineSteps.{but_for_ends, Refilled, GivesLine, GivesNext, line_said_by, Fills, FillsBuffer, Ended, Stops, Ends, LessToDo, Continues, last_cycle}
 
 -- bytes that are taken one after another
 consumes_both : (a b c : Option (List ℕ)) (x y : List ℕ) → Consumes a b x → Consumes b c y → Consumes a c (x ++ y)

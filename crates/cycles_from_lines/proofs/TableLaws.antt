@@ -1,22 +1,12 @@
 -- The names of cycles by their families, as they are kept and written.
-use Rattle.std.proofs.Common.{inr, ◌≡◌, ◌≤◌, ◌<◌, ◌+◌, ℕ, zero, suc, List, [], ◌∷◌, ◌++◌, length, take, get_or, Option, None, Ok, Err, true, false, refl, sym, ap, inl, ◌∙◌, subst, arith, append-nil, append_assoc}
-use Rattle.std.proofs.{lemmas.List.Elements.filter-append, lemmas.List.Sums.fold-append, lemmas.List.Folds.flat_map-map, lemmas.Grind.flat_map-append}
-use Rattle.std.proofs.lemmas.List.{length-map, length_push, map_push, take_more}
-use Rattle.std.specs.{Prelude.{cond, map, filter, fold, codes, Result, OnOk, String, IsTrue, ◌↔◌, slice_set}, List.flat_map, Result.IsErrAnd}
-use Rattle.std.specs.{BTreeSet.{BTreeSet, btree_set_len}, Borrow.Bor, String.string_bytes, declared.alloc.Global.Global}
-use Rattle.list_laws.proofs.Cases.{by_test}
-use Rattle.diy_io.specs.{declared.source.TheConstants.MAX_INPUT, declared.errors.Failed.Failed, Page.{SentAll, Sends}, Taken.SourceSeen}
-use Rattle.diy_io.specs.Wrote.{SinkSeen, WroteAll, WrotePart}
-use Rattle.diy_io.specs.PageLaws.{sent_nothing, sent_same, sent_both, sent_part, sent_part_more, each_sent, each_unsent}
-use Rattle.relax_edges.specs.{declared.kinds.ArchName.ArchName, declared.edge.Edge.Edge}
-use Rattle.cycle_names.specs.{declared.family.Family.Family, Families.{all_families, family_word}, CycleNames.name_of, Rotations.family_of}
+use Rattle.std.proofs.{Common.{inr, ◌≡◌, ◌≤◌, ◌<◌, ◌+◌, ℕ, zero, suc, List, [], ◌∷◌, ◌++◌, length, take, get_or, Option, None, Ok, Err, true, false, refl, sym, ap, inl, ◌∙◌, subst, arith, append-nil, append_assoc}, lemmas.List.Elements.filter-append}
+use Rattle.std.{proofs.lemmas.{List.{Sums.fold-append, Folds.flat_map-map, length-map, length_push, map_push, take_more}, Grind.flat_map-append}, specs.Prelude.{cond, map, filter, fold, codes, Result, OnOk, String, IsTrue, ◌↔◌, slice_set}}
+use Rattle.cycles_from_lines.proofs.Vocabulary.{flat_map, IsErrAnd, BTreeSet, btree_set_len, Bor, string_bytes, Global, by_test, MAX_INPUT, Failed, SentAll, Sends, SourceSeen, SinkSeen, WroteAll, WrotePart, sent_nothing, sent_same, sent_both, sent_part}
+use Rattle.cycles_from_lines.{proofs.{Vocabulary.{sent_part_more, each_sent, each_unsent, ArchName, Edge, Family, all_families, family_word, name_of, family_of}, ReadLaws.nothing_read}, specs.declared.line.LineForm.TheVariants.Edges}
+use Rattle.cycles_from_lines.specs.{declared.names.FamilyNames.FamilyNames, LineReading.ReadAll, KeptNames.names_in_set, LineSteps.{ReaderSeen, HasRead, last_cycle}, Classified.{families_in_order, is_family, with_cycle_name, family_names, name_entry}}
+use Rattle.cycles_from_lines.specs.{Classified.{family_text, families_text, ReadsPart, ClassifiedAll, ClassifiedPart}, FamilyTables.{place_of_family, FamilyEntry, family_view, entry_text, family_table, HoldsCycles, entry_with, name_entered, AddsCycle}}
+use Rattle.cycles_from_lines.specs.FamilyTables.{AddsLast, GatheredFamilies}
 use Rattle.cycle_names.specs.declared.family.Family.TheVariants as families
-use Rattle.cycles_from_lines.specs.declared.line.LineForm.TheVariants.{Edges}
-use Rattle.cycles_from_lines.specs.{declared.names.FamilyNames.FamilyNames, LineReading.ReadAll, KeptNames.names_in_set}
-use Rattle.cycles_from_lines.specs.LineSteps.{ReaderSeen, HasRead, last_cycle}
-use Rattle.cycles_from_lines.specs.Classified.{families_in_order, is_family, with_cycle_name, family_names, name_entry, family_text, families_text, ReadsPart, ClassifiedAll, ClassifiedPart}
-use Rattle.cycles_from_lines.specs.FamilyTables.{place_of_family, FamilyEntry, family_view, entry_text, family_table, HoldsCycles, entry_with, name_entered, AddsCycle, AddsLast, GatheredFamilies}
-use Rattle.cycles_from_lines.proofs.ReadLaws.{nothing_read}
 
 -- the names of a family with one more cycle
 names_more : (f : Family) (cycles : List (List Edge)) (c : List Edge) →

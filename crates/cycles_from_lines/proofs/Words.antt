@@ -1,11 +1,6 @@
 -- How the edges of a text are kept, and what is made of them.
-use Rattle.std.proofs.Common.{◌≡◌, true, false, nat_lt, nat_le, List, [], ◌∷◌, length, Option, Some, None, Err, refl, ap, ◌∙◌, arith, lit≤}
-use Rattle.std.proofs.lemmas.Bool.Decides.{nat_tests}
-use Rattle.std.specs.Option.{option_map}
-use Rattle.list_laws.proofs.Cases.{by_test}
-use Rattle.relax_edges.specs.{declared.TheConstants.MAX_EDGES, declared.kinds.ArchName.ArchName, declared.edge.Edge.Edge}
-use Rattle.edges_from_text.specs.{declared.list.EdgeList.EdgeList, KeptEdges.{edges_added, kept_edges}, KeptLaws.added_whole}
-use Rattle.cycles_from_lines.specs.{declared.errors.LineKind.TheVariants.UnknownEdge, Cycles.{cycle_made, spelled_made}, KeptLines.made_kept}
+use Rattle.std.{proofs.{Common.{◌≡◌, true, false, nat_lt, nat_le, List, [], ◌∷◌, length, Option, Some, None, Err, refl, ap, ◌∙◌, arith, lit≤}, lemmas.Bool.Decides.nat_tests}, specs.Option.option_map}
+use Rattle.cycles_from_lines.{proofs.Vocabulary.{by_test, MAX_EDGES, ArchName, Edge, EdgeList, edges_added, kept_edges, added_whole}, specs.{declared.errors.LineKind.TheVariants.UnknownEdge, Cycles.{cycle_made, spelled_made}, KeptLines.made_kept}}
 
 made_of_kept : (arch : ArchName) (es : List Edge) → made_kept arch (kept_edges es) ≡ cycle_made arch es
 made_of_kept arch [] = refl

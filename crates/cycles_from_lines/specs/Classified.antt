@@ -1,14 +1,10 @@
 -- What is written of the names of cycles by their families.
 -- Source: own; the lines are those of classify7 of the herdtools suite.
-use Rattle.std.specs.{Prelude.{◌≡◌, ◌≤◌, ℕ, Bool, List, [], ◌∷◌, ◌++◌, codes, length, map, filter, fold, Result, Ok, Err}, List.flat_map, Ordering.nat_cmp}
-use Rattle.std.specs.{Cmp.Lexicographic.slice_cmp, BTreeSet.insert_key, Str.bytes_eq}
+use Rattle.std.specs.{Prelude.{◌≡◌, ◌≤◌, ℕ, Bool, List, [], ◌∷◌, ◌++◌, codes, length, map, filter, fold, Result, Ok, Err}, List.flat_map, Ordering.nat_cmp, Cmp.Lexicographic.slice_cmp, BTreeSet.insert_key, Str.bytes_eq}
 use Rattle.diy_io.specs.{declared.source.TheConstants.MAX_INPUT, Taken.{SourceSeen, EndedAtMostOnce}, Wrote.{SinkSeen, WroteAll, WrotePart}}
-use Rattle.relax_edges.specs.{declared.kinds.ArchName.ArchName, declared.edge.Edge.Edge}
-use Rattle.cycle_names.specs.{declared.family.Family.Family, declared.family.Family.TheVariants.Other, Families.{all_families, family_word}, CycleNames.name_of}
-use Rattle.cycle_names.specs.Rotations.{family_of}
-use Rattle.cycles_from_lines.specs.declared.line.LineForm.TheVariants.{Edges}
-use Rattle.cycles_from_lines.specs.{declared.errors.LinesError.LinesError, declared.errors.ClassifyError.ClassifyError}
-use Rattle.cycles_from_lines.specs.{declared.errors.ClassifyError.TheVariants.{Lines, OutFault, NoMemory}, LineReading.{ReadAll, ReadUpTo, TookUpTo}}
+use Rattle.relax_edges.specs.declared.{kinds.ArchName.ArchName, edge.Edge.Edge}
+use Rattle.cycle_names.specs.{declared.family.Family.{Family, TheVariants.Other}, Families.{all_families, family_word}, CycleNames.name_of, Rotations.family_of}
+use Rattle.cycles_from_lines.specs.{declared.{line.LineForm.TheVariants.Edges, errors.{LinesError.LinesError, ClassifyError.{ClassifyError, TheVariants.{Lines, OutFault, NoMemory}}}}, LineReading.{ReadAll, ReadUpTo, TookUpTo}}
 
 -- the families of the table, and then `Other`, for the cycles of none of them
 abbrev pub families_in_order : List Family

@@ -1,16 +1,13 @@
 -- What a line says: a cycle, nothing, or its error.
 -- Source: own; the lines are those that norm7 and classify7 of the herdtools suite read.
-use Rattle.std.specs.Prelude.{◌≡◌, ℕ, ◌+◌, ◌==◌, nat_lt, Bool, true, ◌++◌, cond, List, [], ◌∷◌, length, Option, Some, None, Result, Ok, Err, is_ok, unwrap_or}
-use Rattle.std.specs.{Result.result_err, List.{list_all, flat_map}}
-use Rattle.relax_edges.specs.{declared.TheConstants.MAX_EDGES, declared.kinds.ArchName.ArchName, declared.edge.Edge.Edge}
+use Rattle.std.specs.{Prelude.{◌≡◌, ℕ, ◌+◌, ◌==◌, nat_lt, Bool, true, ◌++◌, cond, List, [], ◌∷◌, length, Option, Some, None, Result, Ok, Err, is_ok, unwrap_or}, Result.result_err, List.{list_all, flat_map}}
+use Rattle.relax_edges.specs.declared.{TheConstants.MAX_EDGES, kinds.ArchName.ArchName, edge.Edge.Edge}
 use Rattle.edges_from_text.specs.{declared.read.Separators.TheVariants.Blanks, Spelled.{separates, text_edges}}
 use Rattle.edge_algebra.specs.{declared.errors.CycleError.CycleError, Compose.composed}
 use Rattle.cycle_names.specs.Laws.{are_of_arch}
 use Rattle.text_parts.specs.Words.{words}
-use Rattle.cycles_from_lines.specs.NamedCycles.{cycle_named}
-use Rattle.cycles_from_lines.specs.{declared.TheConstants.MAX_CYCLE_LINE, declared.errors.LineKind.LineKind, declared.line.LineForm.LineForm}
+use Rattle.cycles_from_lines.specs.{NamedCycles.cycle_named, declared.{TheConstants.MAX_CYCLE_LINE, errors.LineKind.{LineKind, TheVariants.{LineTooLong, UnknownEdge, Empty, TooLong, NotOfArch, DoesNotCompose, UnknownName}}, line.LineForm.LineForm}}
 use Rattle.cycles_from_lines.specs.declared.line.LineForm.TheVariants.{Edges, Names}
-use Rattle.cycles_from_lines.specs.declared.errors.LineKind.TheVariants.{LineTooLong, UnknownEdge, Empty, TooLong, NotOfArch, DoesNotCompose, UnknownName}
 
 -- a line is too long
 abbrev pub is_long_line : List ℕ → Bool

@@ -1,13 +1,11 @@
 -- The names of cycles by their families, as they are kept.
 use Rattle.std.specs.Prelude.{◌≡◌, ℕ, List, [], ◌∷◌, ◌++◌, map, slice_set, slice_index_or, Option, Result, Ok, Err}
 use Rattle.diy_io.specs.Taken.{SourceSeen}
-use Rattle.relax_edges.specs.{declared.kinds.ArchName.ArchName, declared.edge.Edge.Edge}
+use Rattle.relax_edges.specs.declared.{kinds.ArchName.ArchName, edge.Edge.Edge}
 use Rattle.cycle_names.specs.declared.family.Family.{Family}
 use Rattle.cycle_names.specs.declared.family.Family.TheVariants as families
-use Rattle.cycles_from_lines.specs.declared.line.LineForm.TheVariants.{Edges}
-use Rattle.cycles_from_lines.specs.{declared.errors.ClassifyError.ClassifyError, declared.errors.ClassifyError.TheVariants.{Lines, OutFault, NoMemory}}
-use Rattle.cycles_from_lines.specs.{declared.names.FamilyNames.FamilyNames, KeptNames.names_in_set, LineReading.ReadAll, LineSteps.last_cycle}
-use Rattle.cycles_from_lines.specs.Classified.{families_in_order, family_names, family_text, with_cycle_name, ReadsUpTo, ReadsPart}
+use Rattle.cycles_from_lines.specs.{declared.{line.LineForm.TheVariants.Edges, errors.ClassifyError.{ClassifyError, TheVariants.{Lines, OutFault, NoMemory}}, names.FamilyNames.FamilyNames}, KeptNames.names_in_set, LineReading.ReadAll}
+use Rattle.cycles_from_lines.specs.{LineSteps.last_cycle, Classified.{families_in_order, family_names, family_text, with_cycle_name, ReadsUpTo, ReadsPart}}
 
 -- the index of a family in the table
 abbrev pub place_of_family : Family → ℕ

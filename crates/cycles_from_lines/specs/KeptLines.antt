@@ -1,7 +1,7 @@
 -- What the reading of a line returns, and what edges say as they are kept.
 use Rattle.std.specs.Prelude.{List, Option, Result, Ok, Err}
-use Rattle.relax_edges.specs.{declared.kinds.ArchName.ArchName, declared.edge.Edge.Edge}
-use Rattle.edges_from_text.specs.{declared.list.EdgeList.EdgeList, declared.list.EdgeList.TheVariants.{Whole, TooLong}}
+use Rattle.relax_edges.specs.declared.{kinds.ArchName.ArchName, edge.Edge.Edge}
+use Rattle.edges_from_text.specs.declared.list.EdgeList.{EdgeList, TheVariants.{Whole, TooLong}}
 use Rattle.cycles_from_lines.specs.{declared.errors.LineKind.LineKind, Cycles.cycle_made}
 use Rattle.cycles_from_lines.specs.declared.errors.LineKind.TheVariants as kinds
 

@@ -1,6 +1,5 @@
 -- The names of the cycles of a family, as they are kept.
-use Rattle.std.specs.{Prelude.{◌≡◌, ℕ, Bool, List, false, not, map, String}, List.list_any, Str.bytes_eq, String.string_bytes, BTreeSet.BTreeSet}
-use Rattle.std.specs.declared.alloc.Global.{Global}
+use Rattle.std.specs.{Prelude.{◌≡◌, ℕ, Bool, List, false, not, map, String}, List.list_any, Str.bytes_eq, String.string_bytes, BTreeSet.BTreeSet, declared.alloc.Global.Global}
 
 -- the texts of a set, in its order
 abbrev pub names_in_set : BTreeSet (String Global) → List (List ℕ)

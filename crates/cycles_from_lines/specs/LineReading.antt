@@ -1,12 +1,8 @@
 -- What was read of a source, line by line.
-use Rattle.std.specs.{Prelude.{◌≡◌, ◌≤◌, ◌<◌, ◌⊎◌, ℕ, ◌+◌, true, false, List, [], ◌++◌, length, take, unwrap_or}, List.take_while}
-use Rattle.std.specs.Io.KnownBytes.{IsAtEnd, Keeps}
+use Rattle.std.specs.{Prelude.{◌≡◌, ◌≤◌, ◌<◌, ◌⊎◌, ℕ, ◌+◌, true, false, List, [], ◌++◌, length, take, unwrap_or}, List.take_while, Io.KnownBytes.{IsAtEnd, Keeps}}
 use Rattle.diy_io.specs.{declared.source.TheConstants.MAX_INPUT, Count.Rose, Sink.line_feed_count, Taken.{SourceSeen, Took, EndedOnce, NotEnded, EndedAtMostOnce}}
 use Rattle.relax_edges.specs.declared.edge.Edge.{Edge}
-use Rattle.cycles_from_lines.specs.declared.line.LineForm.{LineForm}
-use Rattle.cycles_from_lines.specs.{declared.errors.LineKind.LineKind, declared.errors.LinesError.LinesError}
-use Rattle.cycles_from_lines.specs.declared.errors.LinesError.TheVariants.{Wrong, TooMuch, InputFault}
-use Rattle.cycles_from_lines.specs.Cycles.{FirstFault, are_sound, cycles_of, is_sound, is_long_line}
+use Rattle.cycles_from_lines.specs.{declared.{line.LineForm.LineForm, errors.{LineKind.LineKind, LinesError.{LinesError, TheVariants.{Wrong, TooMuch, InputFault}}}}, Cycles.{FirstFault, are_sound, cycles_of, is_sound, is_long_line}}
 use Rattle.text_parts.specs.Lines.{without_return, ended_lines, unended, lines_of}
 
 -- what was taken of a source, followed by what is left of it if that is shown: then this is all that it had

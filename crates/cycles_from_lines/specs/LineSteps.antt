@@ -1,12 +1,9 @@
 -- What a reader of lines represents, and how it goes on.
-use Rattle.std.specs.Prelude.{◌≡◌, ◌≤◌, ◌<◌, ◌==◌, ℕ, ◌+◌, ◌-◌, ◌*◌, true, false, List, [], ◌∷◌, ◌++◌, length, take, drop, Option, Some, None, Result, Ok, Err, All, MatchOption}
-use Rattle.std.specs.Io.KnownBytes.{IsAtEnd}
+use Rattle.std.specs.{Prelude.{◌≡◌, ◌≤◌, ◌<◌, ◌==◌, ℕ, ◌+◌, ◌-◌, ◌*◌, true, false, List, [], ◌∷◌, ◌++◌, length, take, drop, Option, Some, None, Result, Ok, Err, All, MatchOption}, Io.KnownBytes.IsAtEnd}
 use Rattle.diy_io.specs.{declared.source.TheConstants.MAX_INPUT, Count.{Rose, last_count}, Taken.{SourceSeen, Took, EndedOnce, NotEnded}}
 use Rattle.relax_edges.specs.declared.edge.Edge.{Edge}
-use Rattle.cycles_from_lines.specs.declared.line.LineForm.{LineForm}
-use Rattle.cycles_from_lines.specs.{declared.errors.LineKind.LineKind, declared.errors.LinesError.LinesError, declared.reader.Line.Line}
-use Rattle.cycles_from_lines.specs.{declared.reader.Found.Found, declared.reader.Found.TheVariants.{Next, Last}, Cycles.{line_said, are_sound, cycles_of}}
-use Rattle.cycles_from_lines.specs.LineReading.{ReadAll, ReadUpTo, TookUpTo, Untouched}
+use Rattle.cycles_from_lines.specs.{declared.{line.LineForm.LineForm, errors.{LineKind.LineKind, LinesError.LinesError}, reader.{Line.Line, Found.{Found, TheVariants.{Next, Last}}}}, Cycles.{line_said, are_sound, cycles_of}, LineReading.ReadAll}
+use Rattle.cycles_from_lines.specs.LineReading.{ReadUpTo, TookUpTo, Untouched}
 use Rattle.cycles_from_lines.specs.declared.reader.Line.TheVariants as lines
 use Rattle.text_parts.specs.Lines.{without_return, ended_lines, unended}
 

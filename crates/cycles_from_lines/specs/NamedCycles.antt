@@ -1,7 +1,7 @@
 -- The cycle that has a name.
 -- Source: own.
 use Rattle.std.specs.{Prelude.{ℕ, Bool, ◌&&◌, List, Option, Some, None, is_ok, MatchOption, if◌then◌else◌}, Str.bytes_eq}
-use Rattle.relax_edges.specs.{declared.kinds.ArchName.ArchName, declared.edge.Edge.Edge}
+use Rattle.relax_edges.specs.declared.{kinds.ArchName.ArchName, edge.Edge.Edge}
 use Rattle.edge_algebra.specs.Compose.{composed}
 use Rattle.cycle_names.specs.{CycleNames.name_of, NameReading.edges_read, Laws.{are_of_arch, IsNamed, NamesNone}}
 

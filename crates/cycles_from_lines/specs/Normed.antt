@@ -4,9 +4,7 @@ use Rattle.std.specs.{Prelude.{ℕ, List, [], ◌++◌, codes, Option, Some, Non
 use Rattle.diy_io.specs.{Taken.SourceSeen, Wrote.{SinkSeen, WroteAll, WrotePart}}
 use Rattle.relax_edges.specs.{declared.edge.Edge.Edge, WordParts.word_of}
 use Rattle.cycle_names.specs.{CycleNames.name_of, Rotations.named_rotation}
-use Rattle.cycles_from_lines.specs.declared.line.LineForm.{LineForm}
-use Rattle.cycles_from_lines.specs.{declared.errors.LinesError.LinesError, declared.errors.NormError.NormError}
-use Rattle.cycles_from_lines.specs.{declared.errors.NormError.TheVariants.{Lines, OutFault}, LineReading.{ReadAll, ReadUpTo, ReadSome, cycles_before, whole_of}}
+use Rattle.cycles_from_lines.specs.{declared.{line.LineForm.LineForm, errors.{LinesError.LinesError, NormError.{NormError, TheVariants.{Lines, OutFault}}}}, LineReading.{ReadAll, ReadUpTo, ReadSome, cycles_before, whole_of}}
 
 -- the line of a cycle: its name, a colon and a blank, and its edges in the rotation that it is named from
 unfoldable pub name_line : List Edge → List ℕ

@@ -1,6 +1,5 @@
 -- A law of what was read of a source, for the crates above.
-use Rattle.std.proofs.Common.{◌≡◌, ℕ, List, [], ◌++◌, Option, Some, None, ◌∙◌, sym}
-use Rattle.std.specs.{Prelude.unwrap_or, Io.KnownBytes.Consumes}
+use Rattle.std.{proofs.Common.{◌≡◌, ℕ, List, [], ◌++◌, Option, Some, None, ◌∙◌, sym}, specs.{Prelude.unwrap_or, Io.KnownBytes.Consumes}}
 use Rattle.diy_io.specs.Taken.{SourceSeen, Took}
 use Rattle.cycles_from_lines.specs.LineReading.{whole_of}
 

@@ -1,9 +1,11 @@
-ghost use Rattle.std.specs.Prelude.{◌≡◌, [], ◌∷◌, ◌++◌, Some, option_map};
-ghost use Rattle.relax_edges.specs.{declared.edge.Edge.{Edge}, EdgeTable.{source_of, target_of, source_mark, target_mark}, JoinedEdges.{is_joined}};
-ghost use Rattle.edge_algebra_laws.specs.Composable.{IsCycle};
+ghost use Rattle.std.specs.Prelude.{◌≡◌, [], ◌∷◌, ◌++◌, ◌&&◌, cond, Some, option_map};
+ghost use Rattle.relax_edges.specs.{declared.edge.Edge.{Edge}, JoinedEdges.{is_joined}};
+ghost use Rattle.relax_edges.specs.EdgeTable.{source_of, target_of, source_mark, target_mark, is_of_arch};
+ghost use Rattle.edge_algebra.specs.Composable.{IsCycle};
 ghost use Rattle.cycle_names.specs.Laws.{are_of_arch};
 ghost use Rattle.edges_from_text.specs.Spelled.{text_edges};
 ghost use Rattle.cycles_from_lines.specs.{Cycles.{spelled_made, cycle_made, cycle_spelled, quoted_cycle}, KeptLines.{made_kept, said_with}};
+ghost use Rattle.cycles_from_lines.specs.declared.errors.LineKind.TheVariants.{DoesNotCompose, NotOfArch};
 
 use crate::errors::LineKind;
 use edge_algebra::Cycle;
@@ -63,7 +65,7 @@ fn make_of(arch: ArchName, edges: &EdgeList, cycle: &mut Option<Cycle>) -> Resul
     }
 }
 
-#[tactic(auto, using(crate::proofs::Joined::joined_cycle, crate::proofs::Joined::made_of_joined, crate::proofs::Joined::made_of_unjoined))]
+#[tactic(auto, using(crate::proofs::Joined::fitting_cycle))]
 fn make_cycle(arch: ArchName, edges: &[Edge], cycle: &mut Option<Cycle>) -> Result<(), LineKind>
     ensures { said_with result cycle.new ≡ cycle_made arch edges.now }
 {
@@ -73,14 +75,22 @@ fn make_cycle(arch: ArchName, edges: &[Edge], cycle: &mut Option<Cycle>) -> Resu
     if edges.len() > MAX_EDGES {
         return Err(LineKind::TooLong);
     }
-    if !are_of_arch(arch, edges) {
-        return Err(LineKind::NotOfArch);
-    }
-    if !are_joined(edges, first) {
-        return Err(LineKind::DoesNotCompose);
+    if !do_fit(arch, edges, first) {
+        return Err(fault_of(arch, edges));
     }
     keep(edges, cycle);
     Ok(())
+}
+
+/// What is wrong with edges that aren't all of the architecture or don't compose.
+fn fault_of(arch: ArchName, edges: &[Edge]) -> LineKind
+    ensures { result ≡ cond (are_of_arch arch edges.now) DoesNotCompose NotOfArch }
+{
+    if are_of_arch(arch, edges) {
+        LineKind::DoesNotCompose
+    } else {
+        LineKind::NotOfArch
+    }
 }
 
 fn are_of_arch(arch: ArchName, edges: &[Edge]) -> bool
@@ -89,62 +99,70 @@ fn are_of_arch(arch: ArchName, edges: &[Edge]) -> bool
     edges.iter().all(|edge| edge.of_arch(arch))
 }
 
-/// Whether each edge joins the next one, where `next` comes after the last.
-fn are_joined(edges: &[Edge], next: &Edge) -> bool
-    ensures { result ≡ is_joined (edges.now ++ next.now ∷ []) }
+/// Whether each edge is of the architecture and joins the next one, where `next` comes after the last.
+fn do_fit(arch: ArchName, edges: &[Edge], next: &Edge) -> bool
+    ensures { result ≡ (is_joined (edges.now ++ next.now ∷ []) && are_of_arch arch edges.now) }
 {
     match edges {
         [] => true,
         [edge, rest @ ..] => {
-            let (_, _, dir, mark) = accesses(edge);
-            follow(dir, mark, rest, next)
+            let (_, _, dir, mark, of_arch) = accesses(arch, edge);
+            of_arch && follow(arch, dir, mark, rest, next)
         }
     }
 }
 
-/// Whether edges follow an access of this direction and mark, and each joins the next one, where
-/// `next` comes after the last.
-fn follow(dir: Dir, mark: Mark, edges: &[Edge], next: &Edge) -> bool
-    ensures { (edge : Edge) → target_of edge ≡ dir → target_mark edge ≡ mark → result ≡ is_joined (edge ∷ (edges.now ++ next.now ∷ [])) }
+/// Whether edges follow an access of this direction and mark, each joins the next one, where `next` comes
+/// after the last, and all are of the architecture.
+#[tactic(auto, using(crate::proofs::Joined::beside_arch))]
+fn follow(arch: ArchName, dir: Dir, mark: Mark, edges: &[Edge], next: &Edge) -> bool
+    ensures { (edge : Edge) → target_of edge ≡ dir → target_mark edge ≡ mark
+        → result ≡ (is_joined (edge ∷ (edges.now ++ next.now ∷ [])) && are_of_arch arch edges.now) }
 {
     match edges {
-        [] => {
-            let (source, source_mark, _, _) = accesses(next);
-            dir == source && mark == source_mark
-        }
+        [] => dir == next.source() && mark == next.source_mark(),
         [edge, rest @ ..] => {
-            let (source, source_mark, target, target_mark) = accesses(edge);
-            dir == source && mark == source_mark && follow(target, target_mark, rest, next)
+            let (source, source_mark, target, target_mark, of_arch) = accesses(arch, edge);
+            if dir != source || mark != source_mark {
+                return false;
+            }
+            if !of_arch {
+                return false;
+            }
+            follow(arch, target, target_mark, rest, next)
         }
     }
 }
 
-/// The direction and mark of the access that an edge leaves, and of the one that it enters. Edges without marks, the
-/// most frequent ones, are read in place, which `Edge::source` and `Edge::target` don't do, and only once.
+/// The direction and mark of the access that an edge leaves, and of the one that it enters, and whether the edge is of
+/// the architecture. Edges without marks, the most frequent ones, are read in place, and only once.
 #[inline(always)]
-fn accesses(edge: &Edge) -> (Dir, Mark, Dir, Mark)
+fn accesses(arch: ArchName, edge: &Edge) -> (Dir, Mark, Dir, Mark, bool)
     ensures source { result.0 ≡ source_of edge.now }
     ensures source_mark { result.1 ≡ source_mark edge.now }
     ensures target { result.2 ≡ target_of edge.now }
     ensures target_mark { result.3 ≡ target_mark edge.now }
+    ensures of_arch { result.4 ≡ is_of_arch edge.now arch }
 {
-    let (source, target) = match *edge {
-        Edge::Com { com: Com::Rf, .. } => (Dir::W, Dir::R),
-        Edge::Com { com: Com::Fr, .. } => (Dir::R, Dir::W),
-        Edge::Com { com: Com::Ws, .. } => (Dir::W, Dir::W),
-        Edge::Po { from, to, .. } | Edge::Fenced { from, to, .. } => (from, to),
-        Edge::Dep { to, .. } => (Dir::R, to),
-        Edge::Data { .. } => (Dir::R, Dir::W),
+    let (source, target, of_arch) = match *edge {
+        Edge::Com { com: Com::Rf, .. } => (Dir::W, Dir::R, true),
+        Edge::Com { com: Com::Fr, .. } => (Dir::R, Dir::W, true),
+        Edge::Com { com: Com::Ws, .. } => (Dir::W, Dir::W, true),
+        Edge::Po { from, to, .. } => (from, to, true),
+        Edge::Fenced { from, to, .. } => (from, to, edge.of_arch(arch)),
+        Edge::Dep { to, .. } => (Dir::R, to, edge.of_arch(arch)),
+        Edge::Data { .. } => (Dir::R, Dir::W, edge.of_arch(arch)),
         Edge::Marked(_) => {
             return (
                 edge.source(),
                 edge.source_mark(),
                 edge.target(),
                 edge.target_mark(),
+                edge.of_arch(arch),
             );
         }
     };
-    (source, Mark::Plain, target, Mark::Plain)
+    (source, Mark::Plain, target, Mark::Plain, of_arch)
 }
 
 /// Sets `cycle` to that of edges that are known to make one. It is a function of its own so that the

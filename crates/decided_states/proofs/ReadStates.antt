@@ -1,22 +1,15 @@
 -- A state of a sum is read as its equalities.
-use Rattle.std.proofs.Common.{◌≡◌, ℕ, zero, suc, ◌≤◌, ◌==◌, ◌++◌, Bool, true, not, List, [], ◌∷◌, length, map, Option, Some, Ok, refl}
-use Rattle.std.proofs.Common.{sym, ap, ◌∙◌, subst, arith, append_assoc, append-nil}
-use Rattle.std.proofs.lemmas.Bool.Decides.{nat_tests}
-use Rattle.std.specs.{Prelude.{option_map}, List.{AllByRecursion, list_all, slice_split}}
-use Rattle.text_parts.specs.Names.{is_place_byte}
-use Rattle.text_parts.proofs.PieceLaws.{first_piece, split_off}
-use Rattle.final_cond.specs.{declared.cond.TheConstants.MAX_TERMS, Conditions.{CondSeen, TermSeen}, CondText.{term_text}}
-use Rattle.final_cond.specs.{CondTextLaws.{PassTerms, terms_pass}}
-use Rattle.final_cond.specs.{ConditionReadBack.IsFormedTerm, ConditionReading.{has_form, term_read}}
-use Rattle.text_parts.specs.LeadingRuns.{after_run}
+use Rattle.std.{proofs.{Common.{◌≡◌, ℕ, zero, suc, ◌≤◌, ◌==◌, ◌++◌, Bool, true, not, List, [], ◌∷◌, length, map, Option, Some, Ok, refl, sym, ap, ◌∙◌, subst, arith, append_assoc, append-nil}, lemmas.Bool.Decides.nat_tests}, specs.Prelude.option_map}
+use Rattle.std.specs.List.{AllByRecursion, list_all, slice_split}
+use Rattle.text_parts.{specs.{Names.is_place_byte, LeadingRuns.after_run}, proofs.PieceLaws.{first_piece, split_off}}
+use Rattle.final_cond.specs.{declared.cond.TheConstants.MAX_TERMS, Conditions.{CondSeen, TermSeen}, CondText.term_text, CondTextLaws.{PassTerms, terms_pass}, ConditionReadBack.IsFormedTerm, ConditionReading.{has_form, term_read}}
 use Rattle.final_cond.proofs.BackLaws.{term_back}
 use Rattle.log_sum.specs.LogStates.{later_forms, state_form}
 use Rattle.relax_edges.specs.declared.kinds.ArchName.{ArchName}
 use Rattle.arch_trait.specs.{PlaceNames.number_in, Threads.Puts, Writing.Writing}
 use Rattle.state_verdicts.specs.declared.verdict.Verdict.TheVariants.{Undecided}
-use Rattle.printed_states.specs.FixedStates.{PrintedStatesAreFixed, PrintedStatesFixReads}
-use Rattle.judged_states.specs.{JudgedStates.IsVerdictOfSaid, SaidStates.{term_said, terms_said, whole_term, with_term}}
-use Rattle.decided_states.specs.DecidedStates.{FormedStatesAreRead, PrintedStatesAreDecided, PrintedStatesAreOpen, state_of, sum_form}
+use Rattle.decided_states.specs.{FixedStates.{PrintedStatesAreFixed, PrintedStatesFixReads}, DecidedStates.{FormedStatesAreRead, PrintedStatesAreDecided, PrintedStatesAreOpen, state_of, sum_form}}
+use Rattle.states_of_logs.specs.{JudgedStates.IsVerdictOfSaid, SaidStates.{term_said, terms_said, whole_term, with_term}}
 
 abbrev is_semicolon : ℕ → Bool
 is_semicolon byte = byte == 59

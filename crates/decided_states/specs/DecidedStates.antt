@@ -1,21 +1,15 @@
 -- States of logs of which something is said.
 -- Source: own.
-use Rattle.std.specs.Prelude.{ℕ, ◌≡◌, ◌≤◌, List, length, map, Some}
-use Rattle.std.specs.List.{AllByRecursion}
-use Rattle.relax_edges.specs.declared.{kinds.ArchName.ArchName, kinds.ObsMode.ObsMode, edge.Edge.Edge}
-use Rattle.final_cond.specs.{declared.cond.TheConstants.MAX_TERMS, declared.cond.Quantifier.TheVariants.Exists}
-use Rattle.final_cond.specs.{Conditions.{CondSeen, TermSeen}}
-use Rattle.final_cond.specs.{CondText.term_text, ConditionReadBack.IsFormedTerm}
+use Rattle.std.specs.{Prelude.{ℕ, ◌≡◌, ◌≤◌, List, length, map, Some}, List.AllByRecursion}
+use Rattle.relax_edges.specs.declared.{kinds.{ArchName.ArchName, ObsMode.ObsMode}, edge.Edge.Edge}
+use Rattle.final_cond.specs.{declared.cond.{TheConstants.MAX_TERMS, Quantifier.TheVariants.Exists}, Conditions.{CondSeen, TermSeen}, CondText.term_text, ConditionReadBack.IsFormedTerm}
 use Rattle.arch_trait.specs.{PlaceNames.number_in, Threads.Puts, Writing.Writing}
 use Rattle.litmus_text.specs.TestReading.{TestRead}
-use Rattle.state_verdicts.specs.Verdicts.{CoherentEndsIn}
+use Rattle.state_verdicts.specs.{Verdicts.CoherentEndsIn, declared.verdict.Verdict.{Verdict, TheVariants.Undecided}}
 use Rattle.log_sum.specs.LogStates.{state_form}
 use Rattle.bytes_force_cycles.specs.Links.{IsPrintedTest}
-use Rattle.test_states.specs.LoggedStates.{HasFewWrites}
-use Rattle.state_verdicts.specs.declared.verdict.Verdict.{Verdict}
-use Rattle.state_verdicts.specs.declared.verdict.Verdict.TheVariants.{Undecided}
-use Rattle.judged_states.specs.{JudgedStates.IsVerdictOfText, SaidStates.state_said}
-use Rattle.printed_states.specs.{FixedStates.HasLeftSides, KeptLoads.KeepsLoads}
+use Rattle.decided_states.specs.{LoggedStates.HasFewWrites, FixedStates.HasLeftSides, KeptLoads.KeepsLoads}
+use Rattle.states_of_logs.specs.{JudgedStates.IsVerdictOfText, SaidStates.state_said}
 
 -- the state with these equalities
 abbrev pub state_of : List TermSeen → CondSeen

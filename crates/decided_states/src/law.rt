@@ -1,8 +1,8 @@
 //! Laws of the states of logs: each is a function that does nothing, whose contract is the law.
 ghost use Rattle.decided_states.specs.DecidedStates.{FormedStatesAreRead, PrintedStatesAreDecided, PrintedStatesAreOpen};
 
+use crate::{printed_states_are_fixed, printed_states_fix_reads};
 use arch_trait::Arch;
-use printed_states::{printed_states_are_fixed, printed_states_fix_reads};
 
 /// A state of a sum of logs is read as its equalities, if each is one that conditions can have, and there are at most as many
 /// as a condition can have.

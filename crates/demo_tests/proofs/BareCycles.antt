@@ -1,16 +1,12 @@
 -- The bare edge of an edge: a communication, or program order, that joins the same accesses. The bare edges of a cycle resolve as
 -- the cycle does.
-use Rattle.std.proofs.Common.{◌≡◌, ℕ, ◌%◌, Bool, ◌==◌, ◌&&◌, true, false, cond, List, [], ◌∷◌, ◌++◌, length, map, take, drop, filter, refl, sym, ◌∙◌, ap, arith}
-use Rattle.std.proofs.{Math.Path.fun_ext, Math.ListN.get_or-map, lemmas.List.Sums.sum_by-cons, lemmas.List.{length-map, take-map, drop-map, map-append}}
-use Rattle.std.specs.{Prelude.{Option, Some, None, unwrap_or, count_by}, List.{find, list_any}, Option.option_map}
+use Rattle.std.proofs.{Common.{◌≡◌, ℕ, ◌%◌, Bool, ◌==◌, ◌&&◌, true, false, cond, List, [], ◌∷◌, ◌++◌, length, map, take, drop, filter, refl, sym, ◌∙◌, ap, arith}, Math.{Path.fun_ext, ListN.get_or-map}, lemmas.List.{Sums.sum_by-cons, length-map}}
+use Rattle.std.{proofs.lemmas.List.{take-map, drop-map, map-append}, specs.{Prelude.{Option, Some, None, unwrap_or, count_by}, List.{find, list_any}, Option.option_map}}
 use Rattle.relax_edges.specs.declared.kinds.Dir.TheVariants as dirs
-use Rattle.relax_edges.specs.{declared.kinds.Kind.Kind, declared.edge.Edge.Edge, EdgeTable.{kind_of, source_of, is_external, is_diff, same_dir}}
+use Rattle.demo_tests.proofs.Vocabulary.{Kind, Edge, kind_of, source_of, is_external, is_diff, same_dir, upto, rotated, external_count, move_count, edge_at, ends_outside, turned, thread_of, moves_before, location_of, events_in, moves_in}
+use Rattle.demo_tests.proofs.Vocabulary.{is_coherence_only, write_count, is_write_at}
 use Rattle.relax_edges.specs.declared.kinds.Kind.TheVariants as kinds
 use Rattle.relax_edges.specs.declared.edge.Edge.TheVariants as edges
-use Rattle.list_laws.specs.Numbers.{upto}
-use Rattle.edge_algebra_laws.specs.Rotation.{rotated}
-use Rattle.cycle_events.specs.Resolution.{external_count, move_count, edge_at, ends_outside, turned, thread_of, moves_before, location_of, events_in, moves_in, is_coherence_only}
-use Rattle.cycle_events.specs.Values.{write_count, is_write_at}
 
 -- a communication stays, and any other edge is program order between the same accesses
 abbrev pub bare_kind : Kind → Edge

@@ -1,13 +1,8 @@
 -- The choices for a link: there is at least one, there are few, and they are found among all edges in order.
-use Rattle.std.proofs.Common.{◌≡◌, ◌<◌, ◌≤◌, ◌+◌, ℕ, Bool, true, List, [], ◌∷◌, ◌++◌, length, take, drop, get_or, refl, sym, ap, ◌∙◌, arith, length-append}
-use Rattle.std.proofs.{lemmas.Bool.{and_parts, cond-true}, lemmas.Bool.Decides.nat_tests, lemmas.List.{take-append-drop, take_all}}
-use Rattle.std.proofs.{lemmas.List.Elements.{filter-append, filter_more}, lemmas.List.Filters.length-filter_more, lemmas.Option.get_or_from_slice_get}
-use Rattle.std.specs.Prelude.{◌&&◌, cond, filter, nat_lt, nat_le}
-use Rattle.relax_edges.specs.{declared.kinds.ArchName.ArchName, declared.kinds.Dir.Dir, declared.order.TheConstants.EDGES, declared.edge.Edge.Edge}
-use Rattle.relax_edges.specs.{declared.kinds.ArchName.TheVariants.{X86, PPC, AArch64, RISCV, ARM}, AllEdges.edges_in_order, Order.rank_of}
+use Rattle.demo_tests.proofs.Vocabulary.{◌≡◌, ◌<◌, ◌≤◌, ◌+◌, ℕ, Bool, true, List, [], ◌∷◌, ◌++◌, length, take, drop, get_or, refl, sym, ap, ◌∙◌, arith, length-append, and_parts, cond-true, nat_tests, take-append-drop, take_all, ArchName, X86, PPC}
+use Rattle.demo_tests.{proofs.Vocabulary.{AArch64, RISCV, ARM, Dir, EDGES, Edge, edges_in_order, rank_of, placed, edges-length}, specs.{Filled.is_choice, FilledLinks.choices_of}}
+use Rattle.std.{proofs.lemmas.{List.{Elements.{filter-append, filter_more}, Filters.length-filter_more}, Option.get_or_from_slice_get}, specs.Prelude.{◌&&◌, cond, filter, nat_lt, nat_le}}
 use Rattle.relax_edges.specs.declared.kinds.Dir.TheVariants as dirs
-use Rattle.edge_algebra_laws.proofs.RankLaws.{placed, edges-length}
-use Rattle.demo_tests.specs.{Filled.is_choice, FilledLinks.choices_of}
 
 -- there are 1 to 16 choices for each link
 one_to_16 : (arch : ArchName) (from to : Dir) → (nat_lt 0 (length (choices_of arch from to)) && nat_le (length (choices_of arch from to)) 16) ≡ true

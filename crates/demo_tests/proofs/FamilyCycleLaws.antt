@@ -1,9 +1,6 @@
 -- The cycles of the families are kept one after another, and found by their places.
-use Rattle.std.proofs.Common.{◌≡◌, ◌<◌, ◌+◌, ℕ, List, [], ◌∷◌, ◌++◌, length, map, take, get_or, sym, ap, ◌∙◌, arith}
-use Rattle.std.proofs.lemmas.List.{map_push, take_more, get_or-map, length-map, length-take}
-use Rattle.std.specs.Prelude.{slice_index_or}
-use Rattle.relax_edges.specs.declared.edge.Edge.{Edge}
-use Rattle.cycle_names.specs.{declared.family.Family.Family, declared.family.Family.TheVariants.Other, Families.{all_families, family_edges}}
+use Rattle.std.{proofs.{Common.{◌≡◌, ◌<◌, ◌+◌, ℕ, List, [], ◌∷◌, ◌++◌, length, map, take, get_or, sym, ap, ◌∙◌, arith}, lemmas.List.{map_push, take_more, get_or-map, length-map, length-take}}, specs.Prelude.slice_index_or}
+use Rattle.demo_tests.proofs.Vocabulary.{Edge, Family, Other, all_families, family_edges}
 
 -- the cycle of the next family is kept too
 pub cycle_kept : {X : Type 0} (edges_of : X → List Edge) (cycles : List X) (cycle : X) (families : List Family) (place : ℕ) (d : Family) → place < length families

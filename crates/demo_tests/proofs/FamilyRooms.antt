@@ -1,16 +1,7 @@
 -- Threads of at most two accesses need no more registers than an architecture has.
-use Rattle.std.proofs.Common.{◌≡◌, ℕ, suc, ◌+◌, ◌≤◌, Bool, true, false, ◌&&◌, cond, List, [], ◌∷◌, length, map, filter, Some, None, nat_le, refl, ◌∙◌, ap, arith}
-use Rattle.std.proofs.{lemmas.Bool.{and_parts, leb-true, le-ltb}, lemmas.List.length-map, lemmas.List.Sums.count_by-le-length}
-use Rattle.std.specs.{List.{AllByRecursion, list_all, position_from}, Option.option_map}
-use Rattle.list_laws.proofs.{Elements.all_append, Cases.by_test, Numbers.length-map-upto}
-use Rattle.relax_edges.specs.{declared.kinds.ObsMode.TheVariants.Accept, declared.edge.Edge.Edge}
-use Rattle.list_laws.specs.Numbers.{upto}
-use Rattle.cycle_events.specs.{Resolution.{events_in, external_count, move_count}, Values.{is_observed, write_count}}
-use Rattle.program_meaning.specs.Intended.{observed_locations}
-use Rattle.arch_trait.specs.{declared.step.Shape.Shape, declared.step.Step.Step, Links.is_addr}
-use Rattle.arch_trait.specs.Threads.{Puts, is_load_dir, is_store_dir, places_in, shape_of, visits}
-use Rattle.tests_force_cycles.specs.{CycleSteps.{cycle_steps, event_step, observing, observer_steps, thread_steps}, TestOf.plain}
-use Rattle.test_maker.specs.{declared.refusal.Refusal.TheVariants.TooManyRegisters, Refusals.{crowded_thread, is_crowded}}
+use Rattle.std.proofs.{Common.{◌≡◌, ℕ, suc, ◌+◌, ◌≤◌, Bool, true, false, ◌&&◌, cond, List, [], ◌∷◌, length, map, filter, Some, None, nat_le, refl, ◌∙◌, ap, arith}, lemmas.{Bool.{and_parts, leb-true, le-ltb}, List.{length-map, Sums.count_by-le-length}}}
+use Rattle.demo_tests.proofs.Vocabulary.{AllByRecursion, list_all, position_from, option_map, all_append, by_test, length-map-upto, upto, Accept, Edge, events_in, external_count, move_count, is_observed, write_count, observed_locations, Shape, Step}
+use Rattle.demo_tests.proofs.Vocabulary.{is_addr, Puts, is_load_dir, is_store_dir, places_in, shape_of, visits, cycle_steps, event_step, observing, observer_steps, thread_steps, plain, TooManyRegisters, crowded_thread, is_crowded}
 
 -- a thread of at most two loads and two stores, of which at most two have an address dependency, at at most two places has
 -- registers enough on an architecture

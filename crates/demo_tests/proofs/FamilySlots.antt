@@ -1,14 +1,8 @@
 -- The edges that replace those of a family's cycle are of the architecture, and their bare edges are the family's.
-use Rattle.std.proofs.{Common.{◌≡◌, Bool, true, false, not, List, [], ◌∷◌, refl, sym, ◌∙◌, ap}, lemmas.Bool.{and_parts, and_from, not-true, true≢false}}
-use Rattle.std.specs.{Prelude.MatchBool, List.list_all}
-use Rattle.relax_edges.specs.{declared.kinds.ArchName.ArchName, declared.kinds.Dir.Dir, declared.kinds.Kind.Kind, declared.kinds.Mark.TheVariants.Plain}
-use Rattle.relax_edges.specs.{declared.kinds.Reach.TheVariants.{Internal, External}, declared.kinds.Sd.TheVariants.{Same, Diff}, declared.edge.Edge.Edge}
-use Rattle.relax_edges.specs.EdgeTable.{kind_of, source_of, target_of, source_mark, target_mark, is_of_arch, same_dir, same_mark, is_external, is_diff}
+use Rattle.demo_tests.proofs.Vocabulary.{◌≡◌, Bool, true, false, not, List, [], ◌∷◌, refl, sym, ◌∙◌, ap, and_parts, and_from, not-true, true≢false, MatchBool, list_all, ArchName, Dir, Kind, Plain, Internal, External, Same, Diff, Edge, kind_of, source_of}
+use Rattle.demo_tests.{proofs.{Vocabulary.{target_of, source_mark, target_mark, is_of_arch, same_dir, same_mark, is_external, is_diff, same_dir_is}, BareCycles.{bare, bare_edges}}, specs.Filled.{IsFilled, is_choice}}
 use Rattle.relax_edges.specs.declared.kinds.Kind.TheVariants as kinds
 use Rattle.relax_edges.specs.declared.edge.Edge.TheVariants as edges
-use Rattle.demo_tests.specs.Filled.{IsFilled, is_choice}
-use Rattle.demo_tests.proofs.BareCycles.{bare, bare_edges}
-use Rattle.edge_algebra_laws.proofs.Joining.{same_dir_is}
 
 -- an edge as the cycle of a family has it: an external communication, or program order to another location
 abbrev pub is_slot : Edge → Bool

@@ -1,18 +1,9 @@
 -- Each cycle that is made of a family's has a test.
-use Rattle.std.proofs.Common.{◌≡◌, Bool, true, false, not, ◌&&◌, List, None, Ok, Err, nat_le, nat_lt, refl, sym, ◌∙◌, ap}
-use Rattle.std.proofs.{lemmas.Bool.{and_parts, leb-true, le-ltb, not-true}, lemmas.List.Folds.list_all_at}
-use Rattle.std.specs.{Prelude.if◌then◌else◌, List.{IsAmong, list_all}, Option.{option_map, option_or}}
-use Rattle.relax_edges.specs.{declared.kinds.ObsMode.TheVariants.Accept, declared.edge.Edge.Edge, EdgeTable.is_of_arch}
-use Rattle.list_laws.proofs.{Cases.by_test, Places.none_fails}
-use Rattle.cycle_names.specs.Families.{all_families, family_edges}
+use Rattle.std.{proofs.{Common.{◌≡◌, Bool, true, false, not, ◌&&◌, List, None, Ok, Err, nat_le, nat_lt, refl, sym, ◌∙◌, ap}, lemmas.{Bool.{and_parts, leb-true, le-ltb, not-true}, List.Folds.list_all_at}}, specs.{Prelude.if◌then◌else◌, List.IsAmong}}
+use Rattle.demo_tests.proofs.Vocabulary.{list_all, option_map, option_or, Accept, Edge, is_of_arch, by_test, none_fails, all_families, family_edges, external_count, move_count, turned, thread_of, moves_before, location_of, events_in, moves_in}
+use Rattle.demo_tests.proofs.{Vocabulary.{is_coherence_only, resolution_of, write_count, Puts, NotOfArch, refusal_of, resolved_refusal}, BareCycles.{bare_edges, coherence_bare, events_bare, externals_bare, moves_bare, turned_bare, writes_bare}}
+use Rattle.demo_tests.{proofs.{FamilyRooms.{HasRoom, few_events, few_writes, is_small, none_crowded}, FamilySlots.{filled_replace, is_slot}}, specs.Filled.MakesAll}
 use Rattle.cycle_events.specs.declared.errors.ResolveError.TheVariants as resolving
-use Rattle.cycle_events.specs.Resolution.{external_count, move_count, turned, thread_of, moves_before, location_of, events_in, moves_in, is_coherence_only, resolution_of}
-use Rattle.cycle_events.specs.Values.{write_count}
-use Rattle.arch_trait.specs.Threads.{Puts}
-use Rattle.test_maker.specs.{declared.refusal.Refusal.TheVariants.NotOfArch, Refusals.{refusal_of, resolved_refusal}}
-use Rattle.demo_tests.specs.Filled.{MakesAll}
-use Rattle.demo_tests.proofs.BareCycles.{bare_edges, coherence_bare, events_bare, externals_bare, moves_bare, turned_bare, writes_bare}
-use Rattle.demo_tests.proofs.{FamilyRooms.{HasRoom, few_events, few_writes, is_small, none_crowded}, FamilySlots.{filled_replace, is_slot}}
 
 -- a cycle resolves, and is small
 abbrev is_accepted : List Edge → Bool

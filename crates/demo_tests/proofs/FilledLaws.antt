@@ -1,17 +1,8 @@
 -- The edges picked for a family's cycle are a cycle, and those for its links are choices.
-use Rattle.std.proofs.{Common.{◌≡◌, ◌<◌, ◌≤◌, ℕ, suc, ◌%◌, Bool, true, List, [], ◌∷◌, ◌++◌, length, refl, sym, ap, ◌∙◌, arith, subst}, lemmas.Bool.and_parts}
-use Rattle.std.proofs.{lemmas.Bool.Decides.nat_tests, lemmas.List.Elements.filter_passes, lemmas.List.Sums.AllPass-from_list_all}
+use Rattle.demo_tests.proofs.Vocabulary.{◌≡◌, ◌<◌, ◌≤◌, ℕ, suc, ◌%◌, Bool, true, List, [], ◌∷◌, ◌++◌, length, refl, sym, ap, ◌∙◌, arith, subst, and_parts, nat_tests, filter_passes, AllPass-from_list_all, by_test, ArchName, Mark, Plain, Acquire, Release}
+use Rattle.demo_tests.proofs.{Vocabulary.{Edge, source_of, target_of, source_mark, target_mark, same_dir, same_mark, is_external, is_joined, IsCycle, is_closed, same_dir_is, Family, all_families, family_edges}, ChoiceLaws.some_choices}
+use Rattle.demo_tests.specs.{Draws.{drawn, next_seed}, Filled.{is_choice, IsFilled}, FilledLinks.{IsFamilyCycle, choices_of, choice_of, edge_for, seed_past, links_filled}}
 use Rattle.std.specs.{Prelude.{◌&&◌, MatchBool, nat_lt, nat_le}, List.{All, IsAmong, list_all}}
-use Rattle.list_laws.proofs.Cases.{by_test}
-use Rattle.relax_edges.specs.{declared.kinds.ArchName.ArchName, declared.kinds.Mark.Mark, declared.kinds.Mark.TheVariants.{Plain, Acquire, Release}}
-use Rattle.relax_edges.specs.{declared.edge.Edge.Edge, EdgeTable.{source_of, target_of, source_mark, target_mark, same_dir, same_mark, is_external}}
-use Rattle.relax_edges.specs.JoinedEdges.{is_joined}
-use Rattle.edge_algebra_laws.specs.Composable.{IsCycle, is_closed}
-use Rattle.cycle_names.specs.{declared.family.Family.Family, Families.{all_families, family_edges}}
-use Rattle.demo_tests.specs.{Draws.{drawn, next_seed}, Filled.{is_choice, IsFilled}}
-use Rattle.demo_tests.specs.FilledLinks.{IsFamilyCycle, choices_of, choice_of, edge_for, seed_past, links_filled}
-use Rattle.demo_tests.proofs.ChoiceLaws.{some_choices}
-use Rattle.edge_algebra_laws.proofs.Joining.{same_dir_is}
 
 -- what is picked is a choice
 choice_is_one : (arch : ArchName) (n : ℕ) (link : Edge) → is_choice arch (source_of link) (target_of link) (choice_of arch n link) ≡ true

@@ -1,3 +1,4 @@
+pub mod Vocabulary
 pub mod Cycles
 pub mod ChoiceLaws
 pub mod FilledLaws

@@ -1,9 +1,5 @@
 -- The lines of the summary, piece by piece.
-use Rattle.std.proofs.Common.{◌≡◌, ◌≤◌, ◌<◌, ℕ, ◌-◌, List, [], ◌∷◌, ◌++◌, length, get_or, take, drop, Ok, refl, subst, arith}
-use Rattle.std.specs.{Prelude.{codes, Result}, Fmt.decimal}
-use Rattle.list_laws.proofs.Elements.{rest-cons}
-use Rattle.diy_io.specs.{declared.errors.Failed.Failed, Page.Sends, PageLaws.{sends_then, sent_nothing}, Wrote.SinkSeen}
-use Rattle.cycle_names.specs.declared.family.Family.{Family}
+use Rattle.demo_tests.proofs.Vocabulary.{◌≡◌, ◌≤◌, ◌<◌, ℕ, ◌-◌, List, [], ◌∷◌, ◌++◌, length, get_or, take, drop, Ok, refl, subst, arith, codes, Result, decimal, rest-cons, Failed, Sends, sends_then, sent_nothing, SinkSeen, Family}
 use Rattle.demo_tests.specs.{declared.tally.TestTally.TestTally, DemoText.{tally_line, family_line, family_lines}}
 
 -- a line by its pieces

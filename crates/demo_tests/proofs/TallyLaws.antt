@@ -1,21 +1,10 @@
 -- What is counted of tests grows with each test, and stays small.
-use Rattle.std.proofs.Common.{◌≡◌, ◌<◌, ◌≤◌, ◌+◌, ◌*◌, ◌%◌, ℕ, zero, suc, List, [], ◌∷◌, ◌++◌, length, get_or, map, refl, sym, ap, ◌∙◌, arith, add-one, length-append, append-nil}
-use Rattle.std.proofs.{lemmas.Bool.{eqb-true, cond-true, cond-false}, lemmas.List.get_or_default, lemmas.List.Elements.{filter-append, All-map}}
-use Rattle.std.proofs.lemmas.List.Sums.{sum_by_push, sum_by-le, length-filter, count_by-le-length}
-use Rattle.std.specs.{Prelude.{cond, filter, replicate, codes, ◌==◌, slice_set, slice_index_or, None}, List.{All, sum_by, IsAmong}}
-use Rattle.list_laws.specs.Numbers.{upto}
-use Rattle.list_laws.proofs.{Cases.by_test, Numbers.{length-upto, get_or-map-upto}}
-use Rattle.relax_edges.specs.{declared.kinds.ArchName.ArchName, declared.kinds.ObsMode.TheVariants.Accept, declared.edge.Edge.Edge}
-use Rattle.cycle_names.specs.{declared.family.Family.Family, declared.family.Family.TheVariants.Other, Families.{all_families, family_edges}}
-use Rattle.cycle_names.specs.CycleNames.{name_of}
-use Rattle.arch_trait.specs.{Cells.{WritesCells, MakesOneAccess}, Laws.IsArch, Threads.Puts, Writing.{Writing, WritesBack}}
-use Rattle.litmus_text.specs.declared.limits.TheConstants.{MAX_TEST_TEXT}
-use Rattle.diy_io.specs.Sink.{Tally, line_feed_count}
-use Rattle.test_maker.specs.{CycleText.cycle_text, Refusals.refusal_of}
-use Rattle.demo_tests.proofs.{Cycles.cycle_text_short, FilledLaws.{is_filled, filled_cycle}, Texts.line_feeds_few}
-use Rattle.demo_tests.specs.{declared.tally.TestTally.TestTally, TestCounting.{nothing_counted, test_counted, text_tally, Fits}, Filled.MakesAll}
-use Rattle.demo_tests.specs.{FilledLinks.{IsFamilyCycle, links_filled, seed_after}, DemoText.{demo_text, family_lines, tally_line}}
-use Rattle.demo_tests.specs.Tallies.{family_tally_place, slots_of, seed_of, numbered_cycle, numbered_text, family_numbers, tally_of_tests, family_tallies}
+use Rattle.demo_tests.proofs.Vocabulary.{◌≡◌, ◌<◌, ◌≤◌, ◌+◌, ◌*◌, ◌%◌, ℕ, zero, suc, List, [], ◌∷◌, ◌++◌, length, get_or, map, refl, sym, ap, ◌∙◌, arith, add-one, length-append, append-nil, eqb-true, cond-true, cond-false, get_or_default, IsAmong, upto}
+use Rattle.demo_tests.proofs.Vocabulary.{by_test, length-upto, get_or-map-upto, ArchName, Accept, Edge, Family, Other, all_families, family_edges, name_of, WritesCells, MakesOneAccess, IsArch, Puts, Writing, WritesBack, MAX_TEST_TEXT, Tally}
+use Rattle.demo_tests.{proofs.{Vocabulary.{line_feed_count, cycle_text, refusal_of}, Cycles.cycle_text_short, FilledLaws.{is_filled, filled_cycle}, Texts.line_feeds_few}, specs.{declared.tally.TestTally.TestTally, TestCounting.nothing_counted}}
+use Rattle.demo_tests.specs.{TestCounting.{test_counted, text_tally, Fits}, Filled.MakesAll, FilledLinks.{IsFamilyCycle, links_filled, seed_after}, DemoText.{demo_text, family_lines, tally_line}, Tallies.{family_tally_place, slots_of, seed_of}}
+use Rattle.demo_tests.specs.Tallies.{numbered_cycle, numbered_text, family_numbers, tally_of_tests, family_tallies}
+use Rattle.std.{proofs.lemmas.List.{Elements.{filter-append, All-map}, Sums.{sum_by_push, sum_by-le, length-filter, count_by-le-length}}, specs.{Prelude.{cond, filter, replicate, codes, ◌==◌, slice_set, slice_index_or, None}, List.{All, sum_by}}}
 
 -- a family of the table by its place
 family_among : (place : ℕ) (d : Family) → place < 14 → IsAmong all_families (slice_index_or all_families place d)

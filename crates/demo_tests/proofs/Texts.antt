@@ -1,8 +1,6 @@
 -- A short text is tallied whole.
-use Rattle.std.proofs.{Common.{◌≡◌, ◌≤◌, ℕ, List, length, Some, refl, sym, ◌∙◌, ap, arith}, lemmas.List.Sums.count_by-le-length}
-use Rattle.std.specs.Prelude.{◌==◌}
-use Rattle.diy_io.specs.{Sink.{Tally, tally_of, tally_kept, tally_after, line_feed_count, shown_kept, shown_after}, Wrote.{WroteAll, tally_seen}}
-use Rattle.litmus_text.specs.declared.limits.TheConstants.{MAX_TEST_TEXT}
+use Rattle.std.{proofs.{Common.{◌≡◌, ◌≤◌, ℕ, List, length, Some, refl, sym, ◌∙◌, ap, arith}, lemmas.List.Sums.count_by-le-length}, specs.Prelude.◌==◌}
+use Rattle.demo_tests.proofs.Vocabulary.{Tally, tally_of, tally_kept, tally_after, line_feed_count, shown_kept, shown_after, WroteAll, tally_seen, MAX_TEST_TEXT}
 
 -- a text has no more line feeds than bytes
 pub line_feeds_few : (text : List ℕ) → line_feed_count text ≤ length text

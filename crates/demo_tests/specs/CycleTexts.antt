@@ -2,7 +2,7 @@
 -- Source: own.
 use Rattle.std.specs.Prelude.{◌≡◌, ◌≤◌, List, None, length}
 use Rattle.relax_edges.specs.declared.{kinds.ObsMode.ObsMode, edge.Edge.Edge}
-use Rattle.edge_algebra_laws.specs.Composable.{IsCycle}
+use Rattle.edge_algebra.specs.Composable.{IsCycle}
 use Rattle.cycle_names.specs.CycleNames.{name_of}
 use Rattle.arch_trait.specs.{Threads.Puts, Writing.Writing}
 use Rattle.litmus_text.specs.declared.limits.TheConstants.{MAX_TEST_TEXT}

@@ -1,9 +1,8 @@
 -- The cycles that are made from the cycle of a family: an edge is picked for each link.
 -- Source: own.
 use Rattle.std.specs.{Prelude.{◌≡◌, ⊤, Bool, true, not, ◌&&◌, MatchBool, List, [], ◌∷◌, None}, List.IsAmong}
-use Rattle.relax_edges.specs.{declared.kinds.ArchName.ArchName, declared.kinds.Dir.Dir, declared.kinds.Mark.TheVariants.Plain}
-use Rattle.relax_edges.specs.{declared.kinds.ObsMode.TheVariants.Accept, declared.edge.Edge.Edge}
-use Rattle.relax_edges.specs.EdgeTable.{source_of, target_of, source_mark, target_mark, is_of_arch, same_dir, same_mark, is_external, is_diff}
+use Rattle.relax_edges.specs.{declared.{kinds.{ArchName.ArchName, Dir.Dir, Mark.TheVariants.Plain, ObsMode.TheVariants.Accept}, edge.Edge.Edge}, EdgeTable.{source_of, target_of, source_mark, target_mark, is_of_arch, same_dir, same_mark, is_external}}
+use Rattle.relax_edges.specs.EdgeTable.{is_diff}
 use Rattle.cycle_names.specs.{declared.family.Family.Family, Families.{all_families, family_edges}}
 use Rattle.arch_trait.specs.Threads.{Puts}
 use Rattle.test_maker.specs.Refusals.{refusal_of}

@@ -1,8 +1,7 @@
 -- How the cycle of a test is made from the cycle of its family: a draw picks the edge for each link.
 -- Source: own.
 use Rattle.std.specs.{Prelude.{ℕ, ◌≡◌, ◌%◌, if◌then◌else◌, List, [], ◌∷◌, length, filter, slice_index_or}, List.IsAmong}
-use Rattle.relax_edges.specs.{declared.kinds.ArchName.ArchName, declared.kinds.Dir.Dir, declared.edge.Edge.Edge, EdgeTable.{source_of, target_of, is_external}}
-use Rattle.relax_edges.specs.AllEdges.{edges_in_order}
+use Rattle.relax_edges.specs.{declared.{kinds.{ArchName.ArchName, Dir.Dir}, edge.Edge.Edge}, EdgeTable.{source_of, target_of, is_external}, AllEdges.edges_in_order}
 use Rattle.cycle_names.specs.{declared.family.Family.Family, Families.{all_families, family_edges}}
 use Rattle.demo_tests.specs.{Filled.is_choice, Draws.{drawn, next_seed}}
 

@@ -1,7 +1,7 @@
 -- The tests of the demonstration by their numbers, and what is counted in them.
 -- Source: own.
 use Rattle.std.specs.{Prelude.{ℕ, zero, suc, ◌%◌, ◌==◌, List, length, map, filter, slice_index_or}, List.sum_by}
-use Rattle.relax_edges.specs.{declared.kinds.ArchName.ArchName, declared.kinds.ObsMode.TheVariants.Accept, declared.edge.Edge.Edge}
+use Rattle.relax_edges.specs.declared.{kinds.{ArchName.ArchName, ObsMode.TheVariants.Accept}, edge.Edge.Edge}
 use Rattle.cycle_names.specs.{declared.family.Family.TheVariants.Other, Families.{all_families, family_edges}, CycleNames.name_of}
 use Rattle.list_laws.specs.Numbers.{upto}
 use Rattle.arch_trait.specs.{Threads.Puts, Writing.Writing}

@@ -1,6 +1,5 @@
 -- What bytes that were consumed of a text say of it.
-use Rattle.std.proofs.Common.{◌≡◌, ℕ, List, [], ◌++◌, Option, Some, None, refl, sym, append-nil}
-use Rattle.std.specs.{Prelude.IfSome, Io.KnownBytes.Consumes}
+use Rattle.std.{proofs.Common.{◌≡◌, ℕ, List, [], ◌++◌, Option, Some, None, refl, sym, append-nil}, specs.{Prelude.IfSome, Io.KnownBytes.Consumes}}
 
 -- bytes are the first of a text, where it is shown
 pub record PrefixOf (shown : Option (List ℕ)) (bytes : List ℕ) : Type 0 where

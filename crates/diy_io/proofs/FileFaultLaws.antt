@@ -1,6 +1,5 @@
 -- What holds of a fault.
-use Rattle.std.proofs.{Common.{◌≡◌, sym, ap, ◌∙◌, subst}, lemmas.Result.err_from_is_err_and}
-use Rattle.std.specs.Prelude.{Result, Err, IsErrAnd}
+use Rattle.std.{proofs.{Common.{◌≡◌, sym, ap, ◌∙◌, subst}, lemmas.Result.err_from_is_err_and}, specs.Prelude.{Result, Err, IsErrAnd}}
 
 -- what holds of a fault holds of an answer that is that fault
 pub is_fault : {X E : Type 0} (P : Result X E → Type 0) (answer : Result X E) (fault : E) → IsErrAnd answer (λ e. e ≡ fault) → P (Err fault) → P answer

@@ -1,6 +1,5 @@
 -- Files that words name, and what stays true of them where no file changed.
-use Rattle.std.proofs.{Common.{◌≡◌, ℕ, List, [], Some, None, sym, subst}, lemmas.Option.get_or_from_slice_get}
-use Rattle.std.specs.Prelude.{IfSome, MatchOption, slice_get}
+use Rattle.std.{proofs.{Common.{◌≡◌, ℕ, List, [], Some, None, sym, subst}, lemmas.Option.get_or_from_slice_get}, specs.Prelude.{IfSome, MatchOption, slice_get}}
 use Rattle.diy_io.specs.{Count.Rose, Shelf.ShelfSeen, Opened.{IsFile, name_at}}
 
 -- the word that is found at a place

@@ -1,6 +1,5 @@
 -- Files of a shelf that are opened one after another.
-use Rattle.std.proofs.Common.{◌≡◌, ◌≤◌, ◌<◌, ◌+◌, ℕ, suc, All, List, [], ◌∷◌, ◌++◌, length, refl, sym, ap, ◌∙◌, subst, arith, Some, None, length-append}
-use Rattle.std.specs.{Prelude.{Option, IfSome, IsSome}, Option.option_and_then}
+use Rattle.std.{proofs.Common.{◌≡◌, ◌≤◌, ◌<◌, ◌+◌, ℕ, suc, All, List, [], ◌∷◌, ◌++◌, length, refl, sym, ap, ◌∙◌, subst, arith, Some, None, length-append}, specs.{Prelude.{Option, IfSome, IsSome}, Option.option_and_then}}
 use Rattle.diy_io.specs.{Count.{count_of, last_count, next_count}, Opened.{IsFile, TookFiles, last_taken}, Shelf.{Files, ShelfSeen, left_to_read, Opened}}
 
 one_text : (shown : Option (List ℕ)) (bytes : List ℕ) → IsSome shown → IfSome shown (λ whole. whole ≡ bytes) → shown ≡ Some bytes

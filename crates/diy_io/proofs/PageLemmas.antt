@@ -1,12 +1,9 @@
 -- What a page holds after a text is added to it.
-use Rattle.std.proofs.Common.{◌≡◌, ◌≤◌, ◌<◌, ℕ, ◌+◌, ◌-◌, List, Bor, [], ◌++◌, length, take, drop, get_or, min, Ok, Err, sym, ap, ◌∙◌, subst, arith, append-nil}
-use Rattle.std.proofs.{lemmas.Bool.cases_lt, lemmas.List.{take_all, take-take, length-take-le}}
-use Rattle.std.specs.{Prelude.{Result}, Result.IsErrAnd}
+use Rattle.std.{proofs.{Common.{◌≡◌, ◌≤◌, ◌<◌, ℕ, ◌+◌, ◌-◌, List, Bor, [], ◌++◌, length, take, drop, get_or, min, Ok, Err, sym, ap, ◌∙◌, subst, arith, append-nil}, lemmas.{Bool.cases_lt, List.{take_all, take-take, length-take-le}}}, specs.Prelude.Result}
+use Rattle.std.specs.Result.{IsErrAnd}
 use Rattle.list_laws.proofs.Parts.{take-append-add}
-use Rattle.diy_io.specs.{declared.errors.Failed.Failed, declared.page.TheConstants.PAGE_ROOM, Page.{put_within, page_after, SentAll, Sends}}
-use Rattle.diy_io.specs.{PageLaws.{page_fits, sent_put, sent_both, sent_part, sent_part_more, sends_then, sends_same}, Pieces.joined_text}
-use Rattle.diy_io.specs.Wrote.{SinkSeen, WroteAll, WrotePart}
-use Rattle.diy_io.proofs.{PiecesLemmas.{joined_text_more, joined_text_at}, RoomLaws.{took_all, took_prefix}}
+use Rattle.diy_io.specs.{declared.{errors.Failed.Failed, page.TheConstants.PAGE_ROOM}, Page.{put_within, page_after, SentAll, Sends}, PageLaws.{page_fits, sent_put, sent_both, sent_part, sent_part_more, sends_then, sends_same}, Pieces.joined_text}
+use Rattle.diy_io.{specs.Wrote.{SinkSeen, WroteAll, WrotePart}, proofs.{PiecesLemmas.{joined_text_more, joined_text_at}, RoomLaws.{took_all, took_prefix}}}
 
 abbrev Answer : Type 0
 Answer = Result (Unit {0}) Failed

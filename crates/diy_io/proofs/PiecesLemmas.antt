@@ -1,6 +1,5 @@
 -- Pieces joined up to a place and from it on.
-use Rattle.std.proofs.Common.{◌≡◌, ℕ, ◌+◌, ◌<◌, List, Bor, [], ◌∷◌, ◌++◌, length, take, drop, get_or, fold, sym, ◌∙◌, append_assoc, append-nil, arith}
-use Rattle.std.proofs.lemmas.{List.take-append-drop, List.Sums.fold-append, List.Sums.fold_more}
+use Rattle.std.proofs.{Common.{◌≡◌, ℕ, ◌+◌, ◌<◌, List, Bor, [], ◌∷◌, ◌++◌, length, take, drop, get_or, fold, sym, ◌∙◌, append_assoc, append-nil, arith}, lemmas.List.{take-append-drop, Sums.{fold-append, fold_more}}}
 use Rattle.diy_io.specs.Pieces.{joined_text}
 
 abbrev Piece : Type 0

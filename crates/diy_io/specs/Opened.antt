@@ -1,7 +1,7 @@
 -- Files of a shelf that are opened one after another, as far as the shelf shows and counts them.
 -- Source: own.
 use Rattle.std.specs.Prelude.{◌≡◌, ◌⊎◌, ◌+◌, ℕ, List, [], ◌∷◌, length, slice_index_or, Option, Some, None, IfSome, MatchOption}
-use Rattle.diy_io.specs.{Count.Rose, Count.count_of, Shelf.Files, Shelf.ShelfSeen}
+use Rattle.diy_io.specs.{Count.{Rose, count_of}, Shelf.{Files, ShelfSeen}}
 
 -- the argument at a position, which names a file
 abbrev pub name_at : List (List ℕ) → ℕ → List ℕ

@@ -1,7 +1,7 @@
 -- A page in memory, and what it means that a text goes to a sink by way of it.
 -- Source: own.
 use Rattle.std.specs.Prelude.{◌≡◌, ℕ, List, [], ◌∷◌, ◌++◌, take, Result, OnOk, OnErr}
-use Rattle.diy_io.specs.{declared.errors.Failed.Failed, declared.page.TheConstants.PAGE_ROOM, Wrote.{SinkSeen, WroteAll, WrotePart}}
+use Rattle.diy_io.specs.{declared.{errors.Failed.Failed, page.TheConstants.PAGE_ROOM}, Wrote.{SinkSeen, WroteAll, WrotePart}}
 
 -- bytes and then a text, cut off after this many bytes in all
 unfoldable pub put_within : ℕ → List ℕ → List ℕ → List ℕ

@@ -1,10 +1,8 @@
 -- Laws of pages, for functions that print to one and send its text to a sink.
-use Rattle.std.proofs.Common.{◌≡◌, ◌≤◌, ◌<◌, ℕ, ◌+◌, List, [], ◌∷◌, ◌++◌, length, take, drop, get_or, zero, suc, Ok, Err, refl, sym, ap, ◌∙◌, subst, arith, append_assoc, append-nil, length-append}
-use Rattle.std.proofs.lemmas.List.{take_all}
-use Rattle.std.specs.{Prelude.Result, Result.IsErrAnd, List.flat_map}
-use Rattle.diy_io.specs.{declared.errors.Failed.Failed, declared.page.TheConstants.{SPILL, LINE_ROOM, PAGE_ROOM}, Wrote.{SinkSeen, WroteAll, WrotePart, Wrote}}
-use Rattle.diy_io.specs.{WroteLaws.{nothing_wrote, all_then_all, all_then_part, part_more}, SinkLaws.{flat_map_more, flat_map_at}}
-use Rattle.diy_io.specs.Page.{put_within, page_after, SentAll, Sends}
+use Rattle.std.{proofs.{Common.{◌≡◌, ◌≤◌, ◌<◌, ℕ, ◌+◌, List, [], ◌∷◌, ◌++◌, length, take, drop, get_or, zero, suc, Ok, Err, refl, sym, ap, ◌∙◌, subst, arith, append_assoc, append-nil, length-append}, lemmas.List.take_all}, specs.Prelude.Result}
+use Rattle.std.specs.{Result.IsErrAnd, List.flat_map}
+use Rattle.diy_io.specs.{declared.{errors.Failed.Failed, page.TheConstants.{SPILL, LINE_ROOM, PAGE_ROOM}}, Wrote.{SinkSeen, WroteAll, WrotePart, Wrote}, WroteLaws.{nothing_wrote, all_then_all, all_then_part, part_more}, SinkLaws.flat_map_more}
+use Rattle.diy_io.specs.{SinkLaws.flat_map_at, Page.{put_within, page_after, SentAll, Sends}}
 
 abbrev Answer : Type 0
 Answer = Result (Unit {0}) Failed

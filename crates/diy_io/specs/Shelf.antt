@@ -1,6 +1,5 @@
 -- Files by their names, what a shelf shows of them, and how its calls change that.
-use Rattle.std.specs.Prelude.{◌≡◌, ◌≤◌, ◌<◌, ◌⊎◌, ℕ, ◌+◌, List, [], ◌++◌, length, Option, Some, None, IfSome, IsSome, MatchOption, unwrap_or, option_and_then, if◌then◌else◌}
-use Rattle.std.specs.{Option.option_map, Str.bytes_eq, Io.KnownBytes.Consumes, Io.KnownBytes.IsAtEnd}
+use Rattle.std.specs.{Prelude.{◌≡◌, ◌≤◌, ◌<◌, ◌⊎◌, ℕ, ◌+◌, List, [], ◌++◌, length, Option, Some, None, IfSome, IsSome, MatchOption, unwrap_or, option_and_then, if◌then◌else◌}, Option.option_map, Str.bytes_eq, Io.KnownBytes.{Consumes, IsAtEnd}}
 use Rattle.diy_io.specs.Count.{count_of, next_count, ends_after, Rose}
 
 -- the bytes of each file that exists, by its name

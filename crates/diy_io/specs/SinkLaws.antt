@@ -1,9 +1,7 @@
 -- Laws of growth, for functions that write to a sink more than once.
-use Rattle.std.proofs.Common.{◌≡◌, ℕ, ◌+◌, List, [], ◌∷◌, ◌++◌, length, cond, None, Some, refl, sym, ap, ◌∙◌, arith, append_assoc, append-nil, length-append, subst, take, drop, get_or, ◌<◌}
-use Rattle.std.proofs.{lemmas.List.{take_more, take-append-drop}, lemmas.List.Concat.flat_map-append, lemmas.List.Sums.sum_by-append}
-use Rattle.std.specs.{Prelude.{Option, Result, Ok, Err, OnErr, ◌==◌}, Option.option_map, List.flat_map}
-use Rattle.diy_io.specs.Count.{count_of}
-use Rattle.diy_io.specs.Sink.{Tally, Shown, line_feed_count, tally_of, tally_kept, tally_after, shown_kept, shown_after, Grew, EndsWithin, GrewByPrefix, shown_bytes, shown_tally, shown_nothing}
+use Rattle.std.proofs.{Common.{◌≡◌, ℕ, ◌+◌, List, [], ◌∷◌, ◌++◌, length, cond, None, Some, refl, sym, ap, ◌∙◌, arith, append_assoc, append-nil, length-append, subst, take, drop, get_or, ◌<◌}, lemmas.List.{take_more, take-append-drop}}
+use Rattle.std.{proofs.lemmas.List.{Concat.flat_map-append, Sums.sum_by-append}, specs.{Prelude.{Option, Result, Ok, Err, OnErr, ◌==◌}, Option.option_map, List.flat_map}}
+use Rattle.diy_io.specs.{Count.count_of, Sink.{Tally, Shown, line_feed_count, tally_of, tally_kept, tally_after, shown_kept, shown_after, Grew, EndsWithin, GrewByPrefix, shown_bytes, shown_tally, shown_nothing}}
 
 line_feed_count-append : (xs ys : List ℕ) → line_feed_count (xs ++ ys) ≡ line_feed_count xs + line_feed_count ys
 line_feed_count-append xs ys = sum_by-append (λ byte. cond (byte == 10) 1 0) xs ys

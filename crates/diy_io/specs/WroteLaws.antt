@@ -1,8 +1,6 @@
 -- Laws of writing one text after another, for functions that write to a sink more than once.
-use Rattle.std.proofs.Common.{◌≡◌, ◌≤◌, ℕ, List, [], ◌++◌, Ok, refl, ◌∙◌, subst}
-use Rattle.std.specs.Prelude.{Result}
-use Rattle.diy_io.specs.{declared.errors.Failed.Failed, Count.Rose, Sink.shown_kept, SinkLaws.{grew_nothing, grew_both, prefix_after, within_more}}
-use Rattle.diy_io.specs.Wrote.{SinkSeen, WroteAll, WrotePart, Wrote}
+use Rattle.std.{proofs.Common.{◌≡◌, ◌≤◌, ℕ, List, [], ◌++◌, Ok, refl, ◌∙◌, subst}, specs.Prelude.Result}
+use Rattle.diy_io.specs.{declared.errors.Failed.Failed, Count.Rose, Sink.shown_kept, SinkLaws.{grew_nothing, grew_both, prefix_after, within_more}, Wrote.{SinkSeen, WroteAll, WrotePart, Wrote}}
 
 abbrev Answer : Type 0
 Answer = Result (Unit {0}) Failed

@@ -1,61 +1,32 @@
 -- The cause of a status, and which tools may want memory, from what is answered.
-use Rattle.std.proofs.Common.{◌≡◌, ◌<◌, ◌+◌, ◌^◌, ℕ, Bool, true, false, List, [], ◌∷◌, length, Option, Some, None, Ok, Err, refl, sym, ap, subst, arith, inl, inr, ◌∙◌}
-use Rattle.std.specs.Prelude.{Result, ◌⊎◌}
-use Rattle.relax_edges.specs.{declared.edge.Edge.Edge, declared.kinds.ArchName.ArchName}
+use Rattle.std.{proofs.Common.{◌≡◌, ◌<◌, ◌+◌, ◌^◌, ℕ, Bool, true, false, List, [], ◌∷◌, length, Option, Some, None, Ok, Err, refl, sym, ap, subst, arith, inl, inr, ◌∙◌}, specs.{Prelude.{Result, ◌⊎◌}, declared.{vec.Vec.Vec, alloc.Global.Global}}}
+use Rattle.diy_tools.proofs.Vocabulary.{Edge, ArchName, NormError, ClassifyError, LinesError, LineForm, Edges, Names, Classifies, Norms, NormedAll, NormedPart, NormedUpTo, name_line, FilesEnd, FileFailed, CheckEnd, Rose, count_of, ShelfSeen, SourceSeen}
+use Rattle.diy_tools.proofs.Vocabulary.{SinkSeen, WroteAll, WrotePart, name_at, AsksWhy, AsksCoherence, CoherenceTask, AsksName, AsksList, AsksFamilies, AsksSum, AsksCross, AsksDemo, AsksCheck, AsksExecution, AsksCoherenceExecution, AsksNeeds, AsksLines}
+use Rattle.diy_tools.proofs.Vocabulary.{AsksLineTests, AsksStates, LineTestsTask, OfEdges, OfName, OfLines, OfNames, CrossTask, ListingEnd, StopsAtTest, StopsAtAll, IsPlanned, planned_text, Execution, TestRead, intended_by, incoherent_by, LineTestsEnd}
+use Rattle.diy_tools.{proofs.{Vocabulary.{Refusal, StatesEnd, AfterTest, SkippedBlock}, StatesCounts.rose_after, CountedLogs.{input_far, long_taken, stopped_opened, stopped_far}, LineTestAnswers.lined_failed}, specs.Devices.{OutAlone, InputAndOut}}
+use Rattle.diy_tools.specs.{Devices.{Devices, DevicesSeen, devices}, ExecutionAnswers.{PrintsRun, AnswersRun}, NeedsAnswers.needs_asked, ListAnswers.{AnswersListed, EndsAsked, plan_asked}, ArchMachines.{Machine, machine_of}, Memory.MayWantMemory}
+use Rattle.diy_tools.specs.{Memory.NeverWantsMemory, Refused.refused_list, Statuses.{norm_status, classify_status, listing_status}, PrintAnswers.{AnswersEdges, Prints}, TestAnswers.{asked_text, test_name, test_refused}, WhyAnswers.AnswersRuns}
+use Rattle.diy_tools.specs.{WhyAnswers.{WritesRuns, why_unshown}, CoherenceAnswers.{coherence_refused, incoherent_text}, NameAnswers.{AnswersName, AnswersSought}, FamilyAnswers.{AnswersClassify, EndsFamilies, files_status}, CrossAnswers.AnswersCross}
+use Rattle.diy_tools.specs.{CrossAnswers.EndsCrossed, DemoAnswers.demo_asked, CheckAnswers.{EndsCheck, check_status}, SumAnswers.{EndsAmong, EndsInput, EndsSum, SumEnd, first_log, name_logs, sum_status, written_status}, Answers.{Answers, AnswersAsked}}
+use Rattle.diy_tools.specs.{Causes.{Causes, CausesAsked, Finishes, LinesStop, OutStops, RoseFar}, LineTestAnswers.{EndsLined, line_tests_status, making_asked}, StatesAnswers.{EndsJudged, EndsJudgedAmong, EndsJudgedInput, judge_logs, states_status}}
 use Rattle.cycles_from_lines.specs.declared.errors.LinesError.TheVariants as lines
-use Rattle.cycles_from_lines.specs.{declared.errors.NormError.NormError, declared.errors.ClassifyError.ClassifyError, Classified.Classifies}
-use Rattle.cycles_from_lines.specs.{declared.errors.LinesError.LinesError, Normed.{Norms, NormedAll, NormedPart, NormedUpTo, name_line}}
-use Rattle.cycles_from_lines.specs.declared.line.{LineForm.LineForm, LineForm.TheVariants.{Edges, Names}}
 use Rattle.cycles_from_lines.specs.declared.errors.NormError.TheVariants as norms
 use Rattle.cycles_from_lines.specs.declared.errors.ClassifyError.TheVariants as classifies
-use Rattle.tests_from_files.specs.declared.classified_errors.FilesEnd.{FilesEnd}
 use Rattle.tests_from_files.specs.declared.classified_errors.FilesEnd.TheVariants as classing
 use Rattle.tests_from_files.specs.declared.classified_errors.FileKind.TheVariants as kinds
-use Rattle.exec_check.specs.declared.checked_errors.CheckEnd.{CheckEnd}
 use Rattle.exec_check.specs.declared.checked_errors.CheckEnd.TheVariants as checking
 use Rattle.exec_check.specs.declared.checked_errors.CheckedKind.TheVariants as checked
-use Rattle.diy_io.specs.{Count.{Rose, count_of}, Shelf.ShelfSeen, Taken.SourceSeen, Wrote.{SinkSeen, WroteAll, WrotePart}}
-use Rattle.diy_words.specs.{declared.usage.Usage.Usage, declared.usage.UsageKind.TheVariants.UnknownName, declared.request.Demo.Demo}
-use Rattle.diy_words.specs.declared.request.Check.{Check}
-use Rattle.diy_words.specs.declared.request.ExecutionForm.{ExecutionForm}
-use Rattle.diy_words.specs.Requests.{Task, TestTask, WhyTask, ListTask, Sought, asked_of, AsksTest, AsksWhy, AsksCoherence, CoherenceTask, AsksName, AsksList, AsksFamilies, AsksSum, AsksCross, AsksDemo, AsksCheck, AsksExecution, AsksCoherenceExecution, AsksNeeds, AsksLines, AsksLineTests, AsksStates, LineTestsTask, OfEdges, OfName, OfLines, OfNames, CrossTask}
-use Rattle.tests_to_files.specs.{declared.ending.ListingEnd.ListingEnd, ListingEnds.{StopsAtTest, StopsAtAll}, Plans.{IsPlanned, planned_text}}
+use Rattle.diy_words.specs.{declared.{usage.{Usage.Usage, UsageKind.TheVariants.UnknownName}, request.{Demo.Demo, Check.Check, ExecutionForm.ExecutionForm, States.States}}, Requests.{Task, TestTask, WhyTask, ListTask, Sought, asked_of, AsksTest}}
 use Rattle.tests_to_files.specs.declared.ending.ListingEnd.TheVariants as listings
-use Rattle.msum7_files.specs.declared.{sum_form.SumForm.SumForm, wrong_blocks.WrongBlocks.WrongBlocks, wrong_blocks.WrongBlocks.TheVariants.End}
-use Rattle.msum7_files.specs.declared.faults.SumFault.TheVariants.{Unread, Out as OutFault}
+use Rattle.msum7_files.specs.{declared.{sum_form.SumForm.SumForm, wrong_blocks.WrongBlocks.{WrongBlocks, TheVariants.End}, faults.SumFault.TheVariants.{Unread, Out as OutFault}}, LogsRead.SumShelfFailed}
 use Rattle.msum7_files.specs.declared.faults.LogsFault.TheVariants as sums
-use Rattle.program_meaning.specs.Executions.{Execution}
-use Rattle.litmus_text.specs.TestReading.{TestRead}
-use Rattle.two_runs.specs.{IntendedRuns.intended_by, CoherenceRuns.incoherent_by}
-use Rattle.diy_tools.specs.{Devices.{OutAlone, InputAndOut, Devices, DevicesSeen, devices}, ExecutionAnswers.{PrintsRun, AnswersRun}, NeedsAnswers.needs_asked}
-use Rattle.diy_tools.specs.{ListAnswers.{AnswersListed, EndsAsked, plan_asked}, ArchMachines.{Machine, machine_of}, Memory.{MayWantMemory, NeverWantsMemory}}
-use Rattle.run_status.specs.{declared.status.Status.Status, declared.status.Device.TheVariants.{Input, Out, Shelf}}
-use Rattle.diy_tools.specs.{Refused.refused_list}
-use Rattle.diy_tools.specs.{Statuses.{norm_status, classify_status, listing_status}, PrintAnswers.{AnswersEdges, Prints}}
-use Rattle.diy_tools.specs.{TestAnswers.{asked_text, test_name, test_refused}, WhyAnswers.{AnswersRuns, WritesRuns, why_unshown}}
-use Rattle.diy_tools.specs.{CoherenceAnswers.{coherence_refused, incoherent_text}, NameAnswers.{AnswersName, AnswersSought}}
-use Rattle.diy_tools.specs.{FamilyAnswers.{AnswersClassify, EndsFamilies, files_status}, CrossAnswers.{AnswersCross, EndsCrossed}, DemoAnswers.demo_asked}
-use Rattle.diy_tools.specs.{CheckAnswers.{EndsCheck, check_status}, SumAnswers.{EndsAmong, EndsInput, EndsSum, SumEnd, first_log, name_logs, sum_status, written_status}, Answers.{Answers, AnswersAsked}}
-use Rattle.diy_tools.specs.{Causes.{Causes, CausesAsked, Finishes, LinesStop, OutStops, RoseFar}, LineTestAnswers.{EndsLined, line_tests_status, making_asked}}
-use Rattle.lines_to_files.specs.declared.ending.LineTestsEnd.{LineTestsEnd}
+use Rattle.run_status.specs.declared.status.{Status.Status, Device.TheVariants.{Input, Out, Shelf}}
 use Rattle.lines_to_files.specs.declared.ending.LineTestsEnd.TheVariants as tests
 use Rattle.lines_to_files.specs.declared.form.WrongTest.TheVariants as wrongs
-use Rattle.test_maker.specs.declared.refusal.Refusal.{Refusal}
-use Rattle.diy_words.specs.declared.request.States.{States}
-use Rattle.states_of_logs.specs.declared.states_end.StatesEnd.{StatesEnd}
 use Rattle.states_of_logs.specs.declared.states_end.StatesEnd.TheVariants as judging
 use Rattle.states_of_logs.specs.declared.states_end.StatesKind.TheVariants as judged
-use Rattle.log_sum.specs.declared.skipping.SkippedBlock.{SkippedBlock}
-use Rattle.std.specs.{declared.vec.Vec.Vec, declared.alloc.Global.Global}
-use Rattle.msum7_files.specs.LogsRead.{SumShelfFailed}
-use Rattle.tests_from_files.specs.FilesRead.{FileFailed}
-use Rattle.states_of_logs.specs.StatesEnds.{AfterTest}
-use Rattle.diy_io.specs.Opened.{name_at}
-use Rattle.diy_tools.specs.StatesAnswers.{EndsJudged, EndsJudgedAmong, EndsJudgedInput, judge_logs, states_status}
-use Rattle.diy_tools.proofs.StatesCounts.{rose_after}
 use Rattle.run_status.specs.declared.status.Status.TheVariants as statuses
 use Rattle.run_status.specs.declared.status.TextKind.TheVariants as texts
-use Rattle.diy_tools.proofs.{CountedLogs.{input_far, long_taken, stopped_opened, stopped_far}, LineTestAnswers.lined_failed}
 
 -- devices that are the same one by one are the same
 same_devices : (old new : Devices) → new.input ≡ old.input → new.out ≡ old.out → new.shelf ≡ old.shelf → new ≡ old

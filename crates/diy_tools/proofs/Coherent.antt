@@ -1,18 +1,9 @@
 -- What is answered of a request for a coherence test.
-use Rattle.std.proofs.Common.{◌≡◌, ℕ, List, Option, refl, sym, subst, Ok}
-use Rattle.std.specs.Prelude.{Result}
-use Rattle.relax_edges.specs.declared.kinds.ArchName.{ArchName}
-use Rattle.edges_from_text.specs.{declared.list.EdgeList.EdgeList, KeptEdges.kept_edges}
-use Rattle.diy_io.specs.{Shelf.ShelfSeen, Taken.SourceSeen, Wrote.SinkSeen}
-use Rattle.diy_words.specs.{declared.request.Coherence.Coherence, declared.usage.Usage.Usage, Given.GivesTask}
-use Rattle.diy_words.specs.Requests.{Task, CoherenceTask, AsksCoherence, asked_of}
+use Rattle.std.{proofs.Common.{◌≡◌, ℕ, List, Option, refl, sym, subst, Ok}, specs.Prelude.Result}
+use Rattle.diy_tools.proofs.{Vocabulary.{ArchName, EdgeList, kept_edges, ShelfSeen, SourceSeen, SinkSeen, Coherence, Usage, GivesTask, Task, CoherenceTask, AsksCoherence, asked_of, coherence_refusal_of, coherence_text, Status}, RunAnswers.edges_answered}
+use Rattle.diy_tools.{proofs.RunAnswers.kept_so, specs.{Answers.{Answers, AnswersAsked}, ArchMachines.machine_of, CoherenceAnswers.AnswersCoherence, Devices.devices, PrintAnswers.AnswersEdges, TestAnswers.test_name, KeptRequests.AnswersIncoherence}}
+use Rattle.diy_tools.specs.KeptRequests.{edges_kept, name_kept, refused_incoherent}
 use Rattle.diy_words.specs.declared.request.Request.TheVariants as requests
-use Rattle.co_tests.specs.CoRefusals.{coherence_refusal_of, coherence_text}
-use Rattle.run_status.specs.{declared.status.Status.Status}
-use Rattle.diy_tools.specs.{Answers.{Answers, AnswersAsked}, ArchMachines.machine_of, CoherenceAnswers.AnswersCoherence}
-use Rattle.diy_tools.specs.{Devices.devices, PrintAnswers.AnswersEdges, TestAnswers.test_name}
-use Rattle.diy_tools.specs.KeptRequests.{AnswersIncoherence, edges_kept, name_kept, refused_incoherent}
-use Rattle.diy_tools.proofs.RunAnswers.{edges_answered, kept_so}
 
 -- what is answered on an architecture is answered on the one with its name
 pub incoherent_on : (arch a : ArchName) (request : Coherence) (status : Status) (old new : SinkSeen) → arch ≡ a

@@ -1,62 +1,32 @@
 -- That what can be done is done, from what is answered.
-use Rattle.std.proofs.Common.{◌≡◌, ◌≤◌, ◌<◌, ◌+◌, ◌^◌, ◌++◌, ℕ, suc, Bool, true, false, List, [], ◌∷◌, length, get_or, Option, Some, None, Ok, Err, refl, sym, ap, subst, arith, inl, inr, ◌∙◌, length-append}
-use Rattle.std.proofs.{lemmas.Bool.and_parts, lemmas.Option.{slice_get-get_or, slice_get_within, get_or_from_slice_get, same_Some}}
-use Rattle.std.specs.{Prelude.{Result, ◌⊎◌, MatchOption, map, slice_get, slice_index_or, unwrap_or, is_ok}, List.list_all, Result.result_err}
-use Rattle.std.specs.Io.KnownBytes.{Consumes, Keeps}
-use Rattle.relax_edges.specs.{declared.edge.Edge.Edge, declared.kinds.ArchName.ArchName}
-use Rattle.cycles_from_lines.specs.declared.line.{LineForm.LineForm, LineForm.TheVariants.{Edges, Names}}
-use Rattle.cycles_from_lines.specs.{declared.errors.LineKind.LineKind, declared.errors.LinesError.LinesError, declared.errors.NormError.NormError}
-use Rattle.cycles_from_lines.specs.{declared.errors.ClassifyError.ClassifyError, Classified.Classifies, Cycles.{is_sound, line_said}, Normed.{Norms, name_line}}
-use Rattle.cycles_from_lines.specs.LineReading.{ReadUpTo, ReadToFault, ReadToLimit, TookUpTo, whole_of}
+use Rattle.std.proofs.{Common.{◌≡◌, ◌≤◌, ◌<◌, ◌+◌, ◌^◌, ◌++◌, ℕ, suc, Bool, true, false, List, [], ◌∷◌, length, get_or, Option, Some, None, Ok, Err, refl, sym, ap, subst, arith, inl, inr, ◌∙◌, length-append}, lemmas.Bool.and_parts}
+use Rattle.std.{proofs.lemmas.Option.{slice_get-get_or, slice_get_within, get_or_from_slice_get, same_Some}, specs.{Prelude.{Result, ◌⊎◌, MatchOption, map, slice_get, slice_index_or, unwrap_or, is_ok}, List.list_all, Result.result_err}}
+use Rattle.diy_tools.proofs.Vocabulary.{Consumes, Keeps, Edge, ArchName, LineForm, Edges, Names, LineKind, LinesError, NormError, ClassifyError, Classifies, is_sound, line_said, Norms, name_line, ReadUpTo, ReadToFault, ReadToLimit, TookUpTo, whole_of}
+use Rattle.diy_tools.proofs.Vocabulary.{FileError, FilesEnd, TestFileError, AreNamed, FileWrong, FilesClassified, IsAtPlace, SayCycles, said_on, FileFailed, FileIs, test_said, name_at, IsFile, Rose, Files, ShelfSeen, SourceSeen, SinkSeen, MAX_INPUT}
+use Rattle.diy_tools.proofs.Vocabulary.{CheckEnd, AreTestAndExecution, FilesChecked, right_files_done, AsksFamilies, AsksSum, AsksCross, AsksDemo, AsksCheck, AsksExecution, AsksCoherenceExecution, AsksNeeds, AsksLines, AsksLineTests, AsksStates}
+use Rattle.diy_tools.proofs.Vocabulary.{LineTestsTask, OfEdges, OfName, OfLines, OfNames, CrossTask, ListingEnd, LogError, SkippedBlock, logs_text, skipped_view, AreWholeLogs, EndsAnd, summed_logs, AreLogs, FileStopped, InputStopped, IsAtWord}
+use Rattle.diy_tools.proofs.Vocabulary.{LogFileMissing, SumShelfFailed, Execution, TestRead, intended_by, incoherent_by, Refusal, Making, StopsAtWrong, StopsAtLimit, LineTestsEnd, WrongTest, StatesEnd, AfterTest, FilesJudged, TestIsAbsent, TestIsWrong}
+use Rattle.diy_tools.{proofs.{Vocabulary.states_in_logs, CountedLogs.long_taken, Causes.{by_print, listing_failed, crossing_failed, of_files}, LineTestAnswers.lined_failed, RightLines.right_lines}, specs.NeedsAnswers.needs_asked}
+use Rattle.diy_tools.specs.{ExecutionAnswers.AnswersRun, ListAnswers.{AnswersListed, EndsAsked}, ArchMachines.{Machine, machine_of}, Memory.MayWantMemory, Devices.{Devices, DevicesSeen, devices}, Refused.refused_list, Statuses.norm_status}
+use Rattle.diy_tools.specs.{Statuses.{classify_status, listing_status}, PrintAnswers.{AnswersEdges, Prints}, TestAnswers.{asked_text, test_name, test_refused}, WhyAnswers.{AnswersRuns, WritesRuns, why_unshown}, CoherenceAnswers.coherence_refused}
+use Rattle.diy_tools.specs.{CoherenceAnswers.incoherent_text, FamilyAnswers.{AnswersClassify, files_status, read_on}, NameAnswers.{AnswersName, AnswersSought}, CrossAnswers.{AnswersCross, EndsCrossed}, DemoAnswers.demo_asked, CheckAnswers.check_status}
+use Rattle.diy_tools.specs.{CheckAnswers.shown_of, SumAnswers.{EndsAmong, EndsInput, SumEnd, first_log, name_logs, sum_status, written_status}, Answers.{Answers, AnswersAsked}, Complete.{Complete, CanBeDone, CanName, CanSumAmong, CanClassify}}
+use Rattle.diy_tools.specs.{Complete.{AreRightTests, IsSoundText, IsRightText, IsRightLog, AreRightLogs, OfItsText, OfItsFiles, NoFaults, IsDone, AreTestAndInput, AreTestAndLogs, CanJudgeAmong, HaveBlock, IsDoneSo, IsTestFile}, LineTestAnswers.EndsLined}
+use Rattle.diy_tools.specs.{LineTestAnswers.{line_tests_status, making_asked}, StatesAnswers.{EndsJudgedAmong, EndsJudgedInput, judge_logs, states_status}}
 use Rattle.cycles_from_lines.specs.declared.errors.LinesError.TheVariants as lines
 use Rattle.cycles_from_lines.specs.declared.errors.NormError.TheVariants as norms
 use Rattle.cycles_from_lines.specs.declared.errors.ClassifyError.TheVariants as classifies
-use Rattle.tests_from_files.specs.{declared.classified_errors.FileError.FileError, declared.classified_errors.FilesEnd.FilesEnd}
-use Rattle.tests_from_files.specs.FilesEnds.{AreNamed, FileWrong, FilesClassified, IsAtPlace, SayCycles, said_on}
 use Rattle.tests_from_files.specs.declared.classified_errors.FilesEnd.TheVariants as classing
-use Rattle.diy_io.specs.{Opened.{name_at, IsFile}, Count.Rose, Shelf.{Files, ShelfSeen}, Taken.SourceSeen, Wrote.SinkSeen}
-use Rattle.diy_io.specs.declared.source.TheConstants.{MAX_INPUT}
 use Rattle.tests_from_files.specs.FilesEnds as classed
-use Rattle.exec_check.specs.{declared.checked_errors.CheckEnd.CheckEnd, FilesChecked.{AreTestAndExecution, FilesChecked}, CheckedLaws.right_files_done}
 use Rattle.exec_check.specs.declared.checked_errors.CheckEnd.TheVariants as checking
-use Rattle.diy_words.specs.{declared.usage.Usage.Usage, declared.request.Demo.Demo, declared.request.Check.Check}
-use Rattle.diy_words.specs.declared.request.ExecutionForm.{ExecutionForm}
-use Rattle.diy_words.specs.Requests.{Task, ListTask, Sought, asked_of, AsksTest, AsksWhy, AsksCoherence, WhyTask, AsksName, AsksList, AsksFamilies, AsksSum, AsksCross, AsksDemo, AsksCheck, AsksExecution, AsksCoherenceExecution, AsksNeeds, AsksLines, AsksLineTests, AsksStates, LineTestsTask, OfEdges, OfName, OfLines, OfNames, CrossTask}
-use Rattle.tests_to_files.specs.declared.ending.ListingEnd.{ListingEnd}
+use Rattle.diy_words.specs.{declared.{usage.Usage.Usage, request.{Demo.Demo, Check.Check, ExecutionForm.ExecutionForm, States.States}}, Requests.{Task, ListTask, Sought, asked_of, AsksTest, AsksWhy, AsksCoherence, WhyTask, AsksName, AsksList}}
 use Rattle.tests_to_files.specs.declared.ending.ListingEnd.TheVariants as listings
-use Rattle.log_sum.specs.{declared.errors.LogError.LogError, Representing.logs_text}
-use Rattle.msum7_files.specs.declared.{sum_form.SumForm.SumForm, wrong_blocks.WrongBlocks.WrongBlocks, wrong_blocks.WrongBlocks.TheVariants.{End, Skip}}
-use Rattle.msum7_files.specs.Logs.{IsText, IsShort, IsTooMuch, IsWrongLog, AreRight, AreWholeLogs, EndsAnd, summed_logs}
-use Rattle.log_sum.specs.Sieving.{skipped_view}
-use Rattle.msum7_files.specs.LogsRead.{AreLogs, FileStopped, InputStopped, IsAtWord, LogFileMissing, SumShelfFailed}
-use Rattle.msum7_files.specs.declared.faults.SumFault.TheVariants.{Unread, Out as OutFault}
+use Rattle.msum7_files.specs.{declared.{sum_form.SumForm.SumForm, wrong_blocks.WrongBlocks.{WrongBlocks, TheVariants.{End, Skip}}, faults.SumFault.TheVariants.{Unread, Out as OutFault}}, Logs.{IsText, IsShort, IsTooMuch, IsWrongLog, AreRight}}
 use Rattle.msum7_files.specs.declared.faults.LogsFault.TheVariants as sums
-use Rattle.program_meaning.specs.Executions.{Execution}
-use Rattle.litmus_text.specs.TestReading.{TestRead}
-use Rattle.two_runs.specs.{IntendedRuns.intended_by, CoherenceRuns.incoherent_by}
-use Rattle.diy_tools.specs.{NeedsAnswers.needs_asked, ExecutionAnswers.AnswersRun, ListAnswers.{AnswersListed, EndsAsked}, ArchMachines.{Machine, machine_of}, Memory.MayWantMemory}
-use Rattle.run_status.specs.{declared.status.Status.Status, declared.status.Device.TheVariants.{Out, Shelf}}
-use Rattle.diy_tools.specs.{Devices.{Devices, DevicesSeen, devices}}
-use Rattle.diy_tools.specs.{Refused.refused_list, Statuses.{norm_status, classify_status, listing_status}, PrintAnswers.{AnswersEdges, Prints}}
-use Rattle.diy_tools.specs.{TestAnswers.{asked_text, test_name, test_refused}, WhyAnswers.{AnswersRuns, WritesRuns, why_unshown}}
-use Rattle.diy_tools.specs.{CoherenceAnswers.{coherence_refused, incoherent_text}, FamilyAnswers.{AnswersClassify, files_status, read_on}}
-use Rattle.diy_tools.specs.{NameAnswers.{AnswersName, AnswersSought}, CrossAnswers.{AnswersCross, EndsCrossed}, DemoAnswers.demo_asked}
-use Rattle.diy_tools.specs.{CheckAnswers.{check_status, shown_of}, SumAnswers.{EndsAmong, EndsInput, SumEnd, first_log, name_logs, sum_status, written_status}, Answers.{Answers, AnswersAsked}}
-use Rattle.diy_tools.specs.Complete.{Complete, CanBeDone, CanName, CanSumAmong, CanClassify, AreRightTests, IsSoundText, IsRightText, IsRightLog, AreRightLogs, OfItsText, OfItsFiles, NoFaults, IsDone}
-use Rattle.test_maker.specs.declared.refusal.Refusal.{Refusal}
-use Rattle.diy_tools.proofs.{CountedLogs.{long_taken}, Causes.{by_print, listing_failed, crossing_failed, of_files}, LineTestAnswers.lined_failed, RightLines.right_lines}
-use Rattle.diy_tools.specs.LineTestAnswers.{EndsLined, line_tests_status, making_asked}
-use Rattle.lines_to_files.specs.{TestFiles.Making, LineTestEnds.{StopsAtWrong, StopsAtLimit}, declared.ending.LineTestsEnd.LineTestsEnd, declared.form.WrongTest.WrongTest}
+use Rattle.run_status.specs.declared.status.{Status.Status, Device.TheVariants.{Out, Shelf}}
 use Rattle.lines_to_files.specs.declared.ending.LineTestsEnd.TheVariants as tests
-use Rattle.diy_words.specs.declared.request.States.{States}
-use Rattle.states_of_logs.specs.declared.states_end.StatesEnd.{StatesEnd}
 use Rattle.states_of_logs.specs.declared.states_end.StatesEnd.TheVariants as judging
 use Rattle.states_of_logs.specs.declared.states_end.StatesKind.TheVariants as judged
-use Rattle.states_of_logs.specs.{StatesEnds.{AfterTest, FilesJudged, TestIsAbsent, TestIsWrong}, StatesSummed.states_in_logs}
-use Rattle.tests_from_files.specs.{declared.errors.TestFileError.TestFileError, FilesRead.{FileFailed, FileIs}, TestSaid.test_said}
-use Rattle.log_sum.specs.declared.skipping.SkippedBlock.{SkippedBlock}
-use Rattle.diy_tools.specs.StatesAnswers.{EndsJudgedAmong, EndsJudgedInput, judge_logs, states_status}
-use Rattle.diy_tools.specs.Complete.{AreTestAndInput, AreTestAndLogs, CanJudgeAmong, HaveBlock, IsDoneSo, IsTestFile}
 use Rattle.run_status.specs.declared.status.Status.TheVariants as statuses
 
 -- what was taken of a source and what is left of it are a text that it can have

@@ -1,10 +1,6 @@
 -- What was opened and taken of logs, as far as it is counted.
-use Rattle.std.proofs.Common.{◌≡◌, ◌≤◌, ◌<◌, ◌+◌, ◌^◌, ℕ, List, [], ◌∷◌, ◌++◌, length, All, suc, ap, ◌∙◌, arith, inl, inr, length-append}
-use Rattle.std.specs.Prelude.{◌⊎◌}
-use Rattle.diy_io.specs.{Count.count_of, Count.Rose, Shelf.ShelfSeen, Taken.SourceSeen, Opened.TookFiles, Opened.last_taken}
-use Rattle.msum7_files.specs.{LogsRead.{FileStopped, IsBegun, SumShelfFailed}, Logs.{IsShort, IsTooMuch, TookCount}, declared.wrong_blocks.WrongBlocks.WrongBlocks}
-use Rattle.diy_io.proofs.OpenedLaws.{last_of}
-use Rattle.diy_tools.specs.Causes.{RoseFar}
+use Rattle.std.{proofs.Common.{◌≡◌, ◌≤◌, ◌<◌, ◌+◌, ◌^◌, ℕ, List, [], ◌∷◌, ◌++◌, length, All, suc, ap, ◌∙◌, arith, inl, inr, length-append}, specs.Prelude.◌⊎◌}
+use Rattle.diy_tools.{proofs.Vocabulary.{count_of, Rose, ShelfSeen, SourceSeen, TookFiles, last_taken, last_of, FileStopped, IsBegun, SumShelfFailed, IsShort, IsTooMuch, TookCount, WrongBlocks}, specs.Causes.RoseFar}
 
 -- at most 2^40 bytes were taken of the last file that was opened since
 abbrev pub IsWithin : ShelfSeen → ShelfSeen → Type 0

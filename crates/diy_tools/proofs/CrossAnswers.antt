@@ -1,16 +1,10 @@
 -- What the writing of the tests of choices leaves, as the answers see it.
-use Rattle.std.proofs.Common.{◌≡◌, ℕ, List, Option, Ok, refl, sym, ap, subst, inl, inr}
-use Rattle.std.specs.{Option.option_map, Prelude.Result}
-use Rattle.relax_edges.specs.{declared.edge.Edge.Edge, declared.kinds.ArchName.ArchName, declared.kinds.ObsMode.ObsMode}
-use Rattle.diy_io.specs.{Shelf.ShelfSeen, Wrote.SinkSeen}
-use Rattle.diy_words.specs.{declared.request.Cross.Cross, declared.usage.Usage.Usage, Given.GivesTask, Requests.{Task, AsksCross, IsCrossing, places_of}}
-use Rattle.diy_words.specs.declared.request.Request.TheVariants as requests
-use Rattle.tests_to_files.specs.{declared.ending.ListingEnd.ListingEnd, GivenCycles.EndsGiven, Plans.named_text}
-use Rattle.tests_to_files.specs.declared.ending.ListingEnd.TheVariants as ends
-use Rattle.diycross7_cycles.specs.Choices.{crossed}
-use Rattle.run_status.specs.{declared.status.Status.Status, declared.status.Status.TheVariants.NoMemory}
-use Rattle.diy_tools.specs.{CrossAnswers.AnswersChoices}
+use Rattle.std.{proofs.Common.{◌≡◌, ℕ, List, Option, Ok, refl, sym, ap, subst, inl, inr}, specs.{Option.option_map, Prelude.Result}}
+use Rattle.diy_tools.{proofs.Vocabulary.{Edge, ArchName, ObsMode, ShelfSeen, SinkSeen, Cross, Usage, GivesTask, Task, AsksCross, IsCrossing, places_of, ListingEnd, EndsGiven, named_text, crossed}, specs.CrossAnswers.AnswersChoices}
 use Rattle.diy_tools.specs.{KeptRequests.AnswersCrossing, ArchMachines.{Machine, machine_of}, Statuses.listing_status}
+use Rattle.diy_words.specs.declared.request.Request.TheVariants as requests
+use Rattle.tests_to_files.specs.declared.ending.ListingEnd.TheVariants as ends
+use Rattle.run_status.specs.declared.status.Status.{Status, TheVariants.NoMemory}
 
 -- what holds of a sink holds of what it shows
 given_seen : {Sink : Type 0} (seen : Sink → SinkSeen) (folder : Option (List ℕ)) (text : List Edge → List ℕ) (cycles : List (List Edge)) (end : ListingEnd) (old new : ShelfSeen) (out after : Sink)

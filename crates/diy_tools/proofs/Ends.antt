@@ -1,51 +1,28 @@
 -- How often ends are seen, and that no earlier error of the shelf is passed over, from what is answered.
-use Rattle.std.proofs.Common.{◌≡◌, ◌+◌, ◌∙◌, ℕ, Bool, true, false, nat_lt, List, [], ◌∷◌, ◌++◌, length, Some, None, Ok, Err, refl, sym, ap, subst, arith, inl, inr, length-append}
-use Rattle.std.specs.{Prelude.{Result, ◌⊎◌, if◌then◌else◌}, Io.KnownBytes.IsAtEnd}
-use Rattle.list_laws.proofs.Cases.{by_test}
-use Rattle.relax_edges.specs.declared.kinds.ArchName.{ArchName}
-use Rattle.litmus_text.specs.declared.limits.TheConstants.{MAX_TEST_TEXT}
-use Rattle.diy_io.specs.{Count.count_of, Opened.{EndsSeen, EndsSeenOrOneMore, TookFiles, name_at}, Shelf.{CountsStay, ShelfSeen}, Taken.{SourceSeen, EndedAtMostOnce, EndedOnce, NotEnded}}
-use Rattle.diy_io.proofs.EndLaws.{no_ends}
-use Rattle.cycles_from_lines.specs.declared.errors.{NormError.NormError, ClassifyError.ClassifyError}
-use Rattle.cycles_from_lines.specs.{Classified.Classifies, Normed.Norms, declared.line.LineForm.LineForm, declared.line.LineForm.TheVariants.{Edges, Names}}
+use Rattle.std.{proofs.Common.{◌≡◌, ◌+◌, ◌∙◌, ℕ, Bool, true, false, nat_lt, List, [], ◌∷◌, ◌++◌, length, Some, None, Ok, Err, refl, sym, ap, subst, arith, inl, inr, length-append}, specs.{Prelude.{Result, ◌⊎◌, if◌then◌else◌}, Io.KnownBytes.IsAtEnd}}
+use Rattle.diy_tools.proofs.Vocabulary.{by_test, ArchName, MAX_TEST_TEXT, TestRead, count_of, EndsSeen, EndsSeenOrOneMore, TookFiles, name_at, CountsStay, ShelfSeen, SourceSeen, EndedAtMostOnce, EndedOnce, NotEnded, no_ends, NormError, ClassifyError}
+use Rattle.diy_tools.proofs.Vocabulary.{LineForm, Edges, Names, Classifies, Norms, LineTestsEnd, FilesEnd, FileKind, TestFileError, ends_in, FileFailed, CheckEnd, CheckedKind, CheckShelfFailed, IsAbsent, IsWrongFile, TestUnread, ExecUnread, LogKind}
+use Rattle.diy_tools.proofs.Vocabulary.{SkippedBlock, SumShelfFailed, AsksCoherenceExecution, AsksNeeds, AsksLines, AsksLineTests, AsksStates, LineTestsTask, OfEdges, OfName, OfLines, OfNames, Status, TextKind, StatesEnd, StatesKind, AfterTest}
+use Rattle.diy_tools.proofs.{Vocabulary.{FilesJudged, TestAlone, TestIsAbsent, TestIsWrong}, StatesCounts.{took_both, ends_after, ends_more_after, failed_after}, Causes.answers_caused, LineTestAnswers.lined_stays, StayingCounts.same_counts}
+use Rattle.diy_tools.{proofs.StayingCounts.{listing_stays, cross_stays, why_stays}, specs.{StatesAnswers.{EndsJudged, EndsJudgedAmong, EndsJudgedInput, judge_logs, states_status}, Devices.{Devices, DevicesSeen, devices}, Statuses.norm_status}}
+use Rattle.diy_tools.specs.{Statuses.classify_status, NameAnswers.AnswersSought, LineTestAnswers.{EndsLined, line_tests_status, making_asked}, ArchMachines.machine_of, TestAnswers.test_name, WhyAnswers.why_unshown, SumAnswers.{EndsAmong, EndsInput}}
+use Rattle.diy_tools.specs.{SumAnswers.{EndsSum, SumEnd, first_log, name_logs, sum_status, written_status}, CheckAnswers.{EndsCheck, check_status}, FamilyAnswers.{AnswersClassify, EndsFamilies, files_status}, Answers.{Answers, AnswersAsked}}
+use Rattle.diy_tools.specs.{Causes.{CausesAsked, FileStops, CheckedStops, StatesStop, SumStops}, Ends.{AllEnded, EndedOnceAtMost, EndsBy, NoEarlierFault, NoneEndedTwice, OpenedSo, PassesOverNoFault, ReadsInput, SeeksInput, SeesEndsOnce}}
 use Rattle.cycles_from_lines.specs.declared.errors.LinesError.TheVariants as lines
 use Rattle.cycles_from_lines.specs.declared.errors.NormError.TheVariants as norms
 use Rattle.cycles_from_lines.specs.declared.errors.ClassifyError.TheVariants as classifies
-use Rattle.lines_to_files.specs.declared.ending.LineTestsEnd.{LineTestsEnd}
 use Rattle.lines_to_files.specs.declared.ending.LineTestsEnd.TheVariants as tests
-use Rattle.tests_from_files.specs.{declared.classified_errors.FilesEnd.FilesEnd, declared.classified_errors.FileKind.FileKind, FilesRead.ends_in}
 use Rattle.tests_from_files.specs.declared.classified_errors.FilesEnd.TheVariants as classing
 use Rattle.tests_from_files.specs.declared.classified_errors.FileKind.TheVariants as kinds
-use Rattle.exec_check.specs.{declared.checked_errors.CheckEnd.CheckEnd, declared.checked_errors.CheckedKind.CheckedKind}
-use Rattle.exec_check.specs.FilesChecked.{CheckShelfFailed, IsAbsent, IsWrongFile, TestUnread, ExecUnread}
 use Rattle.exec_check.specs.declared.checked_errors.CheckEnd.TheVariants as checking
 use Rattle.exec_check.specs.declared.checked_errors.CheckedKind.TheVariants as checked
-use Rattle.log_sum.specs.declared.errors.LogKind.{LogKind}
-use Rattle.msum7_files.specs.{declared.sum_form.SumForm.SumForm, Logs.EndsAt, SumEnds.InputSummed, LogsRead.{FileStopped, LogFileMissing, SumShelfFailed}}
-use Rattle.msum7_files.specs.declared.{wrong_blocks.WrongBlocks.WrongBlocks, wrong_blocks.WrongBlocks.TheVariants.End}
-use Rattle.msum7_files.specs.declared.faults.SumFault.TheVariants.{Unread, Out as OutFault}
+use Rattle.msum7_files.specs.{declared.{sum_form.SumForm.SumForm, wrong_blocks.WrongBlocks.{WrongBlocks, TheVariants.End}, faults.SumFault.TheVariants.{Unread, Out as OutFault}}, Logs.EndsAt, SumEnds.InputSummed, LogsRead.{FileStopped, LogFileMissing}}
 use Rattle.msum7_files.specs.declared.faults.LogsFault.TheVariants as sums
-use Rattle.diy_words.specs.{declared.usage.Usage.Usage, declared.request.Check.Check}
-use Rattle.diy_words.specs.Requests.{Task, Sought, asked_of, AsksTest, AsksWhy, AsksCoherence, AsksName, AsksList, AsksFamilies, AsksSum, AsksCross, AsksDemo, AsksCheck, AsksExecution, AsksCoherenceExecution, AsksNeeds, AsksLines, AsksLineTests, AsksStates, LineTestsTask, OfEdges, OfName, OfLines, OfNames}
-use Rattle.run_status.specs.{declared.status.Status.Status, declared.status.TextKind.TextKind}
-use Rattle.diy_words.specs.declared.request.States.{States}
-use Rattle.states_of_logs.specs.declared.states_end.{StatesEnd.StatesEnd, StatesKind.StatesKind}
+use Rattle.diy_words.specs.{declared.{usage.Usage.Usage, request.{Check.Check, States.States}}, Requests.{Task, Sought, asked_of, AsksTest, AsksWhy, AsksCoherence, AsksName, AsksList, AsksFamilies, AsksSum, AsksCross, AsksDemo, AsksCheck, AsksExecution}}
 use Rattle.states_of_logs.specs.declared.states_end.StatesEnd.TheVariants as judging
 use Rattle.states_of_logs.specs.declared.states_end.StatesKind.TheVariants as judged
-use Rattle.states_of_logs.specs.StatesEnds.{AfterTest, FilesJudged, TestAlone, TestIsAbsent, TestIsWrong}
-use Rattle.tests_from_files.specs.{declared.errors.TestFileError.TestFileError, FilesRead.FileFailed}
-use Rattle.litmus_text.specs.TestReading.{TestRead}
-use Rattle.log_sum.specs.declared.skipping.SkippedBlock.{SkippedBlock}
-use Rattle.diy_tools.specs.StatesAnswers.{EndsJudged, EndsJudgedAmong, EndsJudgedInput, judge_logs, states_status}
-use Rattle.diy_tools.proofs.StatesCounts.{took_both, ends_after, ends_more_after, failed_after}
 use Rattle.run_status.specs.declared.status.Status.TheVariants as statuses
 use Rattle.run_status.specs.declared.status.TextKind.TheVariants as texts
-use Rattle.diy_tools.specs.{Devices.{Devices, DevicesSeen, devices}, Statuses.{norm_status, classify_status}, NameAnswers.AnswersSought}
-use Rattle.diy_tools.specs.{LineTestAnswers.{EndsLined, line_tests_status, making_asked}, ArchMachines.machine_of, TestAnswers.test_name, WhyAnswers.why_unshown}
-use Rattle.diy_tools.specs.{SumAnswers.{EndsAmong, EndsInput, EndsSum, SumEnd, first_log, name_logs, sum_status, written_status}, CheckAnswers.{EndsCheck, check_status}}
-use Rattle.diy_tools.specs.{FamilyAnswers.{AnswersClassify, EndsFamilies, files_status}, Answers.{Answers, AnswersAsked}, Causes.{CausesAsked, FileStops, CheckedStops, StatesStop, SumStops}}
-use Rattle.diy_tools.specs.Ends.{AllEnded, EndedOnceAtMost, EndsBy, NoEarlierFault, NoneEndedTwice, OpenedSo, PassesOverNoFault, ReadsInput, SeeksInput, SeesEndsOnce}
-use Rattle.diy_tools.proofs.{Causes.answers_caused, LineTestAnswers.lined_stays, StayingCounts.{same_counts, listing_stays, cross_stays, why_stays}}
 
 at_most : (old new : SourceSeen) → EndedAtMostOnce old new → EndedOnceAtMost old new
 at_most old new (inl none) = inl none

@@ -1,24 +1,11 @@
 -- What is answered of a request for the execution that a test asks for.
-use Rattle.std.proofs.Common.{◌≡◌, ℕ, List, Option, refl, sym, subst, Ok}
-use Rattle.std.specs.{Prelude.Result, Option.option_or}
-use Rattle.relax_edges.specs.{declared.edge.Edge.Edge, declared.kinds.ArchName.ArchName, declared.kinds.ObsMode.ObsMode}
-use Rattle.edges_from_text.specs.{declared.list.EdgeList.EdgeList, declared.list.EdgeList.TheVariants.{Whole, TooLong}, KeptEdges.kept_edges}
-use Rattle.diy_io.specs.{Shelf.ShelfSeen, Taken.SourceSeen, Wrote.SinkSeen}
-use Rattle.diy_words.specs.{declared.request.DiyOne.DiyOne, declared.request.Coherence.Coherence, declared.usage.Usage.Usage}
-use Rattle.diy_words.specs.Given.{GivesTask, HoldsTest, HoldsCoherence}
-use Rattle.diy_words.specs.declared.request.ExecutionForm.{ExecutionForm}
-use Rattle.diy_words.specs.Requests.{Task, TestTask, CoherenceTask, AsksExecution, AsksCoherenceExecution, asked_of}
+use Rattle.std.{proofs.Common.{◌≡◌, ℕ, List, Option, refl, sym, subst, Ok}, specs.{Prelude.Result, Option.option_or}}
+use Rattle.diy_tools.proofs.Vocabulary.{Edge, ArchName, ObsMode, ShelfSeen, SourceSeen, SinkSeen, DiyOne, Coherence, ExecutionForm, Usage, GivesTask, HoldsTest, HoldsCoherence, Task, TestTask, CoherenceTask, AsksExecution, AsksCoherenceExecution}
+use Rattle.diy_tools.{proofs.{Vocabulary.{asked_of, Execution, TestRead, cycle_text, refusal_of, Refusal, coherence_refusal_of, coherence_text, intended_by, incoherent_by, Status}, RunAnswers.{IsKeptSo, kept_so}}, specs.Answers.{Answers, AnswersAsked}}
+use Rattle.diy_tools.specs.{ArchMachines.{Machine, machine_of}, Devices.devices, ExecutionAnswers.{AnswersRun, AnswersExecution, AnswersCoherenceExecution}, Refused.refused_list, TestAnswers.test_name, KeptRequests.{AnswersIntended, AnswersIncoherent}}
+use Rattle.diy_tools.specs.KeptRequests.{edges_kept, name_kept, refused_edges, refused_kept, refused_incoherent}
+use Rattle.edges_from_text.specs.{declared.list.EdgeList.{EdgeList, TheVariants.{Whole, TooLong}}, KeptEdges.kept_edges}
 use Rattle.diy_words.specs.declared.request.Request.TheVariants as requests
-use Rattle.program_meaning.specs.Executions.{Execution}
-use Rattle.litmus_text.specs.TestReading.{TestRead}
-use Rattle.test_maker.specs.{CycleText.cycle_text, Refusals.refusal_of, declared.refusal.Refusal.Refusal}
-use Rattle.co_tests.specs.CoRefusals.{coherence_refusal_of, coherence_text}
-use Rattle.two_runs.specs.{IntendedRuns.{intended_by}, CoherenceRuns.incoherent_by}
-use Rattle.run_status.specs.{declared.status.Status.Status}
-use Rattle.diy_tools.specs.{Answers.{Answers, AnswersAsked}, ArchMachines.{Machine, machine_of}, Devices.devices}
-use Rattle.diy_tools.specs.{ExecutionAnswers.{AnswersRun, AnswersExecution, AnswersCoherenceExecution}, Refused.refused_list, TestAnswers.test_name}
-use Rattle.diy_tools.specs.KeptRequests.{AnswersIntended, AnswersIncoherent, edges_kept, name_kept, refused_edges, refused_kept, refused_incoherent}
-use Rattle.diy_tools.proofs.RunAnswers.{IsKeptSo, kept_so}
 
 -- what is answered on an architecture is answered on the one with its name
 pub intended_on : (form : ExecutionForm) (arch a : ArchName) (request : DiyOne) (status : Status) (old new : SinkSeen) → arch ≡ a

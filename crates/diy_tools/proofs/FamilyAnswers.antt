@@ -1,15 +1,10 @@
 -- What is answered of families, by where their cycles are.
-use Rattle.std.proofs.{Common.{◌≡◌, ℕ, List, [], ◌∷◌, length, Ok, refl, sym, ap, ◌∙◌, subst, arith}, lemmas.Bool.eqb-true}
-use Rattle.std.specs.Prelude.{Result, ◌==◌, true, false}
-use Rattle.relax_edges.specs.declared.kinds.ArchName.{ArchName}
+use Rattle.std.{proofs.{Common.{◌≡◌, ℕ, List, [], ◌∷◌, length, Ok, refl, sym, ap, ◌∙◌, subst, arith}, lemmas.Bool.eqb-true}, specs.Prelude.{Result, ◌==◌, true, false}}
+use Rattle.diy_tools.{proofs.Vocabulary.{ArchName, ShelfSeen, SourceSeen, SinkSeen, Usage, GivesTask, gives_classifying, Task, AsksFamilies, asked_of, files_of, IsClassifying}, specs.{Answers.{Answers, AnswersAsked}, Devices.{Devices, DevicesSeen}}}
+use Rattle.diy_tools.specs.{Devices.devices, FamilyAnswers.{AnswersClassify, AnswersFamilies}, KeptRequests.ClassifiesNamedFiles}
 use Rattle.tests_from_files.specs.declared.classified_errors.FilesEnd.TheVariants as ends
-use Rattle.diy_io.specs.{Shelf.ShelfSeen, Taken.SourceSeen, Wrote.SinkSeen}
 use Rattle.diy_words.specs.declared.request.Request.TheVariants as requests
-use Rattle.diy_words.specs.{declared.usage.Usage.Usage, Given.GivesTask, GivenLaws.gives_classifying}
-use Rattle.diy_words.specs.Requests.{Task, AsksFamilies, asked_of, files_of, IsClassifying}
-use Rattle.run_status.specs.{declared.status.Status.Status, declared.status.Status.TheVariants.NoMemory}
-use Rattle.diy_tools.specs.{Answers.{Answers, AnswersAsked}}
-use Rattle.diy_tools.specs.{Devices.{Devices, DevicesSeen, devices}, FamilyAnswers.{AnswersClassify, AnswersFamilies}, KeptRequests.ClassifiesNamedFiles}
+use Rattle.run_status.specs.declared.status.Status.{Status, TheVariants.NoMemory}
 
 -- words that give a request for families ask for them
 pub asks_families : (arch : ArchName) (words : List (List ℕ)) → GivesTask (Ok (requests.Families arch)) (asked_of words) → IsClassifying (asked_of words)

@@ -1,15 +1,15 @@
 -- Where a test is printed, its bytes force the cycle.
-use Rattle.std.proofs.Common.{◌≡◌, ℕ, Bool, true, false, cond, nat_lt, List, [], ◌∷◌, ◌++◌, length, Option, Some, None, refl, sym, ap, subst, inl, inr, Ok, Err, ◌∙◌}
-use Rattle.std.proofs.lemmas.Bool.{ltb-false}
-use Rattle.std.specs.{Option.option_or, Prelude.{IfSome, Result, ◌⊎◌, if◌then◌else◌}}
-use Rattle.relax_edges.specs.{declared.TheConstants.MAX_EDGES, declared.kinds.ArchName.ArchName, declared.kinds.ObsMode.ObsMode, declared.edge.Edge.Edge}
+use Rattle.std.{proofs.{Common.{◌≡◌, ℕ, Bool, true, false, cond, nat_lt, List, [], ◌∷◌, ◌++◌, length, Option, Some, None, refl, sym, ap, subst, inl, inr, Ok, Err, ◌∙◌}, lemmas.Bool.ltb-false}, specs.{Option.option_or, Prelude.{IfSome, Result, ◌⊎◌}}}
+use Rattle.diy_tools.proofs.Vocabulary.{if◌then◌else◌, MAX_EDGES, ArchName, ObsMode, Edge, IsCycle, first_break, composed, unbroken, unbroken_cycle, turned, WritesCells, MakesOneAccess, IsArch, Puts, WritesBack, IsTestName, TestRead, test_read, Usage}
+use Rattle.diy_tools.proofs.Vocabulary.{ExecutionForm, LineTestForm, is_name, Task, TestTask, ListTask, AsksTest, AsksWhy, WhyTask, AsksCoherence, CoherenceTask, AsksName, AsksList, AsksFamilies, AsksSum, AsksStates, AsksCross, AsksDemo, AsksCheck}
+use Rattle.diy_tools.proofs.Vocabulary.{AsksExecution, AsksCoherenceExecution, AsksNeeds, AsksLines, AsksLineTests, LineTestsTask, CrossTask, asked_of, asked_form, name_of, Refusal, foreign_edge, refusal_of, cycle_text, accepted_has_test, neither}
+use Rattle.diy_tools.proofs.Vocabulary.{BytesForce, LinksDecideIn, printed_force, links_decide, cycle_named, intended_by, incoherent_by, lists_orders, different_have_own_files, listed_are_different, crossed_are_different, IsPlanned, planned_text}
+use Rattle.diy_tools.{proofs.{Vocabulary.{wanted_has_test, IsCrossed, crosses_all, GivenTest, refusal_in}, TestNames.words_name, LinesForce.{HasCycle, each_right}}, specs.{WhyAnswers.{AnswersRuns, AnswersWhy, WritesRuns}, ArchMachines.Machine}}
+use Rattle.diy_tools.specs.{ArchMachines.machine_of, PrintAnswers.AnswersEdges, CoherenceAnswers.{AnswersCoherence, incoherence_refused, incoherent_text}, TestAnswers.{asked_text, test_name}, CrossAnswers.{AnswersCross, cycles_asked, crossed_text}}
+use Rattle.diy_tools.specs.{ListAnswers.{AnswersList, plan_asked}, Answers.{Answers, AnswersAsked}, Devices.{Devices, DevicesSeen, devices}, ExecutionAnswers.{AnswersRun, AnswersExecution, AnswersCoherenceExecution}, Headline.{Headline, HeadlineAsked}}
+use Rattle.diy_tools.specs.{Headline.{PrintsIntended, PrintsIncoherent, TestForces}, Refused.{refused_list, refused_of, refused_composing}, NeedsAnswers.{AnswersNeeds, needs_asked}, LineTestAnswers.{making_asked, test_form}}
 use Rattle.relax_edges.specs.declared.kinds.ArchName.TheVariants as archs
-use Rattle.edge_algebra_laws.specs.Composable.{IsCycle, first_break}
-use Rattle.edge_algebra_laws.proofs.Composing.{unbroken_cycle}
 use Rattle.edge_algebra.specs.declared.errors.CycleError.TheVariants as composing
-use Rattle.edge_algebra.specs.Compose.{composed, unbroken}
-use Rattle.cycle_events.specs.Resolution.{turned}
-use Rattle.arch_trait.specs.{Cells.{WritesCells, MakesOneAccess}, Laws.IsArch, Threads.Puts, Writing.WritesBack}
 use Rattle.arch_x86.specs.InCells as x86_cells
 use Rattle.arch_x86.specs.Laws as x86_laws
 use Rattle.arch_x86.specs.ReadsBack as x86_back
@@ -25,41 +25,10 @@ use Rattle.arch_riscv.specs.ReadsBack as riscv_back
 use Rattle.arch_arm.specs.InCells as arm_cells
 use Rattle.arch_arm.specs.Laws as arm_laws
 use Rattle.arch_arm.specs.ReadsBack as arm_back
-use Rattle.litmus_text.specs.Printable.{IsTestName}
-use Rattle.diy_words.specs.{declared.usage.Usage.Usage, TestNames.is_name}
-use Rattle.diy_words.specs.declared.request.ExecutionForm.{ExecutionForm}
-use Rattle.diy_words.specs.Requests.{Task, TestTask, ListTask, AsksTest, AsksWhy, WhyTask, AsksCoherence, CoherenceTask, AsksName, AsksList, AsksFamilies, AsksSum, AsksStates, AsksCross, AsksDemo, AsksCheck, AsksExecution, AsksCoherenceExecution, AsksNeeds, AsksLines, AsksLineTests, LineTestsTask, CrossTask, asked_of}
-use Rattle.cycle_names.specs.CycleNames.{name_of}
-use Rattle.diy_words.proofs.RequestForm.{asked_form}
-use Rattle.test_maker.specs.{declared.refusal.Refusal.Refusal, Refusals.{foreign_edge, refusal_of}, CycleText.cycle_text}
-use Rattle.bytes_force_cycles.specs.PrintedHeadline.{BytesForce}
-use Rattle.test_maker.proofs.HavingTests.{accepted_has_test, neither}
-use Rattle.demo_tests.proofs.Cycles.{cycle_named}
-use Rattle.bytes_force_cycles.proofs.Printed.{printed_force}
-use Rattle.run_status.specs.{declared.status.Status.Status, declared.status.Status.TheVariants.NoMemory}
-use Rattle.diy_tools.specs.{WhyAnswers.{AnswersRuns, AnswersWhy, WritesRuns}}
-use Rattle.diy_tools.specs.{ArchMachines.{Machine, machine_of}, PrintAnswers.AnswersEdges}
-use Rattle.diy_tools.specs.{CoherenceAnswers.{AnswersCoherence, incoherence_refused, incoherent_text}, TestAnswers.{asked_text, test_name}}
-use Rattle.diy_tools.specs.{CrossAnswers.{AnswersCross, cycles_asked, crossed_text}, ListAnswers.{AnswersList, plan_asked}, Answers.{Answers, AnswersAsked}}
-use Rattle.diy_tools.specs.{Devices.{Devices, DevicesSeen, devices}, ExecutionAnswers.{AnswersRun, AnswersExecution, AnswersCoherenceExecution}}
-use Rattle.diy_tools.specs.{Headline.{Headline, HeadlineAsked, PrintsIntended, PrintsIncoherent, TestForces}, Refused.{refused_list, refused_of, refused_composing}}
+use Rattle.run_status.specs.declared.status.Status.{Status, TheVariants.NoMemory}
 use Rattle.test_maker.specs.declared.refusal.Refusal.TheVariants as refusals
-use Rattle.two_runs.specs.{IntendedRuns.intended_by, CoherenceRuns.incoherent_by}
-use Rattle.tests_to_files_laws.proofs.OwnFiles.{different_have_own_files, listed_are_different, crossed_are_different}
-use Rattle.tests_to_files.specs.{Plans.{IsPlanned, planned_text}, WantedLaws.wanted_has_test}
-use Rattle.co_tests.specs.{CoRefusals.{coherence_refusal_of, coherence_text}, Incoherence.BytesShowIncoherence}
-use Rattle.co_tests.proofs.{Accepted.accepted_has_test as accepted_has_loop, Printed.printed_show}
-use Rattle.diycross7_cycles.specs.Laws.{IsCrossed}
-use Rattle.diycross7_cycles.proofs.CrossedCycles.{crosses_all}
-use Rattle.diy_tools.proofs.TestNames.{words_name}
-use Rattle.needed_links.proofs.OrderLines.{lists_orders}
-use Rattle.bytes_force_cycles.{specs.Links.LinksDecideIn, proofs.Links.links_decide}
-use Rattle.litmus_text.specs.TestReading.{TestRead, test_read}
-use Rattle.diy_tools.specs.{NeedsAnswers.{AnswersNeeds, needs_asked}, LineTestAnswers.{making_asked, test_form}}
-use Rattle.diy_tools.proofs.LinesForce.{HasCycle, each_right}
-use Rattle.diy_words.specs.declared.request.LineTestForm.{LineTestForm}
+use Rattle.co_tests.{specs.{CoRefusals.{coherence_refusal_of, coherence_text}, Incoherence.BytesShowIncoherence}, proofs.{Accepted.accepted_has_test as accepted_has_loop, Printed.printed_show}}
 use Rattle.diy_words.specs.declared.request.LineTestForm.TheVariants as forms
-use Rattle.lines_to_files.specs.{GivenTests.GivenTest, TestFiles.refusal_in}
 
 -- what the law over the bytes asks of an architecture
 record KeepsLaws (m : Machine) : Type 0 where

@@ -1,3 +1,4 @@
+pub mod Vocabulary
 pub mod RunAnswers
 pub mod Coherent
 pub mod WhyAnswers

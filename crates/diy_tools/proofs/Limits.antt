@@ -1,49 +1,24 @@
 -- What is answered after more than 2^40 bytes, from what is answered.
-use Rattle.std.proofs.Common.{◌≡◌, ◌≤◌, ◌<◌, ◌+◌, ◌^◌, ℕ, Bool, true, false, List, [], ◌∷◌, ◌++◌, length, take, length-take, Option, None, Some, Ok, Err, refl, sym, ap, subst, arith, inl, inr}
-use Rattle.std.specs.Prelude.{Result}
-use Rattle.diy_tools.proofs.{Causes.of_files, CountedLogs.{IsWithin, files_within, failed_within}, LineTestAnswers.lined_stays, StayingCounts.{same_counts, listing_stays, cross_stays, why_stays}}
-use Rattle.diy_tools.specs.LineTestAnswers.{EndsLined, line_tests_status, making_asked, wrong_kind}
-use Rattle.lines_to_files.specs.declared.ending.LineTestsEnd.{LineTestsEnd}
+use Rattle.std.{proofs.{Common.{◌≡◌, ◌≤◌, ◌<◌, ◌+◌, ◌^◌, ℕ, Bool, true, false, List, [], ◌∷◌, ◌++◌, length, take, length-take, Option, None, Some, Ok, Err, refl, sym, ap, subst, arith, inl, inr}, lemmas.List.Elements.All-append}, specs.Prelude.Result}
+use Rattle.diy_tools.proofs.Vocabulary.{◌⊎◌, LineTestsEnd, WrongTest, ArchName, NormError, ClassifyError, LineForm, Edges, Names, Classifies, Norms, TookUpTo, FilesEnd, FileFailed, FileFaulty, classified_few, CheckEnd, checked_few, MAX_INPUT, count_of}
+use Rattle.diy_tools.proofs.Vocabulary.{CountsStay, Files, ShelfSeen, IsFile, name_at, SourceSeen, AsksCoherenceExecution, AsksNeeds, AsksLines, AsksLineTests, AsksStates, LineTestsTask, OfEdges, OfName, OfLines, OfNames, FileStopped, IsAtWord}
+use Rattle.diy_tools.proofs.{Vocabulary.{LogFileMissing, LogStopped, SumShelfFailed, log_error_at, Status, StatesEnd, AfterTest, FilesJudged, TestIsAbsent, MAX_TEST_TEXT, LogKind}, Causes.of_files, CountedLogs.{IsWithin, files_within, failed_within}}
+use Rattle.diy_tools.proofs.{LineTestAnswers.lined_stays, StayingCounts.{same_counts, listing_stays, cross_stays, why_stays}, StatesCounts.{took_both, test_short, none_short, first_short, test_failed_within, log_failed_within}}
+use Rattle.diy_tools.specs.{LineTestAnswers.{EndsLined, line_tests_status, making_asked, wrong_kind}, Devices.{Devices, DevicesSeen, devices}, Statuses.{norm_status, classify_status}, NameAnswers.AnswersSought, SumAnswers.{EndsAmong, EndsInput, EndsSum}}
+use Rattle.diy_tools.specs.{SumAnswers.{SumEnd, first_log, name_logs, sum_status}, ArchMachines.machine_of, TestAnswers.test_name, WhyAnswers.why_unshown, CheckAnswers.{EndsCheck, check_status, shown_of}, Answers.{Answers, AnswersAsked}, Limit.Limited}
+use Rattle.diy_tools.specs.{Limit.{ShownWithin, StopsReading, TookTooMuch, logs_from}, FamilyAnswers.{AnswersClassify, EndsFamilies, files_status, read_on}, StatesAnswers.{EndsJudged, EndsJudgedAmong, EndsJudgedInput, judge_logs, states_status}}
 use Rattle.lines_to_files.specs.declared.ending.LineTestsEnd.TheVariants as tests
-use Rattle.relax_edges.specs.{declared.kinds.ArchName.ArchName}
 use Rattle.cycles_from_lines.specs.declared.errors.LinesError.TheVariants as lines
-use Rattle.cycles_from_lines.specs.{declared.errors.NormError.NormError, declared.errors.ClassifyError.ClassifyError, Classified.Classifies, Normed.Norms}
-use Rattle.cycles_from_lines.specs.{LineReading.TookUpTo, declared.line.LineForm.LineForm, declared.line.LineForm.TheVariants.{Edges, Names}}
 use Rattle.cycles_from_lines.specs.declared.errors.NormError.TheVariants as norms
 use Rattle.cycles_from_lines.specs.declared.errors.ClassifyError.TheVariants as classifies
-use Rattle.tests_from_files.specs.declared.classified_errors.FilesEnd.{FilesEnd}
 use Rattle.tests_from_files.specs.declared.classified_errors.FilesEnd.TheVariants as classing
-use Rattle.tests_from_files.proofs.FewLaws.{classified_few}
-use Rattle.exec_check.specs.{declared.checked_errors.CheckEnd.CheckEnd, CheckedLaws.checked_few}
 use Rattle.exec_check.specs.declared.checked_errors.CheckEnd.TheVariants as checking
-use Rattle.diy_io.specs.{declared.source.TheConstants.MAX_INPUT, Count.count_of, Shelf.{CountsStay, Files, ShelfSeen}, Opened.IsFile, Taken.SourceSeen}
-use Rattle.diy_words.specs.{declared.usage.Usage.Usage, declared.request.Check.Check}
-use Rattle.diy_words.specs.Requests.{Task, Sought, asked_of, AsksTest, AsksWhy, AsksCoherence, AsksName, AsksList, AsksFamilies, AsksSum, AsksCross, AsksDemo, AsksCheck, AsksExecution, AsksCoherenceExecution, AsksNeeds, AsksLines, AsksLineTests, AsksStates, LineTestsTask, OfEdges, OfName, OfLines, OfNames}
-use Rattle.msum7_files.specs.declared.{sum_form.SumForm.SumForm, wrong_blocks.WrongBlocks.WrongBlocks, wrong_blocks.WrongBlocks.TheVariants.{End, Skip}}
-use Rattle.msum7_files.specs.{declared.faults.SumFault.TheVariants.{Unread, Out}, SumEnds.InputSummed}
+use Rattle.diy_words.specs.{declared.{usage.Usage.Usage, request.{Check.Check, States.States}}, Requests.{Task, Sought, asked_of, AsksTest, AsksWhy, AsksCoherence, AsksName, AsksList, AsksFamilies, AsksSum, AsksCross, AsksDemo, AsksCheck, AsksExecution}}
+use Rattle.msum7_files.specs.{declared.{sum_form.SumForm.SumForm, wrong_blocks.WrongBlocks.{WrongBlocks, TheVariants.{End, Skip}}, faults.SumFault.TheVariants.{Unread, Out}}, SumEnds.InputSummed, Logs.{IsShort, IsWrongLog, PrefixWrong}}
 use Rattle.msum7_files.specs.declared.faults.LogsFault.TheVariants as sums
-use Rattle.run_status.specs.{declared.status.Status.Status}
-use Rattle.diy_tools.specs.{Devices.{Devices, DevicesSeen, devices}, Statuses.{norm_status, classify_status}, NameAnswers.AnswersSought}
-use Rattle.diy_tools.specs.{SumAnswers.{EndsAmong, EndsInput, EndsSum, SumEnd, first_log, name_logs, sum_status}}
-use Rattle.diy_tools.specs.{ArchMachines.{machine_of}, TestAnswers.test_name, WhyAnswers.{why_unshown}}
-use Rattle.diy_tools.specs.{CheckAnswers.{EndsCheck, check_status, shown_of}, Answers.{Answers, AnswersAsked}}
-use Rattle.diy_tools.specs.{Limit.{Limited, ShownWithin, StopsReading, TookTooMuch, logs_from}, FamilyAnswers.{AnswersClassify, EndsFamilies, files_status, read_on}}
-use Rattle.diy_words.specs.declared.request.States.{States}
-use Rattle.states_of_logs.specs.declared.states_end.StatesEnd.{StatesEnd}
 use Rattle.states_of_logs.specs.declared.states_end.StatesEnd.TheVariants as judging
-use Rattle.std.specs.Prelude.{◌⊎◌}
-use Rattle.diy_io.specs.Opened.{name_at}
-use Rattle.tests_from_files.specs.FilesRead.{FileFailed, FileFaulty}
-use Rattle.std.proofs.lemmas.List.Elements.{All-append}
-use Rattle.litmus_text.specs.declared.limits.TheConstants.{MAX_TEST_TEXT}
-use Rattle.log_sum.specs.declared.errors.LogKind.{LogKind}
-use Rattle.msum7_files.specs.{Logs.{IsShort, IsWrongLog, PrefixWrong}, LogsRead.{FileStopped, IsAtWord, LogFileMissing, LogStopped, SumShelfFailed, log_error_at}}
-use Rattle.lines_to_files.specs.declared.form.WrongTest.{WrongTest}
 use Rattle.lines_to_files.specs.declared.form.WrongTest.TheVariants as wrongs
 use Rattle.states_of_logs.specs.declared.states_end.StatesKind.TheVariants as kinds
-use Rattle.states_of_logs.specs.StatesEnds.{AfterTest, FilesJudged, TestIsAbsent}
-use Rattle.diy_tools.specs.StatesAnswers.{EndsJudged, EndsJudgedAmong, EndsJudgedInput, judge_logs, states_status}
-use Rattle.diy_tools.proofs.{StatesCounts.{took_both, test_short, none_short, first_short, test_failed_within, log_failed_within}}
 use Rattle.run_status.specs.declared.status.Status.TheVariants as statuses
 use Rattle.run_status.specs.declared.status.TextKind.TheVariants as texts
 

@@ -1,18 +1,9 @@
 -- What writing the tests of lines leaves, as the answers see it.
-use Rattle.std.proofs.Common.{◌≡◌, ℕ, List, refl, ap, ◌∙◌, sym, subst, inl, inr, Ok}
-use Rattle.std.specs.Prelude.{◌⊎◌, Result}
-use Rattle.relax_edges.specs.declared.kinds.ArchName.{ArchName}
-use Rattle.diy_io.specs.{Count.Rose, Shelf.{CountsStay, ShelfSeen, Idle}, Taken.SourceSeen, Wrote.SinkSeen}
-use Rattle.diy_words.specs.{declared.request.LineTests.LineTests, declared.usage.Usage.Usage, Given.GivesTask, Requests.{Task, LineTestsTask, AsksLineTests, asked_of}}
+use Rattle.std.{proofs.Common.{◌≡◌, ℕ, List, refl, ap, ◌∙◌, sym, subst, inl, inr, Ok}, specs.Prelude.{◌⊎◌, Result}}
+use Rattle.diy_tools.proofs.{Vocabulary.{ArchName, Rose, CountsStay, ShelfSeen, Idle, SourceSeen, SinkSeen, LineTests, Usage, GivesTask, Task, LineTestsTask, AsksLineTests, asked_of, PutUpTo, TestForm, Status}, StayingCounts.same_counts}
+use Rattle.diy_tools.specs.{Answers.{Answers, AnswersAsked}, ArchMachines.machine_of, Devices.devices, KeptRequests.{AnswersLined, EndsLinedFor, line_tests_kept}, LineTestAnswers.{AnswersLineTests, test_form}}
 use Rattle.diy_words.specs.declared.request.Request.TheVariants as requests
-use Rattle.tests_to_files.specs.GivenCycles.{PutUpTo}
-use Rattle.lines_to_files.specs.{LineTestEnds.{EndsLineTests, StopsAtFile}, TestFiles.{Making, making_in}}
-use Rattle.lines_to_files.specs.declared.{ending.LineTestsEnd.LineTestsEnd, form.TestForm.TestForm}
-use Rattle.lines_to_files.specs.declared.ending.LineTestsEnd.TheVariants.{Done, Wrong, TooMuch, InputFault, ShelfFault, OutFault, NoMemory}
-use Rattle.run_status.specs.declared.status.Status.{Status}
-use Rattle.diy_tools.specs.{Answers.{Answers, AnswersAsked}, ArchMachines.machine_of, Devices.devices, KeptRequests.{AnswersLined, EndsLinedFor, line_tests_kept}}
-use Rattle.diy_tools.specs.LineTestAnswers.{AnswersLineTests, test_form}
-use Rattle.diy_tools.proofs.StayingCounts.{same_counts}
+use Rattle.lines_to_files.specs.{LineTestEnds.{EndsLineTests, StopsAtFile}, TestFiles.{Making, making_in}, declared.ending.LineTestsEnd.{LineTestsEnd, TheVariants.{Done, Wrong, TooMuch, InputFault, ShelfFault, OutFault, NoMemory}}}
 
 -- what is left on an architecture is left on the one with its name
 pub lined_on : (arch named : ArchName) (request : LineTests) (form : TestForm) (end : LineTestsEnd) (old new : SourceSeen) (shelf shelf' : ShelfSeen) (out out' : SinkSeen)

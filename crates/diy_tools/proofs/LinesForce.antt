@@ -1,17 +1,9 @@
 -- The tests that right lines give have cycles, and names of their form.
-use Rattle.std.proofs.Common.{◌≡◌, ℕ, Bool, true, false, List, [], ◌∷◌, ◌++◌, length, map, Option, Some, None, Result, Ok, Err, refl, sym, ap, ◌∙◌, subst, arith, inl, inr, nat_lt, nat_le}
-use Rattle.std.proofs.lemmas.{Bool.and_parts, Bool.Decides.nat_tests}
-use Rattle.std.specs.{Prelude.{◌⊎◌, cond, unwrap_or, if◌then◌else◌}, List.{AllByRecursion, find, list_all}}
-use Rattle.relax_edges.specs.{declared.TheConstants.MAX_EDGES, declared.edge.Edge.Edge, declared.kinds.ArchName.ArchName}
-use Rattle.edge_algebra_laws.{specs.Composable.IsCycle, proofs.Laws.cycle_of_rotation}
-use Rattle.edge_algebra.specs.{declared.errors.CycleError.CycleError, Compose.composed, ComposingLaws.composes_exactly}
-use Rattle.cycle_names.specs.{Laws.are_of_arch, Rotations.{rotations, least_of, edges_below}}
-use Rattle.cycle_names.proofs.{CycleOf.made_of, Members.Member, NamedRotations.rotation_of_member}
-use Rattle.cycles_from_lines.specs.{Cycles.{composed_or, cycle_made, cycle_said, form_said, is_long_line, line_said, spelled_made, without_label}, declared.errors.LineKind.LineKind, declared.line.LineForm.TheVariants.Edges}
-use Rattle.cycles_from_lines.specs.declared.errors.LineKind.TheVariants.{LineTooLong, TooLong, NotOfArch}
-use Rattle.edges_from_text.specs.{declared.read.Separators.TheVariants.Blanks, Spelled.{separates, text_edges}}
-use Rattle.text_parts.specs.Names.{is_name_byte}
-use Rattle.litmus_text.specs.Printable.{IsTestName}
+use Rattle.std.{proofs.{Common.{◌≡◌, ℕ, Bool, true, false, List, [], ◌∷◌, ◌++◌, length, map, Option, Some, None, Result, Ok, Err, refl, sym, ap, ◌∙◌, subst, arith, inl, inr, nat_lt, nat_le}, lemmas.Bool.{and_parts, Decides.nat_tests}}, specs.Prelude.◌⊎◌}
+use Rattle.std.specs.{Prelude.{cond, unwrap_or, if◌then◌else◌}, List.{AllByRecursion, find, list_all}}
+use Rattle.diy_tools.proofs.Vocabulary.{MAX_EDGES, Edge, ArchName, IsCycle, CycleError, composed, composes_exactly, cycle_of_rotation, are_of_arch, rotations, least_of, edges_below, made_of, Member, rotation_of_member, Edges, Blanks, separates}
+use Rattle.diy_tools.proofs.Vocabulary.{text_edges, is_name_byte, IsTestName}
+use Rattle.cycles_from_lines.specs.{Cycles.{composed_or, cycle_made, cycle_said, form_said, is_long_line, line_said, spelled_made, without_label}, declared.errors.LineKind.{LineKind, TheVariants.{LineTooLong, TooLong, NotOfArch}}}
 use Rattle.lines_to_files.specs.{GivenTests.{GivenTest, given_by, normal_of, test_given, tests_of}, TestFiles.{Making, refusal_in}, RightTests.{AreRight, names_file}}
 
 -- a test has a cycle, and a name of its form

@@ -1,15 +1,9 @@
 -- What a listing leaves, as the answers see it.
-use Rattle.std.proofs.Common.{◌≡◌, Option, Result, Ok, Err, sym, ap, subst}
-use Rattle.diy_io.specs.{declared.errors.Failed.Failed, Shelf.ShelfSeen, Wrote.SinkSeen}
-use Rattle.relax_edges.specs.{declared.edge.Edge.Edge, declared.kinds.ArchName.ArchName}
-use Rattle.diy_words.specs.Requests.{ListTask}
-use Rattle.tests_to_files.specs.{declared.ending.ListingEnd.ListingEnd, declared.listing.Listing.Listing, ListedLines.EndsLines}
-use Rattle.tests_to_files.specs.{ListingEnds.{EndsAfter, EndsListing}, Plans.{Plan, plan_of, plan_in}}
+use Rattle.std.{proofs.Common.{◌≡◌, Option, Result, Ok, Err, sym, ap, subst}, specs.Prelude.List}
+use Rattle.diy_tools.{proofs.Vocabulary.{Failed, ShelfSeen, SinkSeen, Edge, ArchName, ListTask, ListingEnd, Listing, EndsLines, EndsAfter, EndsListing, Plan, plan_of, plan_in}, specs.{ListAnswers.{AnswersList, AnswersListed}, KeptRequests.EndsOn}}
+use Rattle.diy_tools.specs.{KeptRequests.{EndsLinesOn, asked_listing}, ArchMachines.machine_of, Statuses.listing_status}
 use Rattle.tests_to_files.specs.declared.ending.ListingEnd.TheVariants as ends
-use Rattle.std.specs.Prelude.{List}
-use Rattle.run_status.specs.{declared.status.Status.Status, declared.status.Device.TheVariants.Out}
-use Rattle.diy_tools.specs.{ListAnswers.{AnswersList, AnswersListed}}
-use Rattle.diy_tools.specs.{KeptRequests.{EndsOn, EndsLinesOn, asked_listing}, ArchMachines.machine_of, Statuses.listing_status}
+use Rattle.run_status.specs.declared.status.{Status.Status, Device.TheVariants.Out}
 use Rattle.run_status.specs.declared.status.Status.TheVariants as statuses
 
 -- what holds of a sink holds of what it shows

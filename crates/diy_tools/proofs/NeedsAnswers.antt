@@ -1,20 +1,9 @@
 -- What is answered of a request for what suffices against the outcome of a test.
-use Rattle.std.proofs.Common.{◌≡◌, ℕ, List, Option, refl, sym, subst, Ok}
-use Rattle.std.specs.Prelude.{Result}
-use Rattle.relax_edges.specs.{declared.kinds.ArchName.ArchName, declared.kinds.ObsMode.ObsMode}
-use Rattle.cycle_events.specs.Resolution.{turned}
-use Rattle.edges_from_text.specs.{declared.list.EdgeList.EdgeList, KeptEdges.kept_edges}
-use Rattle.diy_io.specs.{Shelf.ShelfSeen, Taken.SourceSeen, Wrote.SinkSeen}
-use Rattle.diy_words.specs.{declared.request.DiyOne.DiyOne, declared.usage.Usage.Usage, Given.{GivesTask, HoldsTest}}
-use Rattle.diy_words.specs.Requests.{Task, TestTask, AsksNeeds, asked_of}
+use Rattle.std.{proofs.Common.{◌≡◌, ℕ, List, Option, refl, sym, subst, Ok}, specs.Prelude.Result}
+use Rattle.diy_tools.proofs.Vocabulary.{ArchName, ObsMode, turned, EdgeList, kept_edges, ShelfSeen, SourceSeen, SinkSeen, DiyOne, Usage, GivesTask, HoldsTest, Task, TestTask, AsksNeeds, asked_of, needs_text, refusal_of, Status}
+use Rattle.diy_tools.{proofs.RunAnswers.{edges_answered, kept_so}, specs.{Answers.{Answers, AnswersAsked}, ArchMachines.machine_of, NeedsAnswers.AnswersNeeds, Devices.devices, PrintAnswers.AnswersEdges, TestAnswers.test_name, KeptRequests.AnswersNeeded}}
+use Rattle.diy_tools.specs.KeptRequests.{edges_kept, name_kept, refused_kept}
 use Rattle.diy_words.specs.declared.request.Request.TheVariants as requests
-use Rattle.needed_links.specs.Needs.{needs_text}
-use Rattle.test_maker.specs.Refusals.{refusal_of}
-use Rattle.run_status.specs.{declared.status.Status.Status}
-use Rattle.diy_tools.specs.{Answers.{Answers, AnswersAsked}, ArchMachines.machine_of, NeedsAnswers.AnswersNeeds}
-use Rattle.diy_tools.specs.{Devices.devices, PrintAnswers.AnswersEdges, TestAnswers.test_name}
-use Rattle.diy_tools.specs.KeptRequests.{AnswersNeeded, edges_kept, name_kept, refused_kept}
-use Rattle.diy_tools.proofs.RunAnswers.{edges_answered, kept_so}
 
 -- what is answered on an architecture is answered on the one with its name
 pub needed_on : (arch a : ArchName) (request : DiyOne) (status : Status) (old new : SinkSeen) → arch ≡ a

@@ -1,13 +1,8 @@
 -- Lines that are right have none that is wrong.
-use Rattle.std.proofs.Common.{◌≡◌, ◌<◌, ℕ, zero, suc, Bool, true, false, List, [], ◌∷◌, ◌++◌, length, Option, Some, None, Result, Ok, Err, refl, sym, ap, ◌∙◌, subst, arith, append_assoc, map}
-use Rattle.std.proofs.{lemmas.Bool.and_parts, lemmas.Option.slice_get_within, lemmas.Slice.Eq.bytes_eq-Decides}
-use Rattle.std.specs.{Prelude.{◌||◌, if◌then◌else◌, not, is_ok, slice_get}, List.{list_all, list_any, AllByRecursion}, Str.bytes_eq, Option.option_map}
-use Rattle.relax_edges.specs.{declared.edge.Edge.Edge, declared.kinds.ArchName.ArchName}
-use Rattle.cycles_from_lines.specs.{Cycles.{cycle_said, is_sound, line_said}, declared.errors.LineKind.LineKind, declared.line.LineForm.TheVariants.Edges}
-use Rattle.test_maker.specs.declared.refusal.Refusal.{Refusal}
-use Rattle.lines_to_files.specs.{GivenTests.{GivenTest, given_by, test_given, tests_of}, TestFiles.{Making, refusal_in}, LineTestEnds.AreRightLines}
-use Rattle.lines_to_files.specs.{RightTests.{AreRight, FirstWrong, names_file, names_of, wrong_after, wrong_by}, declared.form.WrongTest.WrongTest}
-use Rattle.lines_to_files.specs.declared.form.WrongTest.TheVariants.{BadName, NameTaken, Refused}
+use Rattle.std.proofs.{Common.{◌≡◌, ◌<◌, ℕ, zero, suc, Bool, true, false, List, [], ◌∷◌, ◌++◌, length, Option, Some, None, Result, Ok, Err, refl, sym, ap, ◌∙◌, subst, arith, append_assoc, map}, lemmas.{Bool.and_parts, Option.slice_get_within}}
+use Rattle.diy_tools.proofs.Vocabulary.{bytes_eq-Decides, ◌||◌, if◌then◌else◌, not, is_ok, slice_get, list_all, list_any, AllByRecursion, bytes_eq, option_map, Edge, ArchName, cycle_said, is_sound, line_said, LineKind, Edges, Refusal, WrongTest, BadName}
+use Rattle.diy_tools.proofs.Vocabulary.{NameTaken, Refused}
+use Rattle.lines_to_files.specs.{GivenTests.{GivenTest, given_by, test_given, tests_of}, TestFiles.{Making, refusal_in}, LineTestEnds.AreRightLines, RightTests.{AreRight, FirstWrong, names_file, names_of, wrong_after, wrong_by}}
 
 -- what holds of all holds of one among them
 all_here : {X : Type 0} (P : X → Type 0) (before : List X) (x : X) (later : List X) → AllByRecursion P (before ++ x ∷ later) → P x

@@ -1,25 +1,10 @@
 -- What `run` answers, from what its parts answer.
-use Rattle.std.proofs.Common.{◌≡◌, ℕ, true, false, nat_lt, nat_le, List, [], ◌∷◌, length, Option, Some, None, refl, sym, ap, subst, arith, Ok}
-use Rattle.std.proofs.lemmas.Bool.Decides.{nat_tests}
-use Rattle.std.specs.{Prelude.{Result, if◌then◌else◌}, Option.option_or}
-use Rattle.list_laws.proofs.{Elements.option_or-none, Cases.by_test}
-use Rattle.relax_edges.specs.{declared.TheConstants.MAX_EDGES, declared.edge.Edge.Edge, declared.kinds.ObsMode.ObsMode, declared.kinds.ArchName.ArchName}
-use Rattle.edge_algebra.specs.Compose.{composed}
-use Rattle.diy_io.specs.{Wrote.SinkSeen, Taken.SourceSeen, Shelf.ShelfSeen}
-use Rattle.edges_from_text.specs.{declared.list.EdgeList.EdgeList, declared.list.EdgeList.TheVariants.{Whole, TooLong}, KeptEdges.kept_edges}
-use Rattle.cycles_from_lines.specs.Normed.{name_line}
-use Rattle.diy_words.specs.{declared.request.Sought.Sought, declared.usage.Usage.Usage, declared.request.Check.Check}
-use Rattle.diy_words.specs.{declared.request.Norm.Norm, declared.request.Why.Why}
-use Rattle.diy_words.specs.Requests.{Task, AsksName, AsksCheck, OfEdges, OfName, OfLines, OfNames, asked_of}
-use Rattle.diy_words.specs.Given.{IsSought, GivesTask}
-use Rattle.diycross7_cycles.specs.ComposedLaws.{composed_same}
-use Rattle.diy_tools.specs.Devices.{devices}
-use Rattle.diy_tools.specs.KeptRequests.{ChecksFiles, AnswersKept, refused_kept, refused_edges, refused_why, edges_kept, folder_kept, named_kept, MakesCycle}
-use Rattle.diy_tools.specs.{CheckAnswers.AnswersCheck, ArchMachines.machine_of, Refused.{refused_list, refused_composing}, PrintAnswers.AnswersEdges}
-use Rattle.diy_tools.specs.{TestAnswers.test_name, NameAnswers.{AnswersName, AnswersSought}, Answers.{Answers, AnswersAsked}}
-use Rattle.diy_tools.specs.{WhyAnswers.AnswersRuns}
-use Rattle.run_status.specs.{declared.status.Status.Status}
-use Rattle.test_maker.specs.{Refusals.foreign_edge, CycleText.cycle_text, declared.refusal.Refusal.Refusal}
+use Rattle.std.{proofs.{Common.{◌≡◌, ℕ, true, false, nat_lt, nat_le, List, [], ◌∷◌, length, Option, Some, None, refl, sym, ap, subst, arith, Ok}, lemmas.Bool.Decides.nat_tests}, specs.{Prelude.{Result, if◌then◌else◌}, Option.option_or}}
+use Rattle.diy_tools.{proofs.Vocabulary.{option_or-none, by_test, MAX_EDGES, Edge, ObsMode, ArchName, composed, SinkSeen, SourceSeen, ShelfSeen, name_line, composed_same, Status, foreign_edge, cycle_text, Refusal}, specs.Devices.devices}
+use Rattle.diy_tools.specs.{KeptRequests.{ChecksFiles, AnswersKept, refused_kept, refused_edges, refused_why, edges_kept, folder_kept, named_kept, MakesCycle}, CheckAnswers.AnswersCheck, ArchMachines.machine_of, Refused.{refused_list, refused_composing}}
+use Rattle.diy_tools.specs.{PrintAnswers.AnswersEdges, TestAnswers.test_name, NameAnswers.{AnswersName, AnswersSought}, Answers.{Answers, AnswersAsked}, WhyAnswers.AnswersRuns}
+use Rattle.edges_from_text.specs.{declared.list.EdgeList.{EdgeList, TheVariants.{Whole, TooLong}}, KeptEdges.kept_edges}
+use Rattle.diy_words.specs.{declared.{request.{Sought.Sought, Check.Check, Norm.Norm, Why.Why}, usage.Usage.Usage}, Requests.{Task, AsksName, AsksCheck, OfEdges, OfName, OfLines, OfNames, asked_of}, Given.{IsSought, GivesTask}}
 use Rattle.diy_words.specs.declared.request.Sought.TheVariants as sought
 use Rattle.diy_words.specs.Requests as words
 use Rattle.diy_words.specs.declared.request.Request.TheVariants as requests

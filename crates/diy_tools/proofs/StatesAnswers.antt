@@ -1,15 +1,8 @@
 -- What is answered of the states of logs, by where the logs are.
-use Rattle.std.proofs.Common.{◌≡◌, ◌<◌, ◌≤◌, ◌+◌, ℕ, List, length, Ok, refl, sym, subst}
-use Rattle.std.specs.Prelude.{Bool, Result}
-use Rattle.std.proofs.lemmas.Bool.{le-ltb, lt-ltb}
-use Rattle.diy_io.specs.{Shelf.ShelfSeen, Taken.SourceSeen, Wrote.SinkSeen}
-use Rattle.diy_words.specs.{declared.request.States.States, declared.usage.Usage.Usage, Given.GivesTask}
-use Rattle.diy_words.specs.Requests.{Task, AsksStates, asked_of}
+use Rattle.std.{proofs.{Common.{◌≡◌, ◌<◌, ◌≤◌, ◌+◌, ℕ, List, length, Ok, refl, sym, subst}, lemmas.Bool.{le-ltb, lt-ltb}}, specs.Prelude.{Bool, Result}}
+use Rattle.diy_tools.{proofs.Vocabulary.{ShelfSeen, SourceSeen, SinkSeen, States, Usage, GivesTask, Task, AsksStates, asked_of, Status, StatesEnd, FilesJudged, InputJudged}, specs.{Answers.AnswersAsked, ArchMachines.machine_of, Devices.Devices}}
+use Rattle.diy_tools.specs.{Devices.devices, StatesAnswers.{AnswersStates, EndsJudgedAmong, states_status}}
 use Rattle.diy_words.specs.declared.request.Request.TheVariants as requests
-use Rattle.run_status.specs.{declared.status.Status.Status}
-use Rattle.states_of_logs.specs.{declared.states_end.StatesEnd.StatesEnd, StatesEnds.{FilesJudged, InputJudged}}
-use Rattle.diy_tools.specs.{Answers.{AnswersAsked}, ArchMachines.machine_of, Devices.{Devices, devices}}
-use Rattle.diy_tools.specs.StatesAnswers.{AnswersStates, EndsJudgedAmong, states_status}
 
 -- where words name logs, the states in the files are judged
 pub named_judged : (words : List (List ℕ)) (asked : States) (end : StatesEnd) (status : Status) (input : SourceSeen) (old new : ShelfSeen) (before after : SinkSeen)

@@ -1,15 +1,7 @@
 -- What was opened, taken and seen of the file of a test and of logs after it, as far as it is counted.
-use Rattle.std.proofs.Common.{◌≡◌, ◌≤◌, ◌+◌, ℕ, zero, suc, List, [], ◌∷◌, ◌++◌, length, All, arith, inl, inr, Ok}
-use Rattle.std.specs.Prelude.{◌⊎◌, Option}
-use Rattle.std.proofs.lemmas.List.Elements.{All-append}
-use Rattle.relax_edges.specs.declared.kinds.ArchName.{ArchName}
-use Rattle.arch_trait.specs.Writing.{Writing}
-use Rattle.litmus_text.specs.{declared.limits.TheConstants.MAX_TEST_TEXT, TestReading.TestRead}
-use Rattle.diy_io.specs.{Count.{count_of, Rose}, Shelf.{Files, ShelfSeen}, Opened.{EndsSeen, EndsSeenOrOneMore, TookFiles}}
-use Rattle.diy_io.proofs.OpenedLaws.{took_no_more}
-use Rattle.msum7_files.specs.{Logs.IsShort, LogsRead.{IsBegun, SumShelfFailed}, declared.wrong_blocks.WrongBlocks.TheVariants.End}
-use Rattle.tests_from_files.specs.{FilesRead.{Begins, FileFailed}, FirstBytes.tests_by_first_bytes, TestSaid.test_said}
-use Rattle.diy_tools.proofs.CountedLogs.{IsWithin, files_within}
+use Rattle.std.{proofs.{Common.{◌≡◌, ◌≤◌, ◌+◌, ℕ, zero, suc, List, [], ◌∷◌, ◌++◌, length, All, arith, inl, inr, Ok}, lemmas.List.Elements.All-append}, specs.Prelude.{◌⊎◌, Option}}
+use Rattle.diy_tools.proofs.Vocabulary.{ArchName, Writing, MAX_TEST_TEXT, TestRead, count_of, Rose, Files, ShelfSeen, EndsSeen, EndsSeenOrOneMore, TookFiles, took_no_more, IsShort, IsBegun, SumShelfFailed, End, Begins, FileFailed, tests_by_first_bytes}
+use Rattle.diy_tools.proofs.{Vocabulary.test_said, CountedLogs.{IsWithin, files_within}}
 
 -- files that were opened after one
 pub took_both : (a b c : ShelfSeen) (x : List ℕ) (ys : List (List ℕ)) → TookFiles a b (x ∷ []) → TookFiles b c ys → TookFiles a c (x ∷ ys)

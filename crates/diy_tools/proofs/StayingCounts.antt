@@ -1,15 +1,9 @@
 -- A tool that reads no file leaves the shelf's counts of bytes, files and ends as they were.
-use Rattle.std.proofs.Common.{◌≡◌, List, Option, Some, None, sym, refl, subst, inl, inr}
-use Rattle.std.specs.Prelude.{ℕ, ◌⊎◌}
-use Rattle.diy_io.specs.{Shelf.{CountsStay, ShelfSeen}, Wrote.SinkSeen}
-use Rattle.diy_words.specs.Requests.{CrossTask, ListTask}
-use Rattle.relax_edges.specs.declared.edge.Edge.{Edge}
-use Rattle.tests_to_files.specs.{declared.ending.ListingEnd.ListingEnd, ListingEnds.{StopsAtTest, StopsAtAll}, Plans.{IsPlanned, planned_text}}
+use Rattle.std.{proofs.Common.{◌≡◌, List, Option, Some, None, sym, refl, subst, inl, inr}, specs.Prelude.{ℕ, ◌⊎◌}}
+use Rattle.diy_tools.{proofs.Vocabulary.{CountsStay, ShelfSeen, SinkSeen, CrossTask, ListTask, Edge, ListingEnd, StopsAtTest, StopsAtAll, IsPlanned, planned_text, Refusal}, specs.{ListAnswers.{EndsAsked, plan_asked}, CrossAnswers.AnswersCross}}
+use Rattle.diy_tools.specs.{CrossAnswers.EndsCrossed, ArchMachines.Machine, WhyAnswers.{AnswersRuns, WritesRuns}}
 use Rattle.tests_to_files.specs.declared.ending.ListingEnd.TheVariants as listings
-use Rattle.test_maker.specs.declared.refusal.Refusal.{Refusal}
-use Rattle.run_status.specs.{declared.status.Status.Status, declared.status.Device.TheVariants.{Out, Shelf}}
-use Rattle.diy_tools.specs.{ListAnswers.{EndsAsked, plan_asked}, CrossAnswers.{AnswersCross, EndsCrossed}}
-use Rattle.diy_tools.specs.{ArchMachines.Machine, WhyAnswers.{AnswersRuns, WritesRuns}}
+use Rattle.run_status.specs.declared.status.{Status.Status, Device.TheVariants.{Out, Shelf}}
 use Rattle.run_status.specs.declared.status.Status.TheVariants as statuses
 
 -- a shelf that stays as it was

@@ -1,16 +1,9 @@
 -- What is answered of a sum, by where its logs are; and which requests ask for one.
-use Rattle.std.proofs.Common.{◌≡◌, ◌<◌, ◌≤◌, ℕ, true, false, List, [], length, map, Option, Some, None, Ok, refl, sym, ap, ◌∙◌, subst}
-use Rattle.std.specs.Prelude.{Bool, Result, if◌then◌else◌}
-use Rattle.std.proofs.lemmas.Bool.{le-ltb, lt-ltb}
-use Rattle.diy_io.specs.{Shelf.ShelfSeen, Taken.SourceSeen, Wrote.SinkSeen}
-use Rattle.log_sum.specs.{Skipping.Skipped, Sieving.skipped_view}
-use Rattle.msum7_files.specs.declared.{sum_form.SumForm.SumForm, wrong_blocks.WrongBlocks.WrongBlocks}
-use Rattle.diy_words.specs.{declared.request.Request.Request, declared.usage.Usage.Usage, Given.GivesTask, Requests.{Task, AsksSum, asked_of}}
+use Rattle.std.{proofs.{Common.{◌≡◌, ◌<◌, ◌≤◌, ℕ, true, false, List, [], length, map, Option, Some, None, Ok, refl, sym, ap, ◌∙◌, subst}, lemmas.Bool.{le-ltb, lt-ltb}}, specs.Prelude.{Bool, Result, if◌then◌else◌}}
+use Rattle.diy_tools.{proofs.Vocabulary.{ShelfSeen, SourceSeen, SinkSeen, Skipped, skipped_view, SumForm, WrongBlocks, Request, Usage, GivesTask, Task, AsksSum, asked_of, Outcome, Status, TakesLine, report_lines}, specs.Answers.{Answers, AnswersAsked}}
+use Rattle.diy_tools.specs.{Devices.{DevicesSeen, devices}, Reported.{Reports, ReportsFor}, KeptRequests.{Gives, GivesFor, GivesSum, sum_requested}, SumAnswers.{EndsAmong, EndsFiles, EndsInput, SumEnd, first_log, name_logs, skipped_in, sum_asked}}
+use Rattle.diy_tools.specs.SumAnswers.{sum_status}
 use Rattle.diy_words.specs.declared.request.Request.TheVariants as requests
-use Rattle.run_status.specs.{declared.outcome.Outcome.Outcome, declared.status.Status.Status, Report.{TakesLine}, SkippedLines.report_lines}
-use Rattle.diy_tools.specs.{Answers.{Answers, AnswersAsked}, Devices.{DevicesSeen, devices}, Reported.{Reports, ReportsFor}}
-use Rattle.diy_tools.specs.KeptRequests.{Gives, GivesFor, GivesSum, sum_requested}
-use Rattle.diy_tools.specs.SumAnswers.{EndsAmong, EndsFiles, EndsInput, SumEnd, first_log, name_logs, skipped_in, sum_asked, sum_status}
 
 -- an outcome says how the summing ended, and from which argument on the logs are named
 pub record IsOutcome (outcome : Outcome) (first : Option ℕ) (end : SumEnd) : Type 0 where

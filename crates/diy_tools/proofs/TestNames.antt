@@ -1,9 +1,6 @@
 -- A text that can name a test: words, printed tests and the names of cycles have one form of it.
-use Rattle.std.proofs.{Common.{◌≡◌, ℕ, true, nat_lt, nat_le, List, length, arith}, lemmas.Bool.{and_parts, and_from}, lemmas.Bool.Decides.nat_tests}
-use Rattle.std.specs.{Prelude.{◌&&◌, ◌↔◌}, List.list_all}
-use Rattle.text_parts.specs.Names.{is_name_byte}
-use Rattle.litmus_text.specs.Printable.{IsTestName}
-use Rattle.diy_words.specs.TestNames.{is_name}
+use Rattle.std.{proofs.{Common.{◌≡◌, ℕ, true, nat_lt, nat_le, List, length, arith}, lemmas.Bool.{and_parts, and_from, Decides.nat_tests}}, specs.{Prelude.{◌&&◌, ◌↔◌}, List.list_all}}
+use Rattle.diy_tools.proofs.Vocabulary.{is_name_byte, IsTestName, is_name}
 
 -- a text is a name in words exactly where it is one in a printed test
 pub words_name : (text : List ℕ) → (is_name text ≡ true) ↔ IsTestName text

@@ -1,18 +1,8 @@
 -- What is written of two executions, as the answers see it.
-use Rattle.std.proofs.Common.{◌≡◌, ℕ, List, [], ◌∷◌, Option, Some, None, refl, sym, ap, ◌∙◌, subst, inl, inr}
-use Rattle.std.specs.Prelude.{codes}
-use Rattle.relax_edges.specs.{declared.kinds.ObsMode.TheVariants.Avoid, declared.edge.Edge.Edge}
-use Rattle.cycle_events.specs.{Resolution.turned, Values.observer_need}
-use Rattle.diy_io.specs.{Shelf.{ShelfSeen, Idle}, Wrote.SinkSeen}
-use Rattle.exec_text.specs.Written.{text_of_execution}
-use Rattle.tests_to_files.specs.Putting.{PutFiles}
-use Rattle.litmus_text.specs.TestReading.{TestRead}
-use Rattle.program_meaning.specs.Executions.{Execution}
-use Rattle.test_maker.specs.{CycleText.cycle_text, declared.refusal.Refusal.Refusal}
-use Rattle.two_runs.specs.Shown.{AreRunsFor, why_refused}
-use Rattle.run_status.specs.{declared.status.Status.Status, declared.status.Device.TheVariants.{Out, Shelf}}
-use Rattle.diy_tools.specs.{KeptRequests.WritesInMemory, ArchMachines.Machine}
-use Rattle.diy_tools.specs.{PrintAnswers.Prints, WhyAnswers.{AnswersRuns, WritesFiles, WritesRuns, why_files, why_line, why_path}}
+use Rattle.std.{proofs.Common.{◌≡◌, ℕ, List, [], ◌∷◌, Option, Some, None, refl, sym, ap, ◌∙◌, subst, inl, inr}, specs.Prelude.codes}
+use Rattle.diy_tools.{proofs.Vocabulary.{Avoid, Edge, turned, observer_need, ShelfSeen, Idle, SinkSeen, text_of_execution, PutFiles, TestRead, Execution, cycle_text, Refusal, AreRunsFor, why_refused}, specs.KeptRequests.WritesInMemory}
+use Rattle.diy_tools.specs.{ArchMachines.Machine, PrintAnswers.Prints, WhyAnswers.{AnswersRuns, WritesFiles, WritesRuns, why_files, why_line, why_path}}
+use Rattle.run_status.specs.declared.status.{Status.Status, Device.TheVariants.{Out, Shelf}}
 use Rattle.run_status.specs.declared.status.Status.TheVariants as statuses
 
 -- the text that was made is that of the cycle's test without observers

@@ -1,14 +1,12 @@
 -- How a call of `run` ends and what it leaves on its devices, by what the arguments ask for.
 -- Source: own.
 use Rattle.std.specs.Prelude.{ℕ, ◌≡◌, List, Result, Ok, Err}
-use Rattle.diy_words.specs.declared.usage.Usage.{Usage}
-use Rattle.diy_words.specs.Requests.{Task, AsksTest, AsksWhy, AsksCoherence, AsksName, AsksList, AsksFamilies, AsksSum, AsksCross, AsksDemo, AsksCheck, AsksExecution, AsksCoherenceExecution, AsksNeeds, AsksLines, AsksLineTests, AsksStates, asked_of}
-use Rattle.run_status.specs.{declared.status.Status.Status}
-use Rattle.diy_tools.specs.{Devices.{Devices, OutAlone, InputAndOut, ShelfAndOut, DevicesSeen, devices}, TestAnswers.AnswersTest}
-use Rattle.diy_tools.specs.{NameAnswers.AnswersSought, FamilyAnswers.AnswersClassify, ListAnswers.{AnswersList, AnswersListed}, CrossAnswers.AnswersCross}
-use Rattle.diy_tools.specs.{DemoAnswers.demo_asked, CheckAnswers.AnswersCheck, PrintAnswers.Prints, SumAnswers.AnswersSum, WhyAnswers.AnswersWhy}
-use Rattle.diy_tools.specs.{CoherenceAnswers.AnswersCoherence, ExecutionAnswers.{AnswersExecution, AnswersCoherenceExecution}, NeedsAnswers.AnswersNeeds}
-use Rattle.diy_tools.specs.{LineTestAnswers.AnswersLineTests, StatesAnswers.AnswersStates}
+use Rattle.diy_words.specs.{declared.usage.Usage.Usage, Requests.{Task, AsksTest, AsksWhy, AsksCoherence, AsksName, AsksList, AsksFamilies, AsksSum, AsksCross, AsksDemo, AsksCheck, AsksExecution, AsksCoherenceExecution, AsksNeeds, AsksLines}}
+use Rattle.diy_words.specs.Requests.{AsksLineTests, AsksStates, asked_of}
+use Rattle.run_status.specs.declared.status.Status.{Status}
+use Rattle.diy_tools.specs.{Devices.{Devices, OutAlone, InputAndOut, ShelfAndOut, DevicesSeen, devices}, TestAnswers.AnswersTest, NameAnswers.AnswersSought, FamilyAnswers.AnswersClassify, ListAnswers.{AnswersList, AnswersListed}}
+use Rattle.diy_tools.specs.{CrossAnswers.AnswersCross, DemoAnswers.demo_asked, CheckAnswers.AnswersCheck, PrintAnswers.Prints, SumAnswers.AnswersSum, WhyAnswers.AnswersWhy, CoherenceAnswers.AnswersCoherence, ExecutionAnswers.AnswersExecution}
+use Rattle.diy_tools.specs.{ExecutionAnswers.AnswersCoherenceExecution, NeedsAnswers.AnswersNeeds, LineTestAnswers.AnswersLineTests, StatesAnswers.AnswersStates}
 use Rattle.run_status.specs.declared.status.Status.TheVariants as statuses
 
 -- the arguments make no request, the status says why, and no device changes; or the tool does what it is asked for, and the devices that it

@@ -3,38 +3,32 @@
 use Rattle.std.specs.Prelude.{◌≡◌, ◌≤◌, ◌<◌, ◌+◌, ◌^◌, ◌⊎◌, ℕ, List, [], ◌∷◌, length, Option, Some, None, Result, Ok, Err}
 use Rattle.relax_edges.specs.declared.kinds.ArchName.{ArchName}
 use Rattle.cycle_names.specs.Laws.{NamesNone}
-use Rattle.cycles_from_lines.specs.{declared.errors.LinesError.LinesError, Classified.{ClassifiedAll, ClassifiedPart, ReadsUpTo}}
-use Rattle.cycles_from_lines.specs.Normed.{NormedAll, NormedPart, NormedUpTo, name_line}
+use Rattle.cycles_from_lines.specs.{declared.{errors.LinesError.LinesError, line.LineForm.TheVariants.{Edges, Names}}, Classified.{ClassifiedAll, ClassifiedPart, ReadsUpTo}, Normed.{NormedAll, NormedPart, NormedUpTo, name_line}}
 use Rattle.cycles_from_lines.specs.declared.errors.LinesError.TheVariants as lines
-use Rattle.cycles_from_lines.specs.declared.line.LineForm.TheVariants.{Edges, Names}
-use Rattle.tests_from_files.specs.{declared.classified_errors.FilesEnd.FilesEnd, declared.classified_errors.FileKind.FileKind}
+use Rattle.tests_from_files.specs.declared.classified_errors.{FilesEnd.FilesEnd, FileKind.FileKind}
 use Rattle.tests_from_files.specs.declared.classified_errors.FilesEnd.TheVariants as classing
 use Rattle.tests_from_files.specs.declared.classified_errors.FileKind.TheVariants as kinds
-use Rattle.exec_check.specs.{declared.checked_errors.CheckEnd.CheckEnd, declared.checked_errors.CheckedKind.CheckedKind}
+use Rattle.exec_check.specs.declared.checked_errors.{CheckEnd.CheckEnd, CheckedKind.CheckedKind}
 use Rattle.exec_check.specs.declared.checked_errors.CheckEnd.TheVariants as checking
 use Rattle.exec_check.specs.declared.checked_errors.CheckedKind.TheVariants as checked
 use Rattle.diy_io.specs.{Count.{Rose, count_of}, Taken.SourceSeen, Wrote.{SinkSeen, WroteAll, WrotePart}}
-use Rattle.diy_words.specs.{declared.usage.Usage.Usage, declared.usage.UsageKind.UsageKind, declared.usage.UsageKind.TheVariants.UnknownName}
-use Rattle.diy_words.specs.declared.request.ExecutionForm.{ExecutionForm}
-use Rattle.diy_words.specs.Requests.{Task, TestTask, CoherenceTask, Sought, WhyTask, AsksTest, AsksWhy, AsksCoherence, AsksName, AsksList, AsksFamilies, AsksSum, AsksCross, AsksDemo, AsksCheck, AsksExecution, AsksCoherenceExecution, AsksNeeds, AsksLines, AsksLineTests, AsksStates, OfEdges, OfName, OfLines, OfNames, asked_of}
-use Rattle.states_of_logs.specs.declared.states_end.{StatesEnd.StatesEnd}
+use Rattle.diy_words.specs.{declared.{usage.{Usage.Usage, UsageKind.{UsageKind, TheVariants.UnknownName}}, request.ExecutionForm.ExecutionForm}, Requests.{Task, TestTask, CoherenceTask, Sought, WhyTask, AsksTest, AsksWhy, AsksCoherence, AsksName}}
+use Rattle.diy_words.specs.Requests.{AsksList, AsksFamilies, AsksSum, AsksCross, AsksDemo, AsksCheck, AsksExecution, AsksCoherenceExecution, AsksNeeds, AsksLines, AsksLineTests, AsksStates, OfEdges, OfName, OfLines, OfNames, asked_of}
+use Rattle.states_of_logs.specs.declared.states_end.StatesEnd.{StatesEnd}
 use Rattle.states_of_logs.specs.declared.states_end.StatesEnd.TheVariants as judging
 use Rattle.states_of_logs.specs.declared.states_end.StatesKind.TheVariants as judged
-use Rattle.diy_tools.specs.StatesAnswers.{EndsJudged}
+use Rattle.diy_tools.specs.{StatesAnswers.EndsJudged, Devices.{Devices, OutAlone, InputAndOut, ShelfAndOut, DevicesSeen, devices}, CheckAnswers.EndsCheck, CrossAnswers.EndsCrossed, DemoAnswers.demo_asked, FamilyAnswers.EndsFamilies}
+use Rattle.diy_tools.specs.{ListAnswers.{EndsAsked, AnswersListed}, Memory.MayWantMemory, NameAnswers.PrintsNamed, Refused.refused_list, SumAnswers.{EndsSum, WritesSum, first_log}, TestAnswers.{asked_text, test_name, test_refused}}
+use Rattle.diy_tools.specs.{ArchMachines.machine_of, WhyAnswers.{WritesRuns, why_unshown}, CoherenceAnswers.{coherence_refused, incoherent_text}, ExecutionAnswers.PrintsRun, LineTestAnswers.EndsLined, NeedsAnswers.needs_asked}
 use Rattle.tests_to_files.specs.declared.ending.ListingEnd.TheVariants as listings
-use Rattle.msum7_files.specs.{declared.faults.LogsFault.LogsFault, declared.faults.SumFault.TheVariants.{Unread, Out as OutFault}, LogsRead.LogFileMissing}
+use Rattle.msum7_files.specs.{declared.faults.{LogsFault.LogsFault, SumFault.TheVariants.{Unread, Out as OutFault}}, LogsRead.LogFileMissing}
 use Rattle.msum7_files.specs.declared.faults.LogsFault.TheVariants as sums
 use Rattle.two_runs.specs.{IntendedRuns.intended_by, CoherenceRuns.incoherent_by}
 use Rattle.test_maker.specs.declared.refusal.Refusal.{Refusal}
 use Rattle.lines_to_files.specs.declared.{ending.LineTestsEnd.LineTestsEnd, form.WrongTest.WrongTest}
 use Rattle.lines_to_files.specs.declared.ending.LineTestsEnd.TheVariants as tests
 use Rattle.lines_to_files.specs.declared.form.WrongTest.TheVariants as wrongs
-use Rattle.run_status.specs.{declared.status.Status.Status, declared.status.Device.TheVariants.{Input, Out, Shelf}}
-use Rattle.diy_tools.specs.{Devices.{Devices, OutAlone, InputAndOut, ShelfAndOut, DevicesSeen, devices}, CheckAnswers.EndsCheck, CrossAnswers.EndsCrossed}
-use Rattle.diy_tools.specs.{DemoAnswers.demo_asked, FamilyAnswers.EndsFamilies, ListAnswers.{EndsAsked, AnswersListed}, Memory.MayWantMemory}
-use Rattle.diy_tools.specs.{NameAnswers.PrintsNamed, Refused.refused_list, SumAnswers.{EndsSum, WritesSum, first_log}, TestAnswers.{asked_text, test_name, test_refused}}
-use Rattle.diy_tools.specs.{ArchMachines.machine_of, WhyAnswers.{WritesRuns, why_unshown}, CoherenceAnswers.{coherence_refused, incoherent_text}}
-use Rattle.diy_tools.specs.{ExecutionAnswers.PrintsRun, LineTestAnswers.EndsLined, NeedsAnswers.needs_asked}
+use Rattle.run_status.specs.declared.status.{Status.Status, Device.TheVariants.{Input, Out, Shelf}}
 use Rattle.run_status.specs.declared.status.Status.TheVariants as statuses
 use Rattle.run_status.specs.declared.status.TextKind.TheVariants as texts
 

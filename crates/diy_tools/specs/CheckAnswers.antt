@@ -1,18 +1,16 @@
 -- What mcheck7 does.
 -- Source: own.
 use Rattle.std.specs.Prelude.{◌≡◌, ℕ, List, Some}
-use Rattle.exec_check.specs.declared.{checked_errors.CheckEnd.CheckEnd, checked_errors.CheckedKind.CheckedKind, shown.Shown.Shown}
+use Rattle.exec_check.specs.{declared.{checked_errors.{CheckEnd.CheckEnd, CheckedKind.CheckedKind}, shown.Shown.Shown}, FilesChecked.FilesChecked}
 use Rattle.exec_check.specs.declared.shown.Shown.TheVariants as shown
 use Rattle.exec_check.specs.declared.checked_errors.CheckEnd.TheVariants as ends
 use Rattle.exec_check.specs.declared.checked_errors.CheckedKind.TheVariants as kinds
-use Rattle.exec_check.specs.FilesChecked.{FilesChecked}
 use Rattle.diy_io.specs.{Shelf.ShelfSeen, Wrote.SinkSeen}
-use Rattle.diy_words.specs.declared.{request.Check.Check, request.CheckForm.CheckForm}
+use Rattle.diy_words.specs.declared.request.{Check.Check, CheckForm.CheckForm}
 use Rattle.diy_words.specs.declared.request.CheckForm.TheVariants as forms
-use Rattle.run_status.specs.declared.status.{Status.Status, TextKind.TextKind, Device.TheVariants.Out, Device.TheVariants.Shelf}
-use Rattle.run_status.specs.declared.status.Status.TheVariants.{Done, BadText, NoFile, ReadFault, WriteFault, NoMemory}
+use Rattle.run_status.specs.declared.status.{Status.{Status, TheVariants.{Done, BadText, NoFile, ReadFault, WriteFault, NoMemory}}, TextKind.TextKind, Device.TheVariants.{Out, Shelf}}
 use Rattle.run_status.specs.declared.status.TextKind.TheVariants as texts
-use Rattle.diy_tools.specs.{Devices.Devices, Devices.ShelfAndOut, ArchMachines.machine_of}
+use Rattle.diy_tools.specs.{Devices.{Devices, ShelfAndOut}, ArchMachines.machine_of}
 
 -- an error in the file of a test or in that of an execution, as an error in a text
 abbrev pub checked_kind : CheckedKind → TextKind

@@ -7,7 +7,7 @@ use Rattle.diy_words.specs.Requests.{CoherenceTask}
 use Rattle.arch_trait.specs.Threads.{Puts}
 use Rattle.co_tests.specs.CoRefusals.{coherence_refusal_of, coherence_text}
 use Rattle.test_maker.specs.declared.refusal.Refusal.{Refusal}
-use Rattle.run_status.specs.{declared.status.Status.Status}
+use Rattle.run_status.specs.declared.status.Status.{Status}
 use Rattle.diy_tools.specs.{ArchMachines.machine_of, PrintAnswers.AnswersEdges, Refused.refused_list, TestAnswers.test_name}
 
 -- the first reason why a list of edges has no coherence test on an architecture

@@ -1,27 +1,21 @@
 -- If the arguments ask for what can be done and no device fails, it is done, unless a tool that can run out of memory does.
 -- Source: own.
 use Rattle.std.specs.Prelude.{◌≡◌, ◌≤◌, ◌+◌, ◌⊎◌, ⊤, ℕ, Bool, true, false, List, ◌∷◌, [], length, Option, Some, None, Result, Ok, Err}
-use Rattle.relax_edges.specs.{declared.edge.Edge.Edge, declared.kinds.ArchName.ArchName}
-use Rattle.tests_from_files.specs.FilesEnds.{ReadFiles}
+use Rattle.relax_edges.specs.declared.{edge.Edge.Edge, kinds.ArchName.ArchName}
+use Rattle.tests_from_files.specs.{FilesEnds.ReadFiles, TestSaid.test_said}
 use Rattle.exec_check.specs.FilesChecked.{AreTestAndExecution}
 use Rattle.cycle_names.specs.Laws.{NamesNone}
-use Rattle.cycles_from_lines.specs.{Cycles.are_sound, declared.line.LineForm.LineForm, declared.line.LineForm.TheVariants.{Edges, Names}}
+use Rattle.cycles_from_lines.specs.{Cycles.are_sound, declared.line.LineForm.{LineForm, TheVariants.{Edges, Names}}}
 use Rattle.text_parts.specs.Lines.{lines_of}
 use Rattle.diy_io.specs.{declared.source.TheConstants.MAX_INPUT, Count.Rose, Shelf.Files, Opened.name_at}
-use Rattle.diy_words.specs.{declared.usage.Usage.Usage, declared.request.Check.Check}
-use Rattle.diy_words.specs.Requests.{Task, Sought, AsksTest, AsksWhy, AsksCoherence, AsksName, AsksList, AsksFamilies, AsksSum, AsksCross, AsksDemo, AsksCheck, AsksExecution, AsksCoherenceExecution, AsksNeeds, AsksLines, AsksLineTests, AsksStates, OfEdges, OfName, OfLines, OfNames, asked_of}
-use Rattle.msum7_files.specs.declared.sum_form.SumForm.{SumForm}
-use Rattle.msum7_files.specs.{Logs.{IsText, IsShort, AreRight}, LogsRead.AreLogs, declared.wrong_blocks.WrongBlocks.WrongBlocks}
-use Rattle.msum7_files.specs.declared.wrong_blocks.WrongBlocks.TheVariants.{End, Skip}
+use Rattle.diy_words.specs.{declared.{usage.Usage.Usage, request.{Check.Check, States.States}}, Requests.{Task, Sought, AsksTest, AsksWhy, AsksCoherence, AsksName, AsksList, AsksFamilies, AsksSum, AsksCross, AsksDemo, AsksCheck, AsksExecution}}
+use Rattle.diy_words.specs.Requests.{AsksCoherenceExecution, AsksNeeds, AsksLines, AsksLineTests, AsksStates, OfEdges, OfName, OfLines, OfNames, asked_of}
+use Rattle.msum7_files.specs.{declared.{sum_form.SumForm.SumForm, wrong_blocks.WrongBlocks.{WrongBlocks, TheVariants.{End, Skip}}}, Logs.{IsText, IsShort, AreRight}, LogsRead.AreLogs}
 use Rattle.litmus_text.specs.TestReading.{TestRead}
-use Rattle.tests_from_files.specs.TestSaid.{test_said}
 use Rattle.states_of_logs.specs.StatesSummed.{states_in_logs}
-use Rattle.diy_words.specs.declared.request.States.{States}
-use Rattle.run_status.specs.{declared.status.Status.Status, declared.status.Status.TheVariants.{Done, Skipped, NoMemory}}
-use Rattle.diy_tools.specs.{Devices.{Devices, DevicesSeen, devices}}
-use Rattle.diy_tools.specs.{FamilyAnswers.read_on, ArchMachines.machine_of, Memory.MayWantMemory, Refused.refused_list, TestAnswers.test_refused, SumAnswers.{first_log, name_logs}}
-use Rattle.diy_tools.specs.{WhyAnswers.why_unshown, CoherenceAnswers.coherence_refused, LineTestAnswers.making_asked}
-use Rattle.diy_tools.specs.StatesAnswers.{judge_logs}
+use Rattle.run_status.specs.declared.status.Status.{Status, TheVariants.{Done, Skipped, NoMemory}}
+use Rattle.diy_tools.specs.{Devices.{Devices, DevicesSeen, devices}, FamilyAnswers.read_on, ArchMachines.machine_of, Memory.MayWantMemory, Refused.refused_list, TestAnswers.test_refused, SumAnswers.{first_log, name_logs}, WhyAnswers.why_unshown}
+use Rattle.diy_tools.specs.{CoherenceAnswers.coherence_refused, LineTestAnswers.making_asked, StatesAnswers.judge_logs}
 use Rattle.lines_to_files.specs.{TestFiles.Making, LineTestEnds.AreRightLines}
 
 -- a text has at most 2^40 bytes, and none of its lines of cycles has an error

@@ -1,14 +1,13 @@
 -- What diycross7 does.
 -- Source: own.
 use Rattle.std.specs.Prelude.{◌≡◌, ◌⊎◌, ℕ, List, Option}
-use Rattle.relax_edges.specs.{declared.edge.Edge.Edge, declared.kinds.ObsMode.ObsMode}
+use Rattle.relax_edges.specs.declared.{edge.Edge.Edge, kinds.ObsMode.ObsMode}
 use Rattle.diycross7_cycles.specs.Choices.{crossed}
 use Rattle.diy_io.specs.{Shelf.ShelfSeen, Wrote.SinkSeen}
 use Rattle.diy_words.specs.Requests.{CrossTask}
 use Rattle.tests_to_files.specs.{declared.ending.ListingEnd.ListingEnd, GivenCycles.EndsGiven, Plans.named_text}
-use Rattle.run_status.specs.{declared.status.Status.Status, declared.status.Status.TheVariants.NoMemory}
-use Rattle.diy_tools.specs.{ArchMachines.{Machine, machine_of}}
-use Rattle.diy_tools.specs.Statuses.{listing_status}
+use Rattle.run_status.specs.declared.status.Status.{Status, TheVariants.NoMemory}
+use Rattle.diy_tools.specs.{ArchMachines.{Machine, machine_of}, Statuses.listing_status}
 
 -- the cycles of the choices that the arguments ask for
 abbrev pub cycles_asked : CrossTask → List (List Edge)

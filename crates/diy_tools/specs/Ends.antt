@@ -2,9 +2,8 @@
 -- Source: own.
 use Rattle.std.specs.{Prelude.{◌≡◌, ◌⊎◌, ◌+◌, ⊤, ℕ, false, List, [], Some, Result, Ok}, Io.KnownBytes.IsAtEnd}
 use Rattle.diy_io.specs.{Count.count_of, Opened.{EndsSeen, EndsSeenOrOneMore}, Shelf.ShelfSeen, Taken.{SourceSeen, EndedOnce, NotEnded}}
-use Rattle.diy_words.specs.declared.usage.Usage.{Usage}
-use Rattle.diy_words.specs.Requests.{Task, Sought, AsksName, AsksFamilies, AsksSum, AsksLineTests, AsksStates, OfLines, OfNames, asked_of}
-use Rattle.run_status.specs.declared.status.{Status.Status, Status.TheVariants.{Done, Skipped, BadText, NoMemory}}
+use Rattle.diy_words.specs.{declared.usage.Usage.Usage, Requests.{Task, Sought, AsksName, AsksFamilies, AsksSum, AsksLineTests, AsksStates, OfLines, OfNames, asked_of}}
+use Rattle.run_status.specs.declared.status.Status.{Status, TheVariants.{Done, Skipped, BadText, NoMemory}}
 use Rattle.diy_tools.specs.{Devices.{Devices, DevicesSeen, devices}, SumAnswers.name_logs, StatesAnswers.judge_logs}
 
 -- norm7 reads the input: it is given no cycle, neither by its edges nor by its name

@@ -4,16 +4,14 @@ use Rattle.std.specs.Prelude.{ℕ, ◌≡◌, ◌⊎◌, List, Option, Some, Non
 use Rattle.diy_io.specs.Wrote.{SinkSeen}
 use Rattle.arch_trait.specs.PlaceNames.{number_in}
 use Rattle.exec_check.specs.ShownTexts.{IsGraph}
-use Rattle.diy_words.specs.Requests.{TestTask, CoherenceTask}
-use Rattle.diy_words.specs.declared.{request.ExecutionForm.ExecutionForm, request.ExecutionForm.TheVariants.{Text, Drawn}}
+use Rattle.diy_words.specs.{Requests.{TestTask, CoherenceTask}, declared.request.ExecutionForm.{ExecutionForm, TheVariants.{Text, Drawn}}}
 use Rattle.program_meaning.specs.Executions.{Execution}
 use Rattle.litmus_text.specs.TestReading.{TestRead}
 use Rattle.exec_text.specs.Written.{text_of_execution}
 use Rattle.two_runs.specs.{IntendedRuns.{IsRunOf, intended_by}, CoherenceRuns.incoherent_by}
 use Rattle.test_maker.specs.declared.refusal.Refusal.{Refusal}
-use Rattle.run_status.specs.{declared.status.Status.Status}
-use Rattle.diy_tools.specs.{ArchMachines.{Machine, machine_of}, PrintAnswers.Prints, TestAnswers.{asked_text, test_refused}}
-use Rattle.diy_tools.specs.CoherenceAnswers.{incoherent_text, coherence_refused}
+use Rattle.run_status.specs.declared.status.Status.{Status}
+use Rattle.diy_tools.specs.{ArchMachines.{Machine, machine_of}, PrintAnswers.Prints, TestAnswers.{asked_text, test_refused}, CoherenceAnswers.{incoherent_text, coherence_refused}}
 use Rattle.run_status.specs.declared.status.Status.TheVariants as statuses
 
 -- a text shows an execution of a test: it is that of the execution, or that of its graph, the one that mcheck7 -dot writes

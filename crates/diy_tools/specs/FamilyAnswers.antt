@@ -2,14 +2,12 @@
 -- Source: own.
 use Rattle.std.specs.Prelude.{◌≡◌, ℕ, List, [], ◌∷◌, Some, Result}
 use Rattle.relax_edges.specs.declared.kinds.ArchName.{ArchName}
-use Rattle.tests_from_files.specs.{declared.classified_errors.FilesEnd.FilesEnd, declared.classified_errors.FileKind.FileKind}
-use Rattle.tests_from_files.specs.FilesEnds.{Asked, FilesClassified}
+use Rattle.tests_from_files.specs.{declared.classified_errors.{FilesEnd.FilesEnd, FileKind.FileKind}, FilesEnds.{Asked, FilesClassified}}
 use Rattle.tests_from_files.specs.declared.classified_errors.FilesEnd.TheVariants as ends
 use Rattle.tests_from_files.specs.declared.classified_errors.FileKind.TheVariants as kinds
 use Rattle.cycles_from_lines.specs.{Classified.Classifies, declared.errors.ClassifyError.ClassifyError}
 use Rattle.diy_io.specs.{Shelf.ShelfSeen, Taken.SourceSeen, Wrote.SinkSeen}
-use Rattle.run_status.specs.{declared.status.Status.Status, declared.status.TextKind.TextKind, declared.status.Device.TheVariants.{Out, Shelf}}
-use Rattle.run_status.specs.declared.status.Status.TheVariants.{Done, BadText, NoFile, ReadFault, WriteFault, NoMemory}
+use Rattle.run_status.specs.declared.status.{Status.{Status, TheVariants.{Done, BadText, NoFile, ReadFault, WriteFault, NoMemory}}, TextKind.TextKind, Device.TheVariants.{Out, Shelf}}
 use Rattle.diy_tools.specs.{Devices.{Devices, InputAndOut, ShelfAndOut}, ArchMachines.machine_of, Statuses.classify_status}
 use Rattle.run_status.specs.declared.status.TextKind.TheVariants as texts
 

@@ -8,26 +8,20 @@ use Rattle.relax_edges.specs.declared.{edge.Edge.Edge, kinds.ObsMode.ObsMode}
 use Rattle.cycle_events.specs.Resolution.{turned}
 use Rattle.cycle_names.specs.CycleNames.{name_of}
 use Rattle.diy_io.specs.{Shelf.ShelfSeen, Wrote.SinkSeen}
-use Rattle.diy_words.specs.declared.usage.Usage.{Usage}
-use Rattle.diy_words.specs.declared.request.ExecutionForm.{ExecutionForm}
-use Rattle.diy_words.specs.Requests.{Task, ListTask, AsksTest, AsksWhy, AsksCoherence, AsksList, CrossTask, AsksCross, AsksExecution, AsksCoherenceExecution, AsksNeeds, AsksLines, AsksLineTests, LineTestsTask, asked_of}
-use Rattle.tests_to_files.specs.{ListedFiles.last_number, Plans.{IsPlanned, planned_text}}
-use Rattle.tests_to_files_laws.specs.OwnFiles.{HaveOwnFiles}
+use Rattle.diy_words.specs.{declared.{usage.Usage.Usage, request.ExecutionForm.ExecutionForm}, Requests.{Task, ListTask, AsksTest, AsksWhy, AsksCoherence, AsksList, CrossTask, AsksCross, AsksExecution, AsksCoherenceExecution, AsksNeeds, AsksLines}}
+use Rattle.diy_words.specs.Requests.{AsksLineTests, LineTestsTask, asked_of}
+use Rattle.tests_to_files.specs.{ListedFiles.last_number, Plans.{IsPlanned, planned_text}, OwnFiles.HaveOwnFiles}
 use Rattle.bytes_force_cycles.specs.{Links.LinksDecideIn, PrintedHeadline.BytesForce}
 use Rattle.litmus_text.specs.TestReading.{TestRead, test_read}
 use Rattle.sc_and_interleavings.specs.Links.{IsOrdering}
-use Rattle.needed_links.specs.Needs.{needs_text, ordering_edges}
+use Rattle.two_runs.specs.{Needs.{needs_text, ordering_edges}, IntendedRuns.intended_by, CoherenceRuns.incoherent_by}
 use Rattle.co_tests.specs.Incoherence.{BytesShowIncoherence}
-use Rattle.two_runs.specs.{IntendedRuns.intended_by, CoherenceRuns.incoherent_by}
-use Rattle.run_status.specs.declared.status.{Status.Status, Status.TheVariants.NoMemory}
-use Rattle.diy_tools.specs.{Devices.Devices, Devices.DevicesSeen, Devices.devices, ArchMachines.Machine, ArchMachines.machine_of, Refused.refused_of}
-use Rattle.diy_tools.specs.{PrintAnswers.Prints, TestAnswers.asked_text, TestAnswers.test_name, WhyAnswers.WritesRuns, WhyAnswers.why_unshown}
-use Rattle.diy_tools.specs.{CoherenceAnswers.coherence_refused, CoherenceAnswers.incoherent_text, CrossAnswers.AnswersCross}
-use Rattle.diy_tools.specs.{CrossAnswers.cycles_asked, CrossAnswers.crossed_text, ListAnswers.AnswersList, ListAnswers.AnswersListed, ListAnswers.plan_asked, ExecutionAnswers.PrintsRun}
+use Rattle.run_status.specs.declared.status.Status.{Status, TheVariants.NoMemory}
+use Rattle.diy_tools.specs.{Devices.{Devices, DevicesSeen, devices}, ArchMachines.{Machine, machine_of}, Refused.refused_of, PrintAnswers.Prints, TestAnswers.{asked_text, test_name}, WhyAnswers.{WritesRuns, why_unshown}}
+use Rattle.diy_tools.specs.{CoherenceAnswers.{coherence_refused, incoherent_text}, CrossAnswers.{AnswersCross, cycles_asked, crossed_text}, ListAnswers.{AnswersList, AnswersListed, plan_asked}, ExecutionAnswers.PrintsRun}
 use Rattle.diy_tools.specs.LineTestAnswers.{AnswersLineTests, making_asked}
-use Rattle.lines_to_files.specs.{declared.form.TestForm.TestForm, declared.form.TestForm.TheVariants.{Observed, Coherence}}
-use Rattle.lines_to_files.specs.{GivenTests.{GivenTest, tests_of}, TestFiles.{Making, text_in}, RightTests.AreRight}
-use Rattle.cycle_enum_laws.specs.Listing.{IsOneOf, AreAllListed}
+use Rattle.lines_to_files.specs.{declared.form.TestForm.{TestForm, TheVariants.{Observed, Coherence}}, GivenTests.{GivenTest, tests_of}, TestFiles.{Making, text_in}, RightTests.AreRight}
+use Rattle.cycle_enum.specs.Listing.{IsOneOf, AreAllListed}
 
 -- a text is printed, or a prefix of it if standard output fails, and the bytes of the text force a cycle
 pub record PrintsForcing (m : Machine) (name text : List ℕ) (cycle : List Edge) (mode : ObsMode) (status : Status) (old new : SinkSeen) : Type 0 where

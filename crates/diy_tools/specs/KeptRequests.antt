@@ -1,26 +1,22 @@
 -- Only for private functions: what is done for requests as they are kept, and the parts of this for a test, a listing, a sum and the rest.
 use Rattle.std.specs.{Prelude.{ℕ, ◌≡◌, ◌⊎◌, map, List, [], Option, Some, None, Result, Ok, Err}, Borrow.Bor, Option.{option_map, option_or}}
 use Rattle.arrayvec.specs.ArrayString.{ArrayString}
-use Rattle.relax_edges.specs.{declared.edge.Edge.Edge, declared.kinds.ArchName.ArchName, declared.kinds.ObsMode.ObsMode}
-use Rattle.edges_from_text.specs.{declared.list.EdgeList.EdgeList, declared.list.EdgeList.TheVariants.{Whole, TooLong}}
+use Rattle.relax_edges.specs.declared.{edge.Edge.Edge, kinds.{ArchName.ArchName, ObsMode.ObsMode}}
+use Rattle.edges_from_text.specs.declared.list.EdgeList.{EdgeList, TheVariants.{Whole, TooLong}}
 use Rattle.cycles_from_lines.specs.{Normed.name_line, declared.line.LineForm.TheVariants.{Edges, Names}}
 use Rattle.diy_io.specs.{Shelf.ShelfSeen, Taken.SourceSeen, Wrote.SinkSeen, declared.errors.Failed.Failed}
-use Rattle.diy_words.specs.{declared.request.Sought.Sought, declared.usage.Usage.Usage, declared.request.Check.Check, declared.request.Cross.Cross}
-use Rattle.diy_words.specs.{declared.request.DiyOne.DiyOne, declared.request.Coherence.Coherence, declared.request.Why.Why}
-use Rattle.diy_words.specs.{declared.request.LineTests.LineTests, Requests.{Task, ListTask, LineTestsTask, AsksCross, AsksSum}}
+use Rattle.diy_words.specs.{declared.{request.{Sought.Sought, Check.Check, Cross.Cross, DiyOne.DiyOne, Coherence.Coherence, Why.Why, LineTests.LineTests, ExecutionForm.ExecutionForm, Request.Request}, usage.Usage.Usage}, Requests.{Task, ListTask}}
+use Rattle.diy_words.specs.Requests.{LineTestsTask, AsksCross, AsksSum, asked_of}
 use Rattle.lines_to_files.specs.{declared.ending.LineTestsEnd.LineTestsEnd, LineTestEnds.EndsLineTests}
 use Rattle.diy_words.specs.declared.request.Sought.TheVariants as sought
-use Rattle.tests_to_files.specs.{declared.ending.ListingEnd.ListingEnd, declared.listing.Listing.Listing, ListedLines.EndsLines, ListingEnds.EndsListing}
-use Rattle.tests_to_files.specs.Plans.{plan_of, plan_in}
-use Rattle.two_runs.specs.{IntendedRuns.intended_by, CoherenceRuns.incoherent_by, declared.shown.TwoRuns.TwoRuns, Shown.why_refused}
+use Rattle.tests_to_files.specs.{declared.{ending.ListingEnd.ListingEnd, listing.Listing.Listing}, ListedLines.EndsLines, ListingEnds.EndsListing, Plans.{plan_of, plan_in}}
+use Rattle.two_runs.specs.{IntendedRuns.intended_by, CoherenceRuns.incoherent_by, declared.shown.TwoRuns.TwoRuns, Shown.why_refused, Needs.needs_text}
 use Rattle.program_meaning.specs.Executions.{Execution}
 use Rattle.litmus_text.specs.TestReading.{TestRead}
-use Rattle.diy_tools.specs.{ExecutionAnswers.{AnswersRun, Shows}, PrintAnswers.{Prints, AnswersEdges}}
-use Rattle.run_status.specs.{declared.status.Status.Status}
-use Rattle.diy_tools.specs.{CheckAnswers.{EndsChecked, check_status, shown_of}, CrossAnswers.{AnswersCross, AnswersChoices}}
-use Rattle.diy_tools.specs.{FamilyAnswers.{EndsNamed, files_status}, ArchMachines.{Machine, machine, machine_of}, NameAnswers.{AnswersLines, AnswersName}}
-use Rattle.diy_tools.specs.{TestAnswers.test_name, Devices.{Devices, DevicesSeen, devices}, SumAnswers.{EndsSum, SumEnd, first_named, skipped_in, sum_asked, sum_status}, Refused.refused_list}
-use Rattle.diy_tools.specs.{WhyAnswers.{WritesFiles, AnswersRuns, why_files, why_line}, LineTestAnswers.{AnswersLineTests, making_asked}}
+use Rattle.diy_tools.specs.{ExecutionAnswers.{AnswersRun, Shows}, PrintAnswers.{Prints, AnswersEdges}, CheckAnswers.{EndsChecked, check_status, shown_of}, CrossAnswers.{AnswersCross, AnswersChoices}, FamilyAnswers.{EndsNamed, files_status}}
+use Rattle.diy_tools.specs.{ArchMachines.{Machine, machine, machine_of}, NameAnswers.{AnswersLines, AnswersName}, TestAnswers.test_name, Devices.{Devices, DevicesSeen, devices}, SumAnswers.{EndsSum, SumEnd, first_named, skipped_in, sum_asked}}
+use Rattle.diy_tools.specs.{SumAnswers.sum_status, Refused.refused_list, WhyAnswers.{WritesFiles, AnswersRuns, why_files, why_line}, LineTestAnswers.{AnswersLineTests, making_asked}, Answers.Answers}
+use Rattle.run_status.specs.declared.{status.Status.Status, outcome.Outcome.Outcome}
 use Rattle.msum7_files.specs.declared.{sum_form.SumForm.SumForm, wrong_blocks.WrongBlocks.WrongBlocks}
 use Rattle.test_maker.specs.{CycleText.cycle_text, Refusals.refusal_of, declared.refusal.Refusal.Refusal}
 use Rattle.test_maker.specs.declared.refusal.Refusal.TheVariants as refusals
@@ -29,14 +25,9 @@ use Rattle.exec_check.specs.{declared.checked_errors.CheckEnd.CheckEnd, FilesChe
 use Rattle.arch_trait.specs.{Threads.Puts, Writing.Writing}
 use Rattle.exec_text.specs.Written.{text_of_execution}
 use Rattle.cycle_events.specs.Resolution.{turned}
-use Rattle.diy_words.specs.declared.request.ExecutionForm.{ExecutionForm}
-use Rattle.needed_links.specs.Needs.{needs_text}
 use Rattle.co_tests.specs.CoRefusals.{coherence_refusal_of, coherence_text}
 use Rattle.log_sum.specs.Sieving.{skipped_view}
-use Rattle.run_status.specs.{declared.outcome.Outcome.Outcome}
-use Rattle.diy_words.specs.{Requests.asked_of, declared.request.Request.Request}
 use Rattle.diy_words.specs.declared.request.Request.TheVariants as requests
-use Rattle.diy_tools.specs.Answers.{Answers}
 use Rattle.run_status.specs.declared.status.Status.TheVariants as statuses
 
 -- the edges that are kept; none if there are too many

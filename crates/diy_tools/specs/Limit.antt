@@ -5,10 +5,9 @@ use Rattle.diy_io.specs.{Count.count_of, Opened.IsFile, Shelf.ShelfSeen}
 use Rattle.log_sum.specs.declared.errors.LogKind.{LogKind}
 use Rattle.msum7_files.specs.{Logs.{IsText, PrefixWrong}, LogsRead.{IsAtWord, log_error_at}}
 use Rattle.diy_words.specs.{declared.usage.Usage.Usage, Requests.{Task, AsksLineTests, AsksStates, AsksSum, asked_of}}
-use Rattle.run_status.specs.{declared.status.Status.Status, declared.status.Status.TheVariants.{BadText, WriteFault, NoMemory}, declared.status.Device.TheVariants.Shelf}
+use Rattle.run_status.specs.declared.status.{Status.{Status, TheVariants.{BadText, WriteFault, NoMemory}}, Device.TheVariants.Shelf}
 use Rattle.run_status.specs.declared.status.TextKind.TheVariants as texts
-use Rattle.diy_tools.specs.{Devices.{Devices, DevicesSeen, devices}, SumAnswers.first_log}
-use Rattle.diy_tools.specs.Memory.{MayWantMemory}
+use Rattle.diy_tools.specs.{Devices.{Devices, DevicesSeen, devices}, SumAnswers.first_log, Memory.MayWantMemory}
 
 -- more than 2^40 bytes were taken: from the input, as far as they are counted, or from the last file that was opened during the call
 abbrev pub TookTooMuch : Devices → Devices → Type 0

@@ -1,15 +1,13 @@
 -- What diyone7 -lines does.
 -- Source: own.
 use Rattle.std.specs.Prelude.{◌≡◌, None}
-use Rattle.lines_to_files.specs.declared.{ending.LineTestsEnd.LineTestsEnd, form.TestForm.TestForm, form.WrongTest.WrongTest}
+use Rattle.lines_to_files.specs.{declared.{ending.LineTestsEnd.LineTestsEnd, form.{TestForm.TestForm, WrongTest.WrongTest}}, LineTestEnds.EndsLineTests, TestFiles.Making}
 use Rattle.lines_to_files.specs.declared.ending.LineTestsEnd.TheVariants as ends
 use Rattle.lines_to_files.specs.declared.form.TestForm.TheVariants as tests
 use Rattle.lines_to_files.specs.declared.form.WrongTest.TheVariants as wrong
-use Rattle.lines_to_files.specs.{LineTestEnds.EndsLineTests, TestFiles.Making}
 use Rattle.diy_words.specs.{declared.request.LineTestForm.LineTestForm, Requests.LineTestsTask}
 use Rattle.diy_words.specs.declared.request.LineTestForm.TheVariants as forms
-use Rattle.run_status.specs.declared.status.{Status.Status, TextKind.TextKind, Device.TheVariants.Input, Device.TheVariants.Out, Device.TheVariants.Shelf}
-use Rattle.run_status.specs.declared.status.Status.TheVariants.{Done, BadText, ReadFault, WriteFault, NoMemory}
+use Rattle.run_status.specs.declared.status.{Status.{Status, TheVariants.{Done, BadText, ReadFault, WriteFault, NoMemory}}, TextKind.TextKind, Device.TheVariants.{Input, Out, Shelf}}
 use Rattle.run_status.specs.declared.status.TextKind.TheVariants as texts
 use Rattle.diy_tools.specs.{Devices.Devices, ArchMachines.machine_of}
 

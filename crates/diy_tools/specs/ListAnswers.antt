@@ -4,7 +4,7 @@ use Rattle.std.specs.Prelude.{◌≡◌, Ok, Err}
 use Rattle.diy_io.specs.{Shelf.ShelfSeen, Wrote.SinkSeen}
 use Rattle.diy_words.specs.Requests.{ListTask}
 use Rattle.tests_to_files.specs.{declared.ending.ListingEnd.ListingEnd, ListedLines.EndsLines, ListingEnds.EndsListing, Plans.Plan}
-use Rattle.run_status.specs.{declared.status.Status.Status, declared.status.Device.TheVariants.Out}
+use Rattle.run_status.specs.declared.status.{Status.Status, Device.TheVariants.Out}
 use Rattle.diy_tools.specs.{ArchMachines.machine_of, Statuses.listing_status}
 use Rattle.run_status.specs.declared.status.Status.TheVariants as statuses
 

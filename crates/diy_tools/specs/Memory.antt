@@ -1,9 +1,8 @@
 -- Which tools can run out of memory.
 -- Source: own.
 use Rattle.std.specs.Prelude.{ℕ, ◌≡◌, ⊤, List, Result, Ok}
-use Rattle.diy_words.specs.declared.usage.Usage.{Usage}
-use Rattle.diy_words.specs.Requests.{Task, AsksWhy, AsksFamilies, AsksSum, AsksCross, AsksCheck, AsksExecution, AsksCoherenceExecution, AsksLineTests, AsksStates, asked_of}
-use Rattle.run_status.specs.declared.status.{Status.Status, Status.TheVariants.NoMemory}
+use Rattle.diy_words.specs.{declared.usage.Usage.Usage, Requests.{Task, AsksWhy, AsksFamilies, AsksSum, AsksCross, AsksCheck, AsksExecution, AsksCoherenceExecution, AsksLineTests, AsksStates, asked_of}}
+use Rattle.run_status.specs.declared.status.Status.{Status, TheVariants.NoMemory}
 
 -- classify7, msum7, diycross7, mcheck7 and diyone7 with -why, -exec, -dot or -lines can run out of memory; no other tool can, nor can a
 -- call whose arguments make no request

@@ -1,15 +1,13 @@
 -- What norm7 does.
 -- Source: own.
 use Rattle.std.specs.Prelude.{ℕ, ◌≡◌, ◌⊎◌, List, Result}
-use Rattle.relax_edges.specs.{declared.edge.Edge.Edge, declared.kinds.ArchName.ArchName}
+use Rattle.relax_edges.specs.declared.{edge.Edge.Edge, kinds.ArchName.ArchName}
 use Rattle.cycle_names.specs.Laws.{IsNamed, NamesNone}
-use Rattle.cycles_from_lines.specs.{Normed.{Norms, name_line}, declared.errors.NormError.NormError}
-use Rattle.cycles_from_lines.specs.declared.line.{LineForm.LineForm, LineForm.TheVariants.{Edges, Names}}
+use Rattle.cycles_from_lines.specs.{Normed.{Norms, name_line}, declared.{errors.NormError.NormError, line.LineForm.{LineForm, TheVariants.{Edges, Names}}}}
 use Rattle.diy_io.specs.{Taken.SourceSeen, Wrote.SinkSeen}
 use Rattle.diy_words.specs.{declared.usage.UsageKind.TheVariants.UnknownName, Requests.{Sought, OfEdges, OfName, OfLines, OfNames}}
-use Rattle.run_status.specs.{declared.status.Status.Status, declared.status.Status.TheVariants.Usage}
-use Rattle.diy_tools.specs.{PrintAnswers.{AnswersEdges, Prints}, Refused.refused_list}
-use Rattle.diy_tools.specs.Statuses.{norm_status}
+use Rattle.run_status.specs.declared.status.Status.{Status, TheVariants.Usage}
+use Rattle.diy_tools.specs.{PrintAnswers.{AnswersEdges, Prints}, Refused.refused_list, Statuses.norm_status}
 
 -- a cycle of the architecture has the name, and its line is printed
 pub record PrintsNamed (arch : ArchName) (name : List ℕ) (status : Status) (old new : SinkSeen) : Type 0 where

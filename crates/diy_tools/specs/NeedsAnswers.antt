@@ -4,7 +4,7 @@ use Rattle.std.specs.Prelude.{ℕ, List}
 use Rattle.cycle_events.specs.Resolution.{turned}
 use Rattle.diy_io.specs.Wrote.{SinkSeen}
 use Rattle.diy_words.specs.Requests.{TestTask}
-use Rattle.needed_links.specs.Needs.{needs_text}
+use Rattle.two_runs.specs.Needs.{needs_text}
 use Rattle.run_status.specs.declared.status.Status.{Status}
 use Rattle.diy_tools.specs.{PrintAnswers.AnswersEdges, TestAnswers.{test_name, test_refused}}
 

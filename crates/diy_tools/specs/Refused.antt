@@ -1,7 +1,7 @@
 -- Why a list of edges is refused: the first reason that holds.
 -- Source: own, after the refusals of diy.
 use Rattle.std.specs.{Prelude.{nat_lt, if◌then◌else◌, List, [], ◌∷◌, length, Option, Some, None, Result, Ok, Err}, Option.option_or}
-use Rattle.relax_edges.specs.{declared.TheConstants.MAX_EDGES, declared.kinds.ArchName.ArchName, declared.kinds.ObsMode.ObsMode, declared.edge.Edge.Edge}
+use Rattle.relax_edges.specs.declared.{TheConstants.MAX_EDGES, kinds.{ArchName.ArchName, ObsMode.ObsMode}, edge.Edge.Edge}
 use Rattle.edge_algebra.specs.{declared.errors.CycleError.CycleError, Compose.composed}
 use Rattle.arch_trait.specs.Threads.{Puts}
 use Rattle.test_maker.specs.{declared.refusal.Refusal.Refusal, Refusals.{composing_refusal, foreign_edge, refusal_of}}

@@ -2,13 +2,11 @@
 -- Source: own.
 use Rattle.std.specs.Prelude.{◌≡◌, ◌+◌, ℕ, Bool, true, false, nat_lt, List, length}
 use Rattle.diy_io.specs.{Shelf.ShelfSeen, Wrote.SinkSeen}
-use Rattle.states_of_logs.specs.declared.states_end.{StatesEnd.StatesEnd, StatesKind.StatesKind}
+use Rattle.states_of_logs.specs.{declared.states_end.{StatesEnd.StatesEnd, StatesKind.StatesKind}, StatesEnds.{FilesJudged, InputJudged, StatesSeen}}
 use Rattle.states_of_logs.specs.declared.states_end.StatesEnd.TheVariants as ends
 use Rattle.states_of_logs.specs.declared.states_end.StatesKind.TheVariants as kinds
-use Rattle.states_of_logs.specs.StatesEnds.{FilesJudged, InputJudged, StatesSeen}
 use Rattle.diy_words.specs.declared.request.States.{States}
-use Rattle.run_status.specs.declared.status.{Status.Status, TextKind.TextKind, Device.TheVariants.{Input, Out, Shelf}}
-use Rattle.run_status.specs.declared.status.Status.TheVariants.{Done, BadText, NoFile, NoBlock, ReadFault, WriteFault, NoMemory}
+use Rattle.run_status.specs.declared.status.{Status.{Status, TheVariants.{Done, BadText, NoFile, NoBlock, ReadFault, WriteFault, NoMemory}}, TextKind.TextKind, Device.TheVariants.{Input, Out, Shelf}}
 use Rattle.run_status.specs.declared.status.TextKind.TheVariants as texts
 use Rattle.diy_tools.specs.{Devices.{Devices, DevicesSeen, ShelfAndOut, devices}, ArchMachines.machine_of}
 

@@ -7,9 +7,7 @@ use Rattle.cycles_from_lines.specs.declared.errors.NormError.TheVariants as norm
 use Rattle.cycles_from_lines.specs.declared.errors.ClassifyError.TheVariants as classifies
 use Rattle.tests_to_files.specs.declared.ending.ListingEnd.{ListingEnd}
 use Rattle.tests_to_files.specs.declared.ending.ListingEnd.TheVariants as listings
-use Rattle.run_status.specs.declared.status.{Status.Status, TextKind.TheVariants.Line, TextKind.TheVariants.TooMuch, Device.TheVariants.Input}
-use Rattle.run_status.specs.declared.status.{Device.TheVariants.Out, Device.TheVariants.Shelf}
-use Rattle.run_status.specs.declared.status.Status.TheVariants.{Done, BadText, ReadFault, WriteFault, NoMemory}
+use Rattle.run_status.specs.declared.status.{Status.{Status, TheVariants.{Done, BadText, ReadFault, WriteFault, NoMemory}}, TextKind.TheVariants.{Line, TooMuch}, Device.TheVariants.{Input, Out, Shelf}}
 
 -- the status if the input's lines weren't read to its end
 abbrev pub lines_status : LinesError → Status

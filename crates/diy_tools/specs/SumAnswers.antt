@@ -1,17 +1,13 @@
 -- What msum7 does.
 -- Source: own.
-use Rattle.std.specs.{Prelude.{◌≡◌, ℕ, Bool, true, false, nat_lt, if◌then◌else◌, List, [], ◌∷◌, length, map, Option, Some, None, Result, Ok, Err}}
-use Rattle.std.specs.{declared.vec.Vec.Vec, declared.alloc.Global.Global}
+use Rattle.std.specs.{Prelude.{◌≡◌, ℕ, Bool, true, false, nat_lt, if◌then◌else◌, List, [], ◌∷◌, length, map, Option, Some, None, Result, Ok, Err}, declared.{vec.Vec.Vec, alloc.Global.Global}}
 use Rattle.diy_io.specs.{Shelf.ShelfSeen, Wrote.SinkSeen}
 use Rattle.log_sum.specs.{Skipping.Skipped, Sieving.skipped_view, declared.skipping.SkippedBlock.SkippedBlock}
-use Rattle.msum7_files.specs.{SumEnds.{InputSummed, FilesSummed}, declared.sum_form.SumForm.SumForm, declared.wrong_blocks.WrongBlocks.WrongBlocks}
-use Rattle.msum7_files.specs.declared.{faults.LogsFault.LogsFault, faults.SumFault.SumFault, faults.SumFault.TheVariants.{Unread, Out as OutFault}}
+use Rattle.msum7_files.specs.{SumEnds.{InputSummed, FilesSummed}, declared.{sum_form.SumForm.SumForm, wrong_blocks.WrongBlocks.{WrongBlocks, TheVariants.{End, Skip}}, faults.{LogsFault.LogsFault, SumFault.{SumFault, TheVariants.Unread}}}}
+use Rattle.msum7_files.specs.declared.faults.SumFault.TheVariants.{Out as OutFault}
 use Rattle.msum7_files.specs.declared.faults.LogsFault.TheVariants as sums
 use Rattle.msum7_files.specs.declared.sum_form.SumForm.TheVariants as forms
-use Rattle.msum7_files.specs.declared.wrong_blocks.WrongBlocks.TheVariants.{End, Skip}
-use Rattle.run_status.specs.{declared.status.Status.Status, declared.status.TextKind.TheVariants.{Log, TooMuch}}
-use Rattle.run_status.specs.declared.status.Device.TheVariants.{Input, Out, Shelf}
-use Rattle.run_status.specs.declared.status.Status.TheVariants.{Done, Skipped as SkippedSome, BadText, NoFile, ReadFault, WriteFault, NoMemory}
+use Rattle.run_status.specs.declared.status.{Status.{Status, TheVariants.{Done, Skipped as SkippedSome, BadText, NoFile, ReadFault, WriteFault, NoMemory}}, TextKind.TheVariants.{Log, TooMuch}, Device.TheVariants.{Input, Out, Shelf}}
 use Rattle.diy_words.specs.{declared.usage.Usage.Usage, Requests.{Task, AsksSum}}
 use Rattle.diy_tools.specs.Devices.{Devices, InputAndOut, ShelfAndOut}
 

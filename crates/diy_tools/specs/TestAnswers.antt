@@ -6,7 +6,7 @@ use Rattle.cycle_names.specs.CycleNames.{name_of}
 use Rattle.diy_io.specs.Wrote.{SinkSeen}
 use Rattle.diy_words.specs.Requests.{TestTask}
 use Rattle.test_maker.specs.{CycleText.cycle_text, declared.refusal.Refusal.Refusal}
-use Rattle.run_status.specs.{declared.status.Status.Status}
+use Rattle.run_status.specs.declared.status.Status.{Status}
 use Rattle.diy_tools.specs.{ArchMachines.machine_of, PrintAnswers.AnswersEdges, Refused.refused_of}
 
 -- the name of a test: the given one, or by default that of its cycle

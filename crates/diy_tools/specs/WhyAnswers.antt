@@ -1,7 +1,7 @@
 -- What diyone7 does with the option -why.
 -- Source: own.
 use Rattle.std.specs.{Prelude.{◌≡◌, ◌⊎◌, ℕ, List, [], ◌∷◌, ◌++◌, codes, Option, Some, None}, Option.option_or}
-use Rattle.relax_edges.specs.{declared.kinds.ObsMode.TheVariants.Avoid, declared.edge.Edge.Edge}
+use Rattle.relax_edges.specs.declared.{kinds.ObsMode.TheVariants.Avoid, edge.Edge.Edge}
 use Rattle.cycle_events.specs.{Resolution.turned, Values.observer_need}
 use Rattle.diy_io.specs.{Shelf.ShelfSeen, Wrote.{SinkSeen, WroteAll, WrotePart}}
 use Rattle.diy_words.specs.Requests.{WhyTask}
@@ -11,9 +11,8 @@ use Rattle.litmus_text.specs.TestReading.{TestRead}
 use Rattle.program_meaning.specs.Executions.{Execution}
 use Rattle.test_maker.specs.{CycleText.cycle_text, declared.refusal.Refusal.Refusal}
 use Rattle.two_runs.specs.Shown.{AreRunsFor, why_refused}
-use Rattle.run_status.specs.{declared.status.Status.Status, declared.status.Device.TheVariants.{Out, Shelf}}
-use Rattle.diy_tools.specs.{ArchMachines.{Machine, machine_of}}
-use Rattle.diy_tools.specs.{Refused.refused_list, TestAnswers.test_name}
+use Rattle.run_status.specs.declared.status.{Status.Status, Device.TheVariants.{Out, Shelf}}
+use Rattle.diy_tools.specs.{ArchMachines.{Machine, machine_of}, Refused.refused_list, TestAnswers.test_name}
 use Rattle.run_status.specs.declared.status.Status.TheVariants as statuses
 
 -- the path of the file of a test with this ending

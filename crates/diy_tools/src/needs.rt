@@ -3,7 +3,7 @@ ghost use Rattle.cycle_events.specs.Resolution.{resolution_of, turned};
 ghost use Rattle.litmus_text.specs.Printable.{IsTestName};
 ghost use Rattle.diy_words.specs.Given.{HasForm};
 ghost use Rattle.diy_words.specs.declared.request.Request.TheVariants as requests;
-ghost use Rattle.needed_links.specs.Needs.{needs_text};
+ghost use Rattle.two_runs.specs.Needs.{needs_text};
 ghost use Rattle.diy_tools.specs.{ArchMachines.{machine, machine_of}, KeptRequests.{AnswersNeeded, NeedsOn}, PrintAnswers.{Prints}};
 ghost use Rattle.run_status.specs.{Report.{StatusNamesLocation}};
 
@@ -15,10 +15,10 @@ use diy_io::{Failed, Sink};
 use diy_words::DiyOne;
 use edge_algebra::Cycle;
 use litmus_text::Test;
-use needed_links::write_needs;
 use relax_edges::{ArchName, ObsMode};
 use run_status::{Device, Status};
 use test_maker::{Refusal, make_into};
+use two_runs::write_needs;
 
 /// Prints what suffices against the outcome of the test of the requested cycle.
 #[tactic(auto, using(crate::proofs::NeedsAnswers::needed_on))]

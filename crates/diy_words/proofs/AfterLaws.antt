@@ -1,14 +1,8 @@
 -- The cycle that the edges of `-after` make.
-use Rattle.std.proofs.Common.{◌≡◌, ℕ, Bool, true, false, List, [], ◌∷◌, ◌++◌, length, Option, Some, None, Result, Ok, Err, refl, sym, ap, ◌∙◌, lit≤, nat_lt, nat_le, arith}
-use Rattle.std.proofs.lemmas.Bool.Decides.{nat_tests}
-use Rattle.std.specs.{Prelude.cond, Option.option_map, Result.result_ok}
-use Rattle.relax_edges.specs.{declared.TheConstants.MAX_EDGES, declared.edge.Edge.Edge}
-use Rattle.edge_algebra.specs.{declared.errors.CycleError.CycleError, Compose.{composed, unbroken}}
+use Rattle.std.{proofs.{Common.{◌≡◌, ℕ, Bool, true, false, List, [], ◌∷◌, ◌++◌, length, Option, Some, None, Result, Ok, Err, refl, sym, ap, ◌∙◌, lit≤, nat_lt, nat_le, arith}, lemmas.Bool.Decides.nat_tests}, specs.{Prelude.cond, Option.option_map}}
+use Rattle.diy_words.{proofs.Vocabulary.{result_ok, MAX_EDGES, Edge, CycleError, composed, unbroken, first_break, EdgeList, kept_edges, edges_added, added_whole}, specs.{CodeNotes.{notes_after, cycle_kept}, Notes.{Notes, with_saying}, Sayings.SaysAfter}}
+use Rattle.diy_words.specs.{Sayings.{after_said, cycle_word_said}, declared.usage.{Usage.Usage, UsageKind.TheVariants.BadAfter}}
 use Rattle.edge_algebra.specs.declared.errors.CycleError.TheVariants as errors
-use Rattle.edges_from_text.specs.{declared.list.EdgeList.EdgeList, KeptEdges.{kept_edges, edges_added}, KeptLaws.added_whole}
-use Rattle.diy_words.specs.{CodeNotes.{notes_after, cycle_kept}, Notes.{Notes, with_saying}, Sayings.{SaysAfter, after_said, cycle_word_said}}
-use Rattle.diy_words.specs.{declared.usage.Usage.Usage, declared.usage.UsageKind.TheVariants.BadAfter}
-use Rattle.edge_algebra_laws.specs.Composable.{first_break}
 
 long_none : (es : List Edge) → nat_le (length es) MAX_EDGES ≡ false → result_ok (composed es) ≡ None
 long_none [] f = cc f

@@ -1,13 +1,11 @@
 -- Words that ask for something of a tool: the first names it, none is faulty, and the others give what is asked for.
-use Rattle.std.proofs.Common.{◌≡◌, ℕ, Bool, true, false, List, [], ◌∷◌, length, Option, Some, None, Result, Ok, Err, refl, sym, ap, ◌∙◌, subst}
-use Rattle.std.specs.{Prelude.{if◌then◌else◌}, List.list_any}
-use Rattle.relax_edges.specs.declared.edge.Edge.{Edge}
-use Rattle.diy_words.specs.{declared.options.Tool.Tool, declared.usage.Usage.Usage, Parts.{Part, parts_of, tool_named}, Sayings.Saying, Strict.is_strict}
-use Rattle.diy_words.specs.{Gathered.{Gathered, gathered_of, all_given}, SaidInOrder.{sayings, said_all}, Notes.{no_notes, said_noted}}
-use Rattle.diy_words.specs.Requests.{Task, form_asked, blocks_asked, states_asked, AsksStates, AsksTest, AsksWhy, AsksCoherence, AsksName, AsksList, AsksFamilies, AsksSum, AsksCross, AsksDemo, AsksCheck, AsksExecution, AsksCoherenceExecution, AsksNeeds, AsksLines, asks, families_with, demo_with, why_asked, coherence_asked, test_asked, test_or_execution, test_or_picture, test_or_needs, coherence_or_execution, coherence_or_picture, one_asked, diyone_with, edges_chosen, with_chosen, diyone_asked, diy_asked, check_asked, norm_asked, cross_asked, tool_asked, said_asked, loosely_asked, idle_error, unless_error, strictly_asked, asked_for, asked_of, AsksLineTests, line_tests_asked, cycle_asked}
-use Rattle.diy_words.specs.declared.request.ExecutionForm.TheVariants.{Text, Drawn}
+use Rattle.std.{proofs.Common.{◌≡◌, ℕ, Bool, true, false, List, [], ◌∷◌, length, Option, Some, None, Result, Ok, Err, refl, sym, ap, ◌∙◌, subst}, specs.{Prelude.if◌then◌else◌, List.list_any}}
+use Rattle.diy_words.{proofs.{Vocabulary.Edge, NotedLaws.said_so, OperandLaws.{AreFaultless, given_from, all_said}}, specs.{declared.{options.Tool.Tool, usage.Usage.Usage, request.ExecutionForm.TheVariants.{Text, Drawn}}, Parts.{Part, parts_of}}}
+use Rattle.diy_words.specs.{Parts.tool_named, Sayings.Saying, Strict.is_strict, Gathered.{Gathered, gathered_of, all_given}, SaidInOrder.{sayings, said_all}, Notes.{no_notes, said_noted}, Requests.{Task, form_asked, blocks_asked, states_asked}}
+use Rattle.diy_words.specs.Requests.{AsksStates, AsksTest, AsksWhy, AsksCoherence, AsksName, AsksList, AsksFamilies, AsksSum, AsksCross, AsksDemo, AsksCheck, AsksExecution, AsksCoherenceExecution, AsksNeeds, AsksLines, asks, families_with, demo_with}
+use Rattle.diy_words.specs.Requests.{why_asked, coherence_asked, test_asked, test_or_execution, test_or_picture, test_or_needs, coherence_or_execution, coherence_or_picture, one_asked, diyone_with, edges_chosen, with_chosen, diyone_asked, diy_asked}
+use Rattle.diy_words.specs.Requests.{check_asked, norm_asked, cross_asked, tool_asked, said_asked, loosely_asked, idle_error, unless_error, strictly_asked, asked_for, asked_of, AsksLineTests, line_tests_asked, cycle_asked}
 use Rattle.diy_words.specs.declared.options.Tool.TheVariants as tools
-use Rattle.diy_words.proofs.{NotedLaws.said_so, OperandLaws.{AreFaultless, given_from, all_said}}
 
 -- the tool that is asked for something
 abbrev pub tool_of : Task → Tool

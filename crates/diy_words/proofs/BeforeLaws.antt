@@ -1,12 +1,9 @@
 -- Where it doesn't matter to a word what the words before it said: in tools of whose operands the number isn't limited, where no
 -- word is `-why`, `-co`, `-list` or `-lines`.
-use Rattle.std.proofs.Common.{◌≡◌, ◌+◌, ℕ, Bool, true, false, List, [], ◌∷◌, Result, Ok, Err, refl, sym, ap, ◌∙◌}
-use Rattle.std.specs.Prelude.{◌||◌, if◌then◌else◌}
+use Rattle.std.{proofs.Common.{◌≡◌, ◌+◌, ℕ, Bool, true, false, List, [], ◌∷◌, Result, Ok, Err, refl, sym, ap, ◌∙◌}, specs.Prelude.{◌||◌, if◌then◌else◌}}
 use Rattle.diy_words.specs.declared.options.OptionName.TheVariants as opts
-use Rattle.diy_words.specs.declared.{options.Tool.Tool, usage.Usage.Usage, usage.UsageKind.TheVariants.ExcludedOption}
-use Rattle.diy_words.specs.Parts.{Part, Alone, Valued, Unvalued, mode_named}
-use Rattle.diy_words.specs.Sayings.{Saying, SaysWhy, SaysCo, SaysFrom, SaysLines, SaysLineTests, Before, usage_fault, name_said, mode_said, folder_said, said_by}
-use Rattle.diy_words.specs.Notes.{Notes, with_next, before_noted, said_noted}
+use Rattle.diy_words.specs.{declared.{options.Tool.Tool, usage.{Usage.Usage, UsageKind.TheVariants.ExcludedOption}}, Parts.{Part, Alone, Valued, Unvalued, mode_named}, Sayings.{Saying, SaysWhy, SaysCo, SaysFrom, SaysLines, SaysLineTests, Before}}
+use Rattle.diy_words.specs.{Sayings.{usage_fault, name_said, mode_said, folder_said, said_by}, Notes.{Notes, with_next, before_noted, said_noted}}
 
 -- whether one of `-why` and `-co` was given, whether `-list` was, and whether `-lines` was
 abbrev pub special : Notes → Bool × Bool × Bool

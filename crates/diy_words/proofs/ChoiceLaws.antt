@@ -1,9 +1,6 @@
 -- In how many ways relaxations are chosen, as it is kept place by place.
-use Rattle.std.proofs.Common.{⊎_elim, ◌≡◌, ◌≤◌, ◌<◌, ◌+◌, ◌*◌, ℕ, zero, suc, List, [], ◌∷◌, ◌++◌, length, min, refl, sym, ap, ◌∙◌, arith, lit≤, nat_lt}
-use Rattle.std.proofs.Math.Nat.{min-eq_left, min-eq_right, min-le_right, mul-le-mul_right, mul-one, one-mul, mul_assoc, mul-zero, mul-suc}
-use Rattle.std.proofs.{lemmas.Bool.cases_lt, lemmas.Bool.Decides.nat_tests}
-use Rattle.relax_edges.specs.declared.edge.Edge.{Edge}
-use Rattle.diy_words.specs.{declared.request.TheConstants.MAX_CHOICES, Notes.more_choices, Requests.choice_count}
+use Rattle.std.proofs.{Common.{⊎_elim, ◌≡◌, ◌≤◌, ◌<◌, ◌+◌, ◌*◌, ℕ, zero, suc, List, [], ◌∷◌, ◌++◌, length, min, refl, sym, ap, ◌∙◌, arith, lit≤, nat_lt}, Math.Nat.{min-eq_left, min-eq_right, min-le_right, mul-le-mul_right, mul-one, one-mul, mul_assoc}}
+use Rattle.diy_words.{proofs.Vocabulary.{mul-zero, mul-suc, cases_lt, nat_tests, Edge}, specs.{declared.request.TheConstants.MAX_CHOICES, Notes.more_choices, Requests.choice_count}}
 
 -- the number of ways that is kept after more places
 abbrev pub choices_after : ℕ → List (List (List Edge)) → ℕ

@@ -1,11 +1,7 @@
 -- The request of the chosen edges is that of what is gathered.
-use Rattle.std.proofs.Common.{List, Result, Ok, Err, refl, subst}
-use Rattle.relax_edges.specs.declared.edge.Edge.{Edge}
-use Rattle.std.specs.Prelude.{ℕ}
-use Rattle.diy_words.specs.declared.{request.Request.Request, usage.Usage.Usage}
-use Rattle.diy_words.specs.{Notes.{Notes, gathered_noted}, Given.GivesTask}
-use Rattle.diy_words.specs.Requests.{edges_chosen, with_chosen, diyone_with, cycle_asked}
-use Rattle.diy_words.specs.CodeNotes.{EdgesChosen, ChoosesEdges, GivesFrom}
+use Rattle.std.{proofs.Common.{List, Result, Ok, Err, refl, subst}, specs.Prelude.ℕ}
+use Rattle.diy_words.{proofs.Vocabulary.Edge, specs.{declared.{request.Request.Request, usage.Usage.Usage}, Notes.{Notes, gathered_noted}, Given.GivesTask, Requests.{edges_chosen, with_chosen, diyone_with, cycle_asked}, CodeNotes.EdgesChosen}}
+use Rattle.diy_words.specs.CodeNotes.{ChoosesEdges, GivesFrom}
 
 -- what is given of notes whose edges are chosen is given of all that is gathered
 pub chosen_gives : (count : ℕ) (old new : Notes) (result : Result Request Usage) → ChoosesEdges old new (Ok tt)

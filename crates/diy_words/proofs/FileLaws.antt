@@ -1,16 +1,10 @@
 -- Where words ask for something of classify7, each word that is neither an option nor its value names a file.
-use Rattle.std.proofs.Common.{◌≡◌, ◌<◌, ◌≤◌, ◌+◌, get_or, ℕ, Bool, true, false, List, [], ◌∷◌, ◌++◌, length, Option, Some, None, Result, Ok, append_assoc, append-nil, refl, sym, ap, ◌∙◌, subst, arith, slice_get}
-use Rattle.std.proofs.lemmas.List.Elements.{All-append}
-use Rattle.std.specs.{Prelude.{if◌then◌else◌, All, codes}, Str.bytes_eq}
-use Rattle.relax_edges.specs.{declared.kinds.ArchName.ArchName, Architectures.arch_of}
-use Rattle.diy_words.specs.{declared.options.OptionName.OptionName, declared.usage.Usage.Usage, declared.usage.UsageKind.TheVariants.UnknownOption}
-use Rattle.diy_words.specs.{Parts.{Valued, option_named}, Gathered.{Gathered, files_of_saying}, SaidInOrder.before_of}
-use Rattle.diy_words.specs.Sayings.{SaysFile, usage_fault, arch_said, begins_option, said_by}
-use Rattle.diy_words.specs.Requests.{Task, AsksFamilies, asks, families_with, tool_asked, asked_of, IsClassifying, files_of}
+use Rattle.std.proofs.{Common.{◌≡◌, ◌<◌, ◌≤◌, ◌+◌, get_or, ℕ, Bool, true, false, List, [], ◌∷◌, ◌++◌, length, Option, Some, None, Result, Ok, append_assoc, append-nil, refl, sym, ap, ◌∙◌, subst, arith, slice_get}, lemmas.List.Elements.All-append}
+use Rattle.diy_words.proofs.{Vocabulary.{if◌then◌else◌, All, codes, bytes_eq, ArchName, arch_of}, BeforeLaws.{IsSilent, IsUncounted, by_words}, AskedLaws.{ToolWords, tool_words}, OperandLaws.{given_among, said_from, AreFaultless, given_from, alone_then}}
+use Rattle.diy_words.{proofs.OperandLaws.{IsOther, OptionFirst, option_then, none_left}, specs.{declared.{options.OptionName.OptionName, usage.{Usage.Usage, UsageKind.TheVariants.UnknownOption}}, Parts.{Valued, option_named}, Gathered.Gathered}}
+use Rattle.diy_words.specs.{Gathered.files_of_saying, SaidInOrder.before_of, Sayings.{SaysFile, usage_fault, arch_said, begins_option, said_by}, Requests.{Task, AsksFamilies, asks, families_with, tool_asked, asked_of, IsClassifying, files_of}}
 use Rattle.diy_words.specs.declared.options.OptionName.TheVariants as opts
 use Rattle.diy_words.specs.declared.options.Tool.TheVariants as tools
-use Rattle.diy_words.proofs.{BeforeLaws.{IsSilent, IsUncounted, by_words}, AskedLaws.{ToolWords, tool_words}}
-use Rattle.diy_words.proofs.OperandLaws.{given_among, said_from, AreFaultless, given_from, alone_then, IsOther, OptionFirst, option_then, none_left}
 
 -- the places of the files among the words of classify7 from a place on
 abbrev pub files_from : List (List ℕ) → ℕ → List ℕ

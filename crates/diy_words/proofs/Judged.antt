@@ -1,16 +1,9 @@
 -- The notes that are taken while the words are read are those of the definition, and the request comes of them.
-use Rattle.std.proofs.Common.{◌≡◌, ◌≤◌, ℕ, ◌+◌, List, [], ◌∷◌, length, drop, Option, Some, None, Result, Ok, Err, refl, sym, ap, ◌∙◌, subst, arith, slice_get, nat_lt}
-use Rattle.std.proofs.lemmas.List.{drop_all}
-use Rattle.list_laws.proofs.Elements.{drop_given}
-use Rattle.diy_words.specs.declared.{options.OptionName.OptionName, options.Tool.Tool, request.Request.Request, request.TheConstants.MAX_CHOICES}
-use Rattle.diy_words.specs.declared.{usage.Usage.Usage}
-use Rattle.diy_words.specs.Parts.{Alone, Valued, Unvalued, parts_from, parts_of, option_named, tool_named}
-use Rattle.diy_words.specs.{Sayings.Saying, Sayings.said_by, SaidInOrder.said_first, SaidInOrder.said_all, Given.GivesTask}
-use Rattle.diy_words.specs.Gathered.{Gathered, edges_of_saying, places_of_word, files_of_saying, all_given}
-use Rattle.diy_words.specs.Requests.{said_asked, tool_asked, loosely_asked, asked_for, asked_of}
-use Rattle.diy_words.specs.Notes.{Notes, no_notes, with_saying, with_next, notes_with, notes_of, before_noted, said_noted, gathered_noted}
+use Rattle.std.proofs.{Common.{◌≡◌, ◌≤◌, ℕ, ◌+◌, List, [], ◌∷◌, length, drop, Option, Some, None, Result, Ok, Err, refl, sym, ap, ◌∙◌, subst, arith, slice_get, nat_lt}, lemmas.List.drop_all}
+use Rattle.diy_words.{proofs.{Vocabulary.drop_given, NotedLaws.{edges_noted, choices_noted, all_noted, said_so}}, specs.declared.{options.{OptionName.OptionName, Tool.Tool}, request.{Request.Request, TheConstants.MAX_CHOICES}, usage.Usage.Usage}}
+use Rattle.diy_words.specs.{Parts.{Alone, Valued, Unvalued, parts_from, parts_of, option_named, tool_named}, Sayings.{Saying, said_by}, SaidInOrder.{said_first, said_all}, Given.GivesTask, Gathered.{Gathered, edges_of_saying, places_of_word}}
+use Rattle.diy_words.specs.{Gathered.{files_of_saying, all_given}, Requests.{said_asked, tool_asked, loosely_asked, asked_for, asked_of}, Notes.{Notes, no_notes, with_saying, with_next, notes_with, notes_of, before_noted, said_noted, gathered_noted}}
 use Rattle.diy_words.specs.CodeNotes.{GivesAtEnd, notes_after, all_notes, sayings_from, notes_at_end}
-use Rattle.diy_words.proofs.NotedLaws.{edges_noted, choices_noted, all_noted, said_so}
 
 alone_parts : (tool : Tool) (word : List ℕ) (at : ℕ) (rest : List (List ℕ)) (found : Option OptionName) → option_named tool word ≡ found → found ≡ None →
     parts_of tool at (word ∷ rest) ≡ Alone at word ∷ parts_of tool (at + 1) rest

@@ -1,3 +1,4 @@
+pub mod Vocabulary
 pub mod NotedLaws
 pub mod Judged
 pub mod BeforeLaws

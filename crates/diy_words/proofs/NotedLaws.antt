@@ -1,15 +1,11 @@
 -- What is noted word by word is what is gathered of all words at once.
-use Rattle.std.proofs.Common.{◌≡◌, ◌+◌, ℕ, Bool, true, false, List, [], ◌∷◌, ◌++◌, length, Option, Some, None, Result, Ok, Err, append-nil, refl, sym, ap, ◌∙◌, arith, lit≤, nat_lt}
-use Rattle.std.specs.{Prelude.◌||◌, Prelude.if◌then◌else◌, Prelude.filter, List.list_any, Option.option_or, Option.unwrap_or}
-use Rattle.list_laws.proofs.Elements.{option_or-none}
-use Rattle.edges_from_text.specs.{KeptEdges.kept_edges, KeptEdges.edges_added, KeptLaws.added_more, KeptLaws.added_whole}
-use Rattle.diy_words.specs.declared.{options.Tool.Tool, request.TheConstants.MAX_CHOICES, usage.Usage.Usage}
-use Rattle.diy_words.specs.{Parts.Part, Requests.choice_count}
-use Rattle.diy_words.specs.Sayings.{Saying, SaysArch, SaysName, SaysMode, SaysFrom, SaysEdges, SaysRelaxes, SaysSize, SaysExact, SaysWhy, SaysCo, SaysExec, SaysNeeds, SaysLines, SaysGraph, SaysNames, SaysTable, SaysSkip, SaysStates, SaysLineTests, SaysThreads, SaysAccesses, SaysAfter, SaysFolder, SaysTest, SaysExecution, SaysPlace, SaysCount, said_by}
-use Rattle.diy_words.specs.Gathered.{arch_of_saying, name_of_saying, mode_of_saying, from_of_saying, operand_of_saying, relaxes_of_saying, size_of_saying, is_exact, is_co, is_exec, is_needs, is_lines, is_graph, is_names, is_table, is_line_tests, is_skip, is_states, threads_of_saying, accesses_of_saying, after_of_saying, folder_of_saying, is_why, count_of_saying, test_of_saying, execution_of_saying, edges_of_saying, places_of_word, files_of_saying, last_given, first_given, all_given, gathered_of}
-use Rattle.diy_words.specs.SaidInOrder.{is_limited, before_of, said_in, sayings}
-use Rattle.diy_words.specs.Notes.{Notes, no_notes, with_saying, with_next, notes_with, notes_of, before_noted, said_noted, gathered_noted}
-use Rattle.diy_words.proofs.ChoiceLaws.{choices_after, choices_more, choices_said}
+use Rattle.std.{proofs.Common.{◌≡◌, ◌+◌, ℕ, Bool, true, false, List, [], ◌∷◌, ◌++◌, length, Option, Some, None, Result, Ok, Err, append-nil, refl, sym, ap, ◌∙◌, arith, lit≤, nat_lt}, specs.{Prelude.{◌||◌, if◌then◌else◌, filter}, List.list_any}}
+use Rattle.diy_words.{proofs.{Vocabulary.{option_or, unwrap_or, option_or-none, kept_edges, edges_added, added_more, added_whole}, ChoiceLaws.{choices_after, choices_more, choices_said}}, specs.declared.options.Tool.Tool}
+use Rattle.diy_words.specs.{declared.{request.TheConstants.MAX_CHOICES, usage.Usage.Usage}, Parts.Part, Requests.choice_count, Sayings.{Saying, SaysArch, SaysName, SaysMode, SaysFrom, SaysEdges, SaysRelaxes, SaysSize, SaysExact, SaysWhy, SaysCo}}
+use Rattle.diy_words.specs.Sayings.{SaysExec, SaysNeeds, SaysLines, SaysGraph, SaysNames, SaysTable, SaysSkip, SaysStates, SaysLineTests, SaysThreads, SaysAccesses, SaysAfter, SaysFolder, SaysTest, SaysExecution, SaysPlace, SaysCount, said_by}
+use Rattle.diy_words.specs.Gathered.{arch_of_saying, name_of_saying, mode_of_saying, from_of_saying, operand_of_saying, relaxes_of_saying, size_of_saying, is_exact, is_co, is_exec, is_needs, is_lines, is_graph, is_names, is_table, is_line_tests, is_skip}
+use Rattle.diy_words.specs.Gathered.{is_states, threads_of_saying, accesses_of_saying, after_of_saying, folder_of_saying, is_why, count_of_saying, test_of_saying, execution_of_saying, edges_of_saying, places_of_word, files_of_saying, last_given}
+use Rattle.diy_words.specs.{Gathered.{first_given, all_given, gathered_of}, SaidInOrder.{is_limited, before_of, said_in, sayings}, Notes.{Notes, no_notes, with_saying, with_next, notes_with, notes_of, before_noted, said_noted, gathered_noted}}
 
 -- a part of the notes that each word changes by itself, after all that words say
 noted : {F : Type 0} (field : Notes → F) (one : Saying → F → F) (all : List Saying → F → F)

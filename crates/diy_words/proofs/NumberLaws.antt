@@ -1,9 +1,6 @@
 -- Numbers that are parsed.
-use Rattle.std.proofs.{Common.{◌≡◌, ◌≤◌, ◌<◌, ◌^◌, ℕ, Bool, true, false, List, length, Some, None, Err, refl, arith, nat_lt, nat_le}, lemmas.Bool.and_parts}
-use Rattle.std.proofs.{lemmas.Bool.Decides.nat_tests, lemmas.Str.Parse.parse_plain}
-use Rattle.std.specs.{Prelude.{◌&&◌, if◌then◌else◌, Result}, Char.is_ascii_digit, List.list_all, Result.OkIff, Str.Parse.{digits_value, ParsesUnsigned}}
-use Rattle.list_laws.proofs.{Digits.{digits_model, digits_no_plus}, Cases.by_test}
-use Rattle.diy_words.specs.NumberWords.{is_number, number_to}
+use Rattle.std.{proofs.{Common.{◌≡◌, ◌≤◌, ◌<◌, ◌^◌, ℕ, Bool, true, false, List, length, Some, None, Err, refl, arith, nat_lt, nat_le}, lemmas.{Bool.{and_parts, Decides.nat_tests}, Str.Parse.parse_plain}}, specs.Prelude.{◌&&◌, if◌then◌else◌, Result}}
+use Rattle.diy_words.{proofs.Vocabulary.{is_ascii_digit, list_all, OkIff, digits_value, ParsesUnsigned, digits_model, digits_no_plus, by_test}, specs.NumberWords.{is_number, number_to}}
 
 -- what isn't parsed is too large
 too_large : {E : Type 0} (digits : List ℕ) (e : E) → is_number digits ≡ true → ParsesUnsigned 32 10 digits (Err e) → 2 ^ 32 ≤ digits_value 10 digits

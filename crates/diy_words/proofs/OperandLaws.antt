@@ -1,11 +1,7 @@
 -- What the words of a tool give besides its options, one word after another, where the number of these isn't limited.
-use Rattle.std.proofs.Common.{◌≡◌, ◌<◌, ◌≤◌, ◌+◌, ⊎_elim, drop, get_or, ℕ, List, [], ◌∷◌, ◌++◌, length, Some, None, Result, Ok, Err, refl, ap, ◌∙◌, subst, arith, slice_get}
-use Rattle.std.proofs.{lemmas.Bool.cases_lt, lemmas.List.drop_all, lemmas.Option.slice_get-get_or}
-use Rattle.std.specs.{Prelude.IsOk, List.AllByRecursion}
-use Rattle.diy_words.specs.{declared.options.OptionName.OptionName, declared.options.Tool.Tool, declared.usage.Usage.Usage}
-use Rattle.diy_words.specs.{Parts.{Alone, Valued, parts_of, option_named}, Sayings.{Saying, said_by}, Gathered.all_given}
-use Rattle.diy_words.specs.{SaidInOrder.{before_of, said_first, said_all}, Notes.{no_notes, with_next, said_noted}, CodeNotes.sayings_from}
-use Rattle.diy_words.proofs.{BeforeLaws.{IsSilent, IsUncounted, uncounted}, Judged.{alone_first, value_first, unvalued_last}}
+use Rattle.std.proofs.{Common.{◌≡◌, ◌<◌, ◌≤◌, ◌+◌, ⊎_elim, drop, get_or, ℕ, List, [], ◌∷◌, ◌++◌, length, Some, None, Result, Ok, Err, refl, ap, ◌∙◌, subst, arith, slice_get}, lemmas.{Bool.cases_lt, List.drop_all, Option.slice_get-get_or}}
+use Rattle.diy_words.{proofs.{Vocabulary.{IsOk, AllByRecursion}, BeforeLaws.{IsSilent, IsUncounted, uncounted}, Judged.{alone_first, value_first, unvalued_last}}, specs.declared.{options.{OptionName.OptionName, Tool.Tool}, usage.Usage.Usage}}
+use Rattle.diy_words.specs.{Parts.{Alone, Valued, parts_of, option_named}, Sayings.{Saying, said_by}, Gathered.all_given, SaidInOrder.{before_of, said_first, said_all}, Notes.{no_notes, with_next, said_noted}, CodeNotes.sayings_from}
 
 -- what is given among what words say, by what each thing that is said gives
 abbrev pub given_by : {X : Type 0} → (Saying → List X) → Result Saying Usage → List X

@@ -1,21 +1,12 @@
 -- Where words ask for something of diycross7, each word that is neither an option nor its value spells the relaxations of a place.
-use Rattle.std.proofs.Common.{◌≡◌, ◌<◌, ◌≤◌, ◌+◌, ℕ, Bool, true, false, List, [], ◌∷◌, ◌++◌, length, Option, Some, None, Result, Ok, Err, append_assoc, append-nil, refl, sym, ap, ◌∙◌, slice_get, nat_lt, nat_le}
-use Rattle.std.specs.{Prelude.{◌&&◌, if◌then◌else◌, IsOk, codes}, Str.bytes_eq}
-use Rattle.relax_edges.specs.{declared.TheConstants.MAX_EDGES, declared.edge.Edge.Edge, declared.kinds.ArchName.ArchName, declared.kinds.ObsMode.ObsMode}
-use Rattle.relax_edges.specs.Architectures.{arch_of}
-use Rattle.edges_from_text.specs.{declared.relax_error.RelaxError.RelaxError, Relaxations.relaxes_of}
-use Rattle.edge_algebra.specs.{declared.errors.CycleError.CycleError, Compose.composed}
-use Rattle.edges_from_text.specs.{declared.read.Separators.TheVariants.BlanksAndCommas, Spelled.edges_of}
-use Rattle.diy_words.specs.{declared.options.OptionName.OptionName, declared.request.TheConstants.MAX_CHOICES, declared.usage.Usage.Usage}
-use Rattle.diy_words.specs.{declared.usage.UsageKind.TheVariants.{UnknownOption, BadName, BadFolder, TooManyChoices}, TestNames.is_name, NumberWords.number_to}
-use Rattle.diy_words.specs.{Parts.{Valued, option_named, mode_named}, Gathered.{Gathered, places_of_word}, SaidInOrder.before_of}
-use Rattle.diy_words.specs.Sayings.{Saying, SaysName, SaysFolder, SaysRelaxes, SaysPlace, SaysStrict, SaysSize, SaysThreads, SaysAccesses, usage_fault, arch_said, mode_said, relaxes_said, number_said, cycle_word_said, after_said, begins_option, said_by}
-use Rattle.diy_words.specs.Requests.{Task, AsksCross, choice_count, asks, cross_with, mode_or_accept, tool_asked, asked_of, IsCrossing, places_of}
+use Rattle.std.{proofs.Common.{◌≡◌, ◌<◌, ◌≤◌, ◌+◌, ℕ, Bool, true, false, List, [], ◌∷◌, ◌++◌, length, Option, Some, None, Result, Ok, Err, append_assoc, append-nil, refl, sym, ap, ◌∙◌, slice_get, nat_lt, nat_le}, specs.Prelude.{◌&&◌, if◌then◌else◌}}
+use Rattle.diy_words.proofs.{Vocabulary.{IsOk, codes, bytes_eq, MAX_EDGES, Edge, ArchName, ObsMode, arch_of, RelaxError, BlanksAndCommas, relaxes_of, edges_of, CycleError, composed, MAX_FOLDER}, BeforeLaws.{IsSilent, IsUncounted, by_words}}
+use Rattle.diy_words.{proofs.{AskedLaws.{ToolWords, tool_words}, OperandLaws.{given_among, said_from, AreFaultless, given_from, alone_then, IsOther, OptionFirst, option_then, none_left}}, specs.declared.options.OptionName.OptionName}
+use Rattle.diy_words.specs.{declared.{request.TheConstants.MAX_CHOICES, usage.{Usage.Usage, UsageKind.TheVariants.{UnknownOption, BadName, BadFolder, TooManyChoices}}}, TestNames.is_name, NumberWords.number_to, Parts.{Valued, option_named, mode_named}}
+use Rattle.diy_words.specs.{Gathered.{Gathered, places_of_word}, SaidInOrder.before_of, Sayings.{Saying, SaysName, SaysFolder, SaysRelaxes, SaysPlace, SaysStrict, SaysSize, SaysThreads, SaysAccesses, usage_fault, arch_said, mode_said, relaxes_said}}
+use Rattle.diy_words.specs.{Sayings.{number_said, cycle_word_said, after_said, begins_option, said_by}, Requests.{Task, AsksCross, choice_count, asks, cross_with, mode_or_accept, tool_asked, asked_of, IsCrossing, places_of}}
 use Rattle.diy_words.specs.declared.options.OptionName.TheVariants as opts
 use Rattle.diy_words.specs.declared.options.Tool.TheVariants as tools
-use Rattle.diy_io.specs.declared.shelf.TheConstants.{MAX_FOLDER}
-use Rattle.diy_words.proofs.{BeforeLaws.{IsSilent, IsUncounted, by_words}, AskedLaws.{ToolWords, tool_words}}
-use Rattle.diy_words.proofs.OperandLaws.{given_among, said_from, AreFaultless, given_from, alone_then, IsOther, OptionFirst, option_then, none_left}
 
 -- the relaxations of the places among the words of diycross7 from a place on
 abbrev pub places_from : List (List ℕ) → ℕ → List (List (List Edge))

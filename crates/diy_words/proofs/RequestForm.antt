@@ -1,33 +1,21 @@
 -- What a request has of its own form: the name of a test, the size of a listing, a folder, and the files of mcheck7.
-use Rattle.std.proofs.Common.{◌≡◌, ◌≤◌, ◌<◌, ◌+◌, ℕ, ap, arith, lit≤, nat_lt, nat_le, Bool, true, false, List, [], ◌∷◌, ◌++◌, Option, Some, None, Result, Ok, Err, refl, sym, subst, length}
-use Rattle.std.proofs.lemmas.Bool.Decides.{nat_tests}
-use Rattle.std.specs.{Prelude.{if◌then◌else◌, IfOk, IfSome, ◌&&◌, ◌||◌, ◌==◌, codes}, Str.bytes_eq, Str.Parse.digits_value, List.{AllByRecursion, list_any}, Borrow.Bor}
-use Rattle.std.specs.Option.{option_map, option_or, unwrap_or, ForSome}
-use Rattle.relax_edges.specs.{declared.edge.Edge.Edge, declared.TheConstants.MAX_EDGES}
-use Rattle.edges_from_text.specs.declared.relax_error.RelaxError.{RelaxError}
-use Rattle.relax_edges.specs.{declared.kinds.ArchName.ArchName, declared.kinds.ObsMode.ObsMode, Architectures.arch_of}
-use Rattle.edges_from_text.specs.Relaxations.{relaxes_of}
-use Rattle.edge_algebra.specs.{declared.errors.CycleError.CycleError, Compose.composed}
-use Rattle.edges_from_text.specs.{declared.read.Separators.TheVariants.BlanksAndCommas, Spelled.{edges_of, text_edges}}
-use Rattle.diy_words.specs.{declared.request.TheConstants.{MAX_CHOICES, MAX_TESTS}, declared.request.Check.Check, declared.request.Demo.Demo, declared.request.States.States}
-use Rattle.diy_words.specs.{declared.request.CheckForm.CheckForm, declared.request.CheckForm.TheVariants.{Verdict, Graph}, declared.request.Diy.Diy}
-use Rattle.diy_words.specs.{declared.request.Request.Request, declared.usage.Usage.Usage, declared.options.Tool.Tool, declared.options.OptionName.OptionName}
-use Rattle.diy_words.specs.declared.usage.UsageKind.TheVariants.{UnknownOption, BadName, BadFolder, StrayWord, ExcludedOption, TooManyChoices}
-use Rattle.diy_words.specs.{TestNames.is_name, NumberWords.{is_number, number_to}}
-use Rattle.diy_words.specs.Parts.{Part, Alone, Valued, Unvalued, waiting_at, alone_before, parts_from, parts_of, option_named, tool_named, mode_named}
-use Rattle.diy_words.specs.Sayings.{Saying, SaysName, SaysRelaxes, SaysPlace, SaysSize, SaysExact, SaysWhy, SaysCo, SaysExec, SaysNeeds, SaysLines, SaysGraph, SaysNames, SaysTable, SaysSkip, SaysStates, SaysStrict, SaysLog, takes_logs, is_leading, table_said, skip_said, check_dot_said, states_said, arch_option_said, SaysThreads, SaysAccesses, SaysFolder, SaysCount, SaysTest, SaysExecution, Before, usage_fault, why_said, co_said, exec_said, dot_said, needs_said, lines_said, folder_said, dashed_said, operand_said, relaxes_said, number_said, after_said, cycle_word_said, said_by, arch_said, mode_said, edges_said, begins_option, SaysFrom, SaysLineTests, line_tests_said, name_said}
-use Rattle.diy_words.specs.Gathered.{Gathered, gathered_of, last_given, name_of_saying, size_of_saying, folder_of_saying, count_of_saying, test_of_saying, execution_of_saying}
-use Rattle.diy_words.specs.SaidInOrder.{before_of, said_in, sayings, said_first, said_all}
-use Rattle.diy_words.specs.Requests.{Task, AsksTest, AsksWhy, AsksCoherence, AsksName, AsksList, AsksFamilies, AsksCross, AsksDemo, AsksCheck, AsksExecution, AsksCoherenceExecution, AsksNeeds, AsksLines, AsksStates, states_with, states_asked, check_asked, NameTask, ListTask, FamiliesTask, list_with, families_with, cross_with, demo_with, check_with, choice_count, mode_or_accept, asks, test_with, why_with, coherence_with, why_asked, coherence_asked, test_asked, test_or_execution, test_or_picture, test_or_needs, coherence_or_execution, coherence_or_picture, one_asked, diyone_with, edges_chosen, with_chosen, diyone_asked, diy_asked, asked_for, norm_asked, tool_asked, said_asked, loosely_asked, idle_error, unless_error, strictly_asked, asked_of, AsksLineTests, line_form, line_tests_with, line_tests_asked, cycle_asked}
-use Rattle.diy_words.specs.declared.request.ExecutionForm.TheVariants.{Text, Drawn}
-use Rattle.diy_words.specs.Strict.{is_strict}
-use Rattle.diy_words.specs.declared.request.LineTestForm.{LineTestForm}
-use Rattle.diy_words.specs.Given.{GivesTask, HasForm, WithinWords, list_kept}
-use Rattle.diy_io.specs.declared.shelf.TheConstants.{MAX_FOLDER}
+use Rattle.std.{proofs.{Common.{◌≡◌, ◌≤◌, ◌<◌, ◌+◌, ℕ, ap, arith, lit≤, nat_lt, nat_le, Bool, true, false, List, [], ◌∷◌, ◌++◌, Option, Some, None, Result, Ok, Err, refl, sym, subst, length}, lemmas.Bool.Decides.nat_tests}, specs.Prelude.if◌then◌else◌}
+use Rattle.std.specs.{Prelude.{IfOk, IfSome, ◌&&◌, ◌||◌, ◌==◌, codes}, Str.{bytes_eq, Parse.digits_value}, List.{AllByRecursion, list_any}, Borrow.Bor, Option.{option_map, option_or, unwrap_or, ForSome}}
+use Rattle.diy_words.{proofs.Vocabulary.{Edge, MAX_EDGES, ArchName, ObsMode, arch_of, RelaxError, BlanksAndCommas, relaxes_of, edges_of, text_edges, CycleError, composed, MAX_FOLDER, ArrayString}, specs.declared.request.TheConstants.MAX_CHOICES}
+use Rattle.diy_words.specs.declared.request.{TheConstants.MAX_TESTS, Check.Check, Demo.Demo, States.States, CheckForm.{CheckForm, TheVariants.{Verdict, Graph}}, Diy.Diy, Request.Request, ExecutionForm.TheVariants.{Text, Drawn}, LineTestForm.LineTestForm}
+use Rattle.diy_words.specs.{declared.{usage.{Usage.Usage, UsageKind.TheVariants.{UnknownOption, BadName, BadFolder, StrayWord, ExcludedOption, TooManyChoices}}, options.{Tool.Tool, OptionName.OptionName}}, TestNames.is_name, NumberWords.is_number}
+use Rattle.diy_words.specs.{NumberWords.number_to, Parts.{Part, Alone, Valued, Unvalued, waiting_at, alone_before, parts_from, parts_of, option_named, tool_named, mode_named}, Sayings.{Saying, SaysName, SaysRelaxes, SaysPlace, SaysSize, SaysExact}}
+use Rattle.diy_words.specs.Sayings.{SaysWhy, SaysCo, SaysExec, SaysNeeds, SaysLines, SaysGraph, SaysNames, SaysTable, SaysSkip, SaysStates, SaysStrict, SaysLog, takes_logs, is_leading, table_said, skip_said, check_dot_said, states_said, arch_option_said}
+use Rattle.diy_words.specs.Sayings.{SaysThreads, SaysAccesses, SaysFolder, SaysCount, SaysTest, SaysExecution, Before, usage_fault, why_said, co_said, exec_said, dot_said, needs_said, lines_said, folder_said, dashed_said, operand_said, relaxes_said}
+use Rattle.diy_words.specs.{Sayings.{number_said, after_said, cycle_word_said, said_by, arch_said, mode_said, edges_said, begins_option, SaysFrom, SaysLineTests, line_tests_said, name_said}, Gathered.{Gathered, gathered_of, last_given, name_of_saying}}
+use Rattle.diy_words.specs.{Gathered.{size_of_saying, folder_of_saying, count_of_saying, test_of_saying, execution_of_saying}, SaidInOrder.{before_of, said_in, sayings, said_first, said_all}, Requests.{Task, AsksTest, AsksWhy, AsksCoherence, AsksName}}
+use Rattle.diy_words.specs.Requests.{AsksList, AsksFamilies, AsksCross, AsksDemo, AsksCheck, AsksExecution, AsksCoherenceExecution, AsksNeeds, AsksLines, AsksStates, states_with, states_asked, check_asked, NameTask, ListTask, FamiliesTask, list_with}
+use Rattle.diy_words.specs.Requests.{families_with, cross_with, demo_with, check_with, choice_count, mode_or_accept, asks, test_with, why_with, coherence_with, why_asked, coherence_asked, test_asked, test_or_execution, test_or_picture, test_or_needs}
+use Rattle.diy_words.specs.Requests.{coherence_or_execution, coherence_or_picture, one_asked, diyone_with, edges_chosen, with_chosen, diyone_asked, diy_asked, asked_for, norm_asked, tool_asked, said_asked, loosely_asked, idle_error, unless_error}
+use Rattle.diy_words.specs.{Requests.{strictly_asked, asked_of, AsksLineTests, line_form, line_tests_with, line_tests_asked, cycle_asked}, Strict.is_strict, Given.{GivesTask, HasForm, WithinWords, list_kept}}
 use Rattle.diy_words.specs.declared.request.Request.TheVariants as requests
 use Rattle.diy_words.specs.declared.options.Tool.TheVariants as tools
 use Rattle.diy_words.specs.declared.options.OptionName.TheVariants as opts
-use Rattle.arrayvec.specs.ArrayString.{ArrayString}
 
 -- a name and a folder that are given have their forms, a size is one that cycles can have, so many tests can be made, and a file
 -- of mcheck7 is one of so many words

@@ -1,15 +1,9 @@
 -- What the parts of the arguments from an index on say of `-strict` and of the texts of relaxations.
-use Rattle.std.proofs.Common.{◌≡◌, ◌<◌, ◌≤◌, ◌+◌, ℕ, Bool, true, false, ◌||◌, List, [], ◌∷◌, length, drop, get_or, Option, Some, None, Result, Ok, Err, refl, sym, ◌∙◌, ap, arith, slice_get}
-use Rattle.std.specs.{Prelude.{codes}, Str.bytes_eq, List.list_any, Option.{option_or, unwrap_or}}
-use Rattle.std.proofs.{lemmas.List.drop_all, lemmas.Option.slice_get-get_or}
-use Rattle.list_laws.proofs.Elements.{drop_given}
-use Rattle.relax_edges.specs.declared.kinds.ArchName.{ArchName}
-use Rattle.edges_from_text.specs.Relaxations.{relaxes_of}
-use Rattle.idle_relaxations.specs.Idle.{first_of, last_of}
-use Rattle.diy_words.specs.declared.{options.Tool.Tool, options.OptionName.OptionName, request.Request.Request, usage.Usage.Usage}
-use Rattle.diy_words.specs.{Parts.{Part, Alone, Valued, Unvalued, parts_from, parts_of, option_named}, Sayings.begins_option, Given.{GivesTask, HoldsTask}}
-use Rattle.diy_words.specs.Requests.{Task, ListTask, AsksTest, AsksWhy, AsksCoherence, AsksName, AsksList, AsksFamilies, AsksSum, AsksCross, AsksDemo, AsksCheck, AsksExecution, AsksCoherenceExecution, AsksNeeds, AsksLines, AsksLineTests, AsksStates, idle_error, strictly_asked}
-use Rattle.diy_words.specs.{Strict.{is_strict, lists_in, relaxes_read, idle_at, idle_from, idle_in_listing, idle_in_positions}, StrictSteps.{list_at, is_edges, lists_from, IsNextList, NextList, idle_of}}
+use Rattle.std.proofs.{Common.{◌≡◌, ◌<◌, ◌≤◌, ◌+◌, ℕ, Bool, true, false, ◌||◌, List, [], ◌∷◌, length, drop, get_or, Option, Some, None, Result, Ok, Err, refl, sym, ◌∙◌, ap, arith, slice_get}, lemmas.{List.drop_all, Option.slice_get-get_or}}
+use Rattle.diy_words.{proofs.Vocabulary.{codes, bytes_eq, list_any, option_or, unwrap_or, drop_given, ArchName, relaxes_of, first_of, last_of}, specs.declared.{options.{Tool.Tool, OptionName.OptionName}, request.Request.Request, usage.Usage.Usage}}
+use Rattle.diy_words.specs.{Parts.{Part, Alone, Valued, Unvalued, parts_from, parts_of, option_named}, Sayings.begins_option, Given.{GivesTask, HoldsTask}, Requests.{Task, ListTask, AsksTest, AsksWhy, AsksCoherence, AsksName, AsksList, AsksFamilies}}
+use Rattle.diy_words.specs.{Requests.{AsksSum, AsksCross, AsksDemo, AsksCheck, AsksExecution, AsksCoherenceExecution, AsksNeeds, AsksLines, AsksLineTests, AsksStates, idle_error, strictly_asked}, Strict.{is_strict, lists_in, relaxes_read, idle_at}}
+use Rattle.diy_words.specs.{Strict.{idle_from, idle_in_listing, idle_in_positions}, StrictSteps.{list_at, is_edges, lists_from, IsNextList, NextList, idle_of}}
 use Rattle.diy_words.specs.declared.request.Request.TheVariants as requests
 use Rattle.diy_words.specs.declared.options.OptionName.TheVariants as opts
 

@@ -1,13 +1,11 @@
 -- Only for private functions of the code: which value of `Notes` stands for what the code has noted, and what each call leaves there.
 use Rattle.std.specs.{Prelude.{ℕ, ◌≡◌, ◌<◌, nat_lt, List, [], ◌∷◌, drop, slice_get, Option, Some, None, Result, Ok, Err}, Option.option_map, Result.result_ok}
 use Rattle.relax_edges.specs.declared.edge.Edge.{Edge}
-use Rattle.edges_from_text.specs.{declared.list.EdgeList.EdgeList, declared.list.EdgeList.TheVariants.{Whole, TooLong}, KeptEdges.kept_edges}
+use Rattle.edges_from_text.specs.{declared.list.EdgeList.{EdgeList, TheVariants.{Whole, TooLong}}, KeptEdges.kept_edges}
 use Rattle.edge_algebra.specs.Compose.{composed}
 use Rattle.diy_words.specs.declared.notes.Notes as code
-use Rattle.diy_words.specs.{declared.options.OptionName.OptionName, declared.options.Tool.Tool, declared.request.Request.Request}
-use Rattle.diy_words.specs.{declared.request.TheConstants.MAX_CHOICES, declared.usage.Usage.Usage, Parts.{Alone, Valued, parts_of, option_named}}
-use Rattle.diy_words.specs.{Sayings.{Saying, dashed_said, said_by}, Gathered.Gathered, Requests.{Task, choice_count, edges_chosen, tool_asked}, Given.GivesTask}
-use Rattle.diy_words.specs.Notes.{Notes, with_saying, before_noted, gathered_noted, said_noted}
+use Rattle.diy_words.specs.{declared.{options.{OptionName.OptionName, Tool.Tool}, request.{Request.Request, TheConstants.MAX_CHOICES}, usage.Usage.Usage}, Parts.{Alone, Valued, parts_of, option_named}, Sayings.{Saying, dashed_said, said_by}}
+use Rattle.diy_words.specs.{Gathered.Gathered, Requests.{Task, choice_count, edges_chosen, tool_asked}, Given.GivesTask, Notes.{Notes, with_saying, before_noted, gathered_noted, said_noted}}
 
 -- the code's notes as a value of `Notes`
 abbrev pub code_notes : code.Notes → Notes

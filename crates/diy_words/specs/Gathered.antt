@@ -1,8 +1,9 @@
 -- What is gathered from all that the arguments say: the last of each thing that a request reads, but all operands that are edges,
 -- positions or files.
 use Rattle.std.specs.{Prelude.{ℕ, Bool, true, false, List, [], ◌∷◌, ◌++◌, Option, Some, None}, List.list_any, Option.{option_or, unwrap_or}}
-use Rattle.relax_edges.specs.{declared.kinds.ArchName.ArchName, declared.kinds.ObsMode.ObsMode, declared.edge.Edge.Edge}
-use Rattle.diy_words.specs.Sayings.{Saying, SaysArch, SaysName, SaysMode, SaysFrom, SaysEdges, SaysRelaxes, SaysSize, SaysExact, SaysWhy, SaysCo, SaysExec, SaysNeeds, SaysLines, SaysGraph, SaysNames, SaysTable, SaysSkip, SaysStates, SaysLineTests, SaysThreads, SaysAccesses, SaysAfter, SaysFolder, SaysFile, SaysTest, SaysExecution, SaysPlace, SaysCount}
+use Rattle.relax_edges.specs.declared.{kinds.{ArchName.ArchName, ObsMode.ObsMode}, edge.Edge.Edge}
+use Rattle.diy_words.specs.Sayings.{Saying, SaysArch, SaysName, SaysMode, SaysFrom, SaysEdges, SaysRelaxes, SaysSize, SaysExact, SaysWhy, SaysCo, SaysExec, SaysNeeds, SaysLines, SaysGraph, SaysNames, SaysTable, SaysSkip, SaysStates, SaysLineTests}
+use Rattle.diy_words.specs.Sayings.{SaysThreads, SaysAccesses, SaysAfter, SaysFolder, SaysFile, SaysTest, SaysExecution, SaysPlace, SaysCount}
 
 -- the value of `-arch`
 abbrev pub arch_of_saying : Saying → Option ArchName

@@ -2,9 +2,9 @@
 use Rattle.std.specs.{Prelude.{ℕ, ◌≡◌, ◌<◌, ◌≤◌, true, IfSome, length, Result, Ok, Err}, Option.{option_map, ForSome}}
 use Rattle.relax_edges.specs.declared.TheConstants.{MAX_EDGES}
 use Rattle.edges_from_text.specs.KeptEdges.{kept_edges}
-use Rattle.diy_words.specs.{declared.request.Diy.Diy, declared.request.TheConstants.MAX_TESTS, declared.request.Request.Request, declared.request.Sought.Sought}
-use Rattle.diy_words.specs.{declared.usage.Usage.Usage, declared.request.DiyOne.DiyOne, declared.request.Coherence.Coherence, TestNames.is_name}
-use Rattle.diy_words.specs.Requests.{Task, AsksTest, AsksWhy, AsksCoherence, AsksName, AsksList, AsksFamilies, AsksSum, AsksCross, AsksDemo, AsksCheck, AsksExecution, AsksCoherenceExecution, AsksNeeds, AsksLines, AsksLineTests, AsksStates, TestTask, CoherenceTask, ListTask, OfEdges, OfName, OfLines, OfNames}
+use Rattle.diy_words.specs.{declared.{request.{Diy.Diy, TheConstants.MAX_TESTS, Request.Request, Sought.Sought, DiyOne.DiyOne, Coherence.Coherence}, usage.Usage.Usage}, TestNames.is_name, Requests.{Task, AsksTest, AsksWhy, AsksCoherence, AsksName}}
+use Rattle.diy_words.specs.Requests.{AsksList, AsksFamilies, AsksSum, AsksCross, AsksDemo, AsksCheck, AsksExecution, AsksCoherenceExecution, AsksNeeds, AsksLines, AsksLineTests, AsksStates, TestTask, CoherenceTask, ListTask, OfEdges, OfName, OfLines}
+use Rattle.diy_words.specs.Requests.{OfNames}
 use Rattle.diy_io.specs.declared.shelf.TheConstants.{MAX_FOLDER}
 use Rattle.diy_words.specs.declared.request.Request.TheVariants as requests
 use Rattle.diy_words.specs.declared.request.Sought.TheVariants as sought

@@ -1,7 +1,6 @@
 -- What a request of diycross7 or classify7 says about the arguments that make it.
 use Rattle.std.specs.Prelude.{Result, Ok}
-use Rattle.diy_words.specs.{declared.request.Cross.Cross, declared.usage.Usage.Usage, Given.GivesTask}
-use Rattle.diy_words.specs.Requests.{Task, AsksCross, AsksFamilies, IsCrossing, IsClassifying}
+use Rattle.diy_words.specs.{declared.{request.Cross.Cross, usage.Usage.Usage}, Given.GivesTask, Requests.{Task, AsksCross, AsksFamilies, IsCrossing, IsClassifying}}
 use Rattle.diy_words.specs.declared.request.Request.TheVariants as requests
 use Rattle.relax_edges.specs.declared.kinds.ArchName.{ArchName}
 

@@ -3,9 +3,9 @@
 use Rattle.std.specs.{Prelude.{ℕ, ◌+◌, ◌*◌, true, min, List, [], ◌∷◌, length, Some, is_some, Result, Ok, Err}, Option.option_or}
 use Rattle.relax_edges.specs.declared.edge.Edge.{Edge}
 use Rattle.edges_from_text.specs.{declared.list.EdgeList.EdgeList, KeptEdges.{kept_edges, edges_added}}
-use Rattle.diy_words.specs.{declared.options.Tool.Tool, declared.request.TheConstants.MAX_CHOICES, declared.usage.Usage.Usage, Parts.Part}
-use Rattle.diy_words.specs.Gathered.{Gathered, gathered_of}
-use Rattle.diy_words.specs.Sayings.{Saying, SaysArch, SaysName, SaysMode, SaysFrom, SaysEdges, SaysRelaxes, SaysSize, SaysExact, SaysWhy, SaysCo, SaysExec, SaysNeeds, SaysLines, SaysGraph, SaysNames, SaysTable, SaysSkip, SaysStates, SaysStrict, SaysThreads, SaysAccesses, SaysAfter, SaysFolder, SaysLog, SaysFile, SaysTest, SaysExecution, SaysPlace, SaysCount, Before, said_by, SaysLineTests}
+use Rattle.diy_words.specs.{declared.{options.Tool.Tool, request.TheConstants.MAX_CHOICES, usage.Usage.Usage}, Parts.Part, Gathered.{Gathered, gathered_of}, Sayings.{Saying, SaysArch, SaysName, SaysMode, SaysFrom, SaysEdges, SaysRelaxes, SaysSize}}
+use Rattle.diy_words.specs.Sayings.{SaysExact, SaysWhy, SaysCo, SaysExec, SaysNeeds, SaysLines, SaysGraph, SaysNames, SaysTable, SaysSkip, SaysStates, SaysStrict, SaysThreads, SaysAccesses, SaysAfter, SaysFolder, SaysLog, SaysFile, SaysTest}
+use Rattle.diy_words.specs.Sayings.{SaysExecution, SaysPlace, SaysCount, Before, said_by, SaysLineTests}
 
 -- what is gathered so far, except for edges, positions and files, of which nothing is gathered here; the edges, as many as a list holds;
 -- in how many ways a relaxation can be chosen for each position, up to one more than allowed; and how many operands were taken of those

@@ -1,6 +1,5 @@
 -- Numbers among the arguments: 1 to 7 decimal digits. Source: own.
-use Rattle.std.specs.Prelude.{ℕ, Bool, ◌&&◌, nat_lt, nat_le, if◌then◌else◌, List, length, Option, Some, None}
-use Rattle.std.specs.{Char.is_ascii_digit, List.list_all, Str.Parse.digits_value}
+use Rattle.std.specs.{Prelude.{ℕ, Bool, ◌&&◌, nat_lt, nat_le, if◌then◌else◌, List, length, Option, Some, None}, Char.is_ascii_digit, List.list_all, Str.Parse.digits_value}
 
 -- a text is a number
 abbrev pub is_number : List ℕ → Bool

@@ -2,7 +2,7 @@
 use Rattle.std.specs.{Prelude.{ℕ, ◌+◌, List, [], ◌∷◌, Option, Some, None, codes, if◌then◌else◌}, Str.bytes_eq}
 use Rattle.relax_edges.specs.declared.kinds.ObsMode.{ObsMode}
 use Rattle.relax_edges.specs.declared.kinds.ObsMode.TheVariants as modes
-use Rattle.diy_words.specs.{declared.options.Tool.Tool, declared.options.OptionName.OptionName}
+use Rattle.diy_words.specs.declared.options.{Tool.Tool, OptionName.OptionName}
 use Rattle.diy_words.specs.declared.options.Tool.TheVariants as tools
 use Rattle.diy_words.specs.declared.options.OptionName.TheVariants as opts
 

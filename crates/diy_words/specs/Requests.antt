@@ -1,18 +1,12 @@
 -- The request that the arguments make, or the first error among them. They are judged from left to right, an option together with its
 -- value, and then as a whole. Source: own, after the command lines of the diy tools.
 use Rattle.std.specs.{Prelude.{ℕ, ◌*◌, Bool, nat_lt, if◌then◌else◌, List, [], ◌∷◌, length, Option, Some, None, Result, Ok, Err}, Option.unwrap_or, List.list_any}
-use Rattle.relax_edges.specs.{declared.kinds.ArchName.ArchName, declared.kinds.ObsMode.ObsMode, declared.kinds.ObsMode.TheVariants.Accept}
-use Rattle.relax_edges.specs.declared.edge.Edge.{Edge}
+use Rattle.relax_edges.specs.declared.{kinds.{ArchName.ArchName, ObsMode.{ObsMode, TheVariants.Accept}}, edge.Edge.Edge}
 use Rattle.cycles_from_lines.specs.NamedCycles.{cycle_named}
-use Rattle.msum7_files.specs.{declared.sum_form.SumForm.SumForm, declared.sum_form.SumForm.TheVariants.{Log, Table}}
-use Rattle.diy_words.specs.{declared.request.CheckForm.CheckForm, declared.request.CheckForm.TheVariants.{Verdict, Graph}, declared.usage.Usage.Usage}
-use Rattle.diy_words.specs.{declared.request.ExecutionForm.ExecutionForm, declared.request.ExecutionForm.TheVariants.{Text, Drawn}}
-use Rattle.diy_words.specs.{declared.request.LineTestForm.LineTestForm, declared.request.LineTestForm.TheVariants.{Observed, Coherence}}
-use Rattle.msum7_files.specs.{declared.wrong_blocks.WrongBlocks.WrongBlocks, declared.wrong_blocks.WrongBlocks.TheVariants.{End, Skip}}
-use Rattle.diy_words.specs.declared.request.States.{States}
-use Rattle.diy_words.specs.{declared.request.Check.Check, declared.request.Demo.Demo, declared.request.TheConstants.MAX_CHOICES, declared.options.Tool.Tool}
-use Rattle.diy_words.specs.declared.usage.UsageKind.TheVariants.{UnknownTool, UnknownName, StrayWord, MissingArch, MissingEdges, MissingNumber, MissingFile, MissingWhy, TooManyChoices}
-use Rattle.diy_words.specs.{Parts.{Part, parts_of, tool_named}, Strict.{is_strict, lists_in, idle_in_listing, idle_in_positions}, Sayings.Saying, Gathered.{Gathered, gathered_of}, SaidInOrder.{sayings, said_all}}
+use Rattle.msum7_files.specs.declared.{sum_form.SumForm.{SumForm, TheVariants.{Log, Table}}, wrong_blocks.WrongBlocks.{WrongBlocks, TheVariants.{End, Skip}}}
+use Rattle.diy_words.specs.declared.request.{CheckForm.{CheckForm, TheVariants.{Verdict, Graph}}, ExecutionForm.{ExecutionForm, TheVariants.{Text, Drawn}}, LineTestForm.{LineTestForm, TheVariants.{Observed, Coherence}}, States.States, Check.Check}
+use Rattle.diy_words.specs.declared.{request.{Demo.Demo, TheConstants.MAX_CHOICES}, usage.{Usage.Usage, UsageKind.TheVariants.{UnknownTool, UnknownName, StrayWord, MissingArch, MissingEdges, MissingNumber, MissingFile, MissingWhy, TooManyChoices}}}
+use Rattle.diy_words.specs.{declared.options.Tool.Tool, Parts.{Part, parts_of, tool_named}, Strict.{is_strict, lists_in, idle_in_listing, idle_in_positions}, Sayings.Saying, Gathered.{Gathered, gathered_of}, SaidInOrder.{sayings, said_all}}
 use Rattle.diy_words.specs.declared.options.Tool.TheVariants as tools
 
 -- what diyone7 is asked for without `-why` and `-co`: a test, the execution that it asks for, or what suffices against its outcome, under

@@ -1,8 +1,7 @@
 -- What the parts of the arguments say one after another, each judged by what those before it said, or the first error among them.
 use Rattle.std.specs.{Prelude.{Bool, true, false, List, [], ◌∷◌, ◌++◌, length, filter, is_some, Result, Ok, Err}, List.list_any}
-use Rattle.diy_words.specs.{declared.usage.Usage.Usage, declared.options.Tool.Tool, Parts.Part}
-use Rattle.diy_words.specs.Sayings.{Saying, SaysCount, SaysTest, SaysExecution, Before, said_by}
-use Rattle.diy_words.specs.Gathered.{name_of_saying, from_of_saying, mode_of_saying, folder_of_saying, is_why, is_co, is_exec, is_graph, is_needs, is_lines, is_line_tests, is_skip, is_table, is_states, last_given}
+use Rattle.diy_words.specs.{declared.{usage.Usage.Usage, options.Tool.Tool}, Parts.Part, Sayings.{Saying, SaysCount, SaysTest, SaysExecution, Before, said_by}, Gathered.{name_of_saying, from_of_saying, mode_of_saying, folder_of_saying, is_why, is_co}}
+use Rattle.diy_words.specs.Gathered.{is_exec, is_graph, is_needs, is_lines, is_line_tests, is_skip, is_table, is_states, last_given}
 
 -- one of the operands whose number is limited: the number of demo and the files of mcheck7
 abbrev pub is_limited : Saying → Bool

@@ -1,18 +1,12 @@
 -- What each argument says, an option together with its value, or what is wrong with it, given what those before it said. Source: own,
 -- after the command lines of the diy tools.
-use Rattle.std.specs.Prelude.{ℕ, ◌+◌, ◌==◌, ◌&&◌, ◌||◌, Bool, false, nat_lt, nat_le, if◌then◌else◌, List, [], ◌∷◌, length, Option, Some, None, Result, Ok, Err, codes}
-use Rattle.std.specs.Str.{bytes_eq}
-use Rattle.relax_edges.specs.declared.TheConstants.{MAX_EDGES}
-use Rattle.edges_from_text.specs.{declared.relax_error.RelaxKind.RelaxKind, declared.relax_error.RelaxError.RelaxError}
-use Rattle.relax_edges.specs.{declared.kinds.ArchName.ArchName, declared.kinds.ObsMode.ObsMode, declared.edge.Edge.Edge}
-use Rattle.edges_from_text.specs.Relaxations.{relaxes_of}
-use Rattle.relax_edges.specs.Architectures.{arch_of}
+use Rattle.std.specs.{Prelude.{ℕ, ◌+◌, ◌==◌, ◌&&◌, ◌||◌, Bool, false, nat_lt, nat_le, if◌then◌else◌, List, [], ◌∷◌, length, Option, Some, None, Result, Ok, Err, codes}, Str.bytes_eq}
+use Rattle.relax_edges.specs.{declared.{TheConstants.MAX_EDGES, kinds.{ArchName.ArchName, ObsMode.ObsMode}, edge.Edge.Edge}, Architectures.arch_of}
+use Rattle.edges_from_text.specs.{declared.{relax_error.{RelaxKind.RelaxKind, RelaxError.RelaxError}, read.Separators.TheVariants.BlanksAndCommas}, Relaxations.relaxes_of, Spelled.{edges_of, text_edges}}
 use Rattle.edges_from_text.specs.declared.relax_error.RelaxKind.TheVariants as relaxing
 use Rattle.edge_algebra.specs.{declared.errors.CycleError.CycleError, Compose.composed}
-use Rattle.edges_from_text.specs.{declared.read.Separators.TheVariants.BlanksAndCommas, Spelled.{edges_of, text_edges}}
-use Rattle.diy_words.specs.{declared.usage.Usage.Usage, declared.usage.UsageKind.UsageKind, declared.request.TheConstants.MAX_TESTS, declared.options.Tool.Tool}
-use Rattle.diy_words.specs.declared.usage.UsageKind.TheVariants.{UnknownOption, MissingValue, BadNumber, UnknownArch, BadMode, BadName, BadFolder, UnknownEdge, BadBracket, RelaxTooLong, DoesNotJoin, TooManyRelaxes, BadAfter, StrayWord, ExcludedOption}
-use Rattle.diy_words.specs.{TestNames.is_name, NumberWords.number_to, Parts.{Part, Alone, Valued, Unvalued, mode_named}}
+use Rattle.diy_words.specs.declared.usage.{Usage.Usage, UsageKind.{UsageKind, TheVariants.{UnknownOption, MissingValue, BadNumber, UnknownArch, BadMode, BadName, BadFolder, UnknownEdge, BadBracket, RelaxTooLong, DoesNotJoin, TooManyRelaxes, BadAfter}}}
+use Rattle.diy_words.specs.{declared.{usage.UsageKind.TheVariants.{StrayWord, ExcludedOption}, request.TheConstants.MAX_TESTS, options.Tool.Tool}, TestNames.is_name, NumberWords.number_to, Parts.{Part, Alone, Valued, Unvalued, mode_named}}
 use Rattle.diy_io.specs.declared.shelf.TheConstants.{MAX_FOLDER}
 use Rattle.diy_words.specs.declared.options.Tool.TheVariants as tools
 use Rattle.diy_words.specs.declared.options.OptionName.TheVariants as opts

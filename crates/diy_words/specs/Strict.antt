@@ -3,8 +3,8 @@
 use Rattle.std.specs.{Prelude.{ℕ, ◌+◌, Bool, false, List, [], ◌∷◌, Option, None, Result, Ok, Err, codes, if◌then◌else◌}, Str.bytes_eq, List.flat_map, Option.{option_map, option_or}}
 use Rattle.relax_edges.specs.declared.{edge.Edge.Edge, kinds.ArchName.ArchName}
 use Rattle.edges_from_text.specs.{declared.relax_error.RelaxError.RelaxError, Relaxations.relaxes_of}
-use Rattle.idle_relaxations.specs.Idle.{first_idle, first_of, last_of}
-use Rattle.diy_words.specs.{declared.usage.Usage.Usage, declared.usage.UsageKind.TheVariants.IdleRelax, Parts.{Part, Alone, Valued}, Sayings.begins_option}
+use Rattle.cycle_enum.specs.Idle.{first_idle, first_of, last_of}
+use Rattle.diy_words.specs.{declared.usage.{Usage.Usage, UsageKind.TheVariants.IdleRelax}, Parts.{Part, Alone, Valued}, Sayings.begins_option}
 use Rattle.diy_words.specs.declared.options.OptionName.TheVariants as opts
 
 -- a part of the arguments is `-strict`

@@ -1,8 +1,7 @@
 -- How the texts of relaxations are found among the arguments, one after another: for clauses of private functions.
 use Rattle.std.specs.{Prelude.{ℕ, ◌≡◌, ◌<◌, ◌≤◌, ◌+◌, Bool, true, false, List, [], ◌∷◌, length, drop, slice_get, Option, Some, None}, Option.unwrap_or}
-use Rattle.diy_words.specs.{declared.options.Tool.Tool, declared.options.OptionName.OptionName, declared.request.Request.Request, declared.usage.Usage.Usage, Parts.parts_of}
-use Rattle.idle_relaxations.specs.Idle.{last_of}
-use Rattle.diy_words.specs.Strict.{lists_in, idle_in_listing, idle_in_positions}
+use Rattle.diy_words.specs.{declared.{options.{Tool.Tool, OptionName.OptionName}, request.Request.Request, usage.Usage.Usage}, Parts.parts_of, Strict.{lists_in, idle_in_listing, idle_in_positions}}
+use Rattle.cycle_enum.specs.Idle.{last_of}
 use Rattle.diy_words.specs.declared.request.Request.TheVariants as requests
 use Rattle.diy_words.specs.declared.options.OptionName.TheVariants as opts
 

@@ -7,9 +7,9 @@ use crate::notes::begins_option;
 use crate::options::{OptionName, Tool, option_named};
 use crate::request::{Diy, Request};
 use crate::usage::{Usage, UsageKind, usage_at};
+use cycle_enum::first_idle;
 use diy_io::Words;
 use edges_from_text::{Relax, Relaxes, read_relaxes};
-use idle_relaxations::first_idle;
 use relax_edges::ArchName;
 
 /// The request, or with `-strict` the error at its first idle relaxation, if it has one.

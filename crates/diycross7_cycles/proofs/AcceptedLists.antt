@@ -1,13 +1,6 @@
 -- Which lists of edges are accepted.
-use Rattle.std.proofs.Common.{◌≡◌, ◌≤◌, true, false, cond, ◌&&◌, List, length, Option, Some, None, Result, Ok, Err, refl, sym, ap, ◌∙◌}
-use Rattle.std.specs.Prelude.{is_ok, is_none}
-use Rattle.relax_edges.specs.{declared.TheConstants.MAX_EDGES, declared.kinds.ObsMode.ObsMode, declared.edge.Edge.Edge}
-use Rattle.edge_algebra_laws.specs.Composable.{IsCycle}
-use Rattle.edge_algebra.specs.{declared.errors.CycleError.CycleError, Compose.composed, ComposingLaws.composes_exactly}
-use Rattle.arch_trait.specs.Threads.{Puts}
-use Rattle.test_maker.specs.declared.refusal.{MakeRefusal.MakeRefusal, Refusal.Refusal}
-use Rattle.test_maker.specs.{Made.Judges, Refusals.{make_refusal, refusal_of}}
-use Rattle.diycross7_cycles.specs.{Choices.is_accepted, ComposedLaws.composed_same}
+use Rattle.std.{proofs.Common.{◌≡◌, ◌≤◌, true, false, cond, ◌&&◌, List, length, Option, Some, None, Result, Ok, Err, refl, sym, ap, ◌∙◌}, specs.Prelude.{is_ok, is_none}}
+use Rattle.diycross7_cycles.{proofs.Vocabulary.{MAX_EDGES, ObsMode, Edge, IsCycle, CycleError, composed, composes_exactly, Puts, MakeRefusal, Refusal, Judges, make_refusal, refusal_of}, specs.{Choices.is_accepted, ComposedLaws.composed_same}}
 
 -- an accepted list is a cycle and has a test
 pub accepted_parts : (puts : Puts) (mode : ObsMode) (u : List Edge) → is_accepted puts mode u ≡ true → IsCycle u × (refusal_of puts u mode ≡ None)

@@ -1,13 +1,7 @@
 -- What is kept after all choices, list by list and relaxation by relaxation.
 use Rattle.std.proofs.Common.{◌≡◌, ◌<◌, ◌≤◌, ℕ, ◌+◌, ◌-◌, suc, Bool, true, false, cond, Some, None, List, [], ◌∷◌, ◌++◌, length, map, filter, fold, take, drop, get_or, drop-cons, add-one, eqb-true, refl, sym, ap, ◌∙◌, arith, append_assoc, length-append}
-use Rattle.std.proofs.{lemmas.List.{append-nil, map-append, drop_all, take_all, take_at}, lemmas.List.Sums.fold-append}
-use Rattle.std.specs.{Prelude.◌==◌, List.{flat_map, list_any}}
-use Rattle.relax_edges.specs.{declared.TheConstants.MAX_EDGES, declared.edge.Edge.Edge, declared.kinds.ObsMode.ObsMode}
-use Rattle.list_laws.proofs.Cases.{by_test}
-use Rattle.arch_trait.specs.Threads.{Puts}
-use Rattle.cycle_enum_laws.specs.Listing.{concatenated}
+use Rattle.diycross7_cycles.proofs.{Vocabulary.{append-nil, map-append, drop_all, take_all, take_at, fold-append, ◌==◌, flat_map, list_any, MAX_EDGES, Edge, ObsMode, by_test, Puts, concatenated}, KeptCycles.{all_kept, accepted_kept}}
 use Rattle.diycross7_cycles.specs.{Choices.{choices, first_kept, is_accepted, crossed}, CrossingSteps.{keep_turned, keep_accepted, chosen, chosen_first}}
-use Rattle.diycross7_cycles.proofs.KeptCycles.{all_kept, accepted_kept}
 
 module _ (accepts : List Edge → Bool) where
   -- with no list left, the joined edges are the choice

@@ -1,19 +1,8 @@
 -- The crossed cycles are choices that count, no two the same cycle, and each choice that counts is a rotation of one of them.
-use Rattle.std.proofs.Common.{◌≡◌, ◌<◌, Bool, true, not, List, [], ◌∷◌, length, map, filter, None, Ok, inl, inr, refl, sym, ap, ◌∙◌, subst, arith, true≢false}
-use Rattle.std.specs.{Prelude.All, List.flat_map}
-use Rattle.std.proofs.lemmas.{List.Elements.All-cons, Bool.not-true}
-use Rattle.relax_edges.specs.declared.{kinds.ObsMode.ObsMode, edge.Edge.Edge}
-use Rattle.list_laws.proofs.Cases.{by_test}
-use Rattle.edge_algebra_laws.specs.{Composable.IsCycle, Rotation.IsRotation}
-use Rattle.edge_algebra_laws.proofs.Rotating.{rotation_same, rotation_on}
-use Rattle.cycle_enum_laws.specs.Listing.{IsOneOf, concatenated}
-use Rattle.edge_algebra.specs.{Compose.composed, ComposingLaws.composes_exactly}
-use Rattle.arch_trait.specs.Threads.{Puts}
-use Rattle.test_maker.specs.Refusals.{refusal_of}
-use Rattle.diycross7_cycles.specs.Choices.{choices, is_turn, is_accepted, first_kept, crossed}
+use Rattle.std.{proofs.{Common.{◌≡◌, ◌<◌, Bool, true, not, List, [], ◌∷◌, length, map, filter, None, Ok, inl, inr, refl, sym, ap, ◌∙◌, subst, arith, true≢false}, lemmas.{List.Elements.All-cons, Bool.not-true}}, specs.{Prelude.All, List.flat_map}}
+use Rattle.diycross7_cycles.proofs.{Vocabulary.{ObsMode, Edge, by_test, IsCycle, IsRotation, composed, composes_exactly, rotation_same, rotation_on, IsOneOf, concatenated, Puts, refusal_of}, AcceptedLists.accepted_parts, Turning.rotation_of_turn}
+use Rattle.diycross7_cycles.{proofs.{Turning.turn_of_rotation, Members.{Member, member_first, member_last, member_either, member_filter, filter_member, member_map, map_member}}, specs.Choices.{choices, is_turn, is_accepted, first_kept, crossed}}
 use Rattle.diycross7_cycles.specs.Laws.{IsChoice, IsCrossed, AreApart, IsTurnOfOne, AreAllCrossed, CrossesAll}
-use Rattle.diycross7_cycles.proofs.{AcceptedLists.accepted_parts, Turning.rotation_of_turn, Turning.turn_of_rotation}
-use Rattle.diycross7_cycles.proofs.Members.{Member, member_first, member_last, member_either, member_filter, filter_member, member_map, map_member}
 
 -- one of some lists is a member of them
 member_one : (us : List (List Edge)) (u : List Edge) → IsOneOf us u → Member us u

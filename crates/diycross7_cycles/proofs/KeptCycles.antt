@@ -1,11 +1,6 @@
 -- Lists that are kept one after another are the first of those that are the same cycle.
-use Rattle.std.proofs.Common.{◌≡◌, Bool, true, not, cond, List, [], ◌∷◌, ◌++◌, filter, fold, refl, sym, ap, ◌∙◌, append_assoc}
-use Rattle.std.specs.List.{list_any}
-use Rattle.std.proofs.lemmas.{List.append-nil, List.Folds.list_any-append}
-use Rattle.relax_edges.specs.declared.edge.Edge.{Edge}
-use Rattle.list_laws.proofs.Cases.{by_test}
-use Rattle.diycross7_cycles.specs.{Choices.is_turn, Choices.first_kept, CrossingSteps.keep_turned, CrossingSteps.keep_accepted}
-use Rattle.diycross7_cycles.proofs.Turning.{turn_on}
+use Rattle.diycross7_cycles.{proofs.{Vocabulary.{◌≡◌, Bool, true, not, cond, List, [], ◌∷◌, ◌++◌, filter, fold, refl, sym, ap, ◌∙◌, append_assoc, append-nil, list_any-append, list_any, Edge, by_test}, Turning.turn_on}, specs.Choices.is_turn}
+use Rattle.diycross7_cycles.specs.{Choices.first_kept, CrossingSteps.{keep_turned, keep_accepted}}
 
 -- none of some lists is a rotation of v
 abbrev is_new : List (List Edge) → List Edge → Bool

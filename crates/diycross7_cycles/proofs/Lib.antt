@@ -1,3 +1,4 @@
+pub mod Vocabulary
 pub mod Turning
 pub mod KeptCycles
 pub mod Choosing

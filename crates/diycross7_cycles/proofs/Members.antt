@@ -1,6 +1,5 @@
 -- Members of lists, of their maps and of those that pass a test.
-use Rattle.std.proofs.Common.{◌≡◌, Bool, true, List, [], ◌∷◌, ◌++◌, map, filter, inl, inr, ◌⊎◌, refl, sym, ap, ◌∙◌}
-use Rattle.list_laws.proofs.Cases.{by_test}
+use Rattle.diycross7_cycles.proofs.Vocabulary.{◌≡◌, Bool, true, List, [], ◌∷◌, ◌++◌, map, filter, inl, inr, ◌⊎◌, refl, sym, ap, ◌∙◌, by_test}
 
 module _ {A : Type 0} where
   -- x is a member of a list

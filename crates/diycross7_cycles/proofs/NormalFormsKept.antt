@@ -1,14 +1,7 @@
 -- A cycle is known by its normal form exactly where a rotation of it is kept.
-use Rattle.std.proofs.Common.{◌≡◌, ◌<◌, ◌↔◌, ℕ, Bool, true, false, List, [], ◌∷◌, ◌++◌, length, map, refl, sym, ◌∙◌, subst, nat_eq, eqb-true, eq-eqb}
-use Rattle.std.proofs.lemmas.Slice.Eq.{slice_eq-Decides}
-use Rattle.std.specs.{Prelude.IsTrue, List.list_any, Cmp.Lexicographic.pointwise, Cmp.both_ways}
-use Rattle.indexmap.specs.IndexSet.{insert_key}
-use Rattle.relax_edges.specs.{declared.edge.Edge.Edge, Order.rank_of}
-use Rattle.edge_algebra_laws.proofs.{RankLaws.rank_injective, Rotating.{least_same, same_least, rotation_length}}
-use Rattle.edge_algebra_laws.specs.Rotation.{IsRotation}
-use Rattle.diycross7_cycles.specs.{declared.normal_form.NormalForm.NormalForm, Choices.is_turn, CrossingSteps.keep_turned, NormalForms.IsNormalForm}
-use Rattle.diycross7_cycles.specs.Known.{AreNormalForms}
-use Rattle.diycross7_cycles.proofs.Turning.{rotation_of_turn, turn_of_rotation}
+use Rattle.std.{proofs.{Common.{◌≡◌, ◌<◌, ◌↔◌, ℕ, Bool, true, false, List, [], ◌∷◌, ◌++◌, length, map, refl, sym, ◌∙◌, subst, nat_eq, eqb-true, eq-eqb}, lemmas.Slice.Eq.slice_eq-Decides}, specs.{Prelude.IsTrue, List.list_any}}
+use Rattle.diycross7_cycles.proofs.{Vocabulary.{pointwise, both_ways, insert_key, Edge, rank_of, rank_injective, least_same, same_least, rotation_length, IsRotation}, Turning.{rotation_of_turn, turn_of_rotation}}
+use Rattle.diycross7_cycles.specs.{declared.normal_form.NormalForm.NormalForm, Choices.is_turn, CrossingSteps.keep_turned, NormalForms.IsNormalForm, Known.AreNormalForms}
 
 -- the test that the set makes of two keys
 abbrev pub same_ranks : NormalForm → NormalForm → Bool

@@ -1,11 +1,6 @@
 -- The test of rotations decides them, and so do the ranks of normal forms.
-use Rattle.std.proofs.{Common.{◌≡◌, ◌<◌, ◌↔◌, true, List, length, refl, sym, arith, IsTrue}, lemmas.Slice.Eq.slice_eq-Decides}
-use Rattle.std.specs.Prelude.{IsTrue}
-use Rattle.relax_edges.specs.{declared.edge.Edge.Edge, Order.is_same}
-use Rattle.edge_algebra_laws.proofs.{RankLaws.rank_decides, Rotating.{rotation_on, rotation_of_place, place_of_rotation}}
-use Rattle.list_laws.proofs.Finds.{any_upto, any_upto_passing}
-use Rattle.edge_algebra_laws.specs.Rotation.{IsRotation, rotated}
-use Rattle.diycross7_cycles.specs.Choices.{is_turn}
+use Rattle.std.{proofs.{Common.{◌≡◌, ◌<◌, ◌↔◌, true, List, length, refl, sym, arith, IsTrue}, lemmas.Slice.Eq.slice_eq-Decides}, specs.Prelude.IsTrue}
+use Rattle.diycross7_cycles.{proofs.Vocabulary.{Edge, is_same, rank_decides, rotation_on, rotation_of_place, place_of_rotation, IsRotation, rotated, any_upto, any_upto_passing}, specs.Choices.is_turn}
 
 -- the test of two lists of edges decides whether they are equal
 pub same_decides : (u v : List Edge) → IsTrue (is_same u v) ↔ (u ≡ v)

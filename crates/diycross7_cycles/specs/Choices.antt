@@ -1,11 +1,10 @@
 -- The cycles of all choices of one relaxation from each of some lists.
 -- Source: diycross, the diy part of the herdtools manual; which of equal cycles is kept is own.
 use Rattle.std.specs.{Prelude.{Bool, not, ◌&&◌, is_ok, is_none, List, [], ◌∷◌, length, map, filter}, List.{flat_map, list_any}}
-use Rattle.relax_edges.specs.{declared.kinds.ObsMode.ObsMode, declared.edge.Edge.Edge, Order.is_same}
+use Rattle.relax_edges.specs.{declared.{kinds.ObsMode.ObsMode, edge.Edge.Edge}, Order.is_same}
 use Rattle.list_laws.specs.Numbers.{upto}
-use Rattle.edge_algebra_laws.specs.Rotation.{rotated}
-use Rattle.edge_algebra.specs.Compose.{composed}
-use Rattle.cycle_enum_laws.specs.Listing.{concatenated}
+use Rattle.edge_algebra.specs.{Rotation.rotated, Compose.composed}
+use Rattle.cycle_enum.specs.Listing.{concatenated}
 use Rattle.arch_trait.specs.Threads.{Puts}
 use Rattle.test_maker.specs.Refusals.{refusal_of}
 

@@ -1,8 +1,7 @@
 -- A law of what edges compose to, for the crates above; it holds no definition.
 use Rattle.std.proofs.Common.{◌≡◌, ℕ, Bool, true, false, cond, List, [], ◌∷◌, ◌++◌, length, Option, Some, None, Ok, Err, nat_lt}
-use Rattle.relax_edges.specs.{declared.TheConstants.MAX_EDGES, declared.edge.Edge.Edge}
-use Rattle.edge_algebra_laws.specs.Composable.{first_break}
-use Rattle.edge_algebra.specs.{declared.errors.CycleError.TheVariants.TooLong, Compose.{composed, unbroken}}
+use Rattle.relax_edges.specs.declared.{TheConstants.MAX_EDGES, edge.Edge.Edge}
+use Rattle.edge_algebra.specs.{Composable.first_break, declared.errors.CycleError.TheVariants.TooLong, Compose.{composed, unbroken}}
 
 -- the cycle that a list of edges makes is that list
 pub composed_same : (u w : List Edge) → composed u ≡ Ok w → w ≡ u

@@ -2,7 +2,7 @@
 -- Source: own.
 use Rattle.std.specs.{Prelude.{Bool, cond, List, [], ◌∷◌, ◌++◌, map, fold}, List.{flat_map, list_any}}
 use Rattle.relax_edges.specs.declared.edge.Edge.{Edge}
-use Rattle.cycle_enum_laws.specs.Listing.{concatenated}
+use Rattle.cycle_enum.specs.Listing.{concatenated}
 use Rattle.diycross7_cycles.specs.Choices.{choices, is_turn}
 
 -- a list is kept after others, unless it is a rotation of one of them

@@ -1,8 +1,8 @@
 -- What the crossed cycles are, as a statement.
 use Rattle.std.specs.Prelude.{◌≡◌, ⊤, None, List, [], ◌∷◌}
 use Rattle.relax_edges.specs.declared.{kinds.ObsMode.ObsMode, edge.Edge.Edge}
-use Rattle.edge_algebra_laws.specs.{Composable.IsCycle, Rotation.IsRotation}
-use Rattle.cycle_enum_laws.specs.Listing.{IsOneOf, concatenated}
+use Rattle.edge_algebra.specs.{Composable.IsCycle, Rotation.IsRotation}
+use Rattle.cycle_enum.specs.Listing.{IsOneOf, concatenated}
 use Rattle.arch_trait.specs.Threads.{Puts}
 use Rattle.test_maker.specs.Refusals.{refusal_of}
 use Rattle.diycross7_cycles.specs.Choices.{crossed}

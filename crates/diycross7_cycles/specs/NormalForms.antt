@@ -2,7 +2,7 @@
 -- Source: own.
 use Rattle.std.specs.Prelude.{◌≡◌, ℕ, List, map}
 use Rattle.relax_edges.specs.{declared.edge.Edge.Edge, Order.rank_of}
-use Rattle.edge_algebra_laws.specs.CycleOrder.{IsLeast}
+use Rattle.edge_algebra.specs.CycleOrder.{IsLeast}
 
 -- the ranks of the normal form of a cycle
 pub record IsNormalForm (u : List Edge) (ranks : List ℕ) : Type 0 where

@@ -1,9 +1,7 @@
 -- It doesn't matter which of three paths are joined first, and how places of breaks are counted.
 use Rattle.std.proofs.Common.{◌≡◌, ◌<◌, ◌+◌, ℕ, Bool, true, false, cond, List, [], ◌∷◌, ◌++◌, length, Option, Some, None, Ok, Err, refl, ap, ◌∙◌, arith, append_assoc, length-append, nat_lt}
-use Rattle.relax_edges.specs.{declared.TheConstants.MAX_EDGES, declared.edge.Edge.Edge, JoinedEdges.joins_first}
-use Rattle.edge_algebra_laws.specs.Composable.{one_later, last_joins}
+use Rattle.edge_algebra.{proofs.Vocabulary.{MAX_EDGES, Edge, joins_first}, specs.{Composable.{one_later, last_joins}, Compose.{counted_from, joined}, PathLaws.JoiningIsAssociative}}
 use Rattle.edge_algebra.specs.declared.errors.JoinError.TheVariants as joins
-use Rattle.edge_algebra.specs.{Compose.{counted_from, joined}, Laws.JoiningIsAssociative}
 
 -- counted from 0, a place is itself
 pub counted_from_zero : (place : Option ℕ) → counted_from 0 place ≡ place

@@ -1,2 +1,15 @@
+pub mod Vocabulary
 pub mod Windows
 pub mod Composed
+pub mod Composing
+pub mod EdgeLaws
+pub mod Joining
+pub mod Laws
+pub mod Marks
+pub mod Neighbours
+pub mod Ordering
+pub mod Places
+pub mod Rotating
+pub mod RankLaws
+pub mod SpellingLaws
+pub mod Turning

@@ -1,10 +1,7 @@
 -- Rotations are compared rank by rank, and the least is found among those from each place.
-use Rattle.std.proofs.Common.{◌≡◌, ◌<◌, ℕ, zero, suc, ◌+◌, ◌%◌, ◌&&◌, ◌||◌, nat_lt, nat_eq, true, false, Some, List, [], ◌∷◌, ◌++◌, length, slice_get, get_or, take, drop, map, refl, sym, ◌∙◌, ap, arith, below_more}
-use Rattle.std.proofs.{Math.Nat.mod-eq_of_lt, lemmas.Option.slice_get-get_or, lemmas.List.{append-nil, map-append, drop-map, take-map}}
-use Rattle.relax_edges.specs.{declared.edge.Edge.Edge, Order.rank_of}
-use Rattle.edge_algebra_laws.specs.{Rotation.rotated, CycleOrder.{Above, IsNormal, ranks_below}}
-use Rattle.edge_algebra_laws.proofs.{Rotating.rotation_of_place, Places.rotated_at}
-use Rattle.edge_algebra_laws.proofs.Ordering.{above_irreflexive, above_transitive, above_of_ranks, ranks_of_above}
+use Rattle.std.proofs.{Common.{◌≡◌, ◌<◌, ℕ, zero, suc, ◌+◌, ◌%◌, ◌&&◌, ◌||◌, nat_lt, nat_eq, true, false, Some, List, [], ◌∷◌, ◌++◌, length, slice_get, get_or, take, drop, map, refl, sym, ◌∙◌, ap, arith, below_more}, Math.Nat.mod-eq_of_lt}
+use Rattle.edge_algebra.proofs.{Vocabulary.{slice_get-get_or, append-nil, map-append, drop-map, take-map, Edge, rank_of}, Rotating.rotation_of_place, Places.rotated_at, Ordering.{above_irreflexive, above_transitive, above_of_ranks, ranks_of_above}}
+use Rattle.edge_algebra.specs.{Rotation.rotated, CycleOrder.{Above, IsNormal, ranks_below}}
 
 -- the ranks of a rotation are the rotation of the ranks
 pub ranks_rotated : (k : ℕ) (u : List Edge) → map rank_of (rotated k u) ≡ rotated k (map rank_of u)

@@ -2,10 +2,8 @@
 -- Source: the diy part of the herdtools manual, "Candidate relaxations"; which error is named is own.
 use Rattle.std.specs.Prelude.{ℕ, ◌+◌, cond, List, [], ◌∷◌, ◌++◌, length, Option, Some, None, Result, Ok, Err, nat_lt}
 use Rattle.relax_edges.specs.declared.{TheConstants.MAX_EDGES, edge.Edge.Edge}
-use Rattle.edge_algebra.specs.declared.errors.{CycleError.CycleError, CycleError.TheVariants.Empty, CycleError.TheVariants.TooLong}
-use Rattle.edge_algebra.specs.declared.errors.{CycleError.TheVariants.DoesNotCompose, JoinError.JoinError, NotClosed.NotClosed}
+use Rattle.edge_algebra.specs.{declared.errors.{CycleError.{CycleError, TheVariants.{Empty, TooLong, DoesNotCompose}}, JoinError.JoinError, NotClosed.NotClosed}, Composable.{first_break, last_joins}}
 use Rattle.edge_algebra.specs.declared.errors.JoinError.TheVariants as joins
-use Rattle.edge_algebra_laws.specs.Composable.{first_break, last_joins}
 
 -- a position, counted from `at` instead of 0
 abbrev pub counted_from : ℕ → Option ℕ → Option ℕ

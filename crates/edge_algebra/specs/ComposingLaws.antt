@@ -1,11 +1,8 @@
 -- What a list of edges makes, by the result: each result comes exactly when it should.
-use Rattle.std.proofs.Common.{◌≡◌, ◌<◌, ◌≤◌, inl, inr, ℕ, List, [], ◌∷◌, ◌++◌, length, Option, Some, None, Ok, Err, refl, ◌∙◌, ap, arith, length-append}
-use Rattle.std.proofs.lemmas.Bool.{lt-ltb, le-ltb, cases_order, cases_lt}
-use Rattle.relax_edges.specs.{declared.TheConstants.MAX_EDGES, declared.edge.Edge.Edge}
-use Rattle.edge_algebra_laws.specs.Composable.{IsCycle, first_break}
-use Rattle.edge_algebra_laws.proofs.{Composing.{joined_unbroken, break_within}, Neighbours.{closed_at_place, break_is, break_is_first}}
-use Rattle.edge_algebra.specs.{declared.errors.CycleError.TheVariants.{Empty, TooLong, DoesNotCompose}, Compose.{composed, unbroken}}
-use Rattle.edge_algebra.specs.Laws.{IsFirstBreak, ComposesExactly}
+use Rattle.std.proofs.{Common.{◌≡◌, ◌<◌, ◌≤◌, inl, inr, ℕ, List, [], ◌∷◌, ◌++◌, length, Option, Some, None, Ok, Err, refl, ◌∙◌, ap, arith, length-append}, lemmas.Bool.{lt-ltb, le-ltb, cases_order, cases_lt}}
+use Rattle.relax_edges.specs.declared.{TheConstants.MAX_EDGES, edge.Edge.Edge}
+use Rattle.edge_algebra.{specs.{Composable.{IsCycle, first_break}, declared.errors.CycleError.TheVariants.{Empty, TooLong, DoesNotCompose}, Compose.{composed, unbroken}, PathLaws.{IsFirstBreak, ComposesExactly}}, proofs.Composing.joined_unbroken}
+use Rattle.edge_algebra.proofs.{Composing.break_within, Neighbours.{closed_at_place, break_is, break_is_first}}
 
 -- when each result comes
 data Answer (u : List Edge) : Type 0 where

@@ -1,5 +1,5 @@
 ghost use Rattle.std.specs.Prelude.{◌≡◌, ◌+◌, ◌≤◌, [], ◌∷◌, ◌++◌, length, IfOk};
-ghost use Rattle.edge_algebra_laws.specs.Composable.{IsCycle, first_break};
+ghost use Rattle.edge_algebra.specs.Composable.{IsCycle, first_break};
 ghost use Rattle.edge_algebra.specs.Compose.{composed, counted_from};
 
 use crate::{Cycle, CycleError};

@@ -2,7 +2,7 @@ ghost use Rattle.std.specs.{Prelude.{◌≡◌, ◌+◌, ◌<◌, ◌≤◌, ◌
 ghost use Rattle.std.specs.{Cmp.Lexicographic.{pointwise}, Ordering.{on}};
 ghost use Rattle.std.proofs.Common.{rules};
 ghost use Rattle.relax_edges.specs.Order.{rank_of};
-ghost use Rattle.edge_algebra_laws.specs.{Composable.{IsCycle}, Rotation.{rotated}};
+ghost use Rattle.edge_algebra.specs.{Composable.{IsCycle}, Rotation.{rotated}};
 
 use arrayvec::ArrayVec;
 use relax_edges::{Edge, MAX_EDGES};
@@ -20,7 +20,7 @@ pub struct Cycle {
 impl Model for Cycle {
     ghost use Rattle.std.specs.Prelude.{List};
     ghost use Rattle.relax_edges.specs.declared.edge.Edge.{Edge};
-    ghost use Rattle.edge_algebra_laws.specs.Composable.{IsCycle};
+    ghost use Rattle.edge_algebra.specs.Composable.{IsCycle};
 
     ghost Value = { List Edge };
 

@@ -1,6 +1,6 @@
 ghost use Rattle.std.specs.Prelude.{◌≡◌, ◌+◌, ◌<◌, ◌≤◌, ◌↔◌, ◌%◌, length, map, slice_get, Some, IsTrue};
 ghost use Rattle.relax_edges.specs.Order.{rank_of};
-ghost use Rattle.edge_algebra_laws.specs.{CycleOrder.{IsLeast, IsNormal, ranks_below}, Rotation.{IsRotation, rotated}};
+ghost use Rattle.edge_algebra.specs.{CycleOrder.{IsLeast, IsNormal, ranks_below}, Rotation.{IsRotation, rotated}};
 
 use crate::Cycle;
 use arrayvec::ArrayVec;

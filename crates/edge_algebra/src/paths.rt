@@ -1,5 +1,5 @@
 ghost use Rattle.std.specs.Prelude.{◌≡◌, ◌<◌, [], ◌∷◌, length};
-ghost use Rattle.edge_algebra_laws.specs.Composable.{IsPath, last_joins};
+ghost use Rattle.edge_algebra.specs.Composable.{IsPath, last_joins};
 ghost use Rattle.edge_algebra.specs.Compose.{joined, closed};
 
 use crate::cycles::copy;
@@ -19,7 +19,7 @@ pub struct Path {
 impl Model for Path {
     ghost use Rattle.std.specs.Prelude.{List};
     ghost use Rattle.relax_edges.specs.declared.edge.Edge.{Edge};
-    ghost use Rattle.edge_algebra_laws.specs.Composable.{IsPath};
+    ghost use Rattle.edge_algebra.specs.Composable.{IsPath};
 
     ghost Value = { List Edge };
 

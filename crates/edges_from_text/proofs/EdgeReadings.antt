@@ -1,14 +1,7 @@
 -- A text is read as the edge that it spells, and as none where it spells none.
-use Rattle.std.specs.Prelude.{ℕ, ◌≡◌, ◌≤◌, ◌<◌, ◌-◌, ◌==◌, ◌&&◌, ◌||◌, ◌⊎◌, ◌++◌, ◌∷◌, [], Bool, true, false, not, cond}
-use Rattle.std.specs.Prelude.{List, length, take, drop, codes, Option, Some, None}
-use Rattle.std.specs.{List.{list_all, list_any}, Option.option_or, Str.bytes_eq}
-use Rattle.std.proofs.{Common.{refl, arith, ap, subst, sym, ◌∙◌, inl, inr, nat_le}, lemmas.Bool.{eqb-true, leb-true}}
-use Rattle.std.proofs.lemmas.{List.take-append-drop, Slice.Eq.bytes_eq-Decides}
-use Rattle.list_laws.proofs.Cases.{by_test}
-use Rattle.relax_edges.specs.{declared.edge.Edge.Edge, Order.rank_of, WordParts.word_of, AllEdges.edges_in_order}
-use Rattle.relax_edges.specs.{Spelling.{spellings_of, is_spelling, edge_of}}
-use Rattle.relax_edges.proofs.{Ranks.{each_edge, rank_injective}, Spellings.{find_passes, Chosen, chosen, edge_of-spelling, edge_of-sound}}
-use Rattle.edges_from_text.specs.WordReading.{named, named_after, named_with_co, may_be_plain, if_plain, other_named}
+use Rattle.std.specs.{Prelude.{ℕ, ◌≡◌, ◌≤◌, ◌<◌, ◌-◌, ◌==◌, ◌&&◌, ◌||◌, ◌⊎◌, ◌++◌, ◌∷◌, [], Bool, true, false, not, cond, List, length, take, drop, codes, Option, Some, None}, List.{list_all, list_any}, Option.option_or, Str.bytes_eq}
+use Rattle.edges_from_text.proofs.Vocabulary.{refl, arith, ap, subst, sym, ◌∙◌, inl, inr, nat_le, eqb-true, leb-true, take-append-drop, bytes_eq-Decides, by_test, Edge, rank_of, word_of, edges_in_order, spellings_of, is_spelling, edge_of, each_edge}
+use Rattle.edges_from_text.{proofs.Vocabulary.{rank_injective, find_passes, Chosen, chosen, edge_of-spelling, edge_of-sound}, specs.WordReading.{named, named_after, named_with_co, may_be_plain, if_plain, other_named}}
 
 -- the edge that a text is read as
 read_of : List ℕ → Option Edge

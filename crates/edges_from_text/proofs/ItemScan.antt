@@ -1,12 +1,7 @@
 -- The items of a text are found in one pass over it, an item's bytes passed over once its first one is read.
-use Rattle.std.specs.{Prelude.{ℕ, ◌≡◌, ◌+◌, ◌==◌, ◌||◌, Bool, true, false, cond, Option, None, Result, Ok, Err, List, [], ◌∷◌, ◌++◌, length}, List.before_first}
-use Rattle.std.proofs.{Common.{zero, suc, refl, arith, ap, sym, ◌∙◌, length-append}, lemmas.Bool.{eqb-true, false≢true}, lemmas.List.append-nil}
-use Rattle.std.proofs.lemmas.List.Elements.{filter-append}
-use Rattle.list_laws.proofs.Places.{before_first-no}
-use Rattle.relax_edges.specs.declared.edge.Edge.{Edge}
-use Rattle.edges_from_text.specs.declared.relax_error.RelaxKind.{RelaxKind}
-use Rattle.edges_from_text.specs.RelaxText.{is_separator, is_bracket, ends_word, inside, has_closed_bracket, RelaxItem, words_from, last_byte, is_open, stands_apart, begins_item, items_after, items_of}
-use Rattle.edges_from_text.specs.{RelaxPrefix.{bytes_after, ends_here}, Relaxations.item_errors, RelaxKept.{kept_item, kept_items}}
+use Rattle.std.{specs.{Prelude.{ℕ, ◌≡◌, ◌+◌, ◌==◌, ◌||◌, Bool, true, false, cond, Option, None, Result, Ok, Err, List, [], ◌∷◌, ◌++◌, length}, List.before_first}, proofs.Common.{zero, suc, refl, arith, ap, sym, ◌∙◌, length-append}}
+use Rattle.edges_from_text.{proofs.Vocabulary.{eqb-true, false≢true, append-nil, filter-append, before_first-no, Edge}, specs.{declared.relax_error.RelaxKind.RelaxKind, RelaxText.{is_separator, is_bracket, ends_word, inside, has_closed_bracket}}}
+use Rattle.edges_from_text.specs.{RelaxText.{RelaxItem, words_from, last_byte, is_open, stands_apart, begins_item, items_after, items_of}, RelaxPrefix.{bytes_after, ends_here}, Relaxations.item_errors, RelaxKept.{kept_item, kept_items}}
 
 -- the item that begins with a byte, or none at a separator
 abbrev pub item_from : ℕ → ℕ → List ℕ → List RelaxItem

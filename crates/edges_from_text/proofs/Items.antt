@@ -1,16 +1,8 @@
 -- Items are kept one after another.
-use Rattle.std.specs.Prelude.{ℕ, ◌≡◌, ◌<◌, ◌≤◌, ◌+◌, ◌-◌, Bool, true, false, Some, Result, Ok, Err, List, [], ◌∷◌, ◌++◌, length, map, take, drop}
-use Rattle.std.specs.List.{list_any}
-use Rattle.std.proofs.{Common.{suc, refl, arith}, Math.ListN.drop_of_length-le, lemmas.List.drop-drop, lemmas.Bool.{lt-ltb, le-ltb}}
-use Rattle.list_laws.specs.Errors.{unless}
-use Rattle.list_laws.proofs.Elements.{rest_from}
-use Rattle.relax_edges.specs.declared.edge.Edge.{Edge}
-use Rattle.edges_from_text.specs.declared.relax_error.RelaxKind.{RelaxKind}
-use Rattle.edges_from_text.specs.declared.relax_error.RelaxKind.TheVariants.{UnknownEdge, RelaxTooLong, DoesNotJoin}
-use Rattle.edges_from_text.specs.{RelaxText.{is_separator, is_empty, words_from}, Relaxations.{word_edges, error_if, item_errors, too_many}}
-use Rattle.edges_from_text.specs.{RelaxKept.{keep_all, at_most_64, kept_item, kept_items}, RelaxSearch.{paths_after, KeepsPaths}}
-use Rattle.edges_from_text.specs.RelaxPrefix.{first_word_len, kept_prefix}
-use Rattle.edges_from_text.proofs.{ItemScan.{items_from, kept_one}, Paths.{paths_after-nil, at_most_64-ok}}
+use Rattle.std.{specs.{Prelude.{ℕ, ◌≡◌, ◌<◌, ◌≤◌, ◌+◌, ◌-◌, Bool, true, false, Some, Result, Ok, Err, List, [], ◌∷◌, ◌++◌, length, map, take, drop}, List.list_any}, proofs.{Common.{suc, refl, arith}, Math.ListN.drop_of_length-le, lemmas.List.drop-drop}}
+use Rattle.edges_from_text.{proofs.{Vocabulary.{lt-ltb, le-ltb, unless, rest_from, Edge}, ItemScan.{items_from, kept_one}, Paths.{paths_after-nil, at_most_64-ok}}, specs.declared.relax_error.RelaxKind.{RelaxKind, TheVariants.{UnknownEdge, RelaxTooLong}}}
+use Rattle.edges_from_text.specs.{declared.relax_error.RelaxKind.TheVariants.DoesNotJoin, RelaxText.{is_separator, is_empty, words_from}, Relaxations.{word_edges, error_if, item_errors, too_many}, RelaxKept.{keep_all, at_most_64, kept_item, kept_items}}
+use Rattle.edges_from_text.specs.{RelaxSearch.{paths_after, KeepsPaths}, RelaxPrefix.{first_word_len, kept_prefix}}
 
 -- words of which one names no edge are refused
 pub kept_words_unknown : (kept : List (List Edge)) (words : List (List ℕ)) → list_any (λ word. is_empty (word_edges word)) words ≡ true

@@ -1,13 +1,7 @@
 -- A relaxation is kept at its first place, while there is room.
-use Rattle.std.specs.{Prelude.{◌≡◌, ◌<◌, ◌≤◌, true, false, Ok, Err, List, [], ◌∷◌, ◌++◌, length}, List.list_any, Cmp.both_ways}
-use Rattle.std.proofs.{Common.{◌↔◌, IsTrue, refl, arith, sym}, lemmas.Bool.{lt-ltb, false≢true}, lemmas.List.length-append, lemmas.List.Folds.list_any-append}
-use Rattle.std.proofs.lemmas.Slice.Eq.{slice_eq-Decides}
-use Rattle.relax_edges.specs.declared.edge.Edge.{Edge}
-use Rattle.edges_from_text.specs.declared.relax_error.RelaxKind.TheVariants.{TooManyRelaxes}
-use Rattle.relax_edges.specs.Order.{is_same}
-use Rattle.edges_from_text.specs.{Relaxations.{are_distinct_paths, IsRelaxes}, RelaxKept.{keep_path, at_most_64}}
-use Rattle.relax_edges.proofs.Ranks.{rank_decides}
-use Rattle.edges_from_text.proofs.Paths.{at_most_64-ok}
+use Rattle.std.{specs.{Prelude.{◌≡◌, ◌<◌, ◌≤◌, true, false, Ok, Err, List, [], ◌∷◌, ◌++◌, length}, List.list_any, Cmp.both_ways}, proofs.{Common.{◌↔◌, IsTrue, refl, arith, sym}, lemmas.{Bool.{lt-ltb, false≢true}, List.length-append}}}
+use Rattle.edges_from_text.{proofs.{Vocabulary.{list_any-append, slice_eq-Decides, Edge, is_same, rank_decides}, Paths.at_most_64-ok}, specs.{declared.relax_error.RelaxKind.TheVariants.TooManyRelaxes, Relaxations.{are_distinct_paths, IsRelaxes}}}
+use Rattle.edges_from_text.specs.RelaxKept.{keep_path, at_most_64}
 
 -- a relaxation that is in the list already leaves it as it is
 pub keep_there : (kept : List (List Edge)) (path : List Edge) → IsRelaxes kept → list_any (is_same path) kept ≡ true → at_most_64 (keep_path kept path) ≡ Ok kept

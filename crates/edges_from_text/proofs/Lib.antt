@@ -1,3 +1,4 @@
+pub mod Vocabulary
 pub mod ReadingLaws
 pub mod EdgeReadings
 mod RelaxExamples

@@ -1,11 +1,7 @@
 -- How paths grow edge by edge, and how relaxations are kept one after another.
-use Rattle.std.specs.{Prelude.{◌≡◌, ◌≤◌, true, false, nat_lt, Ok, Err, List, [], ◌∷◌, ◌++◌, length, filter, map}, List.flat_map}
-use Rattle.std.proofs.{Common.{refl, arith, ap, append_assoc}, lemmas.Bool.{ltb-true, lt-ltb, false≢true}, lemmas.List.{map-append, append-nil, length-append}}
-use Rattle.std.proofs.{lemmas.List.Elements.filter-append, Math.Bool.and-true}
-use Rattle.list_laws.proofs.Cases.{by_test}
-use Rattle.relax_edges.specs.{declared.edge.Edge.Edge, EdgeTable.joins_to, JoinedEdges.is_joined}
-use Rattle.edges_from_text.specs.declared.relax_error.RelaxKind.{RelaxKind}
-use Rattle.edges_from_text.specs.{RelaxSearch.paths_after, Relaxations.path_choices, RelaxKept.{keep_path, keep_all, at_most_64}}
+use Rattle.std.{specs.{Prelude.{◌≡◌, ◌≤◌, true, false, nat_lt, Ok, Err, List, [], ◌∷◌, ◌++◌, length, filter, map}, List.flat_map}, proofs.{Common.{refl, arith, ap, append_assoc}, lemmas.{Bool.{ltb-true, lt-ltb, false≢true}, List.map-append}}}
+use Rattle.std.proofs.{lemmas.List.{append-nil, length-append, Elements.filter-append}, Math.Bool.and-true}
+use Rattle.edges_from_text.{proofs.Vocabulary.{by_test, Edge, joins_to, is_joined}, specs.{declared.relax_error.RelaxKind.RelaxKind, RelaxSearch.paths_after, Relaxations.path_choices, RelaxKept.{keep_path, keep_all, at_most_64}}}
 
 -- to go on with an edge and then others is to go on after one edge more
 moved : (prefix : List Edge) (edge : Edge) (paths : List (List Edge))

@@ -1,14 +1,8 @@
 -- The item that a text begins with, by the places of brackets and of the ends of words.
-use Rattle.std.specs.Prelude.{ℕ, ◌≡◌, ◌<◌, ◌≤◌, ◌+◌, ◌==◌, ◌||◌, Bool, true, false, not, Some, None, Ok, Err, List, [], ◌∷◌, length, take}
-use Rattle.std.specs.List.{before_first, position_or_len}
-use Rattle.std.proofs.{Common.{get_or, refl, arith, ap, sym}, lemmas.Bool.{eqb-true, false≢true}, lemmas.List.length-take, lemmas.List.Folds.length-prefix_len}
-use Rattle.std.proofs.Math.ListN.{get_or-eq_default}
-use Rattle.edges_from_text.specs.RelaxText.{is_separator, is_bracket, ends_word, words_of, inside, has_closed_bracket, bracket_words, words_from}
-use Rattle.relax_edges.specs.declared.edge.Edge.{Edge}
-use Rattle.edges_from_text.specs.{declared.relax_error.RelaxKind.TheVariants.BadBracket, Relaxations.item_errors, RelaxKept.kept_item}
-use Rattle.edges_from_text.specs.RelaxPrefix.{bytes_after, kept_prefix, first_words, first_word_len, ends_here, IsInside, IsFirstWord}
-use Rattle.edges_from_text.proofs.RelaxWords.{words_of_run}
-use Rattle.list_laws.proofs.Places.{before_first-no}
+use Rattle.std.{specs.{Prelude.{ℕ, ◌≡◌, ◌<◌, ◌≤◌, ◌+◌, ◌==◌, ◌||◌, Bool, true, false, not, Some, None, Ok, Err, List, [], ◌∷◌, length, take}, List.{before_first, position_or_len}}, proofs.{Common.{get_or, refl, arith, ap, sym}, lemmas.Bool.eqb-true}}
+use Rattle.edges_from_text.{proofs.{Vocabulary.{false≢true, length-take, length-prefix_len, get_or-eq_default, Edge, before_first-no}, RelaxWords.words_of_run}, specs.RelaxText.{is_separator, is_bracket, ends_word, words_of, inside, has_closed_bracket}}
+use Rattle.edges_from_text.specs.{RelaxText.{bracket_words, words_from}, declared.relax_error.RelaxKind.TheVariants.BadBracket, Relaxations.item_errors, RelaxKept.kept_item, RelaxPrefix.{bytes_after, kept_prefix, first_words, first_word_len, ends_here}}
+use Rattle.edges_from_text.specs.RelaxPrefix.{IsInside, IsFirstWord}
 
 before_first-length : (test : ℕ → Bool) (text : List ℕ) → length (before_first test text) ≡ position_or_len test text
 before_first-length test text = length-prefix_len (λ x. not (test x)) text

@@ -1,12 +1,7 @@
 -- How a text is read word by word.
-use Rattle.std.proofs.Common.{◌≡◌, ℕ, ◌+◌, ◌-◌, ◌<◌, ◌≤◌, Bool, nat_lt, List, [], ◌∷◌, ◌++◌, length, take, drop, Option, Some, None}
-use Rattle.std.proofs.Common.{Result, Ok, Err, is_ok, if◌then◌else◌, refl, sym, ap, ◌∙◌, arith}
-use Rattle.std.proofs.{lemmas.Bool.{ltb-true, ltb-false}, lemmas.List.{drop-drop, take-append-drop, append-nil}, lemmas.List.Splits.{slice_split_first, slice_split_none}}
-use Rattle.std.proofs.{lemmas.List.Sums.fails_before_first, Math.ListN.drop_of_length-le}
-use Rattle.list_laws.proofs.{Cases.by_test, Elements.rest_from}
-use Rattle.std.specs.{List.{slice_split, before_first, position_or_len}, Option.option_map, Result.IsErr}
-use Rattle.relax_edges.specs.{declared.edge.Edge.Edge, Spelling.edge_of, ReadEdges.before_edges}
-use Rattle.edges_from_text.specs.{declared.list.EdgeList.EdgeList, Spelled.edges_spelled, KeptEdges.{edges_added, pushed}}
+use Rattle.std.proofs.{Common.{◌≡◌, ℕ, ◌+◌, ◌-◌, ◌<◌, ◌≤◌, Bool, nat_lt, List, [], ◌∷◌, ◌++◌, length, take, drop, Option, Some, None, Result, Ok, Err, is_ok, if◌then◌else◌, refl, sym, ap, ◌∙◌, arith}, lemmas.{Bool.{ltb-true, ltb-false}, List.drop-drop}}
+use Rattle.edges_from_text.proofs.Vocabulary.{take-append-drop, append-nil, slice_split_first, slice_split_none, fails_before_first, drop_of_length-le, slice_split, before_first, position_or_len, option_map, IsErr, by_test, rest_from, Edge, edge_of}
+use Rattle.edges_from_text.{proofs.Vocabulary.before_edges, specs.{declared.list.EdgeList.EdgeList, Spelled.edges_spelled, KeptEdges.{edges_added, pushed}}}
 
 -- the edges kept once a text's words are read after those that were kept before; none where a word is no edge
 abbrev pub spelled : EdgeList → List (List ℕ) → Option EdgeList

@@ -1,13 +1,8 @@
 -- The definition of relaxation lists on worked texts.
-use Rattle.std.specs.Prelude.{◌≡◌, Ok, Err, [], ◌∷◌, codes}
-use Rattle.std.proofs.Common.{refl}
+use Rattle.std.{specs.Prelude.{◌≡◌, Ok, Err, [], ◌∷◌, codes}, proofs.Common.refl}
 use Rattle.relax_edges.specs.declared.kinds.Dir.TheVariants as dirs
-use Rattle.relax_edges.specs.declared.kinds.Sd.TheVariants.{Diff}
-use Rattle.relax_edges.specs.NamedEdges.{fre, rfe, wse}
-use Rattle.edges_from_text.specs.declared.relax_error.RelaxKind.TheVariants.{UnknownEdge, BadBracket, RelaxTooLong, DoesNotJoin}
-use Rattle.relax_edges.specs.{Order.rank_of, AllEdges.edges_in_order, Spelling.edge_of}
-use Rattle.edges_from_text.specs.RelaxText.{items_of}
-use Rattle.edges_from_text.specs.Relaxations.{word_edges, distinct, item_errors, relaxes_of}
+use Rattle.edges_from_text.{proofs.Vocabulary.{Diff, fre, rfe, wse, rank_of, edges_in_order, edge_of}, specs.{declared.relax_error.RelaxKind.TheVariants.{UnknownEdge, BadBracket, RelaxTooLong, DoesNotJoin}, RelaxText.items_of, Relaxations.word_edges}}
+use Rattle.edges_from_text.specs.Relaxations.{distinct, item_errors, relaxes_of}
 use Rattle.relax_edges.specs.declared.kinds.DepKind.TheVariants as deps
 use Rattle.relax_edges.specs.declared.edge.Edge.TheVariants as edges
 

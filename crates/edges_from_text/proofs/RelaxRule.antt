@@ -1,15 +1,7 @@
 -- The relaxations of a text are those that are kept item by item.
-use Rattle.std.specs.{Prelude.{ℕ, ◌≡◌, ◌||◌, Ok, List, [], ◌∷◌, ◌++◌, map}, List.{list_any, flat_map}}
-use Rattle.std.proofs.{Common.{refl, arith, ap, sym, ◌∙◌, append_assoc}, lemmas.List.append-nil, lemmas.List.Folds.list_any-append}
-use Rattle.std.proofs.lemmas.Grind.{flat_map-append}
-use Rattle.list_laws.specs.Errors.{with_before, unless}
-use Rattle.list_laws.proofs.Errors.{before_append}
-use Rattle.relax_edges.specs.declared.edge.Edge.{Edge}
-use Rattle.edges_from_text.specs.{declared.relax_error.RelaxKind.RelaxKind, declared.relax_error.RelaxError.RelaxError}
-use Rattle.edges_from_text.specs.{RelaxText.{RelaxItem, items_of}, RelaxKept.{keep_path, keep_all, kept_item, kept_items}}
-use Rattle.relax_edges.specs.Order.{is_same}
-use Rattle.edges_from_text.specs.Relaxations.{if_new, distinct, item_paths, relaxes_in, item_errors, too_many, errors_of, relaxes_of}
-use Rattle.edges_from_text.proofs.{Search.flat_map-end, Kept.same_decides, ItemScan.{kept_one, refused_one}}
+use Rattle.std.{specs.{Prelude.{ℕ, ◌≡◌, ◌||◌, Ok, List, [], ◌∷◌, ◌++◌, map}, List.{list_any, flat_map}}, proofs.{Common.{refl, arith, ap, sym, ◌∙◌, append_assoc}, lemmas.{List.{append-nil, Folds.list_any-append}, Grind.flat_map-append}}}
+use Rattle.edges_from_text.{proofs.{Vocabulary.{with_before, unless, before_append, Edge, is_same}, Search.flat_map-end, Kept.same_decides, ItemScan.{kept_one, refused_one}}, specs.declared.relax_error.{RelaxKind.RelaxKind, RelaxError.RelaxError}}
+use Rattle.edges_from_text.specs.{RelaxText.{RelaxItem, items_of}, RelaxKept.{keep_path, keep_all, kept_item, kept_items}, Relaxations.{if_new, distinct, item_paths, relaxes_in, item_errors, too_many, errors_of, relaxes_of}}
 
 -- a path is among some paths exactly where it is among those of them that are new
 any_new : (path : List Edge) (before paths : List (List Edge))

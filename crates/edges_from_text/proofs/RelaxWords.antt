@@ -1,10 +1,7 @@
 -- The first word of a text without brackets, and a text that is one word.
-use Rattle.std.specs.Prelude.{ℕ, ◌≡◌, ◌<◌, Bool, true, false, not, List, [], ◌∷◌, length, filter, drop}
-use Rattle.std.specs.{List.{before_first, position, position_or_len, slice_split, onto_first, list_all}, Option.unwrap_or}
-use Rattle.std.proofs.{lemmas.Bool.ltb-false, lemmas.List.Sums.prefix_len-le-length, Common.{nat_lt, refl, arith, ap, sym}}
-use Rattle.list_laws.proofs.{Cases.by_test, Places.{before_first-no, position_or_len-no}}
-use Rattle.edges_from_text.specs.RelaxText.{is_separator, ends_word, is_empty, words_of}
-use Rattle.edges_from_text.proofs.ItemScan.{before_first-yes}
+use Rattle.std.{specs.{Prelude.{ℕ, ◌≡◌, ◌<◌, Bool, true, false, not, List, [], ◌∷◌, length, filter, drop}, List.{before_first, position, position_or_len, slice_split, onto_first, list_all}, Option.unwrap_or}, proofs.lemmas.Bool.ltb-false}
+use Rattle.std.proofs.{lemmas.List.Sums.prefix_len-le-length, Common.{nat_lt, refl, arith, ap, sym}}
+use Rattle.edges_from_text.{proofs.{Vocabulary.{by_test, before_first-no, position_or_len-no}, ItemScan.before_first-yes}, specs.RelaxText.{is_separator, ends_word, is_empty, words_of}}
 
 -- the parts of a text that are not empty, by the test that splits it
 abbrev words_by : (ℕ → Bool) → List ℕ → List (List ℕ)

@@ -1,11 +1,8 @@
 -- How paths are kept, list by list and edge by edge.
-use Rattle.std.specs.{Prelude.{ℕ, ◌≡◌, ◌<◌, ◌≤◌, ◌+◌, ◌-◌, ◌||◌, Bool, true, false, not, Ok, Err, List, [], ◌∷◌, ◌++◌, length, map, take, drop}, List.flat_map}
-use Rattle.std.proofs.{Common.{suc, get_or, refl, arith, ap, subst, sym, ◌∙◌}, Math.Seq.{drop-cons, take-suc, take-length}, lemmas.Grind.flat_map-append}
-use Rattle.std.proofs.lemmas.List.{append-nil, take-append-drop}
-use Rattle.relax_edges.specs.{declared.edge.Edge.Edge, EdgeTable.joins_to, JoinedEdges.is_joined}
-use Rattle.edges_from_text.specs.{declared.relax_error.RelaxKind.RelaxKind, RelaxText.is_empty}
-use Rattle.edges_from_text.specs.{RelaxSearch.{paths_after, paths_by, KeepsPaths}, Relaxations.word_edges, RelaxKept.{keep_path, keep_all, at_most_64}}
-use Rattle.edges_from_text.proofs.Paths.{is_joined-end, paths_after-cons, paths_after-end, paths_after-none, keep_all-append, at_most_64-ok, at_most_64-is, at_most_64-err}
+use Rattle.std.{specs.{Prelude.{ℕ, ◌≡◌, ◌<◌, ◌≤◌, ◌+◌, ◌-◌, ◌||◌, Bool, true, false, not, Ok, Err, List, [], ◌∷◌, ◌++◌, length, map, take, drop}, List.flat_map}, proofs.{Common.{suc, get_or, refl, arith, ap, subst, sym, ◌∙◌}, Math.Seq.drop-cons}}
+use Rattle.edges_from_text.proofs.{Vocabulary.{take-suc, take-length, flat_map-append, append-nil, take-append-drop, Edge, joins_to, is_joined}, Paths.{is_joined-end, paths_after-cons, paths_after-end, paths_after-none, keep_all-append, at_most_64-ok}}
+use Rattle.edges_from_text.{proofs.Paths.{at_most_64-is, at_most_64-err}, specs.{declared.relax_error.RelaxKind.RelaxKind, RelaxText.is_empty, RelaxSearch.{paths_after, paths_by, KeepsPaths}, Relaxations.word_edges, RelaxKept.{keep_path, keep_all}}}
+use Rattle.edges_from_text.specs.RelaxKept.{at_most_64}
 
 -- the paths that begin with some edges, by the edges of the first list
 pub paths_after_by : (prefix edges : List Edge) (lists : List (List Edge)) → paths_after prefix (edges ∷ lists) ≡ paths_by prefix lists edges

@@ -1,13 +1,7 @@
 -- A word names the edges that its last two bytes choose.
-use Rattle.std.specs.Prelude.{ℕ, ◌≡◌, ◌<◌, ◌≤◌, ◌-◌, ◌==◌, ◌&&◌, true, cond, take, Option, Some, None, List, [], ◌∷◌, ◌++◌, length, map, codes}
-use Rattle.std.specs.{List.{flat_map, filter_map, cons_option}, Option.option_to_list}
-use Rattle.std.proofs.{Common.{suc, get_or, refl, arith, ap, sym, ◌∙◌}, lemmas.Bool.le-ltb, Math.Seq.drop-cons, Math.ListN.drop_of_length-le}
-use Rattle.std.proofs.{lemmas.List.Elements.filter_map-append, Math.Bool.{and-false, and-true}}
-use Rattle.std.proofs.lemmas.List.{take-append-drop, map-append, length-append, append-nil}
-use Rattle.relax_edges.specs.{declared.edge.Edge.Edge, Spelling.edge_of}
-use Rattle.edges_from_text.specs.Relaxations.{byte_choices, expansions, word_edges}
-use Rattle.edges_from_text.specs.Stars.{star_choices, edges_by_last, edges_by_end}
-use Rattle.edges_from_text.proofs.EdgeReadings.{edge_of_short, edge_of_long}
+use Rattle.std.{specs.{Prelude.{ℕ, ◌≡◌, ◌<◌, ◌≤◌, ◌-◌, ◌==◌, ◌&&◌, true, cond, take, Option, Some, None, List, [], ◌∷◌, ◌++◌, length, map, codes}, List.{flat_map, filter_map, cons_option}, Option.option_to_list}, proofs.Common.{suc, get_or, refl, arith}}
+use Rattle.std.proofs.{Common.{ap, sym, ◌∙◌}, lemmas.{Bool.le-ltb, List.{Elements.filter_map-append, take-append-drop, map-append, length-append, append-nil}}, Math.{Seq.drop-cons, ListN.drop_of_length-le, Bool.{and-false, and-true}}}
+use Rattle.edges_from_text.{proofs.{Vocabulary.{Edge, edge_of}, EdgeReadings.{edge_of_short, edge_of_long}}, specs.{Relaxations.{byte_choices, expansions, word_edges}, Stars.{star_choices, edges_by_last, edges_by_end}}}
 
 -- the words with a given beginning, by their last two bytes
 abbrev ends : List ℕ → ℕ → ℕ → List (List ℕ)

@@ -1,7 +1,7 @@
 -- How edges are kept as they are read.
 use Rattle.std.specs.Prelude.{nat_lt, nat_le, if◌then◌else◌, List, [], ◌∷◌, ◌++◌, length}
 use Rattle.relax_edges.specs.declared.{TheConstants.MAX_EDGES, edge.Edge.Edge}
-use Rattle.edges_from_text.specs.declared.list.{EdgeList.EdgeList, EdgeList.TheVariants.Whole, EdgeList.TheVariants.TooLong}
+use Rattle.edges_from_text.specs.declared.list.EdgeList.{EdgeList, TheVariants.{Whole, TooLong}}
 
 -- edges as they are kept: all of them, or `TooLong` if there are more than MAX_EDGES
 abbrev pub kept_edges : List Edge → EdgeList

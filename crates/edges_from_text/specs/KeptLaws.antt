@@ -1,10 +1,8 @@
 -- Laws of edges as they are kept.
-use Rattle.std.proofs.Common.{◌≡◌, ◌<◌, ◌≤◌, true, false, List, [], ◌∷◌, ◌++◌, length, refl, sym, ap, ◌∙◌, arith, nat_lt, nat_le, append_assoc, append-nil, length-append, le-leb}
-use Rattle.std.proofs.lemmas.Bool.Decides.{nat_tests}
+use Rattle.std.proofs.{Common.{◌≡◌, ◌<◌, ◌≤◌, true, false, List, [], ◌∷◌, ◌++◌, length, refl, sym, ap, ◌∙◌, arith, nat_lt, nat_le, append_assoc, append-nil, length-append, le-leb}, lemmas.Bool.Decides.nat_tests}
 use Rattle.list_laws.proofs.Cases.{by_test}
 use Rattle.relax_edges.specs.declared.{TheConstants.MAX_EDGES, edge.Edge.Edge}
-use Rattle.edges_from_text.specs.declared.list.{EdgeList.EdgeList, EdgeList.TheVariants.Whole, EdgeList.TheVariants.TooLong}
-use Rattle.edges_from_text.specs.KeptEdges.{kept_edges, pushed, edges_added}
+use Rattle.edges_from_text.specs.{declared.list.EdgeList.{EdgeList, TheVariants.{Whole, TooLong}}, KeptEdges.{kept_edges, pushed, edges_added}}
 
 -- adding some edges and then others is adding them all
 pub added_more : (list : EdgeList) (es fs : List Edge) → edges_added (edges_added list es) fs ≡ edges_added list (es ++ fs)

@@ -1,10 +1,8 @@
 -- How relaxations are kept item by item, for the clauses of private functions: `Relaxations` says which relaxations a text has.
 use Rattle.std.specs.{Prelude.{ℕ, cond, Option, Result, Ok, Err, List, [], ◌∷◌, ◌++◌}, List.list_any}
 use Rattle.list_laws.specs.Errors.{unless}
-use Rattle.relax_edges.specs.declared.edge.Edge.{Edge}
-use Rattle.edges_from_text.specs.{declared.relax_error.RelaxKind.RelaxKind, declared.relax_error.RelaxError.RelaxError}
-use Rattle.edges_from_text.specs.{RelaxText.RelaxItem, Relaxations.{item_paths, item_errors, too_many}}
-use Rattle.relax_edges.specs.Order.{is_same}
+use Rattle.relax_edges.specs.{declared.edge.Edge.Edge, Order.is_same}
+use Rattle.edges_from_text.specs.{declared.relax_error.{RelaxKind.RelaxKind, RelaxError.RelaxError}, RelaxText.RelaxItem, Relaxations.{item_paths, item_errors, too_many}}
 
 -- the list with one more relaxation at its end, unless the list already has it
 abbrev pub keep_path : List (List Edge) → List Edge → List (List Edge)

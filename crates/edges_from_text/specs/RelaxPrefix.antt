@@ -1,8 +1,7 @@
 -- The item that a text begins with, for the clauses of private functions: `RelaxText` says which items a text has.
 use Rattle.std.specs.{Prelude.{ℕ, ◌≡◌, ◌<◌, ◌≤◌, ◌+◌, ◌==◌, ◌||◌, Bool, true, cond, Option, Some, None, Result, Ok, List, [], ◌∷◌, length}, List.before_first}
 use Rattle.relax_edges.specs.declared.edge.Edge.{Edge}
-use Rattle.edges_from_text.specs.declared.relax_error.RelaxKind.{RelaxKind}
-use Rattle.edges_from_text.specs.{RelaxText.{is_separator, ends_word, words_of, inside, bracket_words, words_from}, RelaxKept.kept_item}
+use Rattle.edges_from_text.specs.{declared.relax_error.RelaxKind.RelaxKind, RelaxText.{is_separator, ends_word, words_of, inside, bracket_words, words_from}, RelaxKept.kept_item}
 
 -- the words of the item that a text begins with; none if its bracket is bad or the text is empty
 unfoldable pub first_words : List ℕ → Option (List (List ℕ))

@@ -1,8 +1,6 @@
 -- The items of a relaxation list: words and brackets of words, each with the position where it begins.
 -- Source: the diy part of the herdtools manual, option `-relax`.
-use Rattle.std.specs.Prelude.{ℕ, ◌==◌, ◌||◌, ◌&&◌, Bool, true, false, not, cond, Option, Some, None, List, [], ◌∷◌, ◌++◌, length, filter}
-use Rattle.std.specs.List.{before_first, slice_split}
-use Rattle.std.proofs.Common.{get_or}
+use Rattle.std.{specs.{Prelude.{ℕ, ◌==◌, ◌||◌, ◌&&◌, Bool, true, false, not, cond, Option, Some, None, List, [], ◌∷◌, ◌++◌, length, filter}, List.{before_first, slice_split}}, proofs.Common.get_or}
 
 -- a byte separates words: it is a comma, a space or a tab
 abbrev pub is_separator : ℕ → Bool

@@ -1,13 +1,9 @@
 -- The relaxations of a text: the edges that its words name, the choices that join, each once, and the errors.
 -- Source: the diy part of the herdtools manual, option `-relax`.
-use Rattle.std.specs.Prelude.{ℕ, ◌≡◌, ◌<◌, ◌≤◌, ◌==◌, ◌&&◌, Bool, true, not, cond, nat_lt, Option, Some, None, Result, List, [], ◌∷◌, ◌++◌, length, filter, map, codes}
-use Rattle.std.specs.List.{flat_map, filter_map, list_any}
+use Rattle.std.specs.{Prelude.{ℕ, ◌≡◌, ◌<◌, ◌≤◌, ◌==◌, ◌&&◌, Bool, true, not, cond, nat_lt, Option, Some, None, Result, List, [], ◌∷◌, ◌++◌, length, filter, map, codes}, List.{flat_map, filter_map, list_any}}
 use Rattle.list_laws.specs.Errors.{with_before, unless}
-use Rattle.relax_edges.specs.declared.edge.Edge.{Edge}
-use Rattle.edges_from_text.specs.{declared.relax_error.RelaxKind.RelaxKind, declared.relax_error.RelaxError.RelaxError}
-use Rattle.edges_from_text.specs.declared.relax_error.RelaxKind.TheVariants.{UnknownEdge, BadBracket, RelaxTooLong, DoesNotJoin, TooManyRelaxes}
-use Rattle.relax_edges.specs.{JoinedEdges.is_joined, Order.is_same, Spelling.edge_of}
-use Rattle.edges_from_text.specs.RelaxText.{RelaxItem, is_empty, items_of}
+use Rattle.relax_edges.specs.{declared.edge.Edge.Edge, JoinedEdges.is_joined, Order.is_same, Spelling.edge_of}
+use Rattle.edges_from_text.specs.{declared.relax_error.{RelaxKind.{RelaxKind, TheVariants.{UnknownEdge, BadBracket, RelaxTooLong, DoesNotJoin, TooManyRelaxes}}, RelaxError.RelaxError}, RelaxText.{RelaxItem, is_empty, items_of}}
 
 -- the bytes that a byte of a word means: a `*` among the last two means `R` and `W`, any other byte itself
 abbrev pub byte_choices : ℕ → ℕ → List ℕ

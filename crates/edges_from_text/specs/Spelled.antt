@@ -3,7 +3,7 @@
 use Rattle.std.specs.{Prelude.{ℕ, Bool, ◌==◌, ◌||◌, List, [], ◌∷◌, Option, Some}, List.slice_split}
 use Rattle.text_parts.specs.Blanks.{is_blank}
 use Rattle.relax_edges.specs.{declared.edge.Edge.Edge, Spelling.edge_of, ReadEdges.before_edges}
-use Rattle.edges_from_text.specs.{declared.read.Separators.Separators, declared.read.Separators.TheVariants.{Blanks, BlanksAndCommas}}
+use Rattle.edges_from_text.specs.declared.read.Separators.{Separators, TheVariants.{Blanks, BlanksAndCommas}}
 
 -- a byte separates edges: it is a space or a tab, or a comma if commas separate too
 abbrev pub separates : Separators → ℕ → Bool

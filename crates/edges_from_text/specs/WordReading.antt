@@ -1,9 +1,7 @@
 -- How a word is read: as the printed name of an edge, or as another of its spellings. Used only by private functions.
 -- Source: own; that this gives the edge that a text spells is a lemma.
-use Rattle.std.specs.{Prelude.{ℕ, ◌-◌, ◌==◌, ◌&&◌, Bool, false, cond, Option, Some, None, List, [], ◌∷◌, ◌++◌, length, take, drop, codes}}
-use Rattle.std.specs.{Option.option_or, Str.bytes_eq}
-use Rattle.relax_edges.specs.{declared.kinds.ArchName.TheVariants.AArch64, declared.edge.Edge.Edge, EdgeTable.{kind_of, kind_is_of}}
-use Rattle.relax_edges.specs.{WordParts.word_of, AllEdges.edges_in_order, NamedKinds.kind_named_by}
+use Rattle.std.specs.{Prelude.{ℕ, ◌-◌, ◌==◌, ◌&&◌, Bool, false, cond, Option, Some, None, List, [], ◌∷◌, ◌++◌, length, take, drop, codes}, Option.option_or, Str.bytes_eq}
+use Rattle.relax_edges.specs.{declared.{kinds.ArchName.TheVariants.AArch64, edge.Edge.Edge}, EdgeTable.{kind_of, kind_is_of}, WordParts.word_of, AllEdges.edges_in_order, NamedKinds.kind_named_by}
 use Rattle.relax_edges.specs.declared.edge.Edge.TheVariants as edges
 
 -- the edge with this printed name

@@ -1,16 +1,8 @@
 -- How the checking of an execution ends, by what each of the two files gives.
-use Rattle.std.proofs.Common.{◌≡◌, ℕ, List, [], ◌∷◌, ◌+◌, take, refl, ◌∙◌, subst, inl, inr}
-use Rattle.std.specs.Prelude.{Ok, Err}
-use Rattle.diy_io.specs.{Count.Rose, Shelf.ShelfSeen, Wrote.SinkSeen, Opened.name_at}
-use Rattle.diy_io.proofs.{FileNameLaws.{absent_before, quiet_before, file_before}, OpenedLaws.{took_no_more, took_one_more}, EndLaws.{ends_both, ends_or_more}}
-use Rattle.relax_edges.specs.declared.kinds.ArchName.{ArchName}
-use Rattle.arch_trait.specs.Writing.{Writing}
-use Rattle.litmus_text.specs.{declared.limits.TheConstants.MAX_TEST_TEXT, TestReading.TestRead}
-use Rattle.program_meaning.specs.Executions.{Execution}
-use Rattle.exec_check.specs.{declared.verdict.Judged.Judged, declared.shown.Shown.Shown, declared.checked_errors.CheckFault.CheckFault, ShownTexts.shown_text}
-use Rattle.exec_check.specs.CheckingSteps.{TestFileTo, ExecFileTo, check_end}
+use Rattle.std.{proofs.Common.{◌≡◌, ℕ, List, [], ◌∷◌, ◌+◌, take, refl, ◌∙◌, subst, inl, inr}, specs.Prelude.{Ok, Err}}
+use Rattle.exec_check.proofs.Vocabulary.{Rose, ShelfSeen, SinkSeen, name_at, absent_before, quiet_before, file_before, took_no_more, took_one_more, ends_both, ends_or_more, ArchName, Writing, MAX_TEST_TEXT, TestRead, Execution, FileFailed, FileIs}
+use Rattle.exec_check.{proofs.Vocabulary.{ends_in, test_said, failed_after}, specs.{declared.{verdict.Judged.Judged, shown.Shown.Shown, checked_errors.CheckFault.CheckFault}, ShownTexts.shown_text, CheckingSteps.{TestFileTo, ExecFileTo, check_end}}}
 use Rattle.exec_check.specs.FilesChecked.{exec_said, IsTest, BothRead, ExecutionShown, ExecUnread, FilesChecked}
-use Rattle.tests_from_files.specs.{FilesRead.{FileFailed, FileIs, ends_in}, TestSaid.test_said, FailedFiles.failed_after}
 use Rattle.exec_check.specs.declared.checked_errors.CheckedKind.TheVariants as kinds
 use Rattle.exec_check.specs.declared.checked_errors.CheckFault.TheVariants as faults
 

@@ -1,20 +1,11 @@
 -- What each of the two files gives, by what was read of it.
-use Rattle.std.proofs.{Common.{◌≡◌, ℕ, List, refl, sym, subst}, lemmas.Bool.false≢true}
-use Rattle.std.specs.Prelude.{Result, Ok, Err, IsErr, IsErrAnd}
-use Rattle.diy_io.specs.{Shelf.ShelfSeen, declared.errors.Failed.Failed}
-use Rattle.relax_edges.specs.declared.kinds.ArchName.{ArchName}
-use Rattle.arch_trait.specs.{PlaceNames.number_in, Writing.Writing}
-use Rattle.litmus_text.specs.TestReading.{TestRead}
-use Rattle.exec_check.specs.{declared.errors.CheckError.CheckError, declared.verdict.Judged.Judged, declared.checked_errors.CheckFault.CheckFault}
-use Rattle.exec_check.specs.{Verdicts.Checks, CheckedLaws.executions_by_first_bytes, FilesChecked.exec_said}
+use Rattle.std.{proofs.{Common.{◌≡◌, ℕ, List, refl, sym, subst}, lemmas.Bool.false≢true}, specs.Prelude.{Result, Ok, Err, IsErr, IsErrAnd}}
+use Rattle.exec_check.proofs.Vocabulary.{ShelfSeen, Failed, is_fault, ArchName, number_in, Writing, TestRead, NoTest, TestFileError, TestFileKind, FileRead, FileFaulty, SaysTestInMemory, test_said, file_is, file_unclosed, file_faulty}
+use Rattle.exec_check.{proofs.Vocabulary.tests_by_first_bytes, specs.{declared.{errors.CheckError.CheckError, verdict.Judged.Judged, checked_errors.CheckFault.CheckFault}, Verdicts.Checks, CheckedLaws.executions_by_first_bytes, FilesChecked.exec_said}}
 use Rattle.exec_check.specs.CheckingSteps.{TestFileTo, TestClosedTo, ExecFileTo, ExecClosedTo, IsJudged, test_fault, checked_test_kind, exec_fault}
 use Rattle.exec_check.specs.declared.errors.CheckError.TheVariants as checks
-use Rattle.tests_from_files.specs.{declared.errors.NoTest.NoTest, declared.errors.TestFileError.TestFileError, declared.errors.TestFileKind.TestFileKind}
-use Rattle.tests_from_files.specs.{FilesRead.{FileRead, FileFaulty}, TestSaid.{SaysTestInMemory, test_said}}
-use Rattle.tests_from_files.specs.FirstBytes.{file_is, file_unclosed, file_faulty, tests_by_first_bytes}
 use Rattle.tests_from_files.specs.declared.errors.NoTest.TheVariants as no_tests
 use Rattle.tests_from_files.specs.declared.errors.TestFileKind.TheVariants as tests
-use Rattle.diy_io.proofs.FileFaultLaws.{is_fault}
 use Rattle.exec_check.specs.declared.checked_errors.CheckedKind.TheVariants as kinds
 use Rattle.exec_check.specs.declared.checked_errors.CheckFault.TheVariants as faults
 

@@ -1,10 +1,6 @@
 -- How the edges of a cycle are judged one after another, and what the condition's answer means.
-use Rattle.std.proofs.Common.{◌≡◌, ℕ, zero, suc, ◌+◌, Bool, List, [], ◌∷◌, ◌++◌, map, length, take, Option, Some, slice_get, sym, ap, subst, ◌∙◌, length-append}
-use Rattle.std.specs.Prelude.{◌↔◌, IsTrue}
-use Rattle.std.proofs.lemmas.{List.take_more, List.map-append, Option.get_or_from_slice_get, Option.slice_get_within, Option.same_Some}
-use Rattle.relax_edges.specs.declared.{kinds.Value.Value, edge.Edge.Edge}
-use Rattle.final_cond.specs.{Conditions.LeftSeen, Conditions.CondSeen, States.Meets}
-use Rattle.program_meaning.specs.{Executions.Execution, Programs.Program, Standing.EdgeStands}
+use Rattle.std.proofs.{Common.{◌≡◌, ℕ, zero, suc, ◌+◌, Bool, List, [], ◌∷◌, ◌++◌, map, length, take, Option, Some, slice_get, sym, ap, subst, ◌∙◌, length-append}, lemmas.{List.{take_more, map-append}, Option.{get_or_from_slice_get, slice_get_within}}}
+use Rattle.exec_check.proofs.Vocabulary.{same_Some, ◌↔◌, IsTrue, Value, Edge, LeftSeen, CondSeen, Meets, Execution, Program, EdgeStands}
 
 -- the first edges are judged
 pub record AreJudgedTo (es : List Edge) (p : Program) (x : Execution) (i : ℕ) (judged : List (Edge × Bool)) : Type 0 where

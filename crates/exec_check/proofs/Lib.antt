@@ -1,3 +1,4 @@
+pub mod Vocabulary
 pub mod Judging
 pub mod OneVerdict
 pub mod OneGraph

@@ -1,11 +1,6 @@
 -- The lines of a verdict, sent one after another.
-use Rattle.std.proofs.Common.{◌≡◌, ◌≤◌, ◌<◌, ℕ, ◌+◌, ◌-◌, Bool, true, false, List, [], ◌∷◌, ◌++◌, length, get_or, take, drop, Ok, Err, refl, subst, arith}
-use Rattle.std.proofs.lemmas.List.{take_all}
-use Rattle.std.specs.{Prelude.{codes, Result}, Result.IsErrAnd, Fmt.decimal}
-use Rattle.diy_io.specs.{declared.errors.Failed.Failed, Page.Sends, PageLaws.{sends_then, sends_stopped, sent_nothing}, Wrote.SinkSeen}
-use Rattle.relax_edges.specs.{declared.edge.Edge.Edge, WordParts.word_of}
-use Rattle.exec_graph.specs.Graphs.{answer_word}
-use Rattle.exec_check.specs.{declared.verdict.Verdict.Verdict, Verdicts.{answer_line, edge_line, edge_lines, judged_lines, further_lines}}
+use Rattle.std.{proofs.{Common.{◌≡◌, ◌≤◌, ◌<◌, ℕ, ◌+◌, ◌-◌, Bool, true, false, List, [], ◌∷◌, ◌++◌, length, get_or, take, drop, Ok, Err, refl, subst, arith}, lemmas.List.take_all}, specs.{Prelude.{codes, Result}, Result.IsErrAnd, Fmt.decimal}}
+use Rattle.exec_check.{proofs.Vocabulary.{Failed, Sends, sends_then, sends_stopped, sent_nothing, SinkSeen, Edge, word_of, answer_word}, specs.{declared.verdict.Verdict.Verdict, Verdicts.{answer_line, edge_line, edge_lines, judged_lines, further_lines}}}
 
 -- the pieces of the line of an answer make up that line
 pub answer_line_is : (word shown : List ℕ) (answer : Bool) → shown ≡ answer_word answer → word ++ codes " " ++ shown ++ codes "\n" ≡ answer_line word answer

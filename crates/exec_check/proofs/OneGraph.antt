@@ -1,11 +1,7 @@
 -- An execution of a test has one graph.
 use Rattle.std.proofs.Common.{◌≡◌, ℕ, Bool, true, false, List, Option, refl, sym, ◌∙◌}
-use Rattle.relax_edges.specs.declared.{kinds.ArchName.ArchName}
-use Rattle.litmus_text.specs.{TestReading.TestRead, ReadPrograms.program_read}
-use Rattle.program_meaning.specs.{Executions.Execution, Programs.{IsCandidate, IsCoherentIn, visits_in}, SeenAccesses.seen_in}
-use Rattle.exec_graph.specs.Graphs.{drawing_text}
-use Rattle.exec_check.specs.{declared.verdict.Verdict.Verdict, Verdicts.{EndsInCondition, JudgesFurther, judged_cycle}, ShownTexts.{OneGraph, graph_if, picture_of}}
-use Rattle.exec_check.proofs.OneVerdict.{edges_same, same_answer}
+use Rattle.exec_check.{proofs.{Vocabulary.{ArchName, TestRead, program_read, Execution, IsCandidate, IsCoherentIn, visits_in, seen_in, drawing_text}, OneVerdict.{edges_same, same_answer}}, specs.declared.verdict.Verdict.Verdict}
+use Rattle.exec_check.specs.{Verdicts.{EndsInCondition, JudgesFurther, judged_cycle}, ShownTexts.{OneGraph, graph_if, picture_of}}
 
 graphs_same : (arch : ArchName) (register_number : List ℕ → Option ℕ) (test : TestRead) (x : Execution) (v w : Verdict) (b c : Bool) → b ≡ c
     → JudgesFurther b arch register_number test x v → JudgesFurther c arch register_number test x w → graph_if b test x v ≡ graph_if c test x w

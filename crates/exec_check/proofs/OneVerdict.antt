@@ -1,14 +1,7 @@
 -- An execution of a test has one verdict.
-use Rattle.std.proofs.Common.{◌≡◌, ℕ, suc, Bool, true, false, List, [], ◌∷◌, ◌++◌, map, Option, Some, None, slice_get, refl, sym, ◌∙◌}
-use Rattle.std.specs.Prelude.{◌↔◌, IsTrue, codes}
-use Rattle.relax_edges.specs.declared.{kinds.ArchName.ArchName, edge.Edge.Edge}
-use Rattle.litmus_text.specs.{TestReading.TestRead, ReadPrograms.program_read}
-use Rattle.program_meaning.specs.{Executions.Execution, Programs.Program, Standing.EdgeStands, Programs.IsCandidate, Programs.IsCoherentIn}
-use Rattle.final_cond.specs.States.{Meets}
-use Rattle.tests_force_cycles.specs.FinalStates.{final_state}
-use Rattle.exec_graph.specs.JudgedCycles.{JudgesEdges}
-use Rattle.exec_check.specs.declared.verdict.Verdict.{Verdict}
-use Rattle.exec_check.specs.Verdicts.{JudgesFurther, IsVerdict, judged_cycle, answer_line, judged_lines, further_lines, verdict_text}
+use Rattle.std.{proofs.Common.{◌≡◌, ℕ, suc, Bool, true, false, List, [], ◌∷◌, ◌++◌, map, Option, Some, None, slice_get, refl, sym, ◌∙◌}, specs.Prelude.{◌↔◌, IsTrue, codes}}
+use Rattle.exec_check.{proofs.Vocabulary.{ArchName, Edge, TestRead, program_read, Execution, Program, IsCandidate, IsCoherentIn, EdgeStands, Meets, final_state, JudgesEdges}, specs.{declared.verdict.Verdict.Verdict, Verdicts.{JudgesFurther, IsVerdict}}}
+use Rattle.exec_check.specs.Verdicts.{judged_cycle, answer_line, judged_lines, further_lines, verdict_text}
 
 -- two answers to one question
 pub same_answer : (b c : Bool) (P : Type 0) → (IsTrue b ↔ P) → (IsTrue c ↔ P) → b ≡ c

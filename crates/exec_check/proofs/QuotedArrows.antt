@@ -1,12 +1,7 @@
 -- The bold arrows in the graph of a candidate are those of the edges of the quoted cycle that stand, the dashed ones those of the others.
-use Rattle.std.proofs.Common.{◌≡◌, ℕ, Bool, true, false, List, Option}
-use Rattle.std.specs.{Prelude.◌↔◌, List.Contains}
-use Rattle.relax_edges.specs.declared.kinds.ArchName.{ArchName}
-use Rattle.litmus_text.specs.{TestReading.TestRead, ReadPrograms.program_read}
-use Rattle.program_meaning.specs.{Executions.Execution, SeenAccesses.seen_in}
-use Rattle.exec_graph.specs.{Graphs.{dashed_arrows, standing_arrows}, GraphLaws.{Arrow, IsOfFallenEdge, IsOfStandingEdge}}
-use Rattle.exec_graph.proofs.ArrowLaws.{dashed_arrows_law, standing_arrows_law}
-use Rattle.exec_check.specs.{declared.verdict.Verdict.Verdict, Verdicts.{JudgesFurther, judged_cycle}, ShownTexts.QuotedArrowsLaw}
+use Rattle.std.{proofs.Common.{◌≡◌, ℕ, Bool, true, false, List, Option}, specs.{Prelude.◌↔◌, List.Contains}}
+use Rattle.exec_check.{proofs.Vocabulary.{ArchName, TestRead, program_read, Execution, seen_in, dashed_arrows, standing_arrows, Arrow, IsOfFallenEdge, IsOfStandingEdge, dashed_arrows_law, standing_arrows_law}, specs.declared.verdict.Verdict.Verdict}
+use Rattle.exec_check.specs.{Verdicts.{JudgesFurther, judged_cycle}, ShownTexts.QuotedArrowsLaw}
 
 of_further : (b : Bool) (arch : ArchName) (register_number : List ℕ → Option ℕ) (test : TestRead) (x : Execution) (v : Verdict) (arrow : Arrow)
     → JudgesFurther b arch register_number test x v → b ≡ true → let p = program_read test in

@@ -1,13 +1,6 @@
 -- What the verdict on an execution says of the graph.
-use Rattle.std.proofs.Common.{◌≡◌, List, Option, Some, None, true, false}
-use Rattle.std.specs.Prelude.{ℕ, Bool, length}
-use Rattle.relax_edges.specs.{declared.kinds.ArchName.ArchName, declared.edge.Edge.Edge}
-use Rattle.litmus_text.specs.{TestReading.TestRead, ReadPrograms.program_read}
-use Rattle.final_cond.specs.Conditions.{CondSeen}
-use Rattle.program_meaning.specs.{declared.seen.SeenAccess.SeenAccess, Accesses.Visit, Executions.Execution, Programs.{Program, IsCandidate, visits_in}, SeenAccesses.seen_in}
-use Rattle.exec_graph.specs.Graphs.{PictureSeen}
-use Rattle.exec_check.specs.ShownTexts.{picture_of}
-use Rattle.exec_graph.specs.JudgedCycles.{AreEdgesOf, JudgesEdges}
+use Rattle.std.{proofs.Common.{◌≡◌, List, Option, Some, None, true, false}, specs.Prelude.{ℕ, Bool, length}}
+use Rattle.exec_check.{proofs.Vocabulary.{ArchName, Edge, TestRead, program_read, CondSeen, SeenAccess, Visit, Execution, Program, IsCandidate, visits_in, seen_in, PictureSeen, AreEdgesOf, JudgesEdges}, specs.ShownTexts.picture_of}
 use Rattle.exec_check.specs.{declared.verdict.Verdict.Verdict, Verdicts.{IsVerdict, JudgesFurther, judged_cycle}}
 
 edges_of_judged : (cycle : Option (List Edge)) (p : Program) (x : Execution) (judged : List (Edge × Bool)) → JudgesEdges cycle p x judged → AreEdgesOf cycle judged

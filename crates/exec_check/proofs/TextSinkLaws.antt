@@ -1,7 +1,6 @@
 -- What a sink that keeps its bytes in memory shows.
-use Rattle.std.proofs.Common.{◌≡◌, ℕ, List, [], ◌++◌, Some, ap, ◌∙◌, subst, append-nil}
-use Rattle.std.proofs.lemmas.Option.{same_Some}
-use Rattle.diy_io.specs.{Sink.{Grew, GrewByPrefix, Shown, shown_after, shown_bytes, shown_kept}, SinkLaws.written_stopped}
+use Rattle.std.proofs.{Common.{◌≡◌, ℕ, List, [], ◌++◌, Some, ap, ◌∙◌, subst, append-nil}, lemmas.Option.same_Some}
+use Rattle.exec_check.proofs.Vocabulary.{Grew, GrewByPrefix, Shown, shown_after, shown_bytes, shown_kept, written_stopped}
 
 -- it may take nothing of a text
 pub nothing_taken : (taken text : List ℕ) → GrewByPrefix (shown_bytes taken) (shown_bytes taken) text

@@ -1,21 +1,17 @@
 -- Laws for callers: right files are checked if no device fails, and how much is taken of the file that was opened last.
 -- Source: own.
-use Rattle.std.proofs.Common.{◌≡◌, ◌≤◌, ◌<◌, ◌+◌, ℕ, List, [], ◌∷◌, length, take, Option, Some, None, refl, sym, ap, ◌∙◌, subst, arith, inl, inr}
-use Rattle.std.specs.Prelude.{◌⊎◌, MatchOption, unwrap_or, Result, Ok, Err}
+use Rattle.std.{proofs.Common.{◌≡◌, ◌≤◌, ◌<◌, ◌+◌, ℕ, List, [], ◌∷◌, length, take, Option, Some, None, refl, sym, ap, ◌∙◌, subst, arith, inl, inr}, specs.Prelude.{◌⊎◌, MatchOption, unwrap_or, Result, Ok, Err}}
 use Rattle.diy_io.specs.{Count.{count_of, Rose}, Shelf.{Files, ShelfSeen}, Wrote.SinkSeen, Opened.{IsFile, TookFiles, name_at}}
 use Rattle.relax_edges.specs.declared.kinds.ArchName.{ArchName}
 use Rattle.arch_trait.specs.Writing.{Writing}
 use Rattle.litmus_text.specs.{declared.limits.TheConstants.MAX_TEST_TEXT, TestReading.TestRead}
 use Rattle.program_meaning.specs.Executions.{Execution}
-use Rattle.exec_text.specs.{declared.errors.ExecFault.ExecFault, declared.errors.ExecKind.TheVariants.TooLarge}
-use Rattle.exec_text.specs.ExecutionText.{execution_read, reads_and_writes_read}
+use Rattle.exec_text.specs.{declared.errors.{ExecFault.ExecFault, ExecKind.TheVariants.TooLarge}, ExecutionText.{execution_read, reads_and_writes_read}}
 use Rattle.text_parts.specs.Lines.{lines_of}
-use Rattle.tests_from_files.specs.{declared.errors.TestFileError.TestFileError, FilesRead.Begins, TestSaid.test_said}
-use Rattle.tests_from_files.specs.FewBytes.{AreFew, none_few, one_few, both_few, prefix_few, begun_few, few_taken}
-use Rattle.tests_from_files.specs.FirstBytes.{JudgesFirstBytes, RefusesLong, judges_first_bytes, tests_by_first_bytes}
+use Rattle.tests_from_files.specs.{declared.errors.TestFileError.TestFileError, FilesRead.Begins, TestSaid.test_said, FewBytes.{AreFew, none_few, one_few, both_few, prefix_few, begun_few, few_taken}, FirstBytes.{JudgesFirstBytes, RefusesLong}}
+use Rattle.tests_from_files.specs.FirstBytes.{judges_first_bytes, tests_by_first_bytes}
 use Rattle.exec_check.specs.declared.checked_errors.CheckedKind.TheVariants as kinds
-use Rattle.exec_check.specs.{declared.checked_errors.CheckEnd.CheckEnd, declared.shown.Shown.Shown}
-use Rattle.exec_check.specs.FilesChecked.{exec_said, IsTest, AreTestAndExecution, BothRead, TestWrong, ExecWrong, IsAbsent, TestUnread, ExecUnread, FilesChecked}
+use Rattle.exec_check.specs.{declared.{checked_errors.CheckEnd.CheckEnd, shown.Shown.Shown}, FilesChecked.{exec_said, IsTest, AreTestAndExecution, BothRead, TestWrong, ExecWrong, IsAbsent, TestUnread, ExecUnread, FilesChecked}}
 use Rattle.exec_check.specs.declared.checked_errors.CheckEnd.TheVariants as ends
 
 abbrev too_large : ExecFault

@@ -5,12 +5,10 @@ use Rattle.diy_io.specs.{declared.errors.Failed.Failed, Shelf.ShelfSeen, Opened.
 use Rattle.relax_edges.specs.declared.kinds.ArchName.{ArchName}
 use Rattle.arch_trait.specs.{PlaceNames.number_in, Writing.Writing}
 use Rattle.litmus_text.specs.TestReading.{TestRead}
-use Rattle.exec_check.specs.{declared.errors.CheckError.CheckError, declared.verdict.Judged.Judged, declared.text_sink.TextSink.TextSink}
-use Rattle.exec_check.specs.{declared.checked_errors.CheckedKind.CheckedKind, declared.checked_errors.CheckFault.CheckFault}
-use Rattle.exec_check.specs.{declared.checked_errors.CheckEnd.CheckEnd, Verdicts.{IsVerdict, Checks}, FilesChecked.exec_said}
+use Rattle.exec_check.specs.{declared.{errors.CheckError.CheckError, verdict.Judged.Judged, text_sink.TextSink.TextSink, checked_errors.{CheckedKind.CheckedKind, CheckFault.CheckFault, CheckEnd.CheckEnd}}, Verdicts.{IsVerdict, Checks}}
+use Rattle.exec_check.specs.FilesChecked.{exec_said}
 use Rattle.exec_check.specs.declared.errors.CheckError.TheVariants as checks
-use Rattle.tests_from_files.specs.{declared.errors.FileFault.FileFault, declared.errors.NoTest.NoTest, declared.errors.TestFileKind.TestFileKind}
-use Rattle.tests_from_files.specs.{FilesRead.{FileFailed, FileIs, FileFaulty}, TestSaid.test_said}
+use Rattle.tests_from_files.specs.{declared.errors.{FileFault.FileFault, NoTest.NoTest, TestFileKind.TestFileKind}, FilesRead.{FileFailed, FileIs, FileFaulty}, TestSaid.test_said}
 use Rattle.tests_from_files.specs.declared.errors.FileFault.TheVariants as reads
 use Rattle.tests_from_files.specs.declared.errors.NoTest.TheVariants as no_tests
 use Rattle.tests_from_files.specs.declared.errors.TestFileKind.TheVariants as tests

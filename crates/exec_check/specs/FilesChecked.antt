@@ -7,8 +7,7 @@ use Rattle.arch_trait.specs.{PlaceNames.number_in, Writing.Writing}
 use Rattle.litmus_text.specs.{declared.limits.TheConstants.MAX_TEST_TEXT, TestReading.TestRead}
 use Rattle.program_meaning.specs.Executions.{Execution}
 use Rattle.exec_text.specs.{declared.errors.ExecFault.ExecFault, ExecutionText.execution_read}
-use Rattle.exec_check.specs.{declared.verdict.Verdict.Verdict, declared.shown.Shown.Shown, declared.checked_errors.CheckedKind.CheckedKind}
-use Rattle.exec_check.specs.{declared.checked_errors.CheckEnd.CheckEnd, Verdicts.IsVerdict, ShownTexts.shown_text}
+use Rattle.exec_check.specs.{declared.{verdict.Verdict.Verdict, shown.Shown.Shown, checked_errors.{CheckedKind.CheckedKind, CheckEnd.CheckEnd}}, Verdicts.IsVerdict, ShownTexts.shown_text}
 use Rattle.tests_from_files.specs.{declared.errors.TestFileError.TestFileError, FilesRead.{Begins, FileFaulty, ends_in}, TestSaid.test_said}
 use Rattle.tests_from_files.specs.declared.errors.TestFileKind.TheVariants as tests
 use Rattle.exec_check.specs.declared.checked_errors.CheckedKind.TheVariants as kinds

@@ -1,12 +1,11 @@
 -- What is written for an execution: its verdict, or its graph.
 -- Source: own.
-use Rattle.std.specs.Prelude.{ℕ, ◌≡◌, ◌↔◌, Bool, true, false, List, length, Option}
-use Rattle.std.specs.List.{Contains}
+use Rattle.std.specs.{Prelude.{ℕ, ◌≡◌, ◌↔◌, Bool, true, false, List, length, Option}, List.Contains}
 use Rattle.relax_edges.specs.declared.kinds.ArchName.{ArchName}
 use Rattle.litmus_text.specs.{TestReading.TestRead, ReadPrograms.program_read}
 use Rattle.program_meaning.specs.{Executions.Execution, Programs.visits_in, SeenAccesses.seen_in}
 use Rattle.exec_graph.specs.{Graphs.{PictureSeen, dashed_arrows, drawing_text, no_drawing_text, standing_arrows}, GraphLaws.{Arrow, IsOfFallenEdge, IsOfStandingEdge}}
-use Rattle.exec_check.specs.{declared.verdict.Verdict.Verdict, declared.shown.Shown.Shown, Verdicts.{IsVerdict, judged_cycle, verdict_text}}
+use Rattle.exec_check.specs.{declared.{verdict.Verdict.Verdict, shown.Shown.Shown}, Verdicts.{IsVerdict, judged_cycle, verdict_text}}
 use Rattle.exec_check.specs.declared.shown.Shown.TheVariants as shows
 
 -- what the graph of an execution of a test shows, on which this is the verdict

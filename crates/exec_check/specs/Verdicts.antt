@@ -1,9 +1,8 @@
 -- The verdict on an execution of a test: whether it is a candidate execution of the test's program, whether it is coherent per
 -- location and meets the condition, and which edges of the cycle that the test quotes stand in it.
 -- Source: own.
-use Rattle.std.specs.Prelude.{ℕ, ◌≡◌, ◌↔◌, ◌+◌, Bool, true, false, IsTrue, List, [], ◌∷◌, ◌++◌, codes, length, Option, Some, None, Result, Ok, Err}
-use Rattle.std.specs.{Fmt.decimal, Result.result_ok}
-use Rattle.relax_edges.specs.{declared.kinds.ArchName.ArchName, declared.edge.Edge.Edge, WordParts.word_of}
+use Rattle.std.specs.{Prelude.{ℕ, ◌≡◌, ◌↔◌, ◌+◌, Bool, true, false, IsTrue, List, [], ◌∷◌, ◌++◌, codes, length, Option, Some, None, Result, Ok, Err}, Fmt.decimal, Result.result_ok}
+use Rattle.relax_edges.specs.{declared.{kinds.ArchName.ArchName, edge.Edge.Edge}, WordParts.word_of}
 use Rattle.cycle_events.specs.Resolution.{resolution_of}
 use Rattle.cycles_from_lines.specs.Cycles.{quoted_cycle}
 use Rattle.final_cond.specs.States.{Meets}
@@ -12,7 +11,7 @@ use Rattle.program_meaning.specs.{Executions.Execution, Programs.{IsCandidate, I
 use Rattle.tests_force_cycles.specs.FinalStates.{final_state}
 use Rattle.exec_graph.specs.{JudgedCycles.JudgesEdges, Graphs.answer_word}
 use Rattle.exec_text.specs.ExecutionText.{execution_read}
-use Rattle.exec_check.specs.{declared.errors.CheckError.CheckError, declared.errors.CheckError.TheVariants.{Exec, NoMemory}, declared.verdict.Verdict.Verdict}
+use Rattle.exec_check.specs.declared.{errors.CheckError.{CheckError, TheVariants.{Exec, NoMemory}}, verdict.Verdict.Verdict}
 
 -- the resolution of a cycle, if there is a cycle and it has one
 abbrev pub resolved_cycle : Option (List Edge) → Option (List Edge)

@@ -1,15 +1,8 @@
 -- The bold arrows are those of the edges of a judged cycle that stand, the dashed ones those of the others that have both accesses.
-use Rattle.std.proofs.Common.{◌≡◌, ℕ, zero, suc, arith, Bool, true, false, ◌&&◌, List, [], ◌∷◌, map, Option, Some, None, slice_get, refl, sym, ap, subst, ◌∙◌}
-use Rattle.std.proofs.{lemmas.Bool.{and_parts, and_from}, lemmas.Option.same_Some}
-use Rattle.std.specs.{Prelude.{◌↔◌, not}, Bool.Decides, List.{Contains, enumerate_from}}
-use Rattle.relax_edges.specs.declared.edge.Edge.{Edge}
-use Rattle.cycle_events.specs.Resolution.{event_after}
-use Rattle.program_meaning.specs.{declared.WriteAt.WriteAt, Executions.{Execution, same_write}, Programs.{Program, accesses_in, visits_in}, Standing.{EdgeStands, event_name}}
-use Rattle.program_meaning.specs.SeenAccesses.{seen_access, seen_in}
-use Rattle.program_meaning.proofs.Names.{same_write-refl, same_write-true}
-use Rattle.exec_graph.specs.{declared.arrows.Arrow.Arrow, JudgedCycles.{AreJudged}, Graphs.{arrow_of, arrows_of, dashed_arrows, has_name, is_dashed, is_there, standing_arrows}}
-use Rattle.exec_graph.specs.GraphLaws.{DashedArrowsLaw, HasAccess, IsOfEdge, IsOfFallenEdge, IsOfStandingEdge, StandingArrowsLaw}
-use Rattle.exec_graph.proofs.{DrawnLaws.{seen_of, seen_there}, Members.{In, in_any, in_filter, in_map, in_numbered, in_of, in_to, of_any, of_filter, of_map, of_numbered}}
+use Rattle.exec_graph.proofs.Vocabulary.{◌≡◌, ℕ, zero, suc, arith, Bool, true, false, ◌&&◌, List, [], ◌∷◌, map, Option, Some, None, slice_get, refl, sym, ap, subst, ◌∙◌, and_parts, and_from, same_Some, ◌↔◌, not, Decides, Contains, enumerate_from, Edge}
+use Rattle.exec_graph.proofs.{Vocabulary.{event_after, WriteAt, Execution, same_write, Program, accesses_in, visits_in, EdgeStands, event_name, seen_access, seen_in, same_write-refl, same_write-true}, DrawnLaws.{seen_of, seen_there}, Members.In}
+use Rattle.exec_graph.{proofs.Members.{in_any, in_filter, in_map, in_numbered, in_of, in_to, of_any, of_filter, of_map, of_numbered}, specs.{declared.arrows.Arrow.Arrow, JudgedCycles.AreJudged, Graphs.{arrow_of, arrows_of, dashed_arrows, has_name}}}
+use Rattle.exec_graph.specs.{Graphs.{is_dashed, is_there, standing_arrows}, GraphLaws.{DashedArrowsLaw, HasAccess, IsOfEdge, IsOfFallenEdge, IsOfStandingEdge, StandingArrowsLaw}}
 
 -- number i of the edges is that of the judged edges
 judged_at : (judged : List (Edge × Bool)) (i : ℕ) (j : Edge × Bool) → slice_get judged i ≡ Some j → slice_get (map (λ (k : Edge × Bool). k.0) judged) i ≡ Some j.0

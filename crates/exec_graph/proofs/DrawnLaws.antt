@@ -1,21 +1,14 @@
 -- What is drawn are the nodes, and the thin arrows of each relation are those of the pairs of nodes between which it holds, and along which no
 -- edge stands.
-use Rattle.std.proofs.Common.{◌≡◌, ◌<◌, ℕ, zero, suc, ◌+◌, arith, Bool, true, false, ◌==◌, ◌&&◌, List, [], ◌∷◌, length, map, Option, Some, None, slice_get, refl, sym, ap, subst, ◌∙◌, inl, inr}
-use Rattle.std.proofs.{lemmas.Bool.{and_parts, and_from, eqb-true, eq-eqb, lt-ltb, ltb-true}, lemmas.Option.same_Some}
-use Rattle.std.specs.{Prelude.{◌↔◌, ◌⊎◌, cond, nat_lt, not}, Bool.Decides, List.{Contains, enumerate_from, filter, flat_map, list_any, prefix_len}}
-use Rattle.list_laws.specs.Numbers.{upto}
-use Rattle.relax_edges.specs.{declared.kinds.Dir.Dir, EdgeTable.kind_of}
+use Rattle.exec_graph.proofs.Vocabulary.{◌≡◌, ◌<◌, ℕ, zero, suc, ◌+◌, arith, Bool, true, false, ◌==◌, ◌&&◌, List, [], ◌∷◌, length, map, Option, Some, None, slice_get, refl, sym, ap, subst, ◌∙◌, inl, inr, and_parts, and_from, eqb-true, eq-eqb, upto, Dir}
+use Rattle.exec_graph.proofs.Vocabulary.{kind_of, WriteAt, SeenAccess, Access, Visit, accesses_of, at_name, got_from, reads_among, reads_before, reads_by, name, Execution, same_write, writes_by, writes_to, NamedAccess, is_in_mask, Program, accesses_in}
+use Rattle.exec_graph.proofs.{Vocabulary.{visits_in, coherence_place, from_one, order_at, order_place, placed_by, source_at, seen_access, seen_in, seen_in_thread, at_name_of, same_write-refl, same_write-true}, Members.{In, in_any, in_cases, in_filter}}
+use Rattle.exec_graph.{proofs.Members.{in_flat_map, in_left, in_map, in_numbered, in_of, in_right, in_to, in_upto, of_any, of_filter, of_flat_map, of_map, of_numbered, of_upto}, specs.declared.{arrows.Arrow.Arrow, drawn.{Drawn.Drawn, Point.Point}}}
+use Rattle.exec_graph.specs.{declared.drawn.{Point.TheVariants.{At, Initial}, Relation.{Relation, TheVariants.{Po, Rf, Co, Fr, Addr, Data, Ctrl}}}, Ties.ties_if, Graphs.{access_among, access_drawn, drawn_in, initial_places, initial_write, is_at}}
+use Rattle.exec_graph.specs.{Graphs.{is_initial, is_reached, is_same, is_thin, kind_relation, loads_in, pairs_by, reads_initial, relates, stands_along}, GraphLaws.{Node, InitialWrite, TheAccess, IsDrawn, IsFirstWrite, IsNodeIn, ReadsInitial}}
+use Rattle.exec_graph.specs.GraphLaws.{FollowsInThread, IsReadFrom, FollowsInOrder, IsOverwritten, IsDependent, Related, HasBold, Joins, drawn_as, NodesLaw, EndsLaw, ThinArrowsLaw}
+use Rattle.std.{proofs.lemmas.{Bool.{lt-ltb, ltb-true}, Option.same_Some}, specs.{Prelude.{◌↔◌, ◌⊎◌, cond, nat_lt, not}, Bool.Decides, List.{Contains, enumerate_from, filter, flat_map, list_any, prefix_len}}}
 use Rattle.relax_edges.specs.declared.kinds.Dir.TheVariants as dirs
-use Rattle.program_meaning.specs.{declared.WriteAt.WriteAt, Accesses.{Access, Visit, accesses_of, at_name, got_from, reads_among, reads_before, reads_by}, Deciding.name}
-use Rattle.program_meaning.specs.{Executions.{Execution, same_write}, Interleavings.{writes_by, writes_to}, Standing.{NamedAccess, is_in_mask}}
-use Rattle.program_meaning.specs.{Programs.{Program, accesses_in, visits_in}, Coherence.{coherence_place, from_one, order_at, order_place, placed_by, source_at}}
-use Rattle.program_meaning.proofs.Names.{at_name_of, same_write-refl, same_write-true}
-use Rattle.program_meaning.specs.{declared.seen.SeenAccess.SeenAccess, SeenAccesses.{seen_access, seen_in, seen_in_thread}}
-use Rattle.exec_graph.specs.{declared.arrows.Arrow.Arrow, declared.drawn.Drawn.Drawn, declared.drawn.Point.Point, declared.drawn.Point.TheVariants.{At, Initial}, declared.drawn.Relation.Relation, Ties.ties_if}
-use Rattle.exec_graph.specs.declared.drawn.Relation.TheVariants.{Po, Rf, Co, Fr, Addr, Data, Ctrl}
-use Rattle.exec_graph.specs.Graphs.{access_among, access_drawn, drawn_in, initial_places, initial_write, is_at, is_initial, is_reached, is_same, is_thin, kind_relation, loads_in, pairs_by, reads_initial, relates, stands_along}
-use Rattle.exec_graph.specs.GraphLaws.{Node, InitialWrite, TheAccess, IsDrawn, IsFirstWrite, IsNodeIn, ReadsInitial, FollowsInThread, IsReadFrom, FollowsInOrder, IsOverwritten, IsDependent, Related, HasBold, Joins, drawn_as, NodesLaw, EndsLaw, ThinArrowsLaw}
-use Rattle.exec_graph.proofs.Members.{In, in_any, in_cases, in_filter, in_flat_map, in_left, in_map, in_numbered, in_of, in_right, in_to, in_upto, of_any, of_filter, of_flat_map, of_map, of_numbered, of_upto}
 
 -- a pair that passes a test is one of elements
 pair_of : {X : Type 0} (test : X → X → Bool) (xs : List X) (a b : X) → Contains (pairs_by test xs) (a, b) → In a xs × In b xs × (test a b ≡ true)

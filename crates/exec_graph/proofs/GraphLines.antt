@@ -1,14 +1,7 @@
 -- The lines of a graph, appended one after another.
-use Rattle.std.proofs.Common.{◌≡◌, ◌≤◌, ◌<◌, ℕ, zero, suc, ◌+◌, ◌-◌, ◌==◌, Bool, true, false, cond, List, [], ◌∷◌, ◌++◌, length, map, drop, get_or, refl, sym, ap, ◌∙◌, subst, arith, append_assoc, append-nil, length-append}
-use Rattle.std.proofs.{lemmas.List.{drop_all}, lemmas.List.Elements.filter-append, lemmas.List.Folds.flat_map-map, lemmas.Option.slice_get-get_or}
-use Rattle.std.proofs.{lemmas.Bool.{eq-eqb, ne_eqb}, lemmas.Grind.flat_map-append}
-use Rattle.std.specs.{Prelude.codes, Fmt.decimal, List.{enumerate_from, filter, flat_map, list_any}}
-use Rattle.list_laws.proofs.{Cases.by_same, Elements.drop_given}
-use Rattle.diy_io.specs.{declared.page.TheConstants.LINE_ROOM, Page.page_after, PageLaws.page_fits}
-use Rattle.list_laws.specs.Numbers.{upto}
-use Rattle.relax_edges.specs.declared.edge.Edge.{Edge}
-use Rattle.exec_graph.specs.{declared.arrows.Arrow.Arrow, Graphs.{arrow_of, down_sign, initial_places, lap_word, reads_initial}}
-use Rattle.program_meaning.specs.declared.seen.SeenAccess.{SeenAccess}
+use Rattle.std.proofs.{Common.{◌≡◌, ◌≤◌, ◌<◌, ℕ, zero, suc, ◌+◌, ◌-◌, ◌==◌, Bool, true, false, cond, List, [], ◌∷◌, ◌++◌, length, map, drop, get_or, refl, sym, ap, ◌∙◌, subst, arith, append_assoc, append-nil, length-append}, lemmas.List.drop_all}
+use Rattle.exec_graph.proofs.Vocabulary.{filter-append, flat_map-map, slice_get-get_or, eq-eqb, ne_eqb, flat_map-append, codes, decimal, enumerate_from, filter, flat_map, list_any, by_same, drop_given, upto, LINE_ROOM, page_after, page_fits, Edge}
+use Rattle.exec_graph.{proofs.Vocabulary.SeenAccess, specs.{declared.arrows.Arrow.Arrow, Graphs.{arrow_of, down_sign, initial_places, lap_word, reads_initial}}}
 
 pub passing_text : {X : Type 0} (f : X → List ℕ) (test : X → Bool) (xs : List X) → flat_map (λ x. cond (test x) (f x) []) xs ≡ flat_map f (filter test xs)
 passing_text f test [] = refl

@@ -1,3 +1,4 @@
+pub mod Vocabulary
 pub mod Members
 pub mod DrawnLaws
 pub mod ArrowLaws

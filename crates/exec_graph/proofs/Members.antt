@@ -1,9 +1,6 @@
 -- What is in a list, and in the lists that are made of it.
-use Rattle.std.proofs.Common.{◌≡◌, ◌<◌, ℕ, zero, suc, ◌+◌, arith, Bool, true, false, List, [], ◌∷◌, ◌++◌, length, map, Some, slice_get, refl, sym, ap, subst, ◌∙◌, inl, inr}
-use Rattle.std.proofs.lemmas.Option.{same_Some}
-use Rattle.std.specs.{Prelude.{◌⊎◌, ◌||◌, cond, slice_index_or}, List.{Contains, enumerate_from, filter, flat_map, list_any}}
-use Rattle.list_laws.specs.Numbers.{upto}
-use Rattle.list_laws.proofs.Cases.{by_less}
+use Rattle.std.{proofs.{Common.{◌≡◌, ◌<◌, ℕ, zero, suc, ◌+◌, arith, Bool, true, false, List, [], ◌∷◌, ◌++◌, length, map, Some, slice_get, refl, sym, ap, subst, ◌∙◌, inl, inr}, lemmas.Option.same_Some}, specs.Prelude.{◌⊎◌, ◌||◌, cond, slice_index_or}}
+use Rattle.exec_graph.proofs.Vocabulary.{Contains, enumerate_from, filter, flat_map, list_any, upto, by_less}
 
 -- an element is in a list
 abbrev pub In : {X : Type 0} → X → List X → Type 0

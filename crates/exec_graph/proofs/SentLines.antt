@@ -1,22 +1,13 @@
 -- The lines of a graph, sent one after another.
 use Rattle.std.proofs.Common.{◌≡◌, ◌≤◌, ◌<◌, ℕ, zero, suc, ◌+◌, ◌-◌, ◌*◌, ◌/◌, ◌%◌, Bool, true, false, cond, count_by, List, [], ◌∷◌, ◌++◌, length, take, drop, get_or, Ok, Err, refl, sym, ap, ◌∙◌, subst, arith, append_assoc, length-append}
-use Rattle.std.proofs.lemmas.{List.take_all, List.FromFn.{length-enumerate_from, get_or-enumerate_from}}
-use Rattle.std.specs.{Prelude.{Result, codes}, Result.IsErrAnd, Fmt.decimal, List.{enumerate_from, filter, flat_map}}
-use Rattle.list_laws.specs.Numbers.{upto}
-use Rattle.list_laws.proofs.Numbers.{get_or-upto, length-upto}
-use Rattle.diy_io.specs.{declared.errors.Failed.Failed, Page.{SentAll, Sends}, SinkLaws.flat_map_more, Wrote.{SinkSeen, WrotePart}}
-use Rattle.relax_edges.specs.declared.kinds.{FenceKind.FenceKind, Pick.Pick}
+use Rattle.exec_graph.proofs.Vocabulary.{take_all, length-enumerate_from, get_or-enumerate_from, Result, codes, IsErrAnd, decimal, enumerate_from, filter, flat_map, upto, get_or-upto, length-upto, Failed, SentAll, Sends, flat_map_more, SinkSeen}
+use Rattle.exec_graph.{proofs.{Vocabulary.{WrotePart, each_sent, each_unsent, sends_same, sends_then, sent_nothing, FenceKind, Pick, Barrier, SeenAccess, Barred}, GraphLines.{pairs_text, passing_text}}, specs.declared.arrows.Arrow.Arrow}
+use Rattle.exec_graph.specs.{declared.{drawn.{Drawn.Drawn, Relation.Relation}, graph.Layout.Layout, strokes.{Side.{Side, TheVariants.{Beside, OnArrow}}, Stroke.Stroke}}, Drawing.IsLayout, Graphs.{PictureSeen, access_place, barrier_word, beside_label}}
+use Rattle.exec_graph.specs.Graphs.{beside_name, cluster_opening, column, down_sign, drawing_text, further_barrier, home, initial_line, is_below, lap_word, letter_word, lines_drawn, member_word, name_word, order_word, pairs_by, pick_word, place_word}
+use Rattle.exec_graph.specs.Graphs.{position_word, relation_colour, row, side_line, side_word, word_distance, word_on}
 use Rattle.relax_edges.specs.declared.kinds.FenceKind.TheVariants as fences
 use Rattle.relax_edges.specs.declared.kinds.Pick.TheVariants as picks
-use Rattle.micro_ops.specs.declared.operation.Barrier.{Barrier}
 use Rattle.micro_ops.specs.declared.operation.Barrier.TheVariants as barriers
-use Rattle.program_meaning.specs.{declared.seen.SeenAccess.SeenAccess, Accesses.Barred}
-use Rattle.exec_graph.specs.declared.{arrows.Arrow.Arrow, drawn.{Drawn.Drawn, Relation.Relation}, graph.Layout.Layout, strokes.{Side.Side, Stroke.Stroke}}
-use Rattle.exec_graph.specs.declared.strokes.Side.TheVariants.{Beside, OnArrow}
-use Rattle.exec_graph.specs.Drawing.{IsLayout}
-use Rattle.diy_io.specs.PageLaws.{each_sent, each_unsent, sends_same, sends_then, sent_nothing}
-use Rattle.exec_graph.specs.Graphs.{PictureSeen, access_place, barrier_word, beside_label, beside_name, cluster_opening, column, down_sign, drawing_text, further_barrier, home, initial_line, is_below, lap_word, letter_word, lines_drawn, member_word, name_word, order_word, pairs_by, pick_word, place_word, position_word, relation_colour, row, side_line, side_word, word_distance, word_on}
-use Rattle.exec_graph.proofs.GraphLines.{pairs_text, passing_text}
 
 abbrev Answer : Type 0
 Answer = Result (Unit {0}) Failed

@@ -1,15 +1,9 @@
 -- What comes before an access of a run, found item by item.
-use Rattle.std.proofs.Common.{◌≡◌, ◌<◌, ◌≤◌, ◌==◌, ◌^◌, ℕ, zero, suc, ◌+◌, ◌-◌, arith, Bool, true, false, cond, count_by, List, [], ◌∷◌, ◌++◌, length, drop, take, Some, None, slice_get, refl, sym, ap, ◌∙◌, subst}
-use Rattle.std.proofs.{lemmas.Bool.{eq-eqb, eqb-true}, lemmas.List.drop_all, lemmas.Nat.Bits.bit_at_above, lemmas.Option.same_Some}
-use Rattle.std.specs.{Int.bit_at, List.fold}
-use Rattle.list_laws.proofs.Elements.{drop_given}
-use Rattle.relax_edges.specs.declared.kinds.{Dir.Dir, Mark.Mark}
-use Rattle.micro_ops.specs.declared.operation.{Barrier.Barrier, Item.Item}
+use Rattle.std.proofs.{Common.{◌≡◌, ◌<◌, ◌≤◌, ◌==◌, ◌^◌, ℕ, zero, suc, ◌+◌, ◌-◌, arith, Bool, true, false, cond, count_by, List, [], ◌∷◌, ◌++◌, length, drop, take, Some, None, slice_get, refl, sym, ap, ◌∙◌, subst}, lemmas.Bool.{eq-eqb, eqb-true}}
+use Rattle.exec_graph.{proofs.Vocabulary.{drop_all, bit_at_above, same_Some, bit_at, fold, drop_given, Dir, Mark, Barrier, Item, EndedRun, Access, Barred, accesses_of, is_read, reads_by, visits_from, visits_of}, specs.declared.ties.Counted.Counted}
+use Rattle.exec_graph.specs.{Graphs.visits_of_runs, Ties.with_item}
 use Rattle.micro_ops.specs.declared.operation.Item.TheVariants as items
-use Rattle.micro_ops.specs.RunThreads.{EndedRun}
 use Rattle.relax_edges.specs.declared.kinds.Dir.TheVariants as dirs
-use Rattle.exec_graph.specs.{declared.ties.Counted.Counted, Graphs.visits_of_runs, Ties.with_item}
-use Rattle.program_meaning.specs.Accesses.{Access, Barred, accesses_of, is_read, reads_by, visits_from, visits_of}
 
 -- a mask has no load past its last bit
 pub no_load : (mask load : ℕ) → mask < 2 ^ 64 → 64 ≤ load → bit_at mask load == 1 ≡ false

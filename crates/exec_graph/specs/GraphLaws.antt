@@ -5,15 +5,13 @@
 -- position 0 there; and a read may have no source, and then counts as a read of the initial value.
 -- Source: own.
 use Rattle.std.specs.{Prelude.{ℕ, ◌≡◌, ◌↔◌, ◌+◌, ◌<◌, Bool, true, false, List, Option, Some, None, slice_get}, List.Contains}
-use Rattle.relax_edges.specs.declared.edge.Edge.{Edge}
-use Rattle.relax_edges.specs.EdgeTable.{kind_of}
+use Rattle.relax_edges.specs.{declared.edge.Edge.Edge, EdgeTable.kind_of}
 use Rattle.relax_edges.specs.declared.kinds.Dir.TheVariants as dirs
 use Rattle.cycle_events.specs.Resolution.{event_after}
-use Rattle.program_meaning.specs.{declared.WriteAt.WriteAt, Accesses.{Access, Visit, at_name, reads_before}, Executions.Execution, Coherence.{coherence_place, order_at, source_at}, SeenAccesses.{seen_access, seen_in}}
-use Rattle.program_meaning.specs.{Programs.{Program, accesses_in, visits_in}, Standing.{EdgeStands, NamedAccess, ComesBefore, access_at, event_name, is_in_mask}}
-use Rattle.exec_graph.specs.{declared.arrows.Arrow.Arrow as TheArrow, declared.drawn.Drawn.Drawn, declared.drawn.Relation.Relation, JudgedCycles.JudgesEdges, Ties.ties_of}
-use Rattle.exec_graph.specs.declared.drawn.Relation.TheVariants.{Po, Rf, Co, Fr, Addr, Data, Ctrl}
-use Rattle.exec_graph.specs.Graphs.{access_drawn, dashed_arrows, drawn_in, initial_write, kind_relation, standing_arrows, thin_pairs}
+use Rattle.program_meaning.specs.{declared.WriteAt.WriteAt, Accesses.{Access, Visit, at_name, reads_before}, Executions.Execution, Coherence.{coherence_place, order_at, source_at}, SeenAccesses.{seen_access, seen_in}, Programs.{Program, accesses_in}}
+use Rattle.program_meaning.specs.{Programs.visits_in, Standing.{EdgeStands, NamedAccess, ComesBefore, access_at, event_name, is_in_mask}}
+use Rattle.exec_graph.specs.{declared.{arrows.Arrow.Arrow as TheArrow, drawn.{Drawn.Drawn, Relation.{Relation, TheVariants.{Po, Rf, Co, Fr, Addr, Data, Ctrl}}}}, JudgedCycles.JudgesEdges, Ties.ties_of, Graphs.{access_drawn, dashed_arrows, drawn_in}}
+use Rattle.exec_graph.specs.Graphs.{initial_write, kind_relation, standing_arrows, thin_pairs}
 
 -- the arrow of an edge of a cycle, with whether the edge stands, and with the names of the accesses that it leaves and enters
 abbrev pub Arrow : Type 0

@@ -1,11 +1,10 @@
 -- The graph of a candidate execution, and its text, for Graphviz: the accesses of each thread in program order, the initial writes that
 -- are read, the relations between them, the dependencies and barriers of the code, the edges of a cycle, and the condition.
 -- Source: own; the relations are the usual ones of axiomatic memory models, and accesses are written as in the literature.
-use Rattle.std.specs.Prelude.{ℕ, ◌+◌, ◌-◌, ◌*◌, ◌/◌, ◌%◌, ◌==◌, ◌&&◌, ◌||◌, zero, suc, not, Bool, true, false, cond, count_by, nat_lt, List, [], ◌∷◌, ◌++◌, codes, length, map, take, Option, Some, None, slice_get, slice_index_or}
-use Rattle.std.specs.{Fmt.decimal, Int.bit_at, List.{enumerate_from, filter, flat_map, list_all, list_any, position}}
+use Rattle.std.specs.{Prelude.{ℕ, ◌+◌, ◌-◌, ◌*◌, ◌/◌, ◌%◌, ◌==◌, ◌&&◌, ◌||◌, zero, suc, not, Bool, true, false, cond, count_by, nat_lt, List, [], ◌∷◌, ◌++◌, codes, length, map, take, Option, Some, None, slice_get, slice_index_or}, Fmt.decimal}
+use Rattle.std.specs.{Int.bit_at, List.{enumerate_from, filter, flat_map, list_all, list_any, position}}
 use Rattle.list_laws.specs.Numbers.{upto}
-use Rattle.relax_edges.specs.{declared.kinds.Dir.Dir, declared.kinds.Mark.Mark, declared.kinds.Com.Com, declared.kinds.Kind.Kind, declared.kinds.Pick.Pick, declared.edge.Edge.Edge, WordParts.word_of}
-use Rattle.relax_edges.specs.{EdgeTable.kind_of}
+use Rattle.relax_edges.specs.{declared.{kinds.{Dir.Dir, Mark.Mark, Com.Com, Kind.Kind, Pick.Pick}, edge.Edge.Edge}, WordParts.word_of, EdgeTable.kind_of}
 use Rattle.relax_edges.specs.declared.kinds.Dir.TheVariants as dirs
 use Rattle.relax_edges.specs.declared.kinds.Mark.TheVariants as marks
 use Rattle.relax_edges.specs.declared.kinds.Com.TheVariants as coms
@@ -15,15 +14,11 @@ use Rattle.relax_edges.specs.declared.kinds.Kind.TheVariants as edges
 use Rattle.micro_ops.specs.{declared.operation.Barrier.Barrier, RunThreads.EndedRun}
 use Rattle.micro_ops.specs.declared.operation.Barrier.TheVariants as barriers
 use Rattle.cycle_events.specs.Resolution.{event_after, external_count}
-use Rattle.final_cond.specs.{Conditions.CondSeen, Conditions.cond_view, CondText.cond_text}
-use Rattle.program_meaning.specs.{declared.WriteAt.WriteAt, declared.seen.SeenAccess.SeenAccess, Executions.Execution}
-use Rattle.program_meaning.specs.Accesses.{Barred, Visit, accesses_of, got_from, is_read, visits_of, write}
-use Rattle.program_meaning.specs.{Programs.{Program, visits_in}, SeenAccesses.seen_in, Interleavings.writes_to, Standing.event_name}
-use Rattle.exec_graph.specs.{declared.graph.Picture.Picture, declared.drawn.Point.Point, declared.drawn.Drawn.Drawn, declared.drawn.Relation.Relation}
-use Rattle.exec_graph.specs.{declared.arrows.Arrow.Arrow, declared.strokes.{Side.Side, Stroke.Stroke, Style.Style}, declared.words.Word.Word, Ties.{Ties, ties_if, untied}}
-use Rattle.exec_graph.specs.declared.words.Word.TheVariants.{OfEdge, OfPair}
-use Rattle.exec_graph.specs.declared.drawn.{Point.TheVariants.{Initial, At}, Relation.TheVariants.{Po, Rf, Co, Fr, Addr, Data, Ctrl}}
-use Rattle.exec_graph.specs.declared.strokes.{Side.TheVariants.{OnArrow, Beside}, Style.TheVariants.{Thin, Bold, Dashed}}
+use Rattle.final_cond.specs.{Conditions.{CondSeen, cond_view}, CondText.cond_text}
+use Rattle.program_meaning.specs.{declared.{WriteAt.WriteAt, seen.SeenAccess.SeenAccess}, Executions.Execution, Accesses.{Barred, Visit, accesses_of, got_from, is_read, visits_of, write}, Programs.{Program, visits_in}, SeenAccesses.seen_in}
+use Rattle.program_meaning.specs.{Interleavings.writes_to, Standing.event_name}
+use Rattle.exec_graph.specs.declared.{graph.Picture.Picture, drawn.{Point.{Point, TheVariants.{Initial, At}}, Drawn.Drawn, Relation.{Relation, TheVariants.{Po, Rf, Co, Fr, Addr, Data, Ctrl}}}, arrows.Arrow.Arrow, strokes.Side.{Side, TheVariants.OnArrow}}
+use Rattle.exec_graph.specs.{declared.{strokes.{Side.TheVariants.Beside, Stroke.Stroke, Style.{Style, TheVariants.{Thin, Bold, Dashed}}}, words.Word.{Word, TheVariants.{OfEdge, OfPair}}}, Ties.{Ties, ties_if, untied}}
 
 -- the initial value is read
 abbrev pub is_initial : Option WriteAt → Bool

@@ -1,25 +1,16 @@
 -- The tests of edges decide their definitions.
-use Rattle.std.proofs.Common.{◌≡◌, ◌≢◌, ℕ, ◌+◌, ◌^◌, ◌<◌, ◌≤◌, arith, Bool, true, false, ◌==◌, ◌&&◌, not, List, [], ◌∷◌, map, Option, Some, None, refl, sym, ap, subst, ◌∙◌}
-use Rattle.std.proofs.{lemmas.Bool.Decides.nat_tests, lemmas.Nat.Bits.bit_at_above, Math.Pow.pow_mono, lemmas.Option.same_Some}
-use Rattle.std.proofs.lemmas.Bool.{and_parts, and_from, eqb-true, eq-eqb, lt-ltb, ltb-true, ne_eqb}
-use Rattle.std.specs.{Bool.Decides, Int.bit_at}
-use Rattle.relax_edges.specs.{declared.kinds.Dir.Dir, declared.kinds.Sd.Sd, declared.kinds.Sd.TheVariants.{Same, Diff}, declared.kinds.Reach.Reach}
-use Rattle.relax_edges.specs.{declared.kinds.Reach.TheVariants.{Internal, External}, declared.kinds.Com.Com, declared.kinds.Pick.Pick}
-use Rattle.relax_edges.specs.{declared.kinds.FenceKind.FenceKind, declared.kinds.DepKind.DepKind, declared.kinds.Kind.Kind, declared.kinds.Mark.Mark}
-use Rattle.relax_edges.specs.{declared.kinds.Mark.TheVariants.{Plain, Acquire, Release}, declared.edge.Edge.Edge}
-use Rattle.relax_edges.specs.EdgeTable.{source_of, target_of, reach_of, sd_of, kind_of, source_mark, target_mark, same_dir, same_mark}
+use Rattle.std.proofs.{Common.{◌≡◌, ◌≢◌, ℕ, ◌+◌, ◌^◌, ◌<◌, ◌≤◌, arith, Bool, true, false, ◌==◌, ◌&&◌, not, List, [], ◌∷◌, map, Option, Some, None, refl, sym, ap, subst, ◌∙◌}, lemmas.Bool.{Decides.nat_tests, and_parts, and_from, eqb-true, eq-eqb, lt-ltb}}
+use Rattle.exec_meaning.proofs.Vocabulary.{ltb-true, ne_eqb, bit_at_above, same_Some, pow_mono, Decides, bit_at, Dir, Sd, Same, Diff, Reach, Internal, External, Com, Pick, FenceKind, DepKind, Kind, Mark, Plain, Acquire, Release, Edge, source_of}
+use Rattle.exec_meaning.proofs.Vocabulary.{target_of, reach_of, sd_of, kind_of, source_mark, target_mark, same_dir, same_mark, Barrier, WriteAt, Access, Barred, Execution, same_write, source_at, AccessAt, NamedAccess, access_at, AreAt, ComesBefore}
+use Rattle.exec_meaning.{proofs.Vocabulary.{Communicates, CommunicatesBy, Reaches, Joins, mask_of, is_in_mask, IsTied, BarriersWait, DependsBy, TiesBy, Stands, same_write-refl, same_write-true}, specs.StandingEdges.{same_pick, same_fence}}
+use Rattle.exec_meaning.specs.StandingEdges.{barriers_agree, is_alone, is_none, are_at, is_source, comes_before, communicates, communicates_by, reaches, joins, same_answer, depends, barriers_wait, depends_by, ties_by, stands}
 use Rattle.relax_edges.specs.declared.kinds.Dir.TheVariants as dirs
 use Rattle.relax_edges.specs.declared.kinds.Com.TheVariants as coms
 use Rattle.relax_edges.specs.declared.kinds.Pick.TheVariants as picks
 use Rattle.relax_edges.specs.declared.kinds.FenceKind.TheVariants as fences
 use Rattle.relax_edges.specs.declared.kinds.DepKind.TheVariants as deps
 use Rattle.relax_edges.specs.declared.kinds.Kind.TheVariants as edges
-use Rattle.micro_ops.specs.declared.operation.Barrier.{Barrier}
 use Rattle.micro_ops.specs.declared.operation.Barrier.TheVariants as barriers
-use Rattle.program_meaning.specs.{declared.WriteAt.WriteAt, Accesses.{Access, Barred}, Executions.{Execution, same_write}, Coherence.source_at}
-use Rattle.program_meaning.specs.Standing.{AccessAt, NamedAccess, access_at, AreAt, ComesBefore, Communicates, CommunicatesBy, Reaches, Joins, mask_of, is_in_mask, IsTied, BarriersWait, DependsBy, TiesBy, Stands}
-use Rattle.program_meaning.proofs.Names.{same_write-refl, same_write-true}
-use Rattle.exec_meaning.specs.StandingEdges.{same_pick, same_fence, barriers_agree, is_alone, is_none, are_at, is_source, comes_before, communicates, communicates_by, reaches, joins, same_answer, depends, barriers_wait, depends_by, ties_by, stands}
 
 both : {P Q : Type 0} (b c : Bool) → Decides b P → Decides c Q → Decides (b && c) (P × Q)
 both b c d e = (λ h. let p = and_parts b c h in (d.0 p.0, e.0 p.1), λ h. and_from b c (d.1 h.0) (e.1 h.1))

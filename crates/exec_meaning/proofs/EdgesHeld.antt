@@ -1,15 +1,8 @@
 -- Which edges stand in an execution, by the accesses that were found.
-use Rattle.std.proofs.Common.{◌≡◌, ℕ, ◌<◌, slice_get, Bool, true, false, List, length, Option, Some, None, sym, ap, subst, ◌∙◌}
-use Rattle.std.proofs.lemmas.Option.{get_or_from_slice_get, same_Some}
-use Rattle.std.specs.Prelude.{◌↔◌, IsTrue, option_map}
-use Rattle.relax_edges.specs.{declared.kinds.Reach.TheVariants.Internal, declared.kinds.Com.TheVariants.Rf, declared.edge.Edge.Edge}
-use Rattle.relax_edges.specs.declared.edge.Edge.TheVariants as edges
-use Rattle.cycle_events.specs.Resolution.{IsResolved, edge_at, event_after}
-use Rattle.cycle_events.proofs.CycleRound.{source_after}
-use Rattle.program_meaning.specs.{declared.WriteAt.WriteAt, Accesses.{Access, Visit, at_name}, Executions.Execution, Programs.{Program, accesses_in, visits_in}}
-use Rattle.program_meaning.specs.Standing.{EdgeStands, NamedAccess, IsEvent, Stands, event_name}
+use Rattle.exec_meaning.proofs.Vocabulary.{◌≡◌, ℕ, ◌<◌, slice_get, Bool, true, false, List, length, Option, Some, None, sym, ap, subst, ◌∙◌, get_or_from_slice_get, same_Some, ◌↔◌, IsTrue, option_map, Internal, Rf, Edge, IsResolved, edge_at, event_after}
+use Rattle.exec_meaning.proofs.{Vocabulary.{source_after, WriteAt, Access, Visit, at_name, Execution, Program, accesses_in, visits_in, EdgeStands, NamedAccess, IsEvent, Stands, event_name}, EdgeLaws.{stands_means, stands_from}}
 use Rattle.exec_meaning.specs.StandingEdges.{named, stands, stands_if}
-use Rattle.exec_meaning.proofs.EdgeLaws.{stands_means, stands_from}
+use Rattle.relax_edges.specs.declared.edge.Edge.TheVariants as edges
 
 -- an event is the access that was found under its name
 found_is : (es : List Edge) (vs : List (List Visit)) (j : ℕ) (n : WriteAt) (v : Visit) (e : NamedAccess) → n ≡ event_name es j → at_name vs n ≡ Some v → IsEvent es vs j e → e ≡ named n v

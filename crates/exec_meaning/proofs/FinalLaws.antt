@@ -1,15 +1,7 @@
 -- The final state of an execution, as a list of pairs.
-use Rattle.std.proofs.Common.{◌≡◌, ℕ, zero, suc, ◌+◌, ◌<◌, append_assoc, length-take, true, false, ◌==◌, List, [], ◌∷◌, ◌++◌, length, map, take, get_or, Option, Some, None, slice_get, refl, sym, ap, ◌∙◌, arith}
-use Rattle.std.proofs.{lemmas.Bool.eq-eqb, lemmas.Bool.Decides.nat_tests, lemmas.List.{take_more, map_push, length-map, append-nil}}
-use Rattle.std.specs.{Prelude.{option_map, option_and_then}, List.position_from, Str.bytes_eq}
-use Rattle.list_laws.proofs.Cases.{by_test}
-use Rattle.relax_edges.specs.{declared.kinds.Value.Value, declared.kinds.Value.TheVariants.Num}
-use Rattle.final_cond.specs.{Conditions.{LeftSeen, InRegister, AtPlace}, States.{FinalState, same_left_seen, value_in_state}}
-use Rattle.micro_ops.specs.RunThreads.{EndedRun, value_in_run}
-use Rattle.arch_trait.specs.PlaceNames.{number_in}
-use Rattle.program_meaning.specs.{Accesses.Access, Executions.Execution, Coherence.final_value, Programs.{Program, runs_of, held_at_last, accesses_in}}
-use Rattle.tests_force_cycles.specs.FinalStates.{final_state}
-use Rattle.exec_meaning.specs.{EndedRuns.ended_run, Finals.{registers_at, all_registers, places_at}}
+use Rattle.exec_meaning.proofs.Vocabulary.{◌≡◌, ℕ, zero, suc, ◌+◌, ◌<◌, append_assoc, length-take, true, false, ◌==◌, List, [], ◌∷◌, ◌++◌, length, map, take, get_or, Option, Some, None, slice_get, refl, sym, ap, ◌∙◌, arith, eq-eqb, nat_tests, take_more}
+use Rattle.exec_meaning.proofs.Vocabulary.{map_push, length-map, append-nil, option_map, option_and_then, position_from, bytes_eq, by_test, Value, Num, LeftSeen, InRegister, AtPlace, FinalState, same_left_seen, value_in_state, EndedRun, value_in_run}
+use Rattle.exec_meaning.{proofs.Vocabulary.{number_in, Access, Execution, final_value, Program, runs_of, held_at_last, accesses_in, final_state}, specs.{EndedRuns.ended_run, Finals.{registers_at, all_registers, places_at}}}
 
 -- the first of two values, where it is there, and else the second
 abbrev or_else : Option Value → Option Value → Option Value

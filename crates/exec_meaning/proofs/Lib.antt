@@ -1,3 +1,4 @@
+pub mod Vocabulary
 pub mod Loops
 pub mod VisitLaws
 pub mod EdgeLaws

@@ -1,9 +1,5 @@
 -- How the loops over lists make the tests.
-use Rattle.std.proofs.Common.{◌≡◌, ℕ, ◌+◌, ◌-◌, ◌≤◌, Bool, true, false, List, length, take, drop, Some, slice_get, refl, arith}
-use Rattle.std.proofs.lemmas.List.{drop_all, take_all, length-drop}
-use Rattle.std.specs.List.{list_any}
-use Rattle.list_laws.proofs.Elements.{drop_given}
-use Rattle.program_meaning.specs.{declared.WriteAt.WriteAt, Executions.same_write, Deciding.{every, are_distinct}}
+use Rattle.exec_meaning.proofs.Vocabulary.{◌≡◌, ℕ, ◌+◌, ◌-◌, ◌≤◌, Bool, true, false, List, length, take, drop, Some, slice_get, refl, arith, drop_all, take_all, length-drop, list_any, drop_given, WriteAt, same_write, every, are_distinct}
 
 -- an element that passes leaves the answer to those after it
 pub every_step : {X : Type 0} (p : ℕ → X → Bool) (xs : List X) (i : ℕ) (x : X) → slice_get xs i ≡ Some x → p i x ≡ true → every p i (drop i xs) ≡ every p (i + 1) (drop (i + 1) xs)

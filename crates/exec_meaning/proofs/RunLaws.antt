@@ -1,17 +1,9 @@
 -- The runs of a test's threads, and the accesses that they make.
-use Rattle.std.proofs.Common.{◌≡◌, ℕ, zero, suc, ◌+◌, ◌≤◌, true, false, List, [], ◌∷◌, ◌++◌, length, map, take, Option, Some, None, slice_get, refl, sym, ap, subst, ◌∙◌, arith}
-use Rattle.std.proofs.{lemmas.List.{take_more, take_all, map_push, length-map}, lemmas.Simd.map-map}
-use Rattle.std.proofs.{lemmas.Option.{get_or_from_slice_get, slice_get_within, same_Some}, Math.Bool.and-false}
-use Rattle.std.specs.Prelude.{option_map}
-use Rattle.relax_edges.specs.declared.kinds.Value.{Value}
-use Rattle.micro_ops.specs.{declared.operation.Micro.Micro, Running.{Point, At, Past, Wants, Stuck, exec, beginning, outcome, runs, Outcome, NoRule}}
-use Rattle.micro_ops.specs.{RunThreads.{EndedRun, goes_on, CausedBy}, RunLaws.stops_for_good}
+use Rattle.exec_meaning.proofs.Vocabulary.{◌≡◌, ℕ, zero, suc, ◌+◌, ◌≤◌, true, false, List, [], ◌∷◌, ◌++◌, length, map, take, Option, Some, None, slice_get, refl, sym, ap, subst, ◌∙◌, arith, take_more, take_all, map_push, length-map, map-map}
+use Rattle.exec_meaning.proofs.Vocabulary.{get_or_from_slice_get, slice_get_within, same_Some, and-false, option_map, Value, Micro, Point, At, Past, Wants, Stuck, exec, beginning, outcome, runs, Outcome, NoRule, EndedRun, goes_on, CausedBy}
+use Rattle.exec_meaning.proofs.Vocabulary.{stops_for_good, ThreadRead, TestRead, thread_read, program_read, WriteAt, Access, visits_of, accesses_of, Execution, IsExecutionOf, has_ended, all_ended, Program, run_of, runs_of, made_in, IsCandidate}
+use Rattle.exec_meaning.{proofs.Vocabulary.{visits_in, accesses_in, runs-count, accesses-count, all_ended_means, all_ended_from}, specs.EndedRuns.{ended_run, IsRun, IsRunIn}}
 use Rattle.micro_ops.specs.declared.run.RunError.TheVariants as errors
-use Rattle.litmus_text.specs.{TestReading.{ThreadRead, TestRead}, ReadPrograms.{thread_read, program_read}}
-use Rattle.program_meaning.specs.{declared.WriteAt.WriteAt, Accesses.{Access, visits_of, accesses_of}, Executions.{Execution, IsExecutionOf}}
-use Rattle.program_meaning.specs.{Deciding.{has_ended, all_ended}, Programs.{Program, run_of, runs_of, made_in, IsCandidate, visits_in, accesses_in}}
-use Rattle.program_meaning.proofs.Runs.{runs-count, accesses-count, all_ended_means, all_ended_from}
-use Rattle.exec_meaning.specs.EndedRuns.{ended_run, IsRun, IsRunIn}
 
 -- the run of a thread among those of all
 run_got : (threads : List ThreadRead) (reads : List (List (ℕ × Option WriteAt))) (k : ℕ) (t : ThreadRead) (rs : List (ℕ × Option WriteAt)) → slice_get threads k ≡ Some t → slice_get reads k ≡ Some rs

@@ -1,16 +1,8 @@
 -- The accesses of an execution, seen one after another.
-use Rattle.std.proofs.Common.{◌≡◌, ℕ, zero, suc, ◌+◌, ◌≤◌, ◌<◌, List, [], ◌∷◌, ◌++◌, length, drop, map, get_or, Some, slice_get, refl, sym, ap, ◌∙◌, append_assoc, arith}
-use Rattle.std.proofs.{lemmas.List.{drop_all, append-nil, length-map}, lemmas.Option.slice_get-get_or}
-use Rattle.std.specs.{List.{enumerate_from, flat_map}, Prelude.option_map}
-use Rattle.list_laws.proofs.Elements.{drop_given}
-use Rattle.relax_edges.specs.{declared.kinds.Dir.Dir, declared.kinds.Mark.Mark}
-use Rattle.micro_ops.specs.{declared.operation.Barrier.Barrier, declared.operation.Item.Item, RunThreads.EndedRun}
+use Rattle.exec_meaning.proofs.Vocabulary.{◌≡◌, ℕ, zero, suc, ◌+◌, ◌≤◌, ◌<◌, List, [], ◌∷◌, ◌++◌, length, drop, map, get_or, Some, slice_get, refl, sym, ap, ◌∙◌, append_assoc, arith, drop_all, append-nil, length-map, slice_get-get_or, enumerate_from}
+use Rattle.exec_meaning.proofs.Vocabulary.{flat_map, option_map, drop_given, Dir, Mark, Barrier, Item, EndedRun, Access, Barred, Visit, visits_from, visits_of, Execution, SeenAccess, Program, accesses_in, runs_of, seen_access, seen_in, seen_in_thread}
+use Rattle.exec_meaning.{proofs.RunLaws.visits_are, specs.EndedRuns.ended_run}
 use Rattle.micro_ops.specs.declared.operation.Item.TheVariants as items
-use Rattle.program_meaning.specs.{Accesses.{Access, Barred, Visit, visits_from, visits_of}, Executions.Execution}
-use Rattle.program_meaning.specs.{declared.seen.SeenAccess.SeenAccess, Programs.{Program, accesses_in, runs_of}}
-use Rattle.program_meaning.specs.SeenAccesses.{seen_access, seen_in, seen_in_thread}
-use Rattle.exec_meaning.specs.EndedRuns.{ended_run}
-use Rattle.exec_meaning.proofs.RunLaws.{visits_are}
 
 -- visits with their numbers, from one on, as they are seen
 abbrev pub seen_from : List (List Access) → Execution → ℕ → ℕ → List Visit → List SeenAccess

@@ -1,12 +1,7 @@
 -- The accesses among the items of a run, found one after another.
-use Rattle.std.proofs.Common.{◌≡◌, ℕ, ◌+◌, ◌≤◌, List, [], ◌∷◌, ◌++◌, length, drop, Some, slice_get, refl, sym, ap, ◌∙◌, append_assoc}
-use Rattle.std.proofs.lemmas.List.{drop_all, append-nil}
-use Rattle.list_laws.proofs.Elements.{drop_given}
-use Rattle.relax_edges.specs.declared.kinds.{Dir.Dir, Mark.Mark}
-use Rattle.micro_ops.specs.declared.operation.{Barrier.Barrier, Item.Item}
+use Rattle.exec_meaning.proofs.Vocabulary.{◌≡◌, ℕ, ◌+◌, ◌≤◌, List, [], ◌∷◌, ◌++◌, length, drop, Some, slice_get, refl, sym, ap, ◌∙◌, append_assoc, drop_all, append-nil, drop_given, Dir, Mark, Barrier, Item, Access, Barred, visits_from, visits_of}
+use Rattle.exec_meaning.{proofs.Vocabulary.accesses_of, specs.EndedRuns.item_access}
 use Rattle.micro_ops.specs.declared.operation.Item.TheVariants as items
-use Rattle.program_meaning.specs.Accesses.{Access, Barred, visits_from, visits_of, accesses_of}
-use Rattle.exec_meaning.specs.EndedRuns.{item_access}
 
 -- barriers don't change the accesses
 same_accesses : (passed more : List Barred) (made : List Item) → accesses_of (visits_from passed made) ≡ accesses_of (visits_from more made)

@@ -1,8 +1,8 @@
 -- The final state of an execution as a list, in the order in which it is built.
 -- Source: own.
 use Rattle.std.specs.Prelude.{◌≡◌, ℕ, ◌+◌, List, [], ◌∷◌, ◌++◌, Option}
-use Rattle.relax_edges.specs.declared.kinds.{Value.Value, Value.TheVariants.Num}
-use Rattle.final_cond.specs.{Conditions.LeftSeen, Conditions.InRegister, Conditions.AtPlace, States.FinalState, States.value_in_state}
+use Rattle.relax_edges.specs.declared.kinds.Value.{Value, TheVariants.Num}
+use Rattle.final_cond.specs.{Conditions.{LeftSeen, InRegister, AtPlace}, States.{FinalState, value_in_state}}
 use Rattle.litmus_text.specs.{ReadPrograms.program_read, TestReading.TestRead}
 use Rattle.program_meaning.specs.Executions.{Execution}
 use Rattle.tests_force_cycles.specs.FinalStates.{final_state}

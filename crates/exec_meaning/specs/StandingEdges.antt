@@ -1,10 +1,8 @@
 -- The tests by which it is decided whether an edge of a cycle stands in an execution of a program.
 -- Source: own.
 use Rattle.std.specs.{Prelude.{ℕ, ◌+◌, ◌==◌, ◌&&◌, Bool, true, false, not, nat_lt, List, [], ◌∷◌, Option, Some, None, option_map}, List.list_all}
-use Rattle.relax_edges.specs.{declared.kinds.Sd.Sd, declared.kinds.Sd.TheVariants.{Same, Diff}, declared.kinds.Reach.Reach}
-use Rattle.relax_edges.specs.{declared.kinds.Reach.TheVariants.{Internal, External}, declared.kinds.Com.Com, declared.kinds.Pick.Pick}
-use Rattle.relax_edges.specs.{declared.kinds.FenceKind.FenceKind, declared.kinds.DepKind.DepKind, declared.kinds.Kind.Kind, declared.edge.Edge.Edge}
-use Rattle.relax_edges.specs.EdgeTable.{source_of, target_of, reach_of, sd_of, kind_of, source_mark, target_mark, same_dir, same_mark}
+use Rattle.relax_edges.specs.{declared.{kinds.{Sd.{Sd, TheVariants.{Same, Diff}}, Reach.{Reach, TheVariants.{Internal, External}}, Com.Com, Pick.Pick, FenceKind.FenceKind, DepKind.DepKind, Kind.Kind}, edge.Edge.Edge}, EdgeTable.{source_of, target_of}}
+use Rattle.relax_edges.specs.EdgeTable.{reach_of, sd_of, kind_of, source_mark, target_mark, same_dir, same_mark}
 use Rattle.relax_edges.specs.declared.kinds.Com.TheVariants as coms
 use Rattle.relax_edges.specs.declared.kinds.Pick.TheVariants as picks
 use Rattle.relax_edges.specs.declared.kinds.FenceKind.TheVariants as fences
@@ -14,9 +12,7 @@ use Rattle.micro_ops.specs.declared.operation.Barrier.{Barrier}
 use Rattle.micro_ops.specs.declared.operation.Barrier.TheVariants as barriers
 use Rattle.exec_meaning.specs.declared.edges.Tie.{Tie}
 use Rattle.exec_meaning.specs.declared.edges.Tie.TheVariants as ties
-use Rattle.program_meaning.specs.{declared.WriteAt.WriteAt, Accesses.{Access, Barred, Visit, at_name}, Executions.{Execution, same_write}}
-use Rattle.program_meaning.specs.Coherence.{coherence_place, source_at}
-use Rattle.program_meaning.specs.Standing.{AccessAt, NamedAccess, access_at, mask_of, is_in_mask}
+use Rattle.program_meaning.specs.{declared.WriteAt.WriteAt, Accesses.{Access, Barred, Visit, at_name}, Executions.{Execution, same_write}, Coherence.{coherence_place, source_at}, Standing.{AccessAt, NamedAccess, access_at, mask_of, is_in_mask}}
 
 -- this access with this name
 abbrev pub named : WriteAt → Visit → NamedAccess

@@ -1,6 +1,5 @@
 -- A text that grows piece by piece: what is appended and what is still to be appended make up the whole.
-use Rattle.std.proofs.Common.{◌≡◌, ℕ, List, ◌++◌, ap, ◌∙◌, append_assoc}
-use Rattle.std.specs.{Prelude.codes, List.flat_map}
+use Rattle.exec_text.proofs.Vocabulary.{◌≡◌, ℕ, List, ◌++◌, ap, ◌∙◌, append_assoc, codes, flat_map}
 
 -- the further words of a line, each after a blank
 abbrev pub further : List (List ℕ) → List ℕ

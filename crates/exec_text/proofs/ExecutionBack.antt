@@ -1,18 +1,9 @@
 -- The text that is written of an execution is read as that execution.
-use Rattle.std.proofs.{Common.{◌≡◌, ◌≤◌, ◌+◌, ℕ, List, [], ◌∷◌, ◌++◌, map, length, true, refl, sym, ap, ◌∙◌, arith, length-append}, lemmas.List.length-map}
-use Rattle.std.proofs.{lemmas.List.Elements.{All-head, All-tail}, lemmas.List.FromFn.length-enumerate_from, lemmas.Bool.and_parts}
-use Rattle.std.specs.{Prelude.{Option, Some, Ok}, List.{All, AllByRecursion, enumerate_from, flat_map, list_all, range_with_len, zip}}
-use Rattle.list_laws.proofs.Elements.{all_append}
-use Rattle.text_parts.specs.{Names.is_place_name, Words.words}
-use Rattle.litmus_text.specs.{TestText.with_line_feed, declared.limits.TheConstants.MAX_TEST_TEXT}
-use Rattle.program_meaning.specs.{declared.WriteAt.WriteAt, Executions.Execution}
-use Rattle.exec_text.specs.declared.errors.ExecKind.TheVariants.{BadThread, BadRead, BadPlace, BadWrite}
-use Rattle.exec_text.specs.ExecutionText.{access_named, line_read, reads_and_writes_read, each_line_read, place_head, read_named, thread_head}
-use Rattle.exec_text.specs.Written.{access_word, place_line, read_word, text_of_execution, thread_line}
-use Rattle.exec_text.specs.ExecutionReadBack.{AccessFits, ExecutionFits, ReadFits, ExecutionReadsBack}
-use Rattle.exec_text.proofs.WholeExecutions.{place_lines_read, read_as, short_read, thread_lines_read}
-use Rattle.exec_text.proofs.WordsBack.{IsWord, access_back, access_is_word, place_is_word, read_back, read_is_word, thread_is_word}
-use Rattle.exec_text.proofs.LinesBack.{is_printed, line_back, line_printed, lines_back, lines_few}
+use Rattle.std.proofs.{Common.{◌≡◌, ◌≤◌, ◌+◌, ℕ, List, [], ◌∷◌, ◌++◌, map, length, true, refl, sym, ap, ◌∙◌, arith, length-append}, lemmas.{List.{length-map, Elements.{All-head, All-tail}, FromFn.length-enumerate_from}, Bool.and_parts}}
+use Rattle.exec_text.proofs.Vocabulary.{Option, Some, Ok, All, AllByRecursion, enumerate_from, flat_map, list_all, range_with_len, zip, all_append, is_place_name, words, with_line_feed, MAX_TEST_TEXT, WriteAt, Execution}
+use Rattle.exec_text.proofs.{WholeExecutions.{place_lines_read, read_as, short_read, thread_lines_read}, WordsBack.{IsWord, access_back, access_is_word, place_is_word, read_back, read_is_word, thread_is_word}, LinesBack.{is_printed, line_back}}
+use Rattle.exec_text.{proofs.LinesBack.{line_printed, lines_back, lines_few}, specs.{declared.errors.ExecKind.TheVariants.{BadThread, BadRead, BadPlace, BadWrite}, ExecutionText.{access_named, line_read, reads_and_writes_read, each_line_read}}}
+use Rattle.exec_text.specs.{ExecutionText.{place_head, read_named, thread_head}, Written.{access_word, place_line, read_word, text_of_execution, thread_line}, ExecutionReadBack.{AccessFits, ExecutionFits, ReadFits, ExecutionReadsBack}}
 
 -- what holds of each thing by what is known of each
 each : {X : Type 0} (P Q : X → Type 0) → ((x : X) → P x → Q x) → (xs : List X) → All P xs → AllByRecursion Q xs

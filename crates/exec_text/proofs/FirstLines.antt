@@ -1,10 +1,6 @@
 -- The first line of a text.
-use Rattle.std.proofs.Common.{◌≡◌, ◌==◌, ◌<◌, ℕ, List, [], ◌∷◌, ◌++◌, true, false, get_or, length, refl, sym, ap, ◌∙◌, arith}
-use Rattle.std.specs.{Prelude.not, Prelude.map, List.list_all, List.All}
-use Rattle.std.proofs.lemmas.{Bool.not-true, List.Sums.AllPass-from_list_all, List.Splits.slice_split_none}
-use Rattle.text_parts.specs.Lines.{is_line_feed, without_return, but_last, last_of, whole_lines, ended_lines, unended, last_line, lines_of}
-use Rattle.text_parts.specs.Cuts.{CutParts}
-use Rattle.text_parts.proofs.LineLaws.{lines_cut}
+use Rattle.std.{proofs.{Common.{◌≡◌, ◌==◌, ◌<◌, ℕ, List, [], ◌∷◌, ◌++◌, true, false, get_or, length, refl, sym, ap, ◌∙◌, arith}, lemmas.{Bool.not-true, List.{Sums.AllPass-from_list_all, Splits.slice_split_none}}}, specs.Prelude.{not, map}}
+use Rattle.exec_text.proofs.Vocabulary.{list_all, All, is_line_feed, without_return, but_last, last_of, whole_lines, ended_lines, unended, last_line, lines_of, CutParts, lines_cut}
 
 no_feed : (text : List ℕ) → list_all (λ byte. not (byte == 10)) text ≡ true → All (λ byte. is_line_feed byte ≡ false) text
 no_feed text h i d k = not-true (get_or text i d == 10) (AllPass-from_list_all (λ byte. not (byte == 10)) text h i d k)

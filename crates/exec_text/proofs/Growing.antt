@@ -1,10 +1,6 @@
 -- An execution that grows keeps its other lists, and its lists are those that were added where it begins without any.
-use Rattle.std.proofs.{Common.{◌≡◌, ℕ, zero, suc, ◌+◌, ◌-◌, ◌<◌, List, [], ◌∷◌, ◌++◌, length, drop, refl, ◌∙◌, arith, subst}, Math.Seq.{drop-cons, drop-length}}
-use Rattle.std.proofs.lemmas.List.{length-set}
-use Rattle.std.specs.{Prelude.{Result, Ok, Err, Option, slice_get, slice_index_or, unwrap_or}, List.range_with_len}
-use Rattle.program_meaning.specs.{declared.WriteAt.WriteAt, Executions.Execution}
-use Rattle.program_meaning.specs.KeptExecutions.{added_to_list, with_read, with_write}
-use Rattle.exec_text.specs.{declared.errors.ExecKind.ExecKind, ExecutionSteps.{all_added, line_added}}
+use Rattle.exec_text.proofs.Vocabulary.{◌≡◌, ℕ, zero, suc, ◌+◌, ◌-◌, ◌<◌, List, [], ◌∷◌, ◌++◌, length, drop, refl, ◌∙◌, arith, subst, drop-cons, drop-length, length-set, Result, Ok, Err, Option, slice_get, slice_index_or, unwrap_or, range_with_len}
+use Rattle.exec_text.{proofs.Vocabulary.{WriteAt, Execution, added_to_list, with_read, with_write}, specs.{declared.errors.ExecKind.ExecKind, ExecutionSteps.{all_added, line_added}}}
 
 added_length : {X : Type 0} (lists : List (List X)) (k : ℕ) (x : X) → length (added_to_list lists k x) ≡ length lists
 added_length lists k x = length-set lists k (unwrap_or (slice_get lists k) [] ++ x ∷ [])

@@ -1,3 +1,4 @@
+pub mod Vocabulary
 pub mod FirstLines
 pub mod LinesRead
 pub mod Growing

@@ -1,14 +1,8 @@
 -- A line that is written has the words of which it is made, and gives what these name; the lines of a text that is written are
 -- those of which it is made.
-use Rattle.std.proofs.Common.{◌≡◌, ◌≤◌, ℕ, List, [], ◌∷◌, ◌++◌, map, length, true, refl, ap, ◌∙◌, arith, append_assoc, length-append}
-use Rattle.std.proofs.{lemmas.Bool.Decides.nat_tests, lemmas.List.append-nil}
-use Rattle.std.specs.{Prelude.{Bool, ◌&&◌, nat_le, nat_lt, codes, Option, Some, Ok}, List.{AllByRecursion, list_all, flat_map}}
-use Rattle.list_laws.proofs.Elements.{list_all-weaker}
-use Rattle.text_parts.specs.{Blanks.is_inked, Words.words, Lines.lines_of, Cuts.CutParts}
-use Rattle.litmus_text.specs.TestText.{with_line_feed}
-use Rattle.text_parts.proofs.{OrderLaws.bytes_same, WordLaws.{words_both, one_word}, CutLaws.{all_both, without_class}, LineLaws.class_kept}
-use Rattle.exec_text.specs.{declared.errors.ExecKind.ExecKind, ExecutionText.{all_named, line_read}, Written.line_of}
-use Rattle.exec_text.proofs.{Appending.further, FirstLines.{line_none, line_cut}, WordsBack.{IsWord, is_graphic}}
+use Rattle.std.{proofs.{Common.{◌≡◌, ◌≤◌, ℕ, List, [], ◌∷◌, ◌++◌, map, length, true, refl, ap, ◌∙◌, arith, append_assoc, length-append}, lemmas.{Bool.Decides.nat_tests, List.append-nil}}, specs.Prelude.{Bool, ◌&&◌, nat_le, nat_lt, codes, Option, Some}}
+use Rattle.exec_text.proofs.{Vocabulary.{Ok, AllByRecursion, list_all, flat_map, list_all-weaker, is_inked, words, lines_of, CutParts, bytes_same, words_both, one_word, all_both, without_class, class_kept, with_line_feed}, Appending.further}
+use Rattle.exec_text.{proofs.{FirstLines.{line_none, line_cut}, WordsBack.{IsWord, is_graphic}}, specs.{declared.errors.ExecKind.ExecKind, ExecutionText.{all_named, line_read}, Written.line_of}}
 
 -- a byte of a line: a blank or a graphic character
 abbrev pub is_printed : ℕ → Bool

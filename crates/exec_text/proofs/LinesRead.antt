@@ -1,11 +1,6 @@
 -- What one word, or one line, names is added, and then what the others name.
-use Rattle.std.proofs.Common.{◌≡◌, ℕ, ◌+◌, List, [], ◌∷◌, refl, sym, ap, subst}
-use Rattle.std.specs.Prelude.{Result, Ok, Err}
-use Rattle.program_meaning.specs.Executions.{Execution}
-use Rattle.exec_text.specs.{declared.errors.ExecKind.ExecKind, declared.errors.ExecFault.ExecFault, declared.errors.ExecKind.TheVariants.EndMissing}
-use Rattle.exec_text.specs.{declared.errors.ExecError.ExecError, declared.reading.LineError.LineError, ExecutionText.{put_line, at_line, each_line_read}}
-use Rattle.exec_text.specs.ExecutionSteps.{WayToAdd, AtLine, ReadsLine, ReadsLines, all_added, each_added, line_added, lines_added}
-use Rattle.text_parts.specs.Words.{words}
+use Rattle.exec_text.{proofs.Vocabulary.{◌≡◌, ℕ, ◌+◌, List, [], ◌∷◌, refl, sym, ap, subst, Result, Ok, Err, Execution, words}, specs.declared.errors.{ExecKind.{ExecKind, TheVariants.EndMissing}, ExecFault.ExecFault, ExecError.ExecError}}
+use Rattle.exec_text.specs.{declared.reading.LineError.LineError, ExecutionText.{put_line, at_line, each_line_read}, ExecutionSteps.{WayToAdd, AtLine, ReadsLine, ReadsLines, all_added, each_added, line_added, lines_added}}
 use Rattle.exec_text.specs.declared.reading.LineError.TheVariants as line_errors
 
 -- a line that is read adds what it names, and the others add theirs

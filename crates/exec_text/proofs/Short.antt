@@ -1,15 +1,8 @@
 -- The text that is written of an execution isn't too long, where it has no more threads, places, reads and writes than tests have.
-use Rattle.std.proofs.Common.{◌≡◌, ◌≤◌, ◌<◌, ◌+◌, ◌*◌, ℕ, List, [], ◌∷◌, ◌++◌, map, length, true, ap, arith, length-append, suc-mul}
-use Rattle.std.proofs.{lemmas.Grind.flat_map-append, lemmas.List.Elements.{All-head, All-map, All-tail}, lemmas.List.length-map, lemmas.Bool.and_parts}
-use Rattle.std.specs.{Prelude.{codes, Option, Some, None}, Fmt.decimal, List.{All, enumerate_from, flat_map, list_all, zip}}
-use Rattle.text_parts.specs.Names.{is_place_name}
-use Rattle.text_parts.proofs.{LengthLaws.pieces_short, NameLaws.place_name_short, NumberLaws.{two_digits, ten_digits}}
-use Rattle.litmus_text.specs.{TestText.with_line_feed, declared.limits.TheConstants.{MAX_TEST_TEXT, MAX_THREADS, MAX_ACCESSES}}
-use Rattle.program_meaning.specs.{declared.WriteAt.WriteAt, Executions.Execution}
-use Rattle.exec_text.specs.ExecutionText.{place_head, thread_head}
-use Rattle.exec_text.specs.Written.{access_word, line_of, place_line, read_word, source_word, text_of_execution, thread_line}
+use Rattle.std.proofs.{Common.{◌≡◌, ◌≤◌, ◌<◌, ◌+◌, ◌*◌, ℕ, List, [], ◌∷◌, ◌++◌, map, length, true, ap, arith, length-append, suc-mul}, lemmas.{Grind.flat_map-append, List.{Elements.{All-head, All-map, All-tail}, length-map}, Bool.and_parts}}
+use Rattle.exec_text.proofs.Vocabulary.{codes, Option, Some, None, decimal, All, enumerate_from, flat_map, list_all, zip, is_place_name, pieces_short, place_name_short, two_digits, ten_digits, with_line_feed, MAX_TEST_TEXT, MAX_THREADS, MAX_ACCESSES}
+use Rattle.exec_text.{proofs.{Vocabulary.{WriteAt, Execution}, Appending.further}, specs.{ExecutionText.{place_head, thread_head}, Written.{access_word, line_of, place_line, read_word, source_word, text_of_execution, thread_line}}}
 use Rattle.exec_text.specs.ExecutionReadBack.{AccessFits, ExecutionFits, ReadFits, SourceFits}
-use Rattle.exec_text.proofs.Appending.{further}
 
 -- the word for an access has at most 5 bytes, and that for a read at most 16
 access_short : (threads : ℕ) → threads ≤ MAX_THREADS → (w : WriteAt) → AccessFits threads w → length (access_word w) ≤ 5

@@ -1,16 +1,9 @@
 -- The execution that all lines of a text give.
-use Rattle.std.proofs.Common.{◌≡◌, ℕ, suc, ◌+◌, ◌≤◌, List, [], ◌∷◌, ◌++◌, map, length, set, refl, sym, ap, ◌∙◌, append_assoc, length-append}
-use Rattle.std.proofs.{lemmas.List.{append-nil, length-replicate, length-map}, lemmas.List.FromFn.length-map-range_with_len, lemmas.Bool.le-ltb}
-use Rattle.std.proofs.{Math.ListN.replicate, Math.Seq.{get_or-append_seam, set-append_seam}, lemmas.Option.unwrap_or-slice_get}
-use Rattle.std.specs.{Prelude.{Result, Ok, Err, Option}, List.range_with_len}
-use Rattle.program_meaning.specs.{declared.WriteAt.WriteAt, Executions.Execution}
-use Rattle.program_meaning.specs.KeptExecutions.{added_to_list, empty_lists, nothing_kept, with_read, with_write}
-use Rattle.text_parts.specs.{Words.words, Lines.lines_of}
-use Rattle.exec_text.specs.{declared.errors.ExecKind.ExecKind, declared.errors.ExecFault.ExecFault, declared.errors.ExecError.ExecError}
-use Rattle.exec_text.specs.declared.errors.ExecKind.TheVariants.{BadThread, BadRead, BadPlace, BadWrite, StrayLine}
-use Rattle.exec_text.specs.ExecutionText.{access_named, at_line, execution_of, execution_read, line_read, reads_and_writes_read, each_line_read, place_head, put_line, read_named, thread_head}
-use Rattle.exec_text.specs.ExecutionSteps.{WayToAdd, ReadsLines, ReadsText, all_added, each_added, lines_added}
-use Rattle.litmus_text.specs.declared.limits.TheConstants.{MAX_TEST_TEXT}
+use Rattle.std.proofs.{Common.{◌≡◌, ℕ, suc, ◌+◌, ◌≤◌, List, [], ◌∷◌, ◌++◌, map, length, set, refl, sym, ap, ◌∙◌, append_assoc, length-append}, lemmas.{List.{append-nil, length-replicate, length-map, FromFn.length-map-range_with_len}, Bool.le-ltb}}
+use Rattle.exec_text.proofs.Vocabulary.{unwrap_or-slice_get, replicate, get_or-append_seam, set-append_seam, Result, Ok, Err, Option, range_with_len, WriteAt, Execution, added_to_list, empty_lists, nothing_kept, with_read, with_write, words, lines_of}
+use Rattle.exec_text.{proofs.Vocabulary.MAX_TEST_TEXT, specs.{declared.errors.{ExecKind.{ExecKind, TheVariants.{BadThread, BadRead, BadPlace, BadWrite, StrayLine}}, ExecFault.ExecFault, ExecError.ExecError}, ExecutionText.{access_named, at_line}}}
+use Rattle.exec_text.specs.{ExecutionText.{execution_of, execution_read, line_read, reads_and_writes_read, each_line_read, place_head, put_line, read_named, thread_head}, ExecutionSteps.{WayToAdd, ReadsLines, ReadsText, all_added, each_added}}
+use Rattle.exec_text.specs.ExecutionSteps.{lines_added}
 use Rattle.exec_text.specs.declared.errors.ExecError.TheVariants as errors
 
 -- the first part of a right answer

@@ -1,14 +1,8 @@
 -- The words that are written of accesses and reads name these, and consist of graphic characters.
-use Rattle.std.proofs.{Common.{◌≡◌, ◌<◌, ◌≤◌, ◌^◌, ℕ, List, [], ◌∷◌, ◌++◌, true, false, refl, sym, ap, ◌∙◌, arith}, lemmas.Bool.lt-ltb}
-use Rattle.std.proofs.{lemmas.Bool.Decides.nat_tests, lemmas.Slice.Eq.bytes_eq-Decides}
-use Rattle.std.specs.{Prelude.{Bool, ◌&&◌, codes, nat_lt, Option, Some, None, option_and_then}, Char.is_ascii_digit, Fmt.decimal, List.list_all, Str.bytes_eq}
-use Rattle.list_laws.proofs.{Digits.digits_of, Cases.by_test}
-use Rattle.text_parts.specs.{Names.{is_place_byte, is_place_name}, Cuts.cut_at, Words.is_nil}
-use Rattle.text_parts.proofs.{NameLaws.{place_passes, decimal_passes}, NumberLaws.number_of-decimal, CutLaws.{cut_back, cut_none, all_both, without_class}}
-use Rattle.litmus_text.specs.declared.limits.TheConstants.{MAX_TEST_TEXT, MAX_ACCESSES}
-use Rattle.program_meaning.specs.declared.WriteAt.{WriteAt}
-use Rattle.exec_text.specs.ExecutionText.{access_written, access_named, kept_below, number_below, place_head, read_written, read_named, source_named, thread_head}
-use Rattle.exec_text.specs.{Written.{access_word, read_word, source_word}, ExecutionReadBack.{AccessFits, ReadFits, SourceFits}}
+use Rattle.exec_text.proofs.Vocabulary.{◌≡◌, ◌<◌, ◌≤◌, ◌^◌, ℕ, List, [], ◌∷◌, ◌++◌, true, false, refl, sym, ap, ◌∙◌, arith, lt-ltb, nat_tests, bytes_eq-Decides, Bool, ◌&&◌, codes, nat_lt, Option, Some, None, option_and_then, is_ascii_digit, decimal}
+use Rattle.exec_text.proofs.Vocabulary.{list_all, bytes_eq, digits_of, by_test, is_place_byte, is_place_name, cut_at, is_nil, place_passes, decimal_passes, number_of-decimal, cut_back, cut_none, all_both, without_class, MAX_TEST_TEXT, MAX_ACCESSES}
+use Rattle.exec_text.{proofs.Vocabulary.WriteAt, specs.{ExecutionText.{access_written, access_named, kept_below, number_below, place_head, read_written, read_named, source_named, thread_head}, Written.{access_word, read_word, source_word}}}
+use Rattle.exec_text.specs.ExecutionReadBack.{AccessFits, ReadFits, SourceFits}
 
 -- a graphic character
 abbrev pub is_graphic : ℕ → Bool

@@ -1,9 +1,5 @@
 -- Executions and the texts that the definition writes of them, worked out by hand.
-use Rattle.std.proofs.Common.{◌≡◌, ℕ, [], ◌∷◌, ◌++◌, refl}
-use Rattle.std.specs.{Prelude.codes, Prelude.Some, Prelude.None, Fmt.digits}
-use Rattle.litmus_text.specs.TestText.{with_line_feed}
-use Rattle.program_meaning.specs.declared.WriteAt.{WriteAt}
-use Rattle.exec_text.specs.Written.{access_word, read_word, source_word, text_of_execution}
+use Rattle.exec_text.{proofs.Vocabulary.{◌≡◌, ℕ, [], ◌∷◌, ◌++◌, refl, codes, Some, None, digits, with_line_feed, WriteAt}, specs.Written.{access_word, read_word, source_word, text_of_execution}}
 
 abbrev access : ℕ → ℕ → WriteAt
 access thread number = record { thread = thread; access = number }

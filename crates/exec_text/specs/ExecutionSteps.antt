@@ -1,9 +1,8 @@
 -- How an execution grows while its text is read, and what the code that reads it returns.
 -- Source: own.
-use Rattle.std.specs.Prelude.{◌≡◌, ℕ, ◌+◌, List, [], ◌∷◌, Option, Some, None, Result, Ok, Err}
-use Rattle.std.specs.Borrow.{Bor}
+use Rattle.std.specs.{Prelude.{◌≡◌, ℕ, ◌+◌, List, [], ◌∷◌, Option, Some, None, Result, Ok, Err}, Borrow.Bor}
 use Rattle.program_meaning.specs.Executions.{Execution}
-use Rattle.exec_text.specs.declared.{errors.ExecKind.ExecKind, errors.ExecFault.ExecFault, errors.ExecError.ExecError, reading.LineError.LineError}
+use Rattle.exec_text.specs.declared.{errors.{ExecKind.ExecKind, ExecFault.ExecFault, ExecError.ExecError}, reading.LineError.LineError}
 use Rattle.exec_text.specs.declared.errors.ExecError.TheVariants as errors
 use Rattle.exec_text.specs.declared.reading.LineError.TheVariants as line_errors
 use Rattle.text_parts.specs.Lines.{lines_of}

@@ -1,12 +1,10 @@
 -- The text of an execution: a line for each thread with its reads and what they read, and then a line for each location with its
 -- writes in coherence order.
 -- Source: own.
-use Rattle.std.specs.Prelude.{ℕ, ◌+◌, cond, List, [], ◌∷◌, ◌++◌, length, map, codes, nat_lt, Option, Some, None, option_and_then, Result, Ok, Err, slice_index_or}
-use Rattle.std.specs.{Fmt.decimal, List.range_with_len, Option.option_map, Str.bytes_eq}
+use Rattle.std.specs.{Prelude.{ℕ, ◌+◌, cond, List, [], ◌∷◌, ◌++◌, length, map, codes, nat_lt, Option, Some, None, option_and_then, Result, Ok, Err, slice_index_or}, Fmt.decimal, List.range_with_len, Option.option_map, Str.bytes_eq}
 use Rattle.text_parts.specs.{NumberTexts.number_of, Cuts.cut_at, Words.words, Lines.lines_of, ReadingSteps.◌>>=◌}
 use Rattle.program_meaning.specs.{declared.WriteAt.WriteAt, Executions.Execution}
-use Rattle.exec_text.specs.{declared.errors.ExecKind.ExecKind, declared.errors.ExecFault.ExecFault}
-use Rattle.exec_text.specs.declared.errors.ExecKind.TheVariants.{BadThread, BadRead, BadPlace, BadWrite, EndMissing, StrayLine, TooLarge}
+use Rattle.exec_text.specs.declared.errors.{ExecKind.{ExecKind, TheVariants.{BadThread, BadRead, BadPlace, BadWrite, EndMissing, StrayLine, TooLarge}}, ExecFault.ExecFault}
 use Rattle.litmus_text.specs.declared.limits.TheConstants.{MAX_TEST_TEXT, MAX_ACCESSES}
 
 -- a number, if it is below a bound

@@ -1,18 +1,12 @@
 -- Printed conditions read back, part by part, whatever follows a part, and whichever left sides are accepted beside those of their form.
-use Rattle.std.proofs.Common.{◌≡◌, ℕ, zero, suc, ◌^◌, ◌<◌, ◌≤◌, List, [], ◌∷◌, ◌++◌, length, refl, sym, ap, ◌∙◌, arith, append_assoc, append-nil}
-use Rattle.std.proofs.{lemmas.Bool.and_parts, lemmas.Bool.Decides.nat_tests}
-use Rattle.std.specs.{Prelude.{Bool, true, false, codes, nat_eq, Some, Ok}, Char.{is_ascii_alphanumeric, is_ascii_digit}, Fmt.decimal}
-use Rattle.std.specs.List.{AllByRecursion, list_all}
+use Rattle.std.{proofs.{Common.{◌≡◌, ℕ, zero, suc, ◌^◌, ◌<◌, ◌≤◌, List, [], ◌∷◌, ◌++◌, length, refl, sym, ap, ◌∙◌, arith, append_assoc, append-nil}, lemmas.Bool.{and_parts, Decides.nat_tests}}, specs.Prelude.{Bool, true, false, codes, nat_eq, Some, Ok}}
+use Rattle.std.specs.{Char.{is_ascii_alphanumeric, is_ascii_digit}, Fmt.decimal, List.{AllByRecursion, list_all}}
 use Rattle.list_laws.proofs.Digits.{Digits, digits_of}
-use Rattle.final_cond.specs.{declared.cond.Quantifier.Quantifier, declared.cond.Quantifier.TheVariants.{Exists, NotExists, Forall}}
-use Rattle.final_cond.specs.{declared.cond.TheConstants.MAX_TERMS, declared.errors.CondKind.TheVariants.BadTerm}
-use Rattle.final_cond.specs.Conditions.{LeftSeen, InRegister, AtPlace, TermSeen, CondSeen}
-use Rattle.final_cond.specs.{CondText.{quantifier_word, left_text, term_text, terms_text, cond_text}, FormLaws.{FormNamed, form_named, place_bytes}}
-use Rattle.final_cond.specs.ConditionReadBack.{IsFormedTerm, IsFormedCondition}
-use Rattle.final_cond.specs.ConditionReading.{sign_read, opening_read, left_at_start, register_at_start, has_form, left_read, value_read, right_read, term_read, follow_read, terms_read, parts_read, cond_read}
+use Rattle.final_cond.specs.{declared.{cond.{Quantifier.{Quantifier, TheVariants.{Exists, NotExists, Forall}}, TheConstants.MAX_TERMS}, errors.CondKind.TheVariants.BadTerm}, Conditions.{LeftSeen, InRegister, AtPlace, TermSeen, CondSeen}}
+use Rattle.final_cond.specs.{CondText.{quantifier_word, left_text, term_text, terms_text, cond_text}, FormLaws.{FormNamed, form_named, place_bytes}, ConditionReadBack.{IsFormedTerm, IsFormedCondition}, ConditionReading.{sign_read, opening_read}}
+use Rattle.final_cond.specs.ConditionReading.{left_at_start, register_at_start, has_form, left_read, value_read, right_read, term_read, follow_read, terms_read, parts_read, cond_read}
 use Rattle.final_cond.specs.declared.read.Follow.TheVariants as follows
-use Rattle.text_parts.specs.{Names.is_place_byte, LeadingRuns.{leading_run, after_run}, Blanks.{is_blank, unblanked}}
-use Rattle.text_parts.proofs.{NumberLaws.number_of-decimal, RunLaws.{after_halts, stops, IsRun, whole_run}}
+use Rattle.text_parts.{specs.{Names.is_place_byte, LeadingRuns.{leading_run, after_run}, Blanks.{is_blank, unblanked}}, proofs.{NumberLaws.number_of-decimal, RunLaws.{after_halts, stops, IsRun, whole_run}}}
 
 -- a text that begins with a byte of a word isn't changed where blanks are passed over
 digits_unblanked : (digits rest : List ℕ) → list_all is_ascii_digit digits ≡ true → 0 < length digits → unblanked (digits ++ rest) ≡ digits ++ rest

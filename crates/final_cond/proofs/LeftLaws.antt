@@ -1,7 +1,5 @@
 -- A left side by the first byte of the text.
-use Rattle.std.proofs.{Common.{◌≡◌, ℕ, ◌-◌, ◌<◌, ◌≤◌, List, [], ◌∷◌, length, get_or, take, drop, refl, arith}, lemmas.Bool.{eq-eqb, ne_eqb}}
-use Rattle.std.proofs.lemmas.Bool.Decides.{nat_tests}
-use Rattle.std.specs.{Prelude.{◌≢◌, true, false, None}, Char.is_ascii_digit}
+use Rattle.std.{proofs.{Common.{◌≡◌, ℕ, ◌-◌, ◌<◌, ◌≤◌, List, [], ◌∷◌, length, get_or, take, drop, refl, arith}, lemmas.Bool.{eq-eqb, ne_eqb, Decides.nat_tests}}, specs.{Prelude.{◌≢◌, true, false, None}, Char.is_ascii_digit}}
 use Rattle.final_cond.specs.ConditionReading.{left_at_start, bracketed_at_start, register_at_start, place_at_start}
 use Rattle.list_laws.proofs.Elements.{rest-cons}
 

@@ -1,11 +1,8 @@
 -- The text of a term is that of its pieces, and how long the texts of terms are.
-use Rattle.std.proofs.Common.{◌≡◌, ℕ, ◌+◌, ◌-◌, ◌*◌, ◌<◌, ◌≤◌, List, [], ◌∷◌, ◌++◌, length, get_or, take, drop, map, arith, refl, sym, ap, subst, ◌∙◌, length-append}
-use Rattle.std.specs.{List.flat_map, Prelude.Result}
-use Rattle.diy_io.specs.{declared.errors.Failed.Failed, declared.page.TheConstants.LINE_ROOM, Page.page_after, PageLaws.{page_nothing, page_fits, page_more}}
-use Rattle.diy_io.specs.{SinkLaws.flat_map_more, Wrote.{SinkSeen, Wrote}}
+use Rattle.std.{proofs.Common.{◌≡◌, ℕ, ◌+◌, ◌-◌, ◌*◌, ◌<◌, ◌≤◌, List, [], ◌∷◌, ◌++◌, length, get_or, take, drop, map, arith, refl, sym, ap, subst, ◌∙◌, length-append}, specs.{List.flat_map, Prelude.Result}}
+use Rattle.diy_io.specs.{declared.{errors.Failed.Failed, page.TheConstants.LINE_ROOM}, Page.page_after, PageLaws.{page_nothing, page_fits, page_more}, SinkLaws.flat_map_more, Wrote.{SinkSeen, Wrote}}
 use Rattle.list_laws.proofs.Elements.{rest-cons}
-use Rattle.final_cond.specs.{declared.cond.Term.Term, declared.print.TheConstants.TERM_ROOM, Conditions.term_view}
-use Rattle.final_cond.specs.CondText.{term_text, further_term_text, terms_text}
+use Rattle.final_cond.specs.{declared.{cond.Term.Term, print.TheConstants.TERM_ROOM}, Conditions.term_view, CondText.{term_text, further_term_text, terms_text}}
 
 -- the text of terms, each after ` /\ `
 abbrev pub further : List Term → List ℕ

@@ -1,21 +1,31 @@
 -- The text of a term: when it is written in one piece, and how long it is.
-use Rattle.std.proofs.Common.{◌≡◌, ◌≤◌, ◌<◌, ◌+◌, ◌^◌, ℕ, List, [], ◌∷◌, ◌++◌, length, get_or, sym, ap, ◌∙◌, arith, length-append}
-use Rattle.std.proofs.lemmas.Fmt.{decimal_digit, length-decimal-le}
-use Rattle.std.specs.{Prelude.codes, Fmt.decimal}
+use Rattle.std.{proofs.{Common.{◌≡◌, ◌≤◌, ◌<◌, ◌+◌, ◌^◌, ℕ, List, [], ◌∷◌, ◌++◌, length, get_or, sym, ap, ◌∙◌, arith, length-append}, lemmas.Fmt.{decimal_digit, length-decimal-le}}, specs.{Prelude.codes, Fmt.decimal}}
 use Rattle.diy_io.specs.Page.{page_after}
 use Rattle.list_laws.proofs.Digits.{three_digits}
 use Rattle.final_cond.specs.{Conditions.{InRegister, AtPlace}, CondText.{left_text, term_text, further_term_text}, declared.print.TheConstants.TERM_ROOM}
 
--- a term of a thread and a value below 10, on a register of two letters, is six bytes
-pub short_register_term : (thread value : ℕ) (name page new : List ℕ) → thread < 10 → value < 10 → length name ≡ 2
+-- a term of a thread and a value below 10 has a digit for each
+short_register_term : (thread value : ℕ) (name page new : List ℕ) → thread < 10 → value < 10 → new ≡ page_after page ((48 + thread) ∷ 58 ∷ (name ++ codes "=" ++ (48 + value) ∷ []))
+    → new ≡ page_after page (decimal thread ++ codes ":" ++ name ++ codes "=" ++ decimal value)
+short_register_term thread value name page new h i put = rw (decimal_digit thread h, decimal_digit value i) put
+
+-- on a register of two letters it is six bytes, and on one of three it is seven
+pub six_bytes : (thread value : ℕ) (name page new : List ℕ) → thread < 10 → value < 10 → length name ≡ 2
     → new ≡ page_after page ((48 + thread) ∷ 58 ∷ get_or name 0 0 ∷ get_or name 1 0 ∷ 61 ∷ (48 + value) ∷ [])
     → new ≡ page_after page (decimal thread ++ codes ":" ++ name ++ codes "=" ++ decimal value)
-short_register_term thread value [] page new h i j put = absurd (omega arith)
-short_register_term thread value (a ∷ []) page new h i j put = absurd (omega arith)
-short_register_term thread value (a ∷ b ∷ c ∷ name) page new h i j put = absurd (omega arith)
-short_register_term thread value (a ∷ b ∷ []) page new h i j put =
-    put ∙ ap (λ digits. page_after page (digits ++ codes ":" ++ (a ∷ b ∷ []) ++ codes "=" ++ (48 + value) ∷ [])) (sym (decimal_digit thread h))
-    ∙ ap (λ digits. page_after page (decimal thread ++ codes ":" ++ (a ∷ b ∷ []) ++ codes "=" ++ digits)) (sym (decimal_digit value i))
+six_bytes thread value (a ∷ b ∷ []) page new h i j put = short_register_term thread value (a ∷ b ∷ []) page new h i put
+six_bytes thread value [] page new h i j put = absurd (omega arith)
+six_bytes thread value (a ∷ []) page new h i j put = absurd (omega arith)
+six_bytes thread value (a ∷ b ∷ c ∷ name) page new h i j put = absurd (omega arith)
+
+pub seven_bytes : (thread value : ℕ) (name page new : List ℕ) → thread < 10 → value < 10 → length name ≡ 3
+    → new ≡ page_after page ((48 + thread) ∷ 58 ∷ get_or name 0 0 ∷ get_or name 1 0 ∷ get_or name 2 0 ∷ 61 ∷ (48 + value) ∷ [])
+    → new ≡ page_after page (decimal thread ++ codes ":" ++ name ++ codes "=" ++ decimal value)
+seven_bytes thread value (a ∷ b ∷ c ∷ []) page new h i j put = short_register_term thread value (a ∷ b ∷ c ∷ []) page new h i put
+seven_bytes thread value [] page new h i j put = absurd (omega arith)
+seven_bytes thread value (a ∷ []) page new h i j put = absurd (omega arith)
+seven_bytes thread value (a ∷ b ∷ []) page new h i j put = absurd (omega arith)
+seven_bytes thread value (a ∷ b ∷ c ∷ d ∷ name) page new h i j put = absurd (omega arith)
 
 -- a term of a value below 10, on a place of one letter, is five bytes
 pub short_place_term : (value : ℕ) (name page new : List ℕ) → value < 10 → length name ≡ 1

@@ -1,8 +1,7 @@
 -- The text of a condition.
 -- Source: the litmus format of the herdtools manual.
 use Rattle.std.specs.{Prelude.{ℕ, List, [], ◌∷◌, ◌++◌, codes}, Fmt.decimal, List.flat_map}
-use Rattle.final_cond.specs.{declared.cond.Quantifier.Quantifier, declared.cond.Quantifier.TheVariants.{Exists, NotExists, Forall}}
-use Rattle.final_cond.specs.Conditions.{LeftSeen, InRegister, AtPlace, TermSeen, CondSeen}
+use Rattle.final_cond.specs.{declared.cond.Quantifier.{Quantifier, TheVariants.{Exists, NotExists, Forall}}, Conditions.{LeftSeen, InRegister, AtPlace, TermSeen, CondSeen}}
 
 -- the keyword of a quantifier
 abbrev pub quantifier_word : Quantifier → List ℕ

@@ -1,10 +1,7 @@
 -- The text of formed terms passes each test of bytes that is passed by the bytes of locations' names and by the signs of such a text.
-use Rattle.std.proofs.Common.{◌≡◌, ℕ, ◌<◌, List, [], ◌∷◌, ◌++◌, refl, arith}
-use Rattle.std.specs.{Prelude.{Bool, true, codes}, Fmt.decimal, List.{AllByRecursion, list_all, flat_map}}
-use Rattle.text_parts.specs.Names.{is_place_byte}
-use Rattle.text_parts.proofs.{NameLaws.{place_passes, letters_pass, decimal_passes}, CutLaws.all_both}
-use Rattle.final_cond.specs.{Conditions.{LeftSeen, InRegister, AtPlace, TermSeen}, CondText.{left_text, term_text, further_term_text, terms_text}}
-use Rattle.final_cond.specs.{ConditionReadBack.IsFormedTerm, ConditionReading.has_form, FormLaws.{FormNamed, form_named}}
+use Rattle.std.{proofs.Common.{◌≡◌, ℕ, ◌<◌, List, [], ◌∷◌, ◌++◌, refl, arith}, specs.{Prelude.{Bool, true, codes}, Fmt.decimal, List.{AllByRecursion, list_all, flat_map}}}
+use Rattle.text_parts.{specs.Names.is_place_byte, proofs.{NameLaws.{place_passes, letters_pass, decimal_passes}, CutLaws.all_both}}
+use Rattle.final_cond.specs.{Conditions.{LeftSeen, InRegister, AtPlace, TermSeen}, CondText.{left_text, term_text, further_term_text, terms_text}, ConditionReadBack.IsFormedTerm, ConditionReading.has_form, FormLaws.{FormNamed, form_named}}
 
 -- each byte of locations' names passes a test, and so do the signs in the text of a left side
 pub record PassLeft (test : ℕ → Bool) : Type 0 where

@@ -1,16 +1,11 @@
 -- The reading of the text of a condition, from left to right, with the first error that is met.
 -- Blanks may come between the parts of the text, and never inside a quantifier, a left side, a number or `/\`.
 -- Source: the litmus format of the herdtools manual; the errors and their positions are our own.
-use Rattle.std.specs.Prelude.{ℕ, zero, suc, ◌-◌, Bool, ◌&&◌, ◌==◌, cond, List, [], ◌∷◌, length, codes, Option, Some, None, Result, Ok, Err, nat_lt}
-use Rattle.std.specs.{Char.is_ascii_digit, Char.is_ascii_alphanumeric, Str.bytes_eq}
-use Rattle.final_cond.specs.declared.{cond.TheConstants.MAX_TERMS, cond.Quantifier.Quantifier, cond.Quantifier.TheVariants.Exists}
-use Rattle.final_cond.specs.declared.{cond.Quantifier.TheVariants.NotExists, cond.Quantifier.TheVariants.Forall, errors.CondKind.CondKind}
-use Rattle.final_cond.specs.declared.{errors.CondError.CondError, read.Follow.Follow}
-use Rattle.final_cond.specs.declared.errors.CondKind.TheVariants.{BadQuantifier, BadTerm, BadValue, BadEnd}
+use Rattle.std.specs.{Prelude.{ℕ, zero, suc, ◌-◌, Bool, ◌&&◌, ◌==◌, cond, List, [], ◌∷◌, length, codes, Option, Some, None, Result, Ok, Err, nat_lt}, Char.{is_ascii_digit, is_ascii_alphanumeric}, Str.bytes_eq}
+use Rattle.final_cond.specs.declared.{cond.{TheConstants.MAX_TERMS, Quantifier.{Quantifier, TheVariants.{Exists, NotExists, Forall}}}, errors.{CondKind.{CondKind, TheVariants.{BadQuantifier, BadTerm, BadValue, BadEnd}}, CondError.CondError}}
+use Rattle.final_cond.specs.{declared.read.Follow.Follow, Conditions.{LeftSeen, InRegister, AtPlace, TermSeen, CondSeen}}
 use Rattle.final_cond.specs.declared.read.Follow.TheVariants as follows
-use Rattle.text_parts.specs.{Names.is_place_byte, Names.is_place_name, Names.is_register_name, NumberTexts.number_of, LeadingRuns.leading_run}
-use Rattle.text_parts.specs.{LeadingRuns.after_run, Blanks.unblanked, Words.is_argument_byte, ReadingSteps.◌>>=◌}
-use Rattle.final_cond.specs.Conditions.{LeftSeen, InRegister, AtPlace, TermSeen, CondSeen}
+use Rattle.text_parts.specs.{Names.{is_place_byte, is_place_name, is_register_name}, NumberTexts.number_of, LeadingRuns.{leading_run, after_run}, Blanks.unblanked, Words.is_argument_byte, ReadingSteps.◌>>=◌}
 
 -- what is wrong, and the text from there on
 pub record Fault : Type 0 where

@@ -1,7 +1,7 @@
 -- A condition as contracts see it: its names are lists of bytes.
 -- Source: the litmus format of the herdtools manual.
 use Rattle.std.specs.Prelude.{ℕ, List, map}
-use Rattle.final_cond.specs.declared.cond.{Quantifier.Quantifier, Left.Left, Left.TheVariants.Register, Left.TheVariants.Place, Term.Term, Cond.Cond}
+use Rattle.final_cond.specs.declared.cond.{Quantifier.Quantifier, Left.{Left, TheVariants.{Register, Place}}, Term.Term, Cond.Cond}
 
 -- the left side of a term: a register of a thread, by its name, or a location, by its name
 pub data LeftSeen : Type 0 where

@@ -1,8 +1,6 @@
 -- Laws of the forms of the left sides of terms.
-use Rattle.std.proofs.{Common.{◌≡◌, ℕ, ◌<◌, List}, lemmas.Bool.{and_parts, ltb-true}}
-use Rattle.std.specs.{Prelude.{true, nat_lt}, Char.is_ascii_alphanumeric, List.list_all}
-use Rattle.text_parts.specs.Names.{is_place_byte, is_register_name}
-use Rattle.text_parts.proofs.NameLaws.{place_name_bytes, register_name_bytes}
+use Rattle.std.{proofs.{Common.{◌≡◌, ℕ, ◌<◌, List}, lemmas.Bool.{and_parts, ltb-true}}, specs.{Prelude.{true, nat_lt}, Char.is_ascii_alphanumeric, List.list_all}}
+use Rattle.text_parts.{specs.Names.{is_place_byte, is_register_name}, proofs.NameLaws.{place_name_bytes, register_name_bytes}}
 use Rattle.final_cond.specs.{Conditions.{InRegister, AtPlace}, ConditionReading.has_form}
 
 -- what follows from the form of a register

@@ -1,7 +1,7 @@
 -- Final states, and when one meets a condition.
 -- Source: own; it follows how the litmus format means the terms of a condition.
 use Rattle.std.specs.{Prelude.{◌≡◌, Bool, false, ◌&&◌, ◌==◌, cond, List, [], ◌∷◌, Option, Some, None}, List.AllByRecursion, Str.bytes_eq}
-use Rattle.relax_edges.specs.{declared.kinds.Value.Value, declared.kinds.Value.TheVariants.Num}
+use Rattle.relax_edges.specs.declared.kinds.Value.{Value, TheVariants.Num}
 use Rattle.final_cond.specs.{declared.cond.Left.Left, Conditions.{LeftSeen, InRegister, AtPlace, CondSeen, left_view}}
 
 -- whether two left sides are the same

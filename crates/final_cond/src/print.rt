@@ -28,20 +28,19 @@ fn put_register_term(thread: u8, name: &[u8], value: u32, page: &mut Page)
     ensures text { page.new ≡ page_after page.old (decimal thread ++ codes ":" ++ name.now ++ codes "=" ++ decimal value) }
     ensures short { length (further_term_text (record { left = InRegister thread name.now; value = value })) ≤ TERM_ROOM }
 {
-    if let [first, second] = name {
-        if thread < 10 && value < 10 {
-            page.put_fixed(&[
-                b'0' + thread,
-                b':',
-                *first,
-                *second,
-                b'=',
-                b'0' + value as u8,
-            ]);
-            return;
-        }
+    if thread >= 10 || value >= 10 {
+        put_long_register_term(thread, name, value, page);
+        return;
     }
-    put_long_register_term(thread, name, value, page);
+    let thread_digit = b'0' + thread;
+    let value_digit = b'0' + value as u8;
+    match name {
+        [one, two] => page.put_fixed(&[thread_digit, b':', *one, *two, b'=', value_digit]),
+        [one, two, three] => {
+            page.put_fixed(&[thread_digit, b':', *one, *two, *three, b'=', value_digit]);
+        }
+        _ => put_long_register_term(thread, name, value, page),
+    }
 }
 
 /// Adds a term on a register, given by its parts, piece by piece.

@@ -1,6 +1,6 @@
-ghost use Rattle.std.specs.Prelude.{◌≡◌, [], map, option_map, IfOk, IfErr};
+ghost use Rattle.std.specs.Prelude.{◌≡◌, ◌+◌, [], length, map, option_map, IfOk, IfErr};
 ghost use Rattle.final_cond.specs.Conditions.{left_view, term_view, cond_view, InRegister, AtPlace};
-ghost use Rattle.final_cond.specs.ConditionAnswers.{GivesCondition, left_and_rest, term_and_rest};
+ghost use Rattle.final_cond.specs.ConditionAnswers.{GivesCondition, after_terms, left_and_rest, term_and_rest};
 ghost use Rattle.final_cond.specs.ConditionReading.{sign_read, quantifier_of, opening_read, known_left, only_known, has_form, place_at_start, bracketed_at_start, register_at_start, left_at_start, left_read, value_read, right_read, term_read, follow_read, terms_read, parts_read, cond_read};
 ghost use Rattle.text_parts.specs.Blanks.{unblanked};
 
@@ -200,8 +200,36 @@ pub fn read_follow(text: &[u8]) -> Result<(Follow, &[u8]), CondFault<'_>>
     }
 }
 
+/// Appends so many terms of a text at most to `terms`, up to the `)` after the last.
+#[tactic(auto, using(crate::proofs::TermLaws::stops_at_term, crate::proofs::TermLaws::stops_at_full, crate::proofs::TermLaws::stops_at_follow, crate::proofs::TermLaws::ends_at_follow, crate::proofs::TermLaws::goes_on, std::proofs::lemmas::List::map_push))]
+fn read_more_terms<'a>(
+    room: usize,
+    text: &'a [u8],
+    terms: &mut ArrayVec<Term, MAX_TERMS>,
+) -> Result<&'a [u8], CondFault<'a>>
+    requires { room + length terms.old.items ≡ MAX_TERMS }
+    ensures { GivesCondition (λ rest. (map term_view terms.new.items, rest.now)) result (after_terms (map term_view terms.old.items) (terms_read has_form room text.now)) }
+{
+    let (term, rest) = match read_term(text) {
+        Ok(term) => term,
+        Err(fault) => return Err(fault),
+    };
+    if room == 0 {
+        return Err(CondFault {
+            kind: CondKind::BadEnd,
+            rest: without_blanks(text),
+        });
+    }
+    terms.push(term);
+    match read_follow(rest) {
+        Ok((Follow::Term, remainder)) => read_more_terms(room - 1, remainder, terms),
+        Ok((Follow::End, remainder)) => Ok(remainder),
+        Err(fault) => Err(fault),
+    }
+}
+
 /// Appends the terms of a text to `terms`, which is empty, up to the `)` after the last.
-#[tactic(auto, using(crate::proofs::TermLaws::nothing_after))]
+#[tactic(auto, using(crate::proofs::TermLaws::nothing_before))]
 fn read_terms<'a>(
     text: &'a [u8],
     terms: &mut ArrayVec<Term, MAX_TERMS>,
@@ -209,24 +237,7 @@ fn read_terms<'a>(
     requires { terms.old.items ≡ [] }
     ensures { GivesCondition (λ rest. (map term_view terms.new.items, rest.now)) result (terms_read has_form MAX_TERMS text.now) }
 {
-    let mut rest = text;
-    'terms: loop {
-        let (term, after) = match read_term(rest) {
-            Ok(term) => term,
-            Err(fault) => return Err(fault),
-        };
-        if terms.is_full() {
-            return Err(CondFault {
-                kind: CondKind::BadEnd,
-                rest: without_blanks(rest),
-            });
-        }
-        terms.push(term);
-        match read_follow(after)? {
-            (Follow::Term, remainder) => rest = remainder,
-            (Follow::End, remainder) => return Ok(remainder),
-        }
-    }
+    read_more_terms(MAX_TERMS, text, terms)
 }
 
 #[tactic(auto, unfolding(crate::specs::ConditionReading::parts_read))]
@@ -260,7 +271,7 @@ pub fn read_cond(text: &str) -> Result<Cond, CondError>
     match read_parts(bytes) {
         Ok(cond) => Ok(cond),
         Err(fault) => Err(CondError {
-            at: bytes.len() - fault.rest.len(),
+            at: bytes.len().saturating_sub(fault.rest.len()),
             kind: fault.kind,
         }),
     }

@@ -1,5 +1,5 @@
-ghost use Rattle.std.specs.Prelude.{◌≡◌, ◌↔◌, [], ◌∷◌, ◌++◌, IsTrue, map, OnOk, OnErr};
-ghost use Rattle.final_cond.specs.{Conditions.{left_view, cond_view}, States.{same_left_seen, value_in_state, Meets, pair_view}};
+ghost use Rattle.std.specs.{Prelude.{◌≡◌, ◌↔◌, [], ◌∷◌, ◌++◌, IsTrue, map, OnOk, OnErr}, List.{AllByRecursion}};
+ghost use Rattle.final_cond.specs.{Conditions.{left_view, term_view, cond_view}, States.{same_left_seen, value_in_state, Meets, pair_view}};
 
 use crate::cond::{Cond, Left, Term};
 use diy_io::NoMemory;
@@ -46,16 +46,18 @@ impl Model for Final {
     ghost view = { λ state. map pair_view state.pairs.items };
 }
 
-#[tactic(auto, using(crate::proofs::StateLaws::first_is, crate::proofs::StateLaws::first_is_later))]
 fn value_of(pairs: &[(Left, Value)], left: &Left) -> Option<Value>
     ensures { result ≡ value_in_state (map pair_view pairs.now) (left_view left.now) }
 {
-    for (other, value) in pairs {
-        if other.is_same(left) {
-            return Some(*value);
+    match pairs {
+        [] => None,
+        [pair, others @ ..] => {
+            if pair.0.is_same(left) {
+                return Some(pair.1);
+            }
+            value_of(others, left)
         }
     }
-    None
 }
 
 impl Final {
@@ -94,16 +96,24 @@ fn term_holds(term: &Term, state: &Final) -> bool
     }
 }
 
+fn all_hold(terms: &[Term], state: &Final) -> bool
+    ensures { IsTrue result ↔ AllByRecursion (λ term. value_in_state state.now term.left ≡ Some (Value.Num term.value)) (map term_view terms.now) }
+{
+    match terms {
+        [] => true,
+        [term, others @ ..] => {
+            if !term_holds(term, state) {
+                return false;
+            }
+            all_hold(others, state)
+        }
+    }
+}
+
 /// Whether each term's register or location has the term's value in the state. The quantifier is
 /// ignored.
-#[tactic(auto, using(crate::proofs::StateLaws::one_more_met, crate::proofs::StateLaws::one_not_met))]
 pub fn holds(cond: &Cond, state: &Final) -> bool
     ensures { IsTrue result ↔ Meets (value_in_state state.now) (cond_view cond.now) }
 {
-    for term in cond.terms.as_slice() {
-        if !term_holds(term, state) {
-            return false;
-        }
-    }
-    true
+    all_hold(cond.terms.as_slice(), state)
 }

@@ -1,12 +1,7 @@
 -- A text that is cut after a line feed gives the files of both parts.
-use Rattle.std.proofs.Common.{◌≡◌, ℕ, ◌+◌, List, [], ◌++◌, length, sym, ◌∙◌, ap, subst, append-nil, arith}
-use Rattle.std.proofs.lemmas.List.Concat.{flat_map-append}
-use Rattle.relax_edges.specs.declared.kinds.ArchName.{ArchName}
-use Rattle.text_parts.specs.Lines.{lines_of, ended_lines, unended, last_line}
-use Rattle.cycles_from_lines.proofs.LineLaws.{lines_after}
-use Rattle.lines_to_files.specs.{GivenTests.{given_by, tests_of, tests_in}, TestFiles.{files_from, names_from}, RightTests.AreRight}
-use Rattle.lines_to_files.specs.Laws.{CutTextsAddUp}
-use Rattle.lines_to_files.proofs.{NumberedFiles.{files_both, names_both, files_alone, names_alone}, TestParts.{first_right, later_right}}
+use Rattle.std.proofs.{Common.{◌≡◌, ℕ, ◌+◌, List, [], ◌++◌, length, sym, ◌∙◌, ap, subst, append-nil, arith}, lemmas.List.Concat.flat_map-append}
+use Rattle.lines_to_files.{proofs.{Vocabulary.{ArchName, lines_of, ended_lines, unended, last_line, lines_after}, NumberedFiles.{files_both, names_both, files_alone, names_alone}, TestParts.{first_right, later_right}}, specs.GivenTests.given_by}
+use Rattle.lines_to_files.specs.{GivenTests.{tests_of, tests_in}, TestFiles.{files_from, names_from}, RightTests.AreRight, Laws.CutTextsAddUp}
 
 -- the lines of a text that is cut after a line feed
 lines_cut : (first second : List ℕ) → unended first ≡ [] → lines_of (first ++ second) ≡ lines_of first ++ lines_of second

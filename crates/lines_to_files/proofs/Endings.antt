@@ -1,24 +1,12 @@
 -- What the writing of the tests of a source's lines leaves, in each case.
-use Rattle.std.proofs.Common.{◌≡◌, ◌≤◌, inl, inr, ℕ, ◌+◌, true, false, List, [], ◌∷◌, ◌++◌, length, take, Option, Some, None, refl, sym, ◌∙◌, ap, subst, arith, append-nil, append_assoc, length-append}
-use Rattle.std.proofs.lemmas.List.{take_all}
-use Rattle.list_laws.proofs.Cases.{by_test}
-use Rattle.std.specs.{Prelude.{codes, unwrap_or, if◌then◌else◌}, Fmt.decimal, Io.KnownBytes.IsAtEnd}
-use Rattle.diy_io.specs.{declared.source.TheConstants.MAX_INPUT, Sink.line_feed_count, Shelf.ShelfSeen, Taken.{SourceSeen, EndedAtMostOnce}, Wrote.{SinkSeen}}
-use Rattle.text_parts.specs.Lines.{without_return, ended_lines, unended, lines_of}
-use Rattle.cycles_from_lines.specs.{Cycles.{line_said, is_long_line}, LineReading.{TookUpTo, IsSeenIn, whole_of}, declared.line.LineForm.TheVariants.Edges}
-use Rattle.cycles_from_lines.specs.declared.errors.LineKind.TheVariants.{LineTooLong}
-use Rattle.cycles_from_lines.proofs.LineLaws.{ended_count, long_first}
-use Rattle.tests_to_files.specs.{ListedFiles.{all_path, count_line, file_number}, GivenCycles.PutUpTo, Putting.{PutFiles, PutPart, FailsAt}}
-use Rattle.tests_to_files.proofs.Shelves.{put_both, put_then_part}
-use Rattle.lines_to_files.specs.{declared.source_text.SourceEnd.SourceEnd, declared.source_text.SourceEnd.TheVariants.{AtEnd, TooMuch, Fault}}
-use Rattle.lines_to_files.specs.{declared.text_lines.LastLine.LastLine, declared.text_lines.LastLine.TheVariants.{Unread}, declared.judging.Judged.Judged}
-use Rattle.lines_to_files.specs.{declared.form.WrongTest.WrongTest, declared.form.WrongTest.TheVariants.Line, TextLines.lines_by, Stops.{last_line_of, stop_of}}
-use Rattle.lines_to_files.specs.{declared.ending.LineTestsEnd.LineTestsEnd, declared.ending.LineTestsEnd.TheVariants.{Wrong, InputFault}}
+use Rattle.std.{proofs.{Common.{◌≡◌, ◌≤◌, inl, inr, ℕ, ◌+◌, true, false, List, [], ◌∷◌, ◌++◌, length, take, Option, Some, None, refl, sym, ◌∙◌, ap, subst, arith, append-nil, append_assoc, length-append}, lemmas.List.take_all}, specs.Prelude.codes}
+use Rattle.lines_to_files.proofs.Vocabulary.{unwrap_or, if◌then◌else◌, decimal, IsAtEnd, by_test, MAX_INPUT, line_feed_count, ShelfSeen, SourceSeen, EndedAtMostOnce, SinkSeen, without_return, ended_lines, unended, lines_of, line_said, is_long_line}
+use Rattle.lines_to_files.proofs.{Vocabulary.{TookUpTo, IsSeenIn, whole_of, Edges, LineTooLong, ended_count, long_first, all_path, count_line, file_number, PutUpTo, PutFiles, PutPart, FailsAt, put_both, put_then_part}, GrownLines.lines_grow}
+use Rattle.lines_to_files.{proofs.{GrownLines.unended_without, JudgedLines.fit_sound}, specs.declared.{source_text.SourceEnd.{SourceEnd, TheVariants.{AtEnd, TooMuch, Fault}}, text_lines.LastLine.{LastLine, TheVariants.Unread}, judging.Judged.Judged}}
+use Rattle.lines_to_files.specs.{declared.{form.WrongTest.{WrongTest, TheVariants.Line}, ending.LineTestsEnd.{LineTestsEnd, TheVariants.{Wrong, InputFault}}}, TextLines.lines_by, Stops.{last_line_of, stop_of}, GivenTests.{tests_of, tests_in}}
+use Rattle.lines_to_files.specs.{TestFiles.{Making, files_from, names_from}, RightTests.{wrong_by, names_of}, LineTestEnds.{AreRightLines, WritesTests, StopsAtWrong, StopsAtLimit, StopsAtFault, StopsAtFile, EndsLineTests}, Judged.{IsWrong, EndsBefore}}
+use Rattle.lines_to_files.specs.{Judged.JudgesLines, ReadTexts.{ReadsText, ReadsToEnd, ReadsToLimit, ReadsToFault}}
 use Rattle.lines_to_files.specs.declared.ending.LineTestsEnd.TheVariants as limits
-use Rattle.lines_to_files.specs.{GivenTests.{tests_of, tests_in}, TestFiles.{Making, files_from, names_from}, RightTests.{wrong_by, names_of}}
-use Rattle.lines_to_files.specs.LineTestEnds.{AreRightLines, WritesTests, StopsAtWrong, StopsAtLimit, StopsAtFault, StopsAtFile, EndsLineTests}
-use Rattle.lines_to_files.specs.{Judged.{IsWrong, EndsBefore, JudgesLines}, ReadTexts.{ReadsText, ReadsToEnd, ReadsToLimit, ReadsToFault}}
-use Rattle.lines_to_files.proofs.{GrownLines.{lines_grow, unended_without}, JudgedLines.fit_sound}
 
 taken_first : {X : Type 0} (xs ys : List X) → take (length xs) (xs ++ ys) ≡ xs
 taken_first [] ys = refl

@@ -1,9 +1,7 @@
 -- The first line of a text, and the lines after it.
 use Rattle.std.proofs.Common.{◌≡◌, ◌<◌, ℕ, List, [], ◌∷◌, ◌++◌, length, true, refl, sym, ◌∙◌, ap, arith}
-use Rattle.text_parts.specs.{Cuts.{CutParts, is_without}, Lines.{without_return, ended_lines, unended, last_line, lines_of}}
-use Rattle.text_parts.proofs.LineLaws.{ended_cut, lines_cut, unended_cut}
-use Rattle.cycles_from_lines.proofs.{Cuts.without_is, LineLaws.{ended_none, unended_all, ended_nil, unended_nil}}
-use Rattle.lines_to_files.specs.{declared.text_lines.LastLine.LastLine, declared.text_lines.LastLine.TheVariants.{Counts, Unread}, TextLines.lines_by}
+use Rattle.text_parts.{specs.{Cuts.{CutParts, is_without}, Lines.{without_return, ended_lines, unended, last_line, lines_of}}, proofs.LineLaws.{ended_cut, lines_cut, unended_cut}}
+use Rattle.lines_to_files.{proofs.Vocabulary.{without_is, ended_none, unended_all, ended_nil, unended_nil}, specs.{declared.text_lines.LastLine.{LastLine, TheVariants.{Counts, Unread}}, TextLines.lines_by}}
 
 -- an empty text has no line
 pub no_lines : (last : LastLine) → lines_by last [] ≡ []

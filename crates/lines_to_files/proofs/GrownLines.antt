@@ -1,12 +1,6 @@
 -- The lines of a text that was read in part.
-use Rattle.std.proofs.Common.{◌≡◌, ℕ, List, [], ◌∷◌, ◌++◌, true, refl, sym, ◌∙◌, ap, arith, append_assoc}
-use Rattle.std.specs.{Prelude.map, List.slice_split}
-use Rattle.std.proofs.lemmas.{List.map-append, List.Splits.slice_split_none}
-use Rattle.text_parts.specs.Lines.{is_line_feed, without_return, but_last, last_of, whole_lines, ended_lines, unended, last_line, lines_of}
-use Rattle.text_parts.proofs.PieceLaws.{first_piece, split_append, but_last_append, last_append}
-use Rattle.cycles_from_lines.specs.LineSteps.{Without}
-use Rattle.text_parts.specs.Cuts.{is_without}
-use Rattle.cycles_from_lines.proofs.Cuts.{without_is}
+use Rattle.std.{proofs.{Common.{◌≡◌, ℕ, List, [], ◌∷◌, ◌++◌, true, refl, sym, ◌∙◌, ap, arith, append_assoc}, lemmas.List.{map-append, Splits.slice_split_none}}, specs.{Prelude.map, List.slice_split}}
+use Rattle.lines_to_files.proofs.Vocabulary.{is_line_feed, without_return, but_last, last_of, whole_lines, ended_lines, unended, last_line, lines_of, is_without, first_piece, split_append, but_last_append, last_append, Without, without_is}
 
 -- the lines of pieces
 abbrev piece_lines : List (List ℕ) → List (List ℕ)

@@ -1,16 +1,9 @@
 -- How lines are judged, one after another.
 use Rattle.std.proofs.Common.{◌≡◌, ℕ, zero, suc, ◌+◌, ◌⊎◌, inl, inr, Bool, true, false, List, [], ◌∷◌, ◌++◌, length, Option, Some, None, Result, Ok, Err, refl, sym, ◌∙◌, ap, subst, arith, append-nil, append_assoc, length-append}
-use Rattle.std.proofs.{lemmas.Grind.flat_map-append, lemmas.Slice.Eq.bytes_eq-Decides, lemmas.List.map-append}
-use Rattle.std.specs.{Prelude.{codes, not, ◌||◌}, List.{list_any, AllByRecursion, slice_get}, Str.bytes_eq}
-use Rattle.text_parts.proofs.OrderLaws.{any_insert}
-use Rattle.relax_edges.specs.{declared.kinds.ArchName.ArchName}
-use Rattle.cycles_from_lines.specs.{Cycles.{are_sound, is_sound}, Classified.with_cycle_name, KeptNames.names_in_set, declared.line.LineForm.TheVariants.Edges}
-use Rattle.tests_to_files.specs.ListedFiles.{file_number, file_named}
-use Rattle.tests_to_files.proofs.FileLines.{counted_once, counted_next, file_counted}
-use Rattle.lines_to_files.specs.{declared.form.WrongTest.WrongTest, declared.judging.Judge.Judge}
-use Rattle.lines_to_files.specs.{GivenTests.{GivenTest, given_by, tests_of}, TestFiles.{Making, names_from, refusal_in}, RightTests.{AreRight, names_file, names_of}}
-use Rattle.lines_to_files.specs.Judged.{IsAccepted, IsFit, HasJudged, TakesName, test_read}
-use Rattle.lines_to_files.proofs.{NumberedFiles.names_both, TestsRead.{says_test, gives_test, gives_none, read_sound}}
+use Rattle.std.{proofs.lemmas.{Grind.flat_map-append, Slice.Eq.bytes_eq-Decides, List.map-append}, specs.{Prelude.{codes, not, ◌||◌}, List.{list_any, AllByRecursion, slice_get}, Str.bytes_eq}}
+use Rattle.lines_to_files.proofs.{Vocabulary.{any_insert, ArchName, are_sound, is_sound, with_cycle_name, names_in_set, Edges, file_number, file_named, counted_once, counted_next, file_counted}, NumberedFiles.names_both, TestsRead.says_test}
+use Rattle.lines_to_files.{proofs.TestsRead.{gives_test, gives_none, read_sound}, specs.{declared.{form.WrongTest.WrongTest, judging.Judge.Judge}, GivenTests.{GivenTest, given_by, tests_of}, TestFiles.{Making, names_from, refusal_in}}}
+use Rattle.lines_to_files.specs.{RightTests.{AreRight, names_file, names_of}, Judged.{IsAccepted, IsFit, HasJudged, TakesName, test_read}}
 
 -- what holds of all of a list and of one more
 pub all_more : {X : Type 0} (P : X → Type 0) (xs : List X) (x : X) → AllByRecursion P xs → P x → AllByRecursion P (xs ++ x ∷ [])

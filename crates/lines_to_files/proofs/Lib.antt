@@ -1,3 +1,4 @@
+pub mod Vocabulary
 pub mod NormalForms
 pub mod PrintedLines
 pub mod NumberedFiles

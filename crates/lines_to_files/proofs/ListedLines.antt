@@ -1,28 +1,13 @@
 -- The lines of the cycles of a listing give the files of the listing.
-use Rattle.std.proofs.Common.{◌≡◌, ℕ, zero, suc, ◌+◌, Bool, true, false, List, [], ◌∷◌, ◌++◌, length, map, Option, Some, None, refl, sym, ◌∙◌, ap, subst, arith, inl, inr, append_assoc}
+use Rattle.std.proofs.{Common.{◌≡◌, ℕ, zero, suc, ◌+◌, Bool, true, false, List, [], ◌∷◌, ◌++◌, length, map, Option, Some, None, refl, sym, ◌∙◌, ap, subst, arith, inl, inr, append_assoc}, lemmas.{Bool.{and_parts, Decides.nat_tests}, List.length-map}}
 use Rattle.std.specs.{Prelude.{codes, not, ◌==◌, nat_le, nat_lt, nat_eq, is_ok, is_none}, List.{AllByRecursion, enumerate_from, flat_map, slice_get}}
-use Rattle.std.proofs.lemmas.{Bool.and_parts, Bool.Decides.nat_tests, List.length-map}
-use Rattle.list_laws.proofs.Elements.{list_all-weaker}
-use Rattle.relax_edges.specs.{declared.edge.Edge.Edge}
-use Rattle.edge_algebra_laws.specs.{Composable.IsCycle, CycleOrder.{IsNormal}}
-use Rattle.edge_algebra_laws.proofs.Rotating.{rotation_back}
-use Rattle.cycle_enum_laws.specs.Listing.{IsOneOf}
-use Rattle.arch_trait.specs.{Threads.Puts}
-use Rattle.text_parts.specs.Lines.{lines_of, last_line, unended}
+use Rattle.lines_to_files.proofs.Vocabulary.{list_all-weaker, Edge, IsCycle, IsNormal, rotation_back, IsOneOf, Puts, lines_of, last_line, unended, Family, family_word, link_words, name_of, name_from, links_text, found_family, named_rotation, are_of_arch}
+use Rattle.lines_to_files.proofs.Vocabulary.{IsName, decide_names, named, names_of_cycles, named_rotates, Edges, are_sound, cycle_said, name_line, name_lines, without_is, ended_nil, unended_nil, resolution_of, neither, not_foreign, refusal_of}
+use Rattle.lines_to_files.proofs.{Vocabulary.{foreign_edge, resolved_refusal, file_of, path_of, all_path, file_lines, test_files, given_files, Plan, IsPlanned, planned_text, is_wanted, listed_are_different}, NormalForms.normal_is, PrintedLines.printed}
+use Rattle.lines_to_files.{proofs.PrintedLines.{name_line_is, is_line_byte, line_no_feed, printed_bytes, printed_said, printed_label}, specs.{GivenTests.{GivenTest, given_by, test_given, tests_of, tests_in, normal_of}, TestFiles.files_from}}
+use Rattle.lines_to_files.specs.{TestFiles.{names_from, all_files}, RightTests.{AreRight, names_file, is_number_name}, Laws.{making_of, ListedLinesReadBack}}
 use Rattle.text_parts.proofs.LineLaws as lines
-use Rattle.cycle_names.specs.{declared.family.Family.Family, Families.family_word, LinkWords.link_words, CycleNames.{name_of, name_from, links_text}, Rotations.{found_family, named_rotation}, Laws.{are_of_arch, IsName}}
 use Rattle.cycle_names.specs.declared.family.Family.TheVariants as families
-use Rattle.cycle_names.proofs.{NameLaws.{decide_names, named, names_of_cycles}, NamedRotations.named_rotates}
-use Rattle.cycles_from_lines.specs.{declared.line.LineForm.TheVariants.Edges, Cycles.{are_sound, cycle_said}, Normed.{name_line, name_lines}}
-use Rattle.cycles_from_lines.proofs.{Cuts.without_is, LineLaws.{ended_nil, unended_nil}}
-use Rattle.cycle_events.specs.Resolution.{resolution_of}
-use Rattle.test_maker.proofs.HavingTests.{neither, not_foreign}
-use Rattle.test_maker.specs.Refusals.{refusal_of, foreign_edge, resolved_refusal}
-use Rattle.tests_to_files.specs.{ListedFiles.{file_of, path_of, all_path, file_lines, test_files}, GivenCycles.given_files, Plans.{Plan, IsPlanned, planned_text, is_wanted}}
-use Rattle.tests_to_files_laws.proofs.OwnFiles.{listed_are_different}
-use Rattle.lines_to_files.specs.{GivenTests.{GivenTest, given_by, test_given, tests_of, tests_in, normal_of}, TestFiles.{files_from, names_from, all_files}}
-use Rattle.lines_to_files.specs.{RightTests.{AreRight, names_file, is_number_name}, Laws.{making_of, ListedLinesReadBack}}
-use Rattle.lines_to_files.proofs.{NormalForms.normal_is, PrintedLines.{printed, name_line_is, is_line_byte, line_no_feed, printed_bytes, printed_said, printed_label}}
 
 -- a cycle of a listing
 pub record IsFit (puts : Puts) (cycle : List Edge) : Type 0 where

@@ -1,16 +1,8 @@
 -- A location that a refusal names is one of the cycle's.
-use Rattle.std.proofs.Common.{◌≡◌, List, Option, Some, None, Result, Ok, Err, refl, subst}
-use Rattle.std.specs.Option.{option_map, option_or}
-use Rattle.relax_edges.specs.{declared.edge.Edge.Edge, declared.kinds.ObsMode.ObsMode, declared.kinds.ObsMode.TheVariants.{Accept, Avoid, Force}}
-use Rattle.edge_algebra_laws.specs.Composable.{IsCycle}
-use Rattle.cycle_events.specs.{declared.errors.ResolveError.ResolveError, Resolution.resolution_of, Values.observer_need}
+use Rattle.std.{proofs.Common.{◌≡◌, List, Option, Some, None, Result, Ok, Err, refl, subst}, specs.Option.{option_map, option_or}}
+use Rattle.lines_to_files.proofs.Vocabulary.{Edge, ObsMode, Accept, Avoid, Force, IsCycle, ResolveError, resolution_of, observer_need, resolution_resolved, avoid_refused, Puts, Refusal, NamesLocation, refusal_of, foreign_edge, resolve_refusal}
+use Rattle.lines_to_files.proofs.Vocabulary.{resolved_refusal, unobserved_need, need_refusal, crowded_thread, need_located, CoRefusal, co_refusal}
 use Rattle.cycle_events.specs.declared.errors.ResolveError.TheVariants as resolving
-use Rattle.cycle_events.proofs.{Turning.resolution_resolved, Entries.avoid_refused}
-use Rattle.arch_trait.specs.Threads.{Puts}
-use Rattle.test_maker.specs.{declared.refusal.Refusal.Refusal, Made.NamesLocation}
-use Rattle.test_maker.specs.Refusals.{refusal_of, foreign_edge, resolve_refusal, resolved_refusal, unobserved_need, need_refusal, crowded_thread}
-use Rattle.test_maker.proofs.Located.{need_located}
-use Rattle.co_tests.specs.{declared.refusal.CoRefusal.CoRefusal, CoRefusals.co_refusal}
 use Rattle.co_tests.specs.declared.refusal.CoRefusal.TheVariants as reasons
 
 -- what holds of what two options may have

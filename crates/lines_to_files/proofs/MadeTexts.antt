@@ -1,10 +1,5 @@
 -- The printed text of a coherence test.
-use Rattle.std.proofs.Common.{◌≡◌, ℕ, List, sym, ◌∙◌, ap}
-use Rattle.relax_edges.specs.{declared.kinds.ArchName.ArchName, declared.edge.Edge.Edge}
-use Rattle.cycle_events.specs.Resolution.{turned}
-use Rattle.arch_trait.specs.{Threads.Puts, Writing.{Writing, name_in}}
-use Rattle.litmus_text.specs.{declared.test.Test.Test, Tests.test_seen, TestText.test_text}
-use Rattle.co_tests.specs.{CoRefusals.coherence_text, CoherenceTests.coherence_test_of}
+use Rattle.lines_to_files.proofs.Vocabulary.{◌≡◌, ℕ, List, sym, ◌∙◌, ap, ArchName, Edge, turned, Puts, Writing, name_in, Test, test_seen, test_text, coherence_text, coherence_test_of}
 
 -- it is the text of the test that is made
 pub made_coherence : (a : Puts) (w : Writing) (name : List ℕ) (cycle : List Edge) (arch : ArchName) (test : Test)

@@ -1,8 +1,6 @@
 -- A name that is sought in a set of names.
-use Rattle.std.proofs.Common.{◌≡◌, List, [], ◌∷◌, refl, ◌∙◌, ap}
-use Rattle.std.proofs.lemmas.Map.Text.{is_eq-slice_cmp}
-use Rattle.std.specs.{Prelude.{map, String, ◌||◌}, List.list_any, Str.bytes_eq, Ordering.{is_eq, nat_cmp}, Cmp.Lexicographic.slice_cmp, String.string_bytes}
-use Rattle.std.specs.{declared.cmp.Ordering.Ordering, declared.alloc.Global.Global}
+use Rattle.std.{proofs.{Common.{◌≡◌, List, [], ◌∷◌, refl, ◌∙◌, ap}, lemmas.Map.Text.is_eq-slice_cmp}, specs.{Prelude.{map, String, ◌||◌}, List.list_any, Str.bytes_eq, Ordering.{is_eq, nat_cmp}, Cmp.Lexicographic.slice_cmp, String.string_bytes}}
+use Rattle.lines_to_files.proofs.Vocabulary.{Ordering, Global}
 
 pub sought : (cmp : String Global → String Global → Ordering) → ((x y : String Global) → cmp x y ≡ slice_cmp nat_cmp (string_bytes x) (string_bytes y))
     → (key : String Global) (keys : List (String Global)) → list_any (λ k. is_eq (cmp key k)) keys ≡ list_any (bytes_eq (string_bytes key)) (map (λ text. string_bytes text) keys)

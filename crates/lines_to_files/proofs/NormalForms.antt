@@ -1,14 +1,7 @@
 -- The normal form of a cycle is the least of its rotations.
-use Rattle.std.proofs.Common.{◌≡◌, ◌<◌, List, [], ◌∷◌, length, map, refl, ap, arith}
-use Rattle.std.proofs.lemmas.List.{length-map}
-use Rattle.std.specs.Prelude.{unwrap_or}
-use Rattle.relax_edges.specs.{declared.edge.Edge.Edge, Order.rank_of}
-use Rattle.edge_algebra_laws.specs.{CycleOrder.{IsLeast}}
-use Rattle.edge_algebra_laws.proofs.{Ordering.above_of_ranks, RankLaws.rank_injective, Rotating.{rotation_back, rotation_length, rotation_on}}
-use Rattle.cycle_names.specs.Rotations.{rotations, edges_below}
-use Rattle.cycle_names.proofs.{Members.{same_head, same_tail}, EdgeListOrder.{IsFirst, first_is_least, neither_below}}
-use Rattle.cycle_names.proofs.NamedRotations.{rotation_of_member, member_of_rotation}
-use Rattle.lines_to_files.specs.GivenTests.{normal_of}
+use Rattle.std.{proofs.{Common.{◌≡◌, ◌<◌, List, [], ◌∷◌, length, map, refl, ap, arith}, lemmas.List.length-map}, specs.Prelude.unwrap_or}
+use Rattle.lines_to_files.proofs.Vocabulary.{Edge, rank_of, IsLeast, above_of_ranks, rank_injective, rotation_back, rotation_length, rotation_on, rotations, edges_below, same_head, same_tail, IsFirst, first_is_least, neither_below, rotation_of_member}
+use Rattle.lines_to_files.{proofs.Vocabulary.member_of_rotation, specs.GivenTests.normal_of}
 
 -- two lists of edges whose ranks are equal are equal
 ranks_same : (u v : List Edge) → map rank_of u ≡ map rank_of v → u ≡ v

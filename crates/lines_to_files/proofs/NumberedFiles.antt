@@ -1,9 +1,6 @@
 -- The files of tests by their numbers: those of some tests and then of others, and when the numbers don't matter.
-use Rattle.std.proofs.Common.{◌≡◌, ◌≤◌, ℕ, ◌+◌, List, [], ◌∷◌, ◌++◌, length, refl, sym, ◌∙◌, ap, arith, append_assoc, add-zero}
-use Rattle.std.proofs.lemmas.Bool.Decides.{nat_tests}
-use Rattle.std.specs.{Prelude.{codes, nat_le, true, if◌then◌else◌}, Fmt.decimal}
-use Rattle.tests_to_files.specs.ListedFiles.{file_number, stem_named, file_named, path_of}
-use Rattle.lines_to_files.specs.{GivenTests.GivenTest, TestFiles.{Making, file_in, files_from, names_from, text_in}, Laws.AreShort}
+use Rattle.std.{proofs.{Common.{◌≡◌, ◌≤◌, ℕ, ◌+◌, List, [], ◌∷◌, ◌++◌, length, refl, sym, ◌∙◌, ap, arith, append_assoc, add-zero}, lemmas.Bool.Decides.nat_tests}, specs.{Prelude.{codes, nat_le, true, if◌then◌else◌}, Fmt.decimal}}
+use Rattle.lines_to_files.{proofs.Vocabulary.{file_number, stem_named, file_named, path_of}, specs.{GivenTests.GivenTest, TestFiles.{Making, file_in, files_from, names_from, text_in}, Laws.AreShort}}
 
 one_more : (n : ℕ) (test : GivenTest) (tests : List GivenTest) → (n + 1) + length tests ≡ n + length (test ∷ tests)
 one_more n test tests = omega arith

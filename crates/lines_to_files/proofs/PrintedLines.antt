@@ -1,24 +1,9 @@
 -- A line that is printed of a cycle gives the test of the cycle under its name.
-use Rattle.std.proofs.Common.{◌≡◌, ◌≤◌, ◌<◌, ℕ, ◌*◌, Bool, true, false, List, [], ◌∷◌, ◌++◌, length, Some, Ok, Err, refl, sym, ◌∙◌, ap, arith, append_assoc, length-append, cond, nat_lt}
-use Rattle.std.proofs.lemmas.Bool.Decides.{nat_tests}
-use Rattle.std.specs.{Prelude.{codes, map, not, ◌==◌, ◌||◌}, List.{join_by, list_all, slice_split}, Option.option_map}
-use Rattle.list_laws.proofs.Elements.{list_all-weaker}
-use Rattle.relax_edges.specs.{declared.edge.Edge.Edge, declared.TheConstants.MAX_EDGES, declared.kinds.ArchName.ArchName, WordParts.word_of, Spelling.edge_of}
-use Rattle.relax_edges.specs.ReadEdges.{before_edges}
-use Rattle.relax_edges.proofs.WordBounds.{word_not_short, word_short}
-use Rattle.edge_algebra_laws.proofs.SpellingLaws.{edge_of-word_of}
-use Rattle.edge_algebra_laws.specs.Composable.{IsCycle}
-use Rattle.edge_algebra.specs.{Compose.composed, ComposingLaws.composes_exactly}
-use Rattle.text_parts.specs.{Blanks.{is_blank, is_inked, before_blanks, trim_blanks}, Cuts.{is_without}, LeadingRuns.after_run, Names.is_name_byte}
-use Rattle.text_parts.proofs.{BlankLaws.inked_ends, CutLaws.{all_both, cut_back}, PieceLaws.{split_whole, split_off}, RunLaws.after_halts}
-use Rattle.edges_from_text.specs.{declared.read.Separators.TheVariants.Blanks, Spelled.{edges_spelled, separates, text_edges}}
-use Rattle.cycle_names.specs.{CycleNames.name_of, Rotations.named_rotation, Laws.{are_of_arch}}
-use Rattle.cycle_names.proofs.{NameLaws.{arch_turned, named, names_of_cycles}, NamedRotations.named_rotates, Tables.word_bytes}
-use Rattle.cycles_from_lines.specs.{declared.line.LineForm.TheVariants.Edges, Normed.name_line}
-use Rattle.cycles_from_lines.specs.Cycles.{line_said, is_long_line, without_label, spelled_made, cycle_made, composed_or}
-use Rattle.cycles_from_lines.specs.declared.errors.LineKind.TheVariants.{TooLong, NotOfArch}
-use Rattle.cycles_from_lines.proofs.Cuts.{label_cut}
-use Rattle.lines_to_files.specs.GivenTests.{label_of}
+use Rattle.std.{proofs.{Common.{◌≡◌, ◌≤◌, ◌<◌, ℕ, ◌*◌, Bool, true, false, List, [], ◌∷◌, ◌++◌, length, Some, Ok, Err, refl, sym, ◌∙◌, ap, arith, append_assoc, length-append, cond, nat_lt}, lemmas.Bool.Decides.nat_tests}, specs.Prelude.{codes, map, not}}
+use Rattle.lines_to_files.proofs.Vocabulary.{◌==◌, ◌||◌, join_by, list_all, slice_split, option_map, list_all-weaker, Edge, MAX_EDGES, ArchName, word_of, edge_of, before_edges, word_not_short, word_short, edge_of-word_of, IsCycle, composed}
+use Rattle.lines_to_files.proofs.Vocabulary.{composes_exactly, is_blank, is_inked, before_blanks, trim_blanks, is_without, after_run, is_name_byte, inked_ends, all_both, cut_back, split_whole, split_off, after_halts, Blanks, edges_spelled, separates}
+use Rattle.lines_to_files.proofs.Vocabulary.{text_edges, name_of, named_rotation, are_of_arch, arch_turned, named, names_of_cycles, named_rotates, word_bytes, Edges, TooLong, NotOfArch, name_line, line_said, is_long_line, without_label, spelled_made}
+use Rattle.lines_to_files.{proofs.Vocabulary.{cycle_made, composed_or, label_cut}, specs.GivenTests.label_of}
 
 -- the line of a cycle without its line feed
 abbrev pub printed : List Edge → List ℕ

@@ -1,13 +1,7 @@
 -- How the files of the tests of lines are written, one after another.
-use Rattle.std.proofs.Common.{◌≡◌, ◌<◌, ℕ, ◌+◌, ◌-◌, List, [], ◌∷◌, ◌++◌, length, take, refl, sym, ◌∙◌, ap, subst, arith, append_assoc, length-append, add-zero}
-use Rattle.std.proofs.lemmas.Grind.{flat_map-append}
-use Rattle.std.specs.{Prelude.{Ok, Some, None}, List.AllByRecursion}
-use Rattle.diy_io.specs.Shelf.{ShelfSeen, Idle}
-use Rattle.tests_to_files.specs.{ListedFiles.{file_number, path_of}, GivenCycles.PutUpTo, Putting.{PutFiles, PutPart, FailsAt}}
-use Rattle.tests_to_files.proofs.{FileLines.{counted_once, counted_next, file_counted}, Shelves.{put_nothing, put_both, put_then_part}}
-use Rattle.lines_to_files.specs.{GivenTests.{GivenTest, given_by, tests_of}, TestFiles.{Making, file_in, files_from, text_in}}
-use Rattle.lines_to_files.specs.{Judged.{IsFit, test_read}, PutLines.{PutsLine, FailsLine}}
-use Rattle.lines_to_files.proofs.{NumberedFiles.files_both, JudgedLines.tests_more, TestsRead.{gives_none, gives_test}}
+use Rattle.std.{proofs.{Common.{◌≡◌, ◌<◌, ℕ, ◌+◌, ◌-◌, List, [], ◌∷◌, ◌++◌, length, take, refl, sym, ◌∙◌, ap, subst, arith, append_assoc, length-append, add-zero}, lemmas.Grind.flat_map-append}, specs.{Prelude.{Ok, Some, None}, List.AllByRecursion}}
+use Rattle.lines_to_files.proofs.{Vocabulary.{ShelfSeen, Idle, file_number, path_of, PutUpTo, PutFiles, PutPart, FailsAt, counted_once, counted_next, file_counted, put_nothing, put_both, put_then_part}, NumberedFiles.files_both, JudgedLines.tests_more}
+use Rattle.lines_to_files.{proofs.TestsRead.{gives_none, gives_test}, specs.{GivenTests.{GivenTest, given_by, tests_of}, TestFiles.{Making, file_in, files_from, text_in}, Judged.{IsFit, test_read}, PutLines.{PutsLine, FailsLine}}}
 
 -- numbers that count as one number the files alike
 pub files_counted : (making : Making) (m n : ℕ) (tests : List GivenTest) → file_number m ≡ file_number n → files_from making m tests ≡ files_from making n tests

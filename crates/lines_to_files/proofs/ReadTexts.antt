@@ -1,8 +1,5 @@
 -- How the reading of a source's text goes on.
-use Rattle.std.proofs.Common.{◌≡◌, ◌≤◌, ◌<◌, ℕ, List, [], ◌∷◌, ◌++◌, length, take, ◌∙◌, ap, subst, arith}
-use Rattle.diy_io.specs.{declared.source.TheConstants.MAX_INPUT, Taken.{SourceSeen, Took}}
-use Rattle.cycles_from_lines.proofs.ReadLaws.{took_then}
-use Rattle.lines_to_files.specs.ReadTexts.{HasTaken, ReadsToLimit, TakesPiece}
+use Rattle.lines_to_files.{proofs.Vocabulary.{◌≡◌, ◌≤◌, ◌<◌, ℕ, List, [], ◌∷◌, ◌++◌, length, take, ◌∙◌, ap, subst, arith, MAX_INPUT, SourceSeen, Took, took_then}, specs.ReadTexts.{HasTaken, ReadsToLimit, TakesPiece}}
 
 one_byte : (bytes : List ℕ) (count : ℕ) → 0 < count → count ≤ 1 → length bytes ≡ 1 → (byte : ℕ) × (take count bytes ≡ byte ∷ [])
 one_byte [] count some most one = absurd (omega arith)

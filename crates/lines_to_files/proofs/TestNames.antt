@@ -1,11 +1,6 @@
 -- The names of tests that lines give.
-use Rattle.std.proofs.Common.{◌≡◌, ℕ, true, false, List, length, arith, sym}
-use Rattle.std.proofs.lemmas.Bool.{and_parts}
-use Rattle.std.specs.{Prelude.{not, nat_lt, nat_le}, List.list_all, Char.is_ascii, Str.IsUtf8}
-use Rattle.list_laws.proofs.{Cases.by_test, Elements.list_all-weaker}
-use Rattle.text_parts.{specs.Names.is_name_byte, proofs.NameLaws.utf8_from_ascii}
-use Rattle.cycle_names.specs.{declared.name.TheConstants.MAX_CYCLE_NAME}
-use Rattle.lines_to_files.specs.RightTests.{names_file, is_number_name}
+use Rattle.std.{proofs.{Common.{◌≡◌, ℕ, true, false, List, length, arith, sym}, lemmas.Bool.and_parts}, specs.{Prelude.{not, nat_lt, nat_le}, List.list_all, Char.is_ascii, Str.IsUtf8}}
+use Rattle.lines_to_files.{proofs.Vocabulary.{by_test, list_all-weaker, is_name_byte, utf8_from_ascii, MAX_CYCLE_NAME}, specs.RightTests.{names_file, is_number_name}}
 
 name_byte_ascii : (byte : ℕ) → is_name_byte byte ≡ true → is_ascii byte ≡ true
 name_byte_ascii byte h = grind arith

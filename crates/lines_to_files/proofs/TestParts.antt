@@ -1,6 +1,5 @@
 -- Tests that can all be written can be written in parts.
-use Rattle.std.proofs.Common.{◌≡◌, ℕ, zero, suc, ◌+◌, List, [], ◌∷◌, ◌++◌, length, Some, ◌∙◌, ap, arith}
-use Rattle.std.specs.List.{AllByRecursion, slice_get}
+use Rattle.std.{proofs.Common.{◌≡◌, ℕ, zero, suc, ◌+◌, List, [], ◌∷◌, ◌++◌, length, Some, ◌∙◌, ap, arith}, specs.List.{AllByRecursion, slice_get}}
 use Rattle.lines_to_files.specs.{GivenTests.GivenTest, TestFiles.Making, RightTests.AreRight}
 
 -- what holds of each element of a list holds of each of its first ones

@@ -1,13 +1,7 @@
 -- What follows from how the test of a line is read.
-use Rattle.std.proofs.Common.{◌≡◌, ℕ, true, false, List, [], ◌∷◌, Option, Some, None, Result, Ok, Err, refl, sym, ◌∙◌, ap, subst}
-use Rattle.std.specs.{Prelude.{map, is_ok, if◌then◌else◌}, List.{list_any}, Str.bytes_eq}
-use Rattle.list_laws.proofs.Cases.{by_test}
-use Rattle.relax_edges.specs.{declared.edge.Edge.Edge, declared.kinds.ArchName.ArchName}
-use Rattle.test_maker.specs.declared.refusal.Refusal.{Refusal}
-use Rattle.cycles_from_lines.specs.{declared.errors.LineKind.LineKind, Cycles.{line_said, cycle_said, is_sound}, declared.line.LineForm.TheVariants.Edges}
-use Rattle.lines_to_files.specs.{declared.form.WrongTest.WrongTest, declared.form.WrongTest.TheVariants.{Line, BadName, NameTaken, Refused}}
-use Rattle.lines_to_files.specs.{LineTestEnds.KindNamesLocation, GivenTests.{GivenTest, given_by, test_given, normal_of}, TestFiles.{Making, refusal_in}, RightTests.{names_file, wrong_by, wrong_after}}
-use Rattle.lines_to_files.specs.Judged.{if_named, read_by, test_read}
+use Rattle.std.{proofs.Common.{◌≡◌, ℕ, true, false, List, [], ◌∷◌, Option, Some, None, Result, Ok, Err, refl, sym, ◌∙◌, ap, subst}, specs.{Prelude.{map, is_ok, if◌then◌else◌}, List.list_any, Str.bytes_eq}}
+use Rattle.lines_to_files.{proofs.Vocabulary.{by_test, Edge, ArchName, Refusal, LineKind, Edges, line_said, cycle_said, is_sound}, specs.declared.form.WrongTest.{WrongTest, TheVariants.{Line, BadName, NameTaken, Refused}}}
+use Rattle.lines_to_files.specs.{LineTestEnds.KindNamesLocation, GivenTests.{GivenTest, given_by, test_given, normal_of}, TestFiles.{Making, refusal_in}, RightTests.{names_file, wrong_by, wrong_after}, Judged.{if_named, read_by, test_read}}
 
 -- a line says a cycle whose test can be named
 pub record SaysTest (arch : ArchName) (line : List ℕ) (test : GivenTest) : Type 0 where

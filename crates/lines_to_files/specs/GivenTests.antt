@@ -1,7 +1,7 @@
 -- The tests that lines of cycles give: the name and the cycle of each.
 -- Source: own; a label is the name of a test as in the lines of the herdtools suite.
 use Rattle.std.specs.{Prelude.{ℕ, List, Option, map, unwrap_or}, List.flat_map, Option.option_map}
-use Rattle.relax_edges.specs.{declared.kinds.ArchName.ArchName, declared.edge.Edge.Edge}
+use Rattle.relax_edges.specs.declared.{kinds.ArchName.ArchName, edge.Edge.Edge}
 use Rattle.text_parts.specs.{Blanks.trim_blanks, Cuts.cut_at, Lines.lines_of}
 use Rattle.cycle_names.specs.{CycleNames.name_of, Rotations.{rotations, least_of, edges_below}}
 use Rattle.cycles_from_lines.specs.{Cycles.{line_said, cycle_said}, declared.line.LineForm.TheVariants.Edges}

@@ -1,14 +1,12 @@
 -- How lines are judged, one after another. It is used only by private functions.
 -- Source: own.
 use Rattle.std.specs.{Prelude.{◌≡◌, ℕ, Bool, not, List, [], ◌∷◌, ◌++◌, length, Option, Some, None, Result, Ok, Err, if◌then◌else◌}, List.{list_any, AllByRecursion}, Str.bytes_eq}
-use Rattle.relax_edges.specs.{declared.edge.Edge.Edge, declared.kinds.ArchName.ArchName}
+use Rattle.relax_edges.specs.declared.{edge.Edge.Edge, kinds.ArchName.ArchName}
 use Rattle.arch_trait.specs.{Threads.Puts, Writing.Writing}
-use Rattle.cycles_from_lines.specs.{declared.errors.LineKind.LineKind, Cycles.line_said, Classified.with_cycle_name, KeptNames.names_in_set, declared.line.LineForm.TheVariants.Edges}
+use Rattle.cycles_from_lines.specs.{declared.{errors.LineKind.LineKind, line.LineForm.TheVariants.Edges}, Cycles.line_said, Classified.with_cycle_name, KeptNames.names_in_set}
 use Rattle.tests_to_files.specs.ListedFiles.{file_number}
-use Rattle.lines_to_files.specs.{declared.form.WrongTest.WrongTest, declared.form.WrongTest.TheVariants.{Line, BadName}}
-use Rattle.lines_to_files.specs.declared.judging.{Judge.Judge, Judged.Judged, JudgeError.JudgeError, JudgeError.TheVariants.{Wrong, NoMemory}}
-use Rattle.lines_to_files.specs.{declared.wanted.Wanted.Wanted, GivenTests.{GivenTest, test_given, tests_of}, TestFiles.{Making, making_in, names_from, refusal_in}}
-use Rattle.lines_to_files.specs.{LineTestEnds.KindNamesLocation, RightTests.{AreRight, names_file, names_of, wrong_by}}
+use Rattle.lines_to_files.specs.{declared.{form.WrongTest.{WrongTest, TheVariants.{Line, BadName}}, judging.{Judge.Judge, Judged.Judged, JudgeError.{JudgeError, TheVariants.{Wrong, NoMemory}}}, wanted.Wanted.Wanted}, GivenTests.{GivenTest, test_given}}
+use Rattle.lines_to_files.specs.{GivenTests.tests_of, TestFiles.{Making, making_in, names_from, refusal_in}, LineTestEnds.KindNamesLocation, RightTests.{AreRight, names_file, names_of, wrong_by}}
 
 -- which tests are made and where their files are, from what is wanted
 abbrev pub making_of : Puts → Writing → Wanted → Making

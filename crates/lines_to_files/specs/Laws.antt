@@ -1,13 +1,12 @@
 -- The laws of the files that lines of cycles give, as statements.
 -- Source: own.
 use Rattle.std.specs.{Prelude.{◌≡◌, ◌≤◌, ℕ, true, List, [], ◌++◌, length, Option}, List.AllByRecursion}
-use Rattle.relax_edges.specs.{declared.kinds.ArchName.ArchName, declared.edge.Edge.Edge}
+use Rattle.relax_edges.specs.declared.{kinds.ArchName.ArchName, edge.Edge.Edge}
 use Rattle.text_parts.specs.Lines.{lines_of, unended}
-use Rattle.cycle_enum_laws.specs.Listing.{AreAllListed}
+use Rattle.cycle_enum.specs.Listing.{AreAllListed}
 use Rattle.cycles_from_lines.specs.{Cycles.are_sound, Normed.name_lines, declared.line.LineForm.TheVariants.Edges}
 use Rattle.tests_to_files.specs.{GivenCycles.given_files, Plans.{Plan, IsPlanned, planned_text}}
-use Rattle.lines_to_files.specs.declared.form.TestForm.TheVariants.{Observed}
-use Rattle.lines_to_files.specs.{GivenTests.{GivenTest, tests_in}, TestFiles.{Making, files_from, names_from, all_files}, RightTests.{AreRight}}
+use Rattle.lines_to_files.specs.{declared.form.TestForm.TheVariants.Observed, GivenTests.{GivenTest, tests_in}, TestFiles.{Making, files_from, names_from, all_files}, RightTests.AreRight}
 
 -- no name is so long that a number stands for it in the file's name
 abbrev pub AreShort : List GivenTest → Type 0

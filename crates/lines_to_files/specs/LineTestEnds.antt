@@ -1,15 +1,13 @@
 -- What writing the tests of a source's lines leaves on the shelf and on the sink.
 -- Source: own.
 use Rattle.std.specs.{Prelude.{◌≡◌, ◌≤◌, ◌<◌, ◌⊎◌, ℕ, ◌+◌, true, false, List, [], ◌++◌, length, take}, Io.KnownBytes.IsAtEnd}
-use Rattle.diy_io.specs.{declared.source.TheConstants.MAX_INPUT, Count.Rose, Sink.line_feed_count, Shelf.ShelfSeen, Taken.{SourceSeen, Took, EndedOnce, NotEnded, EndedAtMostOnce}}
-use Rattle.diy_io.specs.Wrote.{SinkSeen, WroteAll, WrotePart}
+use Rattle.diy_io.specs.{declared.source.TheConstants.MAX_INPUT, Count.Rose, Sink.line_feed_count, Shelf.ShelfSeen, Taken.{SourceSeen, Took, EndedOnce, NotEnded, EndedAtMostOnce}, Wrote.{SinkSeen, WroteAll, WrotePart}}
 use Rattle.text_parts.specs.Lines.{without_return, ended_lines, unended, lines_of}
 use Rattle.cycles_from_lines.specs.{Cycles.{are_sound, is_long_line}, LineReading.{TookUpTo, IsSeenIn, whole_of}, declared.line.LineForm.TheVariants.Edges}
 use Rattle.test_maker.specs.Made.{NamesLocation}
 use Rattle.tests_to_files.specs.{ListedFiles.count_line, GivenCycles.PutUpTo, Putting.PutFiles}
-use Rattle.lines_to_files.specs.{declared.ending.LineTestsEnd.LineTestsEnd, declared.form.WrongTest.WrongTest, declared.form.WrongTest.TheVariants.Refused}
-use Rattle.lines_to_files.specs.declared.ending.LineTestsEnd.TheVariants.{Done, Wrong, TooMuch, InputFault, ShelfFault, OutFault, NoMemory}
-use Rattle.lines_to_files.specs.{GivenTests.{tests_of, tests_in}, TestFiles.{Making, files_from, all_files}, RightTests.{AreRight, FirstWrong}}
+use Rattle.lines_to_files.specs.{declared.{ending.LineTestsEnd.{LineTestsEnd, TheVariants.{Done, Wrong, TooMuch, InputFault, ShelfFault, OutFault, NoMemory}}, form.WrongTest.{WrongTest, TheVariants.Refused}}, GivenTests.{tests_of, tests_in}}
+use Rattle.lines_to_files.specs.{TestFiles.{Making, files_from, all_files}, RightTests.{AreRight, FirstWrong}}
 
 -- no line has an error, and all tests that the lines give can be written
 pub record AreRightLines (making : Making) (lines : List (List ℕ)) : Type 0 where

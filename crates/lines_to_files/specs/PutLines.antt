@@ -1,7 +1,7 @@
 -- How the files of the tests of lines are written, one after another. It is used only by private functions.
 -- Source: own.
 use Rattle.std.specs.{Prelude.{◌≡◌, ℕ, ◌+◌, List, [], ◌∷◌, length}, List.All}
-use Rattle.relax_edges.specs.{declared.edge.Edge.Edge, declared.kinds.ArchName.ArchName}
+use Rattle.relax_edges.specs.declared.{edge.Edge.Edge, kinds.ArchName.ArchName}
 use Rattle.arch_trait.specs.{Threads.Puts, Writing.Writing}
 use Rattle.diy_io.specs.Shelf.{ShelfSeen}
 use Rattle.litmus_text.specs.{declared.test.Test.Test, KeptCells.{TableSeen, HoldsTable}, Tests.{IsPrintable, test_seen}, TestText.test_text}

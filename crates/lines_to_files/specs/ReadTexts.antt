@@ -3,7 +3,7 @@
 use Rattle.std.specs.{Prelude.{◌≡◌, ◌≤◌, ◌<◌, ℕ, List, [], ◌∷◌, ◌++◌, length, take, Result, Ok, Err}, Io.KnownBytes.IsAtEnd}
 use Rattle.diy_io.specs.{declared.source.TheConstants.MAX_INPUT, Count.Rose, Taken.{SourceSeen, Took, EndedOnce, NotEnded}}
 use Rattle.cycles_from_lines.specs.{LineReading.TookUpTo, LineSteps.Stops}
-use Rattle.lines_to_files.specs.{declared.source_text.SourceEnd.SourceEnd, declared.source_text.SourceEnd.TheVariants.{AtEnd, TooMuch, Fault}}
+use Rattle.lines_to_files.specs.declared.source_text.SourceEnd.{SourceEnd, TheVariants.{AtEnd, TooMuch, Fault}}
 
 -- these bytes were taken from a source without an error, and its end wasn't seen
 pub record HasTaken (old new : SourceSeen) (text : List ℕ) : Type 0 where

@@ -1,13 +1,12 @@
 -- When tests that lines give can all be written, and which is the first that can't.
 -- Source: own.
-use Rattle.std.specs.{Prelude.{◌≡◌, ℕ, Bool, true, ◌&&◌, not, nat_lt, nat_le, List, ◌∷◌, ◌++◌, map, length, drop, codes, slice_get, nat_eq, Option, Some, None, Result, Ok, Err, ◌+◌, if◌then◌else◌}}
-use Rattle.std.specs.{List.{list_all, list_any, starts_with}, List.AllByRecursion, Option.option_map, Str.bytes_eq, Char.is_ascii_digit}
+use Rattle.std.specs.{Prelude.{◌≡◌, ℕ, Bool, true, ◌&&◌, not, nat_lt, nat_le, List, ◌∷◌, ◌++◌, map, length, drop, codes, slice_get, nat_eq, Option, Some, None, Result, Ok, Err, ◌+◌, if◌then◌else◌}, List.{list_all, list_any, starts_with, AllByRecursion}}
+use Rattle.std.specs.{Option.option_map, Str.bytes_eq, Char.is_ascii_digit}
 use Rattle.relax_edges.specs.declared.edge.Edge.{Edge}
 use Rattle.text_parts.specs.Names.{is_name_byte}
 use Rattle.cycle_names.specs.declared.name.TheConstants.{MAX_CYCLE_NAME}
-use Rattle.cycles_from_lines.specs.{Cycles.{line_said, are_sound}, declared.errors.LineKind.LineKind, declared.line.LineForm.TheVariants.Edges}
-use Rattle.lines_to_files.specs.{declared.form.WrongTest.WrongTest, declared.form.WrongTest.TheVariants.{Line, BadName, NameTaken, Refused}}
-use Rattle.lines_to_files.specs.{GivenTests.{GivenTest, test_given, tests_of}, TestFiles.{Making, refusal_in}}
+use Rattle.cycles_from_lines.specs.{Cycles.{line_said, are_sound}, declared.{errors.LineKind.LineKind, line.LineForm.TheVariants.Edges}}
+use Rattle.lines_to_files.specs.{declared.form.WrongTest.{WrongTest, TheVariants.{Line, BadName, NameTaken, Refused}}, GivenTests.{GivenTest, test_given, tests_of}, TestFiles.{Making, refusal_in}}
 
 -- a text is `long` and a number: so a file is called whose test has a name that is too long
 abbrev pub is_number_name : List ℕ → Bool

@@ -4,14 +4,10 @@ use Rattle.std.specs.Prelude.{◌≡◌, ℕ, List, [], ◌∷◌, Option, Some,
 use Rattle.diy_io.specs.{Shelf.ShelfSeen, Wrote.{SinkSeen, WroteAll, WrotePart}}
 use Rattle.text_parts.specs.Lines.{without_return, unended}
 use Rattle.cycles_from_lines.specs.{Cycles.is_long_line, declared.errors.LineKind.TheVariants.LineTooLong}
-use Rattle.tests_to_files.specs.declared.ending.ListingEnd.{ListingEnd}
+use Rattle.tests_to_files.specs.{declared.ending.ListingEnd.ListingEnd, ListedFiles.count_line, Putting.{PutFiles, FailsAt}}
 use Rattle.tests_to_files.specs.declared.ending.ListingEnd.TheVariants as listing
-use Rattle.tests_to_files.specs.{ListedFiles.count_line, Putting.{PutFiles, FailsAt}}
-use Rattle.lines_to_files.specs.declared.source_text.SourceEnd.{SourceEnd}
+use Rattle.lines_to_files.specs.declared.{source_text.SourceEnd.SourceEnd, text_lines.LastLine.{LastLine, TheVariants.{Counts, Unread}}, ending.LineTestsEnd.{LineTestsEnd, TheVariants.{Wrong, TooMuch, InputFault}}, form.WrongTest.TheVariants.Line}
 use Rattle.lines_to_files.specs.declared.source_text.SourceEnd.TheVariants as ends
-use Rattle.lines_to_files.specs.{declared.text_lines.LastLine.LastLine, declared.text_lines.LastLine.TheVariants.{Counts, Unread}}
-use Rattle.lines_to_files.specs.{declared.ending.LineTestsEnd.LineTestsEnd, declared.ending.LineTestsEnd.TheVariants.{Wrong, TooMuch, InputFault}}
-use Rattle.lines_to_files.specs.declared.form.WrongTest.TheVariants.{Line}
 
 -- whether what comes after the last line feed is a line, once the reading of a source ended so
 abbrev pub last_line_of : SourceEnd → LastLine

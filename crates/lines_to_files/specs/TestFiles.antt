@@ -6,7 +6,7 @@ use Rattle.arch_trait.specs.{Threads.Puts, Writing.Writing}
 use Rattle.test_maker.specs.{declared.refusal.Refusal.Refusal, Refusals.refusal_of, CycleText.cycle_text}
 use Rattle.co_tests.specs.CoRefusals.{coherence_refusal_of, coherence_text}
 use Rattle.tests_to_files.specs.{ListedFiles.{file_named, path_of, all_path}, Plans.folder_in}
-use Rattle.lines_to_files.specs.{declared.form.TestForm.TestForm, declared.form.TestForm.TheVariants.{Observed, Coherence}, GivenTests.GivenTest}
+use Rattle.lines_to_files.specs.{declared.form.TestForm.{TestForm, TheVariants.{Observed, Coherence}}, GivenTests.GivenTest}
 
 -- which tests are made and where their files are: the architecture, by its code and how that is written, the form, and the folder
 pub record Making : Type 0 where

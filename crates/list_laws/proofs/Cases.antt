@@ -1,7 +1,5 @@
 -- Cases to split on, with the goal given first: a test is true or false, a number is below another or not.
-use Rattle.std.proofs.Common.{◌≡◌, ℕ, ◌<◌, ◌≤◌, Bool, true, false, Option, Some, None, refl, inl, inr, not, ◌||◌, List, sym}
-use Rattle.std.specs.{Prelude.◌⊎◌, Str.bytes_eq, Cmp.both_ways}
-use Rattle.std.proofs.lemmas.{Bool.cases_lt, Bool.cases_eq, Slice.Eq.bytes_eq-Decides}
+use Rattle.std.{proofs.{Common.{◌≡◌, ℕ, ◌<◌, ◌≤◌, Bool, true, false, Option, Some, None, refl, inl, inr, not, ◌||◌, List, sym}, lemmas.{Bool.{cases_lt, cases_eq}, Slice.Eq.bytes_eq-Decides}}, specs.{Prelude.◌⊎◌, Str.bytes_eq, Cmp.both_ways}}
 
 -- a test is true, or it is false
 pub by_test : {G : Type 0} (b : Bool) → (b ≡ true → G) → (b ≡ false → G) → G

@@ -1,9 +1,6 @@
 -- Counts over the numbers below n: one number more, equal and smaller counts, and when there is something to count.
-use Rattle.std.proofs.Common.{◌≡◌, ℕ, zero, suc, ◌+◌, ◌<◌, ◌≤◌, Bool, true, false, cond, refl, ap, arith, add-one}
-use Rattle.std.specs.List.{count_by}
-use Rattle.std.proofs.lemmas.{List.Sums.sum_by_push, List.Sums.count_by-le-length, Bool.cond-true, Bool.cond-false}
-use Rattle.list_laws.specs.Numbers.{upto}
-use Rattle.list_laws.proofs.{Cases.by_test, Cases.by_less, Numbers.length-upto}
+use Rattle.std.{proofs.{Common.{◌≡◌, ℕ, zero, suc, ◌+◌, ◌<◌, ◌≤◌, Bool, true, false, cond, refl, ap, arith, add-one}, lemmas.{List.Sums.{sum_by_push, count_by-le-length}, Bool.{cond-true, cond-false}}}, specs.List.count_by}
+use Rattle.list_laws.{specs.Numbers.upto, proofs.{Cases.{by_test, by_less}, Numbers.length-upto}}
 
 -- with one number more, the count grows by one where that number passes
 pub count_upto-suc : (p : ℕ → Bool) (n : ℕ) → count_by p (upto (suc n)) ≡ count_by p (upto n) + cond (p n) 1 0

@@ -1,6 +1,5 @@
 -- Texts of decimal digits, as the library parses them.
-use Rattle.std.proofs.Common.{◌≡◌, ℕ, true, List, [], ◌∷◌, get_or, arith, rules, ◌<◌, ◌≤◌, length, ◌^◌}
-use Rattle.std.proofs.{lemmas.Str.Parse.{IsNumeralModel, numerals_by_value, not_in_digits}, lemmas.Fmt.{length-decimal-le, decimal_nonempty, digits_decimal}}
+use Rattle.std.proofs.{Common.{◌≡◌, ℕ, true, List, [], ◌∷◌, get_or, arith, rules, ◌<◌, ◌≤◌, length, ◌^◌}, lemmas.{Str.Parse.{IsNumeralModel, numerals_by_value, not_in_digits}, Fmt.{length-decimal-le, decimal_nonempty, digits_decimal}}}
 use Rattle.std.specs.{Char.is_ascii_digit, List.list_all, Str.Parse.digits_value, Fmt.decimal}
 
 -- the texts of digits alone are numerals, and each has its value

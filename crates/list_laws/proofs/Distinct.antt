@@ -1,6 +1,5 @@
 -- Lists whose elements are distinct by a test, with one element more at the end.
-use Rattle.std.proofs.Common.{◌≡◌, Bool, false, List, [], ◌∷◌, ◌++◌}
-use Rattle.std.specs.List.{IsDistinct, AllByRecursion}
+use Rattle.std.{proofs.Common.{◌≡◌, Bool, false, List, [], ◌∷◌, ◌++◌}, specs.List.{IsDistinct, AllByRecursion}}
 use Rattle.list_laws.proofs.Elements.{all_append}
 
 -- distinct elements and one that each of them differs from are distinct

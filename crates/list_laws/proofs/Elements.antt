@@ -1,8 +1,6 @@
 -- Elements of lists and options: those from a place on, and a property or a test of each element.
-use Rattle.std.proofs.Common.{◌≡◌, ℕ, ◌+◌, ◌-◌, Bool, true, List, [], ◌∷◌, ◌++◌, Option, Some, None, length, length-drop, slice_get, take, drop, refl, sym, ◌∙◌, ap}
-use Rattle.std.specs.{List.list_all, List.AllByRecursion, List.flat_map, Option.option_or}
-use Rattle.std.proofs.{lemmas.Bool.and_parts, lemmas.Bool.and_from, Math.Seq.take-length, lemmas.List.drop_more, lemmas.Option.slice_get_within}
-use Rattle.std.proofs.{lemmas.Option.get_or_from_slice_get, lemmas.List.Concat.flat_map-append}
+use Rattle.std.proofs.{Common.{◌≡◌, ℕ, ◌+◌, ◌-◌, Bool, true, List, [], ◌∷◌, ◌++◌, Option, Some, None, length, length-drop, slice_get, take, drop, refl, sym, ◌∙◌, ap}, lemmas.{Bool.{and_parts, and_from}, List.{drop_more, Concat.flat_map-append}}}
+use Rattle.std.{proofs.{lemmas.Option.{slice_get_within, get_or_from_slice_get}, Math.Seq.take-length}, specs.{List.{list_all, AllByRecursion, flat_map}, Option.option_or}}
 
 -- the elements from place i on begin with the one at i
 pub drop_given : {X : Type 0} (xs : List X) (i : ℕ) (x : X) → slice_get xs i ≡ Some x → drop i xs ≡ x ∷ drop (i + 1) xs

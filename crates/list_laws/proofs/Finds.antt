@@ -1,9 +1,7 @@
 -- The first number below n that passes a test, and whether there is one.
-use Rattle.std.proofs.Common.{◌≡◌, ℕ, zero, suc, ◌<◌, Bool, true, false, List, [], ◌∷◌, Some, None, map, ◌||◌, refl, sym, ◌∙◌, arith}
-use Rattle.std.specs.{List.find, List.list_any, Option.option_or, Option.option_map}
-use Rattle.std.proofs.lemmas.{List.Folds.find-append, List.Folds.list_any-append, Bool.or_left, Bool.or_right}
-use Rattle.list_laws.specs.Numbers.{upto}
-use Rattle.list_laws.proofs.{Cases.by_test, Cases.by_less, Cases.by_option, Counts.Passing}
+use Rattle.std.{proofs.{Common.{◌≡◌, ℕ, zero, suc, ◌<◌, Bool, true, false, List, [], ◌∷◌, Some, None, map, ◌||◌, refl, sym, ◌∙◌, arith}, lemmas.{List.Folds.{find-append, list_any-append}, Bool.{or_left, or_right}}}, specs.List.{find, list_any}}
+use Rattle.std.specs.Option.{option_or, option_map}
+use Rattle.list_laws.{specs.Numbers.upto, proofs.{Cases.{by_test, by_less, by_option}, Counts.Passing}}
 
 -- where no number below n passes, none is found
 pub find_upto_none : (p : ℕ → Bool) (n : ℕ) → ((i : ℕ) → i < n → p i ≡ false) → find p (upto n) ≡ None

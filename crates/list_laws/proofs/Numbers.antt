@@ -1,9 +1,7 @@
 -- The numbers in order, as a list: its length, its elements, its prefixes, and what a function makes of them.
-use Rattle.std.proofs.Common.{◌≡◌, ℕ, zero, suc, ◌+◌, ◌<◌, ◌≤◌, List, [], ◌∷◌, ◌++◌, length, take, get_or, map, Some, slice_get, refl, ◌∙◌, ap, arith, add-one, length-append}
-use Rattle.std.proofs.lemmas.List.{get_or_push, get_or_append_left, take_all, take-append-le, map_push, length-map, get_or-map}
-use Rattle.std.proofs.lemmas.Option.{slice_get-get_or}
-use Rattle.list_laws.specs.Numbers.{upto}
-use Rattle.list_laws.proofs.Cases.{by_less}
+use Rattle.std.proofs.{Common.{◌≡◌, ℕ, zero, suc, ◌+◌, ◌<◌, ◌≤◌, List, [], ◌∷◌, ◌++◌, length, take, get_or, map, Some, slice_get, refl, ◌∙◌, ap, arith, add-one, length-append}, lemmas.List.{get_or_push, get_or_append_left, take_all, take-append-le}}
+use Rattle.std.proofs.lemmas.{List.{map_push, length-map, get_or-map}, Option.slice_get-get_or}
+use Rattle.list_laws.{specs.Numbers.upto, proofs.Cases.by_less}
 
 -- there are n numbers below n
 pub length-upto : (n : ℕ) → length (upto n) ≡ n

@@ -1,9 +1,7 @@
 -- The numbers below m + n: those below m, and then n more.
-use Rattle.std.proofs.Common.{add-zero, ◌≡◌, ℕ, zero, suc, ◌+◌, ◌<◌, ◌≤◌, Bool, false, ◌||◌, List, [], ◌∷◌, ◌++◌, length, take, drop, refl, sym, ◌∙◌, ap, arith, append_assoc, length-append}
-use Rattle.std.proofs.{lemmas.List.{take_at, take-append-drop, length-take-le}, lemmas.List.Folds.list_any-append, Math.Bool.{or-false, or_assoc}}
-use Rattle.std.specs.List.{count_by, list_any}
-use Rattle.list_laws.specs.Numbers.{upto}
-use Rattle.list_laws.proofs.Counts.{count_upto-suc}
+use Rattle.std.proofs.{Common.{add-zero, ◌≡◌, ℕ, zero, suc, ◌+◌, ◌<◌, ◌≤◌, Bool, false, ◌||◌, List, [], ◌∷◌, ◌++◌, length, take, drop, refl, sym, ◌∙◌, ap, arith, append_assoc, length-append}, lemmas.List.{take_at, take-append-drop, length-take-le}}
+use Rattle.std.{proofs.{lemmas.List.Folds.list_any-append, Math.Bool.{or-false, or_assoc}}, specs.List.{count_by, list_any}}
+use Rattle.list_laws.{specs.Numbers.upto, proofs.Counts.count_upto-suc}
 
 sum-suc : (m n : ℕ) → m + suc n ≡ suc (m + n)
 sum-suc m n = omega arith

@@ -1,6 +1,6 @@
 -- The first element of a list that passes a test: its place, and what is before it.
-use Rattle.std.specs.{Prelude.{ℕ, ◌≡◌, ◌+◌, Bool, false, List, ◌∷◌}, List.{before_first, position_or_len, list_all, position_from, AllByRecursion}}
-use Rattle.std.proofs.{Common.{suc, arith, refl, true, not, cond, [], Some, None, sym, ap, ◌∙◌}, lemmas.Bool.and_parts}
+use Rattle.std.{specs.{Prelude.{ℕ, ◌≡◌, ◌+◌, Bool, false, List, ◌∷◌}, List.{before_first, position_or_len, list_all, position_from, AllByRecursion}}, proofs.Common.{suc, arith, refl, true, not, cond, [], Some, None, sym, ap, ◌∙◌}}
+use Rattle.std.proofs.lemmas.Bool.{and_parts}
 use Rattle.list_laws.proofs.Cases.{by_test}
 
 one_more : (n : ℕ) → 1 + n ≡ suc n

@@ -1,9 +1,6 @@
 -- Counts over the prefixes of a list.
-use Rattle.std.proofs.Common.{◌≡◌, ℕ, zero, suc, ◌+◌, ◌<◌, ◌≤◌, Bool, cond, List, ◌++◌, length, take, get_or, refl, sym, ◌∙◌, ap, arith, add-one}
-use Rattle.std.specs.List.{count_by}
-use Rattle.std.proofs.lemmas.{List.take_all, List.Sums.sum_by_more, List.Sums.sum_by-append}
-use Rattle.list_laws.specs.Numbers.{upto}
-use Rattle.list_laws.proofs.Counts.{count_upto-suc}
+use Rattle.std.{proofs.{Common.{◌≡◌, ℕ, zero, suc, ◌+◌, ◌<◌, ◌≤◌, Bool, cond, List, ◌++◌, length, take, get_or, refl, sym, ◌∙◌, ap, arith, add-one}, lemmas.List.{take_all, Sums.{sum_by_more, sum_by-append}}}, specs.List.count_by}
+use Rattle.list_laws.{specs.Numbers.upto, proofs.Counts.count_upto-suc}
 
 -- with one element more, the count grows by one where that element passes
 pub count_take_more : {X : Type 0} (p : X → Bool) (xs : List X) (i : ℕ) (d : X) → i < length xs → count_by p (take (i + 1) xs) ≡ count_by p (take i xs) + cond (p (get_or xs i d)) 1 0

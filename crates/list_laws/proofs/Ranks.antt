@@ -1,11 +1,7 @@
 -- The numbers below n that pass a test, in order: the place of each is how many pass before it.
-use Rattle.std.proofs.Common.{◌≡◌, ℕ, zero, suc, ◌+◌, ◌<◌, Bool, true, false, [], ◌∷◌, ◌++◌, length, get_or, Some, slice_get, sym, ◌∙◌, ap, arith}
-use Rattle.std.specs.List.{count_by, filter}
-use Rattle.std.proofs.lemmas.List.{append-nil, get_or_push, get_or_append_left, length_push}
-use Rattle.std.proofs.lemmas.{List.Elements.filter-append, List.Sums.length-filter, Bool.cond-true, Bool.cond-false, Option.slice_get-get_or}
-use Rattle.std.proofs.lemmas.{Option.slice_get_within, Option.get_or_from_slice_get}
-use Rattle.list_laws.specs.Numbers.{upto}
-use Rattle.list_laws.proofs.{Cases.by_test, Cases.by_less, Counts.count_upto_past}
+use Rattle.std.proofs.{Common.{◌≡◌, ℕ, zero, suc, ◌+◌, ◌<◌, Bool, true, false, [], ◌∷◌, ◌++◌, length, get_or, Some, slice_get, sym, ◌∙◌, ap, arith}, lemmas.List.{append-nil, get_or_push, get_or_append_left, length_push, Elements.filter-append}}
+use Rattle.std.{proofs.lemmas.{List.Sums.length-filter, Bool.{cond-true, cond-false}, Option.{slice_get-get_or, slice_get_within, get_or_from_slice_get}}, specs.List.{count_by, filter}}
+use Rattle.list_laws.{specs.Numbers.upto, proofs.{Cases.{by_test, by_less}, Counts.count_upto_past}}
 
 -- a number that passes a test is the last of those up to it that pass
 pub filter_upto_yes : (p : ℕ → Bool) (n : ℕ) → p n ≡ true → filter p (upto (suc n)) ≡ filter p (upto n) ++ n ∷ []

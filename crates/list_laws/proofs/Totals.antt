@@ -1,8 +1,6 @@
 -- Totals over the numbers below n: where the numbers fall into classes, each is counted once.
-use Rattle.std.proofs.{Common.{◌≡◌, ℕ, zero, suc, ◌+◌, ◌<◌, false, ◌==◌, cond, refl, sym, arith, eq-eqb}, lemmas.List.Sums.sum_by_push, lemmas.Bool.ne_eqb}
-use Rattle.std.specs.List.{count_by, sum_by}
-use Rattle.list_laws.specs.Numbers.{upto}
-use Rattle.list_laws.proofs.Counts.{count_upto-suc, count_upto_one_more, count_upto_none}
+use Rattle.std.{proofs.{Common.{◌≡◌, ℕ, zero, suc, ◌+◌, ◌<◌, false, ◌==◌, cond, refl, sym, arith, eq-eqb}, lemmas.{List.Sums.sum_by_push, Bool.ne_eqb}}, specs.List.{count_by, sum_by}}
+use Rattle.list_laws.{specs.Numbers.upto, proofs.Counts.{count_upto-suc, count_upto_one_more, count_upto_none}}
 
 -- functions that agree below n have the same total
 pub sum_upto_same : (f g : ℕ → ℕ) (n : ℕ) → ((i : ℕ) → i < n → f i ≡ g i) → sum_by f (upto n) ≡ sum_by g (upto n)

@@ -1,5 +1,7 @@
 -- A printed cell is read back, whatever blanks fill it.
-use Rattle.litmus_text.proofs.Vocabulary.{Bool, Column, List, Ok, WithPlaces, Writing, [], after_run, all_both, and_from, ap, append-nil, append_assoc, arith, before_blanks, by_test, cell_read, cut_back, cut_none, false, instr_in, instr_or_nothing, instr_put, instr_read, is_blank, is_cell_byte, is_inked, is_nil, kept_inked, leading_run, list_all, operands_if, operands_in, refl, replicate, spaces_class, trim_blanks, trimmed_padded, true, without_class, written_in, ℕ, ◌++◌, ◌∷◌, ◌≡◌}
+use Rattle.litmus_text.proofs.Vocabulary.{Bool, Column, List, Ok, WithPlaces, Writing, [], after_run, all_both, and_from, ap, append-nil, append_assoc, arith, before_blanks, by_test, cell_read, cut_back, cut_none, false, instr_in, instr_or_nothing}
+use Rattle.litmus_text.proofs.Vocabulary.{instr_put, instr_read, is_blank, is_cell_byte, is_inked, is_nil, kept_inked, leading_run, list_all, operands_if, operands_in, refl, replicate, spaces_class, trim_blanks, trimmed_padded, true, without_class}
+use Rattle.litmus_text.proofs.Vocabulary.{written_in, ℕ, ◌++◌, ◌∷◌, ◌≡◌}
 
 -- so many blanks
 abbrev pub blanks : ℕ → List ℕ

@@ -1,6 +1,7 @@
 -- A cell that is kept padded, and the part of it that a row has.
 use Rattle.list_laws.proofs.Parts.{take-append-add}
-use Rattle.litmus_text.proofs.Vocabulary.{CELL_ROOM, List, MAX_INSTRUCTION_TEXT, PutsCell, ap, arith, codes, drop, drop-replicate, length, length-append, length-replicate, padded, padded_at, page_after, replicate, subst, sym, take, take-append_seam, take-replicate, ℕ, ◌++◌, ◌+◌, ◌-◌, ◌∙◌, ◌≡◌, ◌≢◌, ◌≤◌}
+use Rattle.litmus_text.proofs.Vocabulary.{CELL_ROOM, List, MAX_INSTRUCTION_TEXT, PutsCell, ap, arith, codes, drop, drop-replicate, length, length-append, length-replicate, padded, padded_at, page_after, replicate, subst, sym, take, take-append_seam}
+use Rattle.litmus_text.proofs.Vocabulary.{take-replicate, ℕ, ◌++◌, ◌+◌, ◌-◌, ◌∙◌, ◌≡◌, ◌≢◌, ◌≤◌}
 
 -- a text that was copied between ` | ` and blanks is the text of that cell
 pub copied_text : (text copy rest : List ℕ) → copy ≡ text → take (length text) (copy ++ rest) ≡ text

@@ -1,7 +1,8 @@
 -- The printed condition is read back.
-use Rattle.litmus_text.proofs.Vocabulary.{AllByRecursion, AtPlace, CondSeen, Exists, Forall, InRegister, LeftSeen, Lines, List, MAX_TERMS, Mentioned, None, NotExists, Ok, Quantifier, Setting, TermFits, TermSeen, Writing, [], after_locations, after_run, all_both, all_joined, append-nil, append_assoc, arith, closing, codes, cond_scanned, cond_text, condition_read, decimal, ends, ends_rows, is_ascii_digit, is_known, is_line_byte, joining, leading_run, left_back, left_mention, left_put, left_text, left_unblanked, length, line, list_all, opening_back, quantifier_word, refl, right_back, stops, suc, term_here, term_parts, term_text, terms_here, terms_mention, terms_pass, terms_text, true, ℕ, ◌++◌, ◌<◌, ◌∷◌, ◌≡◌, ◌≤◌}
-use Rattle.litmus_text.proofs.{ConditionScanned.scanned_is, ElementLaws.all_weaker, LineBack.IsLine, HeadBack.line_is}
-use Rattle.litmus_text.proofs.NamesBack.{Within, within_self, within_trans, IsAmong, place_added}
+use Rattle.litmus_text.proofs.Vocabulary.{AllByRecursion, AtPlace, CondSeen, Exists, Forall, InRegister, LeftSeen, Lines, List, MAX_TERMS, Mentioned, None, NotExists, Ok, Quantifier, Setting, TermFits, TermSeen, Writing, [], after_locations, after_run}
+use Rattle.litmus_text.proofs.Vocabulary.{all_both, all_joined, append-nil, append_assoc, arith, closing, codes, cond_scanned, cond_text, condition_read, decimal, ends, ends_rows, is_ascii_digit, is_known, is_line_byte, joining, leading_run, left_back}
+use Rattle.litmus_text.proofs.Vocabulary.{left_mention, left_put, left_text, left_unblanked, length, line, list_all, opening_back, quantifier_word, refl, right_back, stops, suc, term_here, term_parts, term_text, terms_here, terms_mention, terms_pass}
+use Rattle.litmus_text.proofs.{Vocabulary.{terms_text, true, ℕ, ◌++◌, ◌<◌, ◌∷◌, ◌≡◌, ◌≤◌}, ConditionScanned.scanned_is, ElementLaws.all_weaker, LineBack.IsLine, HeadBack.line_is, NamesBack.{Within, within_self, within_trans, IsAmong, place_added}}
 
 state : List (List ℕ) → Mentioned
 state s = record { names = s; over = None }

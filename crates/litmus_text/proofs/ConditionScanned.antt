@@ -1,6 +1,8 @@
 -- A condition that is read term by term is read as it is defined.
 use Rattle.std.proofs.lemmas.Grind.{flat_map-append}
-use Rattle.litmus_text.proofs.Vocabulary.{CondEntry, CondPart, CondRead, Err, Fault, List, MAX_TERMS, Mentioned, None, Ok, Option, Quantifier, Result, Setting, Some, TermRead, TermSeen, TermsRead, TextError, TooLarge, Writing, [], a_naming, a_term, an_error, and_more, ap, append_assoc, arith, at_begin, bad, cond_here, cond_scanned, condition_of, end_at_start, entries_of, error_in, filter, flat_map, follow_part, follow_read, names_in, none_over, not, number_added, names_added, opening_read, over_in_line, refl, suc, term_here, term_in, term_part, terms_here, unblanked, unless, with_before, with_follow, with_names, zero, ℕ, ◌++◌, ◌==◌, ◌>>=◌, ◌∙◌, ◌∷◌, ◌≡◌}
+use Rattle.litmus_text.proofs.Vocabulary.{CondEntry, CondPart, CondRead, Err, Fault, List, MAX_TERMS, Mentioned, None, Ok, Option, Quantifier, Result, Setting, Some, TermRead, TermSeen, TermsRead, TextError, TooLarge, Writing, [], a_naming, a_term}
+use Rattle.litmus_text.proofs.Vocabulary.{an_error, and_more, ap, append_assoc, arith, at_begin, bad, cond_here, cond_scanned, condition_of, end_at_start, entries_of, error_in, filter, flat_map, follow_part, follow_read, names_in, none_over, not}
+use Rattle.litmus_text.proofs.Vocabulary.{number_added, names_added, opening_read, over_in_line, refl, suc, term_here, term_in, term_part, terms_here, unblanked, unless, with_before, with_follow, with_names, zero, ℕ, ◌++◌, ◌==◌, ◌>>=◌, ◌∙◌, ◌∷◌, ◌≡◌}
 use Rattle.litmus_text.proofs.RowsScanned.{stop, with_names_append}
 
 -- the errors of entries, by the names of places before them

@@ -1,6 +1,5 @@
 -- The pieces of a text that is cut, and lines that are passed over.
-use Rattle.litmus_text.proofs.Vocabulary.{CutParts, List, [], after_run, ap, arith, before_blanks, is_blank, is_comment, is_nil, is_passed, list_all, pieces, refl, sym, trim_blanks, ℕ, ◌||◌, ◌∙◌, ◌∷◌, ◌≡◌}
-use Rattle.litmus_text.proofs.CutBack.{piece_back}
+use Rattle.litmus_text.proofs.{Vocabulary.{CutParts, List, [], after_run, ap, arith, before_blanks, is_blank, is_comment, is_nil, is_passed, list_all, pieces, refl, sym, trim_blanks, ℕ, ◌||◌, ◌∙◌, ◌∷◌, ◌≡◌}, CutBack.piece_back}
 
 -- the pieces of a text that is cut are the first text and the pieces of the second
 pub pieces_cut : (sign : ℕ) (text prefix remainder : List ℕ) → CutParts sign text prefix remainder → pieces sign text ≡ prefix ∷ pieces sign remainder

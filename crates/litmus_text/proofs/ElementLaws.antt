@@ -1,6 +1,7 @@
 -- Facts about one element of a list.
 use Rattle.std.proofs.lemmas.List.{get_or-map}
-use Rattle.litmus_text.proofs.Vocabulary.{All, All-append, AllByRecursion, AllPass-from_list_all, Bool, List, [], arith, enumerate_from, get_or, get_or-enumerate_from, length, length-map, list_all, ltb-true, map, nat_lt, subst, sym, true, ℕ, ◌++◌, ◌<◌, ◌∷◌, ◌≡◌, ◌≤◌}
+use Rattle.litmus_text.proofs.Vocabulary.{All, All-append, AllByRecursion, AllPass-from_list_all, Bool, List, [], arith, enumerate_from, get_or, get_or-enumerate_from, length, length-map, list_all, ltb-true, map, nat_lt, subst, sym, true, ℕ, ◌++◌, ◌<◌}
+use Rattle.litmus_text.proofs.Vocabulary.{◌∷◌, ◌≡◌, ◌≤◌}
 
 -- a test that all elements pass is passed by each
 pub passes_at : {X : Type 0} (p : X → Bool) (xs : List X) (i : ℕ) (d : X) → list_all p xs ≡ true → i < length xs → p (get_or xs i d) ≡ true

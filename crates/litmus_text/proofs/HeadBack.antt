@@ -1,6 +1,7 @@
 -- The printed header and the printed edges are read back.
-use Rattle.litmus_text.proofs.Vocabulary.{AArch64, ARM, ArchName, Bool, Edge, IsTestName, Lines, List, Ok, PPC, RISCV, Some, X86, [], after_settings, all_both, and_parts, ap, arch_word, arith, by_test, bytes_eq, bytes_same, codes, cut_back, each_edge, edges_in_order, edges_line, false, flat_map, header_line, header_read, is_blank, is_line_byte, is_name_byte, is_passed, is_setting, join_by, leading_run, line, list_all, list_all-weaker, not, one_word, quote_cut, quote_read, refl, take, trimmed_class, true, without_class, word_of, words, words_both, ℕ, ◌&&◌, ◌++◌, ◌==◌, ◌∷◌, ◌≡◌}
-use Rattle.litmus_text.proofs.LineBack.{IsLine}
+use Rattle.litmus_text.proofs.Vocabulary.{AArch64, ARM, ArchName, Bool, Edge, IsTestName, Lines, List, Ok, PPC, RISCV, Some, X86, [], after_settings, all_both, and_parts, ap, arch_word, arith, by_test, bytes_eq, bytes_same, codes, cut_back, each_edge}
+use Rattle.litmus_text.proofs.Vocabulary.{edges_in_order, edges_line, false, flat_map, header_line, header_read, is_blank, is_line_byte, is_name_byte, is_passed, is_setting, join_by, leading_run, line, list_all, list_all-weaker, not, one_word, quote_cut}
+use Rattle.litmus_text.proofs.{Vocabulary.{quote_read, refl, take, trimmed_class, true, without_class, word_of, words, words_both, ℕ, ◌&&◌, ◌++◌, ◌==◌, ◌∷◌, ◌≡◌}, LineBack.IsLine}
 
 -- a name byte is one of a line, and no blank
 name_on_line : (b : ℕ) → is_name_byte b ≡ true → is_line_byte b ≡ true

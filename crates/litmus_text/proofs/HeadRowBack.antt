@@ -1,6 +1,7 @@
 -- The printed header of the table is read back.
-use Rattle.litmus_text.proofs.Vocabulary.{flat_map, length-map, length-enumerate_from, head_error, AllByRecursion, Begun, Lines, List, Ok, ThreadCode, Writing, [], after_run, all_both, and_from, append_assoc, arith, before_padded, bytes_same, cell_text, column_of, columns_of, decimal, decimal_passes, enumerate_from, head_read, heads_read, inked_ends, is_blank, is_head, is_place_byte, is_row_byte, length, line, list_all, map, nat_lt, not, refl, replicate_more, row_line, spaces_class, trim_blanks, true, ℕ, ◌+◌, ◌<◌, ◌^◌, ◌∙◌, ◌∷◌, ◌≡◌, ◌≤◌}
-use Rattle.litmus_text.proofs.{CellBack.padded, LineBack.IsLine, TableBack.spaced, TableBack.row_cells, TableBack.cells_without, TableBack.row_line_is}
+use Rattle.litmus_text.proofs.Vocabulary.{flat_map, length-map, length-enumerate_from, head_error, AllByRecursion, Begun, Lines, List, Ok, ThreadCode, Writing, [], after_run, all_both, and_from, append_assoc, arith, before_padded, bytes_same, cell_text}
+use Rattle.litmus_text.proofs.Vocabulary.{column_of, columns_of, decimal, decimal_passes, enumerate_from, head_read, heads_read, inked_ends, is_blank, is_head, is_place_byte, is_row_byte, length, line, list_all, map, nat_lt, not, refl, replicate_more}
+use Rattle.litmus_text.proofs.{Vocabulary.{row_line, spaces_class, trim_blanks, true, ℕ, ◌+◌, ◌<◌, ◌^◌, ◌∙◌, ◌∷◌, ◌≡◌, ◌≤◌}, CellBack.padded, LineBack.IsLine, TableBack.{spaced, row_cells, cells_without, row_line_is}}
 
 place_on_row : (b : ℕ) → is_place_byte b ≡ true → is_row_byte b ≡ true
 place_on_row b h = grind arith

@@ -1,8 +1,10 @@
 -- The printed initial state is read back.
 use Rattle.relax_edges.specs.declared.kinds.Value.TheVariants as values
-use Rattle.litmus_text.proofs.Vocabulary.{AllByRecursion, Bool, Joined, Lines, Link, LinkFits, List, Ok, Puts, ThreadCode, WritesBack, Writing, [], all_append, all_both, all_parts, and_from, and_parts, ap, append-nil, append_assoc, arith, brace_ends, braced, braced_read, closed, codes, cut_back, cut_none, ends, enumerate_from, false, flat_map, flat_map-append, initial_lines, initial_read, is_blank, is_line_byte, is_without, item_text, items_lines, join_by, length, length-append, line, link_values, links_mention, links_of, links_once, list_all, list_all-append, list_all-weaker, lt-ltb, map, name_in, nat_lt, no_text, not, place_in, refl, sym, true, with_text, without_class, ℕ, ◌&&◌, ◌++◌, ◌+◌, ◌==◌, ◌>>=◌, ◌∙◌, ◌∷◌, ◌≡◌, ◌≤◌}
-use Rattle.litmus_text.proofs.{ElementLaws.all_weaker, LineBack.IsLine, LineBack.before, HeadBack.line_is, HeadBack.not_all_blank, NamesBack.Within, NamesBack.IsAmong}
-use Rattle.litmus_text.proofs.ItemBack.{core, core_is, core_bytes, is_item_byte, all_items_back}
+use Rattle.litmus_text.proofs.Vocabulary.{AllByRecursion, Bool, Joined, Lines, Link, LinkFits, List, Ok, Puts, ThreadCode, WritesBack, Writing, [], all_append, all_both, all_parts, and_from, and_parts, ap, append-nil, append_assoc, arith, brace_ends}
+use Rattle.litmus_text.proofs.Vocabulary.{braced, braced_read, closed, codes, cut_back, cut_none, ends, enumerate_from, false, flat_map, flat_map-append, initial_lines, initial_read, is_blank, is_line_byte, is_without, item_text, items_lines, join_by}
+use Rattle.litmus_text.proofs.Vocabulary.{length, length-append, line, link_values, links_mention, links_of, links_once, list_all, list_all-append, list_all-weaker, lt-ltb, map, name_in, nat_lt, no_text, not, place_in, refl, sym, true, with_text}
+use Rattle.litmus_text.proofs.{Vocabulary.{without_class, ℕ, ◌&&◌, ◌++◌, ◌+◌, ◌==◌, ◌>>=◌, ◌∙◌, ◌∷◌, ◌≡◌, ◌≤◌}, ElementLaws.all_weaker, LineBack.{IsLine, before}, HeadBack.{line_is, not_all_blank}, NamesBack.{Within, IsAmong}, ItemBack.{core, core_is}}
+use Rattle.litmus_text.proofs.ItemBack.{core_bytes, is_item_byte, all_items_back}
 
 -- the text between braces that lines give
 pub record Gathered (joined : Joined) (n : ℕ) (text : List ℕ) (m : ℕ) (lines : List (List ℕ)) (after : ℕ → Lines) : Type 0 where

@@ -1,8 +1,11 @@
 -- The printed items of the initial state are read back.
 use Rattle.relax_edges.specs.declared.kinds.Value.TheVariants as values
-use Rattle.litmus_text.proofs.Vocabulary.{AllByRecursion, AllPass-from_list_all, BadTerm, Begun, Bool, InRegister, IsDistinct, Joined, LeftSeen, Link, LinkFits, List, None, Ok, Option, PassLeft, Puts, Some, WritesBack, Writing, [], a_place, after_run, all_both, and_from, and_parts, ap, append-nil, append_assoc, arith, before_blanks, bytes_eq, bytes_same, cut_at, cut_back, false, flat_map, found, get_or, gives, has_form, inked_ends, is_blank, is_given, is_line_byte, is_place_byte, is_place_name, is_register_name, is_without, item_of, item_parts, item_read, item_text, items_read, left_at_start, left_back, left_passes, left_read, left_text, length, link_values, links_mention, links_once, list_all, list_all-weaker, list_any, lt-ltb, map, name_in, names_added, nat_lt, nat_tests, not, not-true, not_digits, nothing_begun, number_in, number_of, only_known, pieces, place_in, place_passes, position_from, refl, some_item, suc, sym, trim_blanks, true, unblanked, without_class, worth_if, worth_of, zero-add, ℕ, ◌&&◌, ◌++◌, ◌+◌, ◌<◌, ◌==◌, ◌||◌, ◌∙◌, ◌∷◌, ◌≡◌, ◌≤◌}
-use Rattle.litmus_text.proofs.{CutBack.piece_back, CutBack.piece_last, RowBack.added_within}
-use Rattle.litmus_text.proofs.NamesBack.{Within, within_self, within_trans, within_number, IsAmong, place_added}
+use Rattle.litmus_text.proofs.Vocabulary.{AllByRecursion, AllPass-from_list_all, BadTerm, Begun, Bool, InRegister, IsDistinct, Joined, LeftSeen, Link, LinkFits, List, None, Ok, Option, PassLeft, Puts, Some, WritesBack, Writing, [], a_place, after_run}
+use Rattle.litmus_text.proofs.Vocabulary.{all_both, and_from, and_parts, ap, append-nil, append_assoc, arith, before_blanks, bytes_eq, bytes_same, cut_at, cut_back, false, flat_map, found, get_or, gives, has_form, inked_ends, is_blank, is_given}
+use Rattle.litmus_text.proofs.Vocabulary.{is_line_byte, is_place_byte, is_place_name, is_register_name, is_without, item_of, item_parts, item_read, item_text, items_read, left_at_start, left_back, left_passes, left_read, left_text, length, link_values}
+use Rattle.litmus_text.proofs.Vocabulary.{links_mention, links_once, list_all, list_all-weaker, list_any, lt-ltb, map, name_in, names_added, nat_lt, nat_tests, not, not-true, not_digits, nothing_begun, number_in, number_of, only_known, pieces, place_in}
+use Rattle.litmus_text.proofs.{Vocabulary.{place_passes, position_from, refl, some_item, suc, sym, trim_blanks, true, unblanked, without_class, worth_if, worth_of, zero-add, ℕ, ◌&&◌, ◌++◌, ◌+◌, ◌<◌, ◌==◌, ◌||◌, ◌∙◌, ◌∷◌, ◌≡◌, ◌≤◌}, CutBack.piece_back}
+use Rattle.litmus_text.proofs.{CutBack.piece_last, RowBack.added_within, NamesBack.{Within, within_self, within_trans, within_number, IsAmong, place_added}}
 
 -- a byte of an item: one of a line that is no blank and ends neither an item nor the initial state
 abbrev pub is_item_byte : ℕ → Bool

@@ -1,5 +1,6 @@
 -- The item of a text, by what the reading of conditions knows of its left side.
-use Rattle.litmus_text.proofs.Vocabulary.{BadTerm, Err, Fault, LeftSeen, List, None, Ok, Option, Some, Writing, [], arith, bytes_eq, bytes_eq-Decides, cond, false, found, has_form, is_nil, is_register_name, item_if, item_with, left_at_start, left_read, length, list_all, only_known, position_from, refl, trim_blanks, trimmed_start, true, unblanked, whole_left, ℕ, ◌+◌, ◌==◌, ◌∷◌, ◌≡◌}
+use Rattle.litmus_text.proofs.Vocabulary.{BadTerm, Err, Fault, LeftSeen, List, None, Ok, Option, Some, Writing, [], arith, bytes_eq, bytes_eq-Decides, cond, false, found, has_form, is_nil, is_register_name, item_if, item_with, left_at_start, left_read}
+use Rattle.litmus_text.proofs.Vocabulary.{length, list_all, only_known, position_from, refl, trim_blanks, trimmed_start, true, unblanked, whole_left, ℕ, ◌+◌, ◌==◌, ◌∷◌, ◌≡◌}
 
 -- a name without the form of a register's is no register's
 no_register : (names : List (List ℕ)) (name : List ℕ) (i : ℕ) → list_all is_register_name names ≡ true → is_register_name name ≡ false → position_from (λ x. bytes_eq x name) i names ≡ None

@@ -1,6 +1,6 @@
 -- Reading the initial state as loops do.
-use Rattle.litmus_text.proofs.Vocabulary.{Begun, CutParts, Err, Joined, Lines, List, None, Ok, Result, Some, TextError, Writing, [], all_joined, ap, append_assoc, arith, braced, but_last, closed, cut_at, ends, first_piece, is_without, item_read, items_read, length, line, open_to, pieces, refl, sym, true, with_text, ℕ, ◌+◌, ◌==◌, ◌>>=◌, ◌∙◌, ◌∷◌, ◌≡◌}
-use Rattle.litmus_text.proofs.{CutBack.piece_last, CutLaws.pieces_cut}
+use Rattle.litmus_text.proofs.Vocabulary.{Begun, CutParts, Err, Joined, Lines, List, None, Ok, Result, Some, TextError, Writing, [], all_joined, ap, append_assoc, arith, braced, but_last, closed, cut_at, ends, first_piece, is_without, item_read}
+use Rattle.litmus_text.proofs.{Vocabulary.{items_read, length, line, open_to, pieces, refl, sym, true, with_text, ℕ, ◌+◌, ◌==◌, ◌>>=◌, ◌∙◌, ◌∷◌, ◌≡◌}, CutBack.piece_last, CutLaws.pieces_cut}
 
 -- a blank and a line after a text
 pub blank_before : (j : Joined) (n : ℕ) (text : List ℕ) → with_text (with_text j n (32 ∷ [])) n text ≡ with_text j n (32 ∷ text)

@@ -1,5 +1,6 @@
 -- Texts that are appended to a page with a separator between.
-use Rattle.litmus_text.proofs.Vocabulary.{List, [], ap, append-nil, append_assoc, arith, flat_map-append, get_or, join_by, length, length-append, length-take-le, page_after, page_more, page_nothing, refl, separator_at, sym, take, take_all, take_more, ℕ, ◌*◌, ◌++◌, ◌+◌, ◌<◌, ◌∙◌, ◌∷◌, ◌≡◌, ◌≢◌, ◌≤◌}
+use Rattle.litmus_text.proofs.Vocabulary.{List, [], ap, append-nil, append_assoc, arith, flat_map-append, get_or, join_by, length, length-append, length-take-le, page_after, page_more, page_nothing, refl, separator_at, sym, take, take_all, take_more, ℕ}
+use Rattle.litmus_text.proofs.Vocabulary.{◌*◌, ◌++◌, ◌+◌, ◌<◌, ◌∙◌, ◌∷◌, ◌≡◌, ◌≢◌, ◌≤◌}
 
 -- before the first element there is no separator
 pub separator_first : (separator : List ℕ) (i : ℕ) → i ≡ 0 → [] ≡ separator_at separator i

@@ -1,7 +1,7 @@
 -- Cells that are kept are those of the columns, one column after the other.
 use Rattle.std.proofs.{Common.set, lemmas.List.length-append}
-use Rattle.litmus_text.proofs.Vocabulary.{Code, HoldsColumn, List, Writing, [], all_texts, ap, append-nil, append_assoc, arith, column_of, columns_of, get_or, get_or-append-add, get_or-take, get_or_append_left, length, length-map, map, map-set, max, suc, sym, take, take-append-le, take_all, take_more, take_more_set, thread_code_of, ℕ, ◌++◌, ◌+◌, ◌<◌, ◌∙◌, ◌∷◌, ◌≡◌, ◌≤◌}
-use Rattle.litmus_text.proofs.TableLaws.{column_at, length_columns, length-column_of, widest, widest_more}
+use Rattle.litmus_text.proofs.Vocabulary.{Code, HoldsColumn, List, Writing, [], all_texts, ap, append-nil, append_assoc, arith, column_of, columns_of, get_or, get_or-append-add, get_or-take, get_or_append_left, length, length-map, map, map-set, max, suc}
+use Rattle.litmus_text.proofs.{Vocabulary.{sym, take, take-append-le, take_all, take_more, take_more_set, thread_code_of, ℕ, ◌++◌, ◌+◌, ◌<◌, ◌∙◌, ◌∷◌, ◌≡◌, ◌≤◌}, TableLaws.{column_at, length_columns, length-column_of, widest, widest_more}}
 
 length_take : (n : ℕ) (xs : List (List ℕ)) → length (take n xs) ≤ n
 length_take (suc n) (x ∷ xs) = let rest = length_take n xs in omega arith

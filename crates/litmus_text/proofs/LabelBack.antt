@@ -1,6 +1,7 @@
 -- The labels of printed threads are judged to be right: each is in its thread once, after the branch.
 use Rattle.micro_ops.specs.declared.operation.Micro.TheVariants as ops
-use Rattle.litmus_text.proofs.Vocabulary.{flat_map, with_after, landing_error, AllByRecursion, List, Micro, Ok, [], all_labels_judged, arith, code_lands, column_so_far, comes_once, count_by, is_label_of, is_label_row, lands_among, map, op_renumbered, placed_from, refl, sum_by-cons, true, ℕ, ◌+◌, ◌∷◌, ◌≡◌}
+use Rattle.litmus_text.proofs.Vocabulary.{flat_map, with_after, landing_error, AllByRecursion, List, Micro, Ok, [], all_labels_judged, arith, code_lands, column_so_far, comes_once, count_by, is_label_of, is_label_row, lands_among, map, op_renumbered}
+use Rattle.litmus_text.proofs.Vocabulary.{placed_from, refl, sum_by-cons, true, ℕ, ◌+◌, ◌∷◌, ◌≡◌}
 
 label_kept : (label : ℕ) (table : List (List ℕ)) (names : ℕ → List ℕ) (op : Micro) → is_label_of label (op_renumbered table names op) ≡ is_label_of label op
 label_kept label table names op = grind arith

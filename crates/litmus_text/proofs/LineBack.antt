@@ -1,6 +1,6 @@
 -- Printed lines are the lines of their text.
-use Rattle.litmus_text.proofs.Vocabulary.{AllByRecursion, Lines, List, [], ap, append_assoc, class_kept, ends, false, first_piece, flat_map, is_line_byte, is_line_feed, is_passed, line, lines_from, lines_in, list_all, refl, slice_split, sym, true, with_line_feed, without_class, ℕ, ◌++◌, ◌+◌, ◌∙◌, ◌∷◌, ◌≡◌}
-use Rattle.litmus_text.proofs.CutBack.{piece_back}
+use Rattle.litmus_text.proofs.Vocabulary.{AllByRecursion, Lines, List, [], ap, append_assoc, class_kept, ends, false, first_piece, flat_map, is_line_byte, is_line_feed, is_passed, line, lines_from, lines_in, list_all, refl, slice_split, sym, true}
+use Rattle.litmus_text.proofs.{Vocabulary.{with_line_feed, without_class, ℕ, ◌++◌, ◌+◌, ◌∙◌, ◌∷◌, ◌≡◌}, CutBack.piece_back}
 
 -- a line of printed bytes that isn't passed over
 pub record IsLine (text : List ℕ) : Type 0 where

@@ -1,10 +1,10 @@
 -- All names that a test uses are in the table of its reading.
 use Rattle.micro_ops.specs.declared.operation.Micro.TheVariants as ops
-use Rattle.litmus_text.proofs.Vocabulary.{AllByRecursion, ArchName, CodeFits, IsReadable, Link, LinkFits, List, Micro, Puts, RowProgress, TermFits, TermSeen, TestReadsBack, TestSeen, ThreadCode, WritesBack, WritesCells, Writing, [], access_count, advanced, and_parts, ap, arith, columns_of, is_in, is_placed, is_some, labels_in, left_is_in, left_mention, length, length-map, length-range_with_len, links_mention, links_of, map, mentioned, mentioned_first, name_in, names_added, number_in, op_is_in, range_with_len, refl, row_line, row_mentions, subst, suc, sym, terms_mention, true, ℕ, ◌+◌, ◌∷◌, ◌≡◌, ◌≤◌}
-use Rattle.litmus_text.proofs.{ItemBack.links_within, ItemBack.links_among, TableBack.at_row, CondBack.terms_within, CondBack.term_among}
-use Rattle.litmus_text.proofs.NamesBack.{Within, within_self, within_trans, within_number, numbered_in, IsAmong, place_added, none_among}
-use Rattle.litmus_text.proofs.RowBack.{IsReady, row_within, rows_mention, rows_within, all_advance, row_among, mention_among, rows_among}
-use Rattle.litmus_text.proofs.WholeBack.{longest, covers, start_ready, drop_none, mentions, whole_back}
+use Rattle.litmus_text.proofs.Vocabulary.{AllByRecursion, ArchName, CodeFits, IsReadable, Link, LinkFits, List, Micro, Puts, RowProgress, TermFits, TermSeen, TestReadsBack, TestSeen, ThreadCode, WritesBack, WritesCells, Writing, [], access_count}
+use Rattle.litmus_text.proofs.Vocabulary.{advanced, and_parts, ap, arith, columns_of, is_in, is_placed, is_some, labels_in, left_is_in, left_mention, length, length-map, length-range_with_len, links_mention, links_of, map, mentioned, mentioned_first}
+use Rattle.litmus_text.proofs.{Vocabulary.{name_in, names_added, number_in, op_is_in, range_with_len, refl, row_line, row_mentions, subst, suc, sym, terms_mention, true, ℕ, ◌+◌, ◌∷◌, ◌≡◌, ◌≤◌}, ItemBack.{links_within, links_among}, TableBack.at_row}
+use Rattle.litmus_text.proofs.{CondBack.{terms_within, term_among}, NamesBack.{Within, within_self, within_trans, within_number, numbered_in, IsAmong, place_added, none_among}, RowBack.{IsReady, row_within, rows_mention, rows_within, all_advance}}
+use Rattle.litmus_text.proofs.{RowBack.{row_among, mention_among, rows_among}, WholeBack.{longest, covers, start_ready, drop_none, mentions, whole_back}}
 
 -- a name of a table is in a larger one
 in_larger : (s S : List (List ℕ)) (name : List ℕ) → Within s S → is_in s name ≡ true → is_in S name ≡ true

@@ -1,5 +1,7 @@
 -- Tables of names that grow by names of a larger table.
-use Rattle.litmus_text.proofs.Vocabulary.{AllByRecursion, Bool, IsDistinct, List, None, Option, Some, [], add-zero, all_append, ap, append-nil, append_assoc, arith, bytes_eq, bytes_eq-Decides, bytes_same, distinct_push, eqb, false, get_or, is_some, length, length-append, length-le_from_distinct_below, length-map, list_any, map, names_added, nat_lt, none_passes, number_added, number_in, number_or_next, place_in, position_from, refl, subst, sym, true, with_name, ℕ, ◌++◌, ◌+◌, ◌-◌, ◌<◌, ◌∙◌, ◌∷◌, ◌≡◌, ◌≤◌}
+use Rattle.litmus_text.proofs.Vocabulary.{AllByRecursion, Bool, IsDistinct, List, None, Option, Some, [], add-zero, all_append, ap, append-nil, append_assoc, arith, bytes_eq, bytes_eq-Decides, bytes_same, distinct_push, eqb, false, get_or, is_some}
+use Rattle.litmus_text.proofs.Vocabulary.{length, length-append, length-le_from_distinct_below, length-map, list_any, map, names_added, nat_lt, none_passes, number_added, number_in, number_or_next, place_in, position_from, refl, subst, sym, true}
+use Rattle.litmus_text.proofs.Vocabulary.{with_name, ℕ, ◌++◌, ◌+◌, ◌-◌, ◌<◌, ◌∙◌, ◌∷◌, ◌≡◌, ◌≤◌}
 
 none_some : {i : ℕ} {G : Type 0} → None ≡ Some i → G
 none_some e = cc

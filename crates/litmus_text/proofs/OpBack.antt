@@ -1,8 +1,10 @@
 -- The name of an operation gets the number that the plan of the columns has for it.
 use Rattle.micro_ops.specs.declared.operation.Micro.TheVariants as ops
 use Rattle.arch_trait.specs.declared.reading.InstrError.TheVariants as errors
-use Rattle.litmus_text.proofs.Vocabulary.{AllPass-from_list_all, Err, List, Micro, None, Ok, Some, and_parts, ap, arith, by_test, bytes_eq, cases_lt, cond, eqb-false, get_or-range_with_len, inl, inr, is_next, is_place_name, is_placed, is_register_name, is_some, label_name, label_table, labels_after, leb-true, length, length-map-range_with_len, list_all, lt-ltb, ltb-true, map, map-range_with_len_more, max, mentioned, names_added, nat_le, nat_lt, number_added, number_in, number_or_next, op_name, op_renumbered, place_in, position_from, range_with_len, read_numbered, refl, suc, sym, true, with_label, with_name, with_number, with_place, zero, zero-add, ℕ, ◌&&◌, ◌+◌, ◌<◌, ◌==◌, ◌∙◌, ◌≡◌, ◌≤◌}
-use Rattle.litmus_text.proofs.NamesBack.{Within, within_number, IsAmong, place_added}
+use Rattle.litmus_text.proofs.Vocabulary.{AllPass-from_list_all, Err, List, Micro, None, Ok, Some, and_parts, ap, arith, by_test, bytes_eq, cases_lt, cond, eqb-false, get_or-range_with_len, inl, inr, is_next, is_place_name, is_placed, is_register_name}
+use Rattle.litmus_text.proofs.Vocabulary.{is_some, label_name, label_table, labels_after, leb-true, length, length-map-range_with_len, list_all, lt-ltb, ltb-true, map, map-range_with_len_more, max, mentioned, names_added, nat_le, nat_lt, number_added}
+use Rattle.litmus_text.proofs.Vocabulary.{number_in, number_or_next, op_name, op_renumbered, place_in, position_from, range_with_len, read_numbered, refl, suc, sym, true, with_label, with_name, with_number, with_place, zero, zero-add, ℕ, ◌&&◌, ◌+◌, ◌<◌}
+use Rattle.litmus_text.proofs.{Vocabulary.{◌==◌, ◌∙◌, ◌≡◌, ◌≤◌}, NamesBack.{Within, within_number, IsAmong, place_added}}
 
 label_same : (i j : ℕ) → i < 64 → j < 64 → bytes_eq (label_name i) (label_name j) ≡ (i == j)
 label_same i j h k = grind arith

@@ -1,7 +1,7 @@
 -- The values, the operations and the threads of a test, as loops make them.
-use Rattle.litmus_text.specs.declared.reading.table.Column.{Column as ThreadColumn}
-use Rattle.litmus_text.proofs.Vocabulary.{ArchName, Begun, Column, Err, Lines, List, Ok, Option, TextError, ThreadRead, Value, Writing, [], add-zero, after_settings, all_labels_judged, ap, arith, body_read, column_seen, drop, ends, enumerate_from, false, get_or, get_or-map, header_read, is_setting, length, length-map, length-take, line, lines_read, map, map_push, no_columns, quote_read, refl, rest_read, rows_scanned, suc, sym, table_read, take, take-append_seam, take_more, threads_of, true, values_of_thread, with_places, ℕ, ◌++◌, ◌+◌, ◌<◌, ◌∙◌, ◌∷◌, ◌≡◌}
-use Rattle.litmus_text.proofs.RowsScanned.{rows_same}
+use Rattle.litmus_text.{specs.declared.reading.table.Column.Column as ThreadColumn, proofs.Vocabulary.{ArchName, Begun, Column, Err, Lines, List, Ok, Option, TextError, ThreadRead, Value, Writing, [], add-zero, after_settings, all_labels_judged, ap}}
+use Rattle.litmus_text.proofs.Vocabulary.{arith, body_read, column_seen, drop, ends, enumerate_from, false, get_or, get_or-map, header_read, is_setting, length, length-map, length-take, line, lines_read, map, map_push, no_columns, quote_read, refl}
+use Rattle.litmus_text.proofs.{Vocabulary.{rest_read, rows_scanned, suc, sym, table_read, take, take-append_seam, take_more, threads_of, true, values_of_thread, with_places, ℕ, ◌++◌, ◌+◌, ◌<◌, ◌∙◌, ◌∷◌, ◌≡◌}, RowsScanned.rows_same}
 
 -- a line of settings is passed over
 pub settings_more : (n : ℕ) (text : List ℕ) (rest ls : Lines) → line n text rest ≡ ls → is_setting text ≡ true → after_settings rest ≡ after_settings ls

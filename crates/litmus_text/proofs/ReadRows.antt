@@ -1,7 +1,11 @@
 -- Texts of tests that are read, and those that are refused, computed.
 use Rattle.relax_edges.specs.declared.kinds.Value.TheVariants as values
 use Rattle.micro_ops.specs.declared.operation.Micro.TheVariants as ops
-use Rattle.litmus_text.proofs.Vocabulary.{AtPlace, BadCondition, BadHeader, BadInit, BadInstruction, BadLabel, BadQuote, BadTable, EndMissing, Exists, Fence, InRegister, LeftSeen, List, MFence, Micro, None, NotExists, Ok, OperandTexts, Option, PPC, RawInstr, Some, TermSeen, ThreadRead, TooLarge, Value, Writing, Written, X86, [], after_locations, after_run, after_settings, all_joined, all_labels_judged, arch_in_text, arch_read, bad, before_blanks, braced, bytes_eq, cell_entries, cells_of, codes, cond, cond_here, condition_read, cut_at, digits, ends_rows, entries_in, flat_map, follow_read, head_read, header_read, heads_read, immediate_number, initial_read, inside_brackets, is_passed, is_place_name, is_register_name, is_setting, item_of, item_read, items_read, label, leading_run, left_at_start, left_read, lines_from, lines_in, lines_read, none, nothing, number_in, number_of, one, opening_read, operands_in, place, quote_read, refl, right_read, rows_read, sign_read, entries_of, test_read, two, value_read, without_return, words, ℕ, ◌++◌, ◌==◌, ◌∷◌, ◌≡◌}
+use Rattle.litmus_text.proofs.Vocabulary.{AtPlace, BadCondition, BadHeader, BadInit, BadInstruction, BadLabel, BadQuote, BadTable, EndMissing, Exists, Fence, InRegister, LeftSeen, List, MFence, Micro, None, NotExists, Ok, OperandTexts, Option, PPC}
+use Rattle.litmus_text.proofs.Vocabulary.{RawInstr, Some, TermSeen, ThreadRead, TooLarge, Value, Writing, Written, X86, [], after_locations, after_run, after_settings, all_joined, all_labels_judged, arch_in_text, arch_read, bad, before_blanks, braced}
+use Rattle.litmus_text.proofs.Vocabulary.{bytes_eq, cell_entries, cells_of, codes, cond, cond_here, condition_read, cut_at, digits, ends_rows, entries_in, flat_map, follow_read, head_read, header_read, heads_read, immediate_number, initial_read}
+use Rattle.litmus_text.proofs.Vocabulary.{inside_brackets, is_passed, is_place_name, is_register_name, is_setting, item_of, item_read, items_read, label, leading_run, left_at_start, left_read, lines_from, lines_in, lines_read, none, nothing, number_in}
+use Rattle.litmus_text.proofs.Vocabulary.{number_of, one, opening_read, operands_in, place, quote_read, refl, right_read, rows_read, sign_read, entries_of, test_read, two, value_read, without_return, words, ℕ, ◌++◌, ◌==◌, ◌∷◌, ◌≡◌}
 
 x86_registers : List (List ℕ)
 x86_registers = codes "EAX" ∷ codes "EBX" ∷ codes "ECX" ∷ []

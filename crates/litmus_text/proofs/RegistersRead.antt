@@ -1,7 +1,8 @@
 -- The registers that an initial state names are the machine's.
 use Rattle.relax_edges.specs.declared.kinds.Value.TheVariants as values
-use Rattle.litmus_text.proofs.Vocabulary.{AllNameRegisters, Begun, Bool, Braced, InitialItem, Joined, LeftSeen, Lines, List, None, Ok, Option, Some, Value, Worth, Writing, [], a_number, a_place, address_begun, arith, braced_read, empty, gives, initial_line, initial_read, item_if, item_of, item_parts, item_put, item_read, item_with, items_read, length, names_added, number_added, position_from, some_item, subst, trim_blanks, with_value, with_worth, zero_at, ℕ, ◌+◌, ◌<◌, ◌∷◌, ◌≡◌, ◌≤◌}
-use Rattle.litmus_text.proofs.RunnableRead.{Gives, all_push}
+use Rattle.litmus_text.proofs.Vocabulary.{AllNameRegisters, Begun, Bool, Braced, InitialItem, Joined, LeftSeen, Lines, List, None, Ok, Option, Some, Value, Worth, Writing, [], a_number, a_place, address_begun, arith, braced_read, empty, gives}
+use Rattle.litmus_text.proofs.Vocabulary.{initial_line, initial_read, item_if, item_of, item_parts, item_put, item_read, item_with, items_read, length, names_added, number_added, position_from, some_item, subst, trim_blanks, with_value, with_worth}
+use Rattle.litmus_text.proofs.{Vocabulary.{zero_at, ℕ, ◌+◌, ◌<◌, ◌∷◌, ◌≡◌, ◌≤◌}, RunnableRead.{Gives, all_push}}
 
 -- a position is within the list
 position_within : (t : List ℕ → Bool) (i : ℕ) (xs : List (List ℕ)) (r : ℕ) → position_from t i xs ≡ Some r → r < i + length xs

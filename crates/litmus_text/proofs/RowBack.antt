@@ -1,8 +1,11 @@
 -- The rows of a printed table are read back.
 use Rattle.micro_ops.specs.declared.operation.Micro.TheVariants as ops
-use Rattle.litmus_text.proofs.Vocabulary.{AllByRecursion, CodeFits, Column, Lines, List, Micro, Ok, OpFits, Option, Puts, RowProgress, WithPlaces, WritesBack, WritesCells, Writing, [], access_count, add-zero, advanced, and_parts, ap, arith, before_columns, by_test, cell_read, cells_of, column_at, column_so_far, cond, count_by, ends_rows, false, fits_in_column, instr_back, instr_put, instr_read, is_access, is_cell_byte, is_label_op, is_next, is_place_name, is_placed, is_some, is_well_named, label_name, label_table, labels_after, labels_in, length, length-append, line, list_all, lt-ltb, ltb-true, map, map-map, mentioned, mentioned_first, moved, names_added, nat_le, nat_lt, number_in, op_name, op_renumbered, op_text, place_in_cell, placed_from, progress, refl, register_passes, row_mentions, row_read, rows_scanned, sum_by-append, sum_by-cons, sym, true, with_places, zero-add, ℕ, ◌++◌, ◌+◌, ◌<◌, ◌>>=◌, ◌∙◌, ◌∷◌, ◌≡◌, ◌≤◌}
-use Rattle.litmus_text.proofs.{LineBack.before, OpBack.numbers_back, OpBack.label_formed, CellBack.padded, CellBack.Begins, CellBack.empty_back, CellBack.plain_back, CellBack.label_back}
-use Rattle.litmus_text.proofs.NamesBack.{Within, within_self, within_trans, IsAmong, place_added}
+use Rattle.litmus_text.proofs.Vocabulary.{AllByRecursion, CodeFits, Column, Lines, List, Micro, Ok, OpFits, Option, Puts, RowProgress, WithPlaces, WritesBack, WritesCells, Writing, [], access_count, add-zero, advanced, and_parts, ap, arith}
+use Rattle.litmus_text.proofs.Vocabulary.{before_columns, by_test, cell_read, cells_of, column_at, column_so_far, cond, count_by, ends_rows, false, fits_in_column, instr_back, instr_put, instr_read, is_access, is_cell_byte, is_label_op, is_next}
+use Rattle.litmus_text.proofs.Vocabulary.{is_place_name, is_placed, is_some, is_well_named, label_name, label_table, labels_after, labels_in, length, length-append, line, list_all, lt-ltb, ltb-true, map, map-map, mentioned, mentioned_first, moved}
+use Rattle.litmus_text.proofs.Vocabulary.{names_added, nat_le, nat_lt, number_in, op_name, op_renumbered, op_text, place_in_cell, placed_from, progress, refl, register_passes, row_mentions, row_read, rows_scanned, sum_by-append, sum_by-cons, sym, true}
+use Rattle.litmus_text.proofs.{Vocabulary.{with_places, zero-add, ℕ, ◌++◌, ◌+◌, ◌<◌, ◌>>=◌, ◌∙◌, ◌∷◌, ◌≡◌, ◌≤◌}, LineBack.before, OpBack.{numbers_back, label_formed}, CellBack.{padded, Begins, empty_back, plain_back, label_back}, NamesBack.Within}
+use Rattle.litmus_text.proofs.NamesBack.{within_self, within_trans, IsAmong, place_added}
 
 -- what an operation names has its form
 pub named_op : (op : Micro) (table : List (List ℕ)) (names : ℕ → List ℕ) (count : ℕ) → is_placed table names op ≡ true → is_next count op ≡ true → is_well_named (op_name names op) ≡ true

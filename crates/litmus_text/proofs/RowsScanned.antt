@@ -1,7 +1,11 @@
 -- The rows that are read cell by cell are read as they are defined.
-use Rattle.std.proofs.{lemmas.Grind.flat_map-append, lemmas.List.append-nil}
+use Rattle.std.proofs.lemmas.{Grind.flat_map-append, List.append-nil}
 use Rattle.list_laws.proofs.Errors.{before_append}
-use Rattle.litmus_text.proofs.Vocabulary.{AllByRecursion, BadTable, Bool, Column, Err, Lines, List, MAX_ROWS, Micro, Name, None, Ok, Option, RawInstr, Result, Some, TableEntry, TextError, WithPlaces, Writing, [], a_fault, an_instr, ap, append_assoc, arith, before_columns, by_test, cell_entries, cell_if, cell_read, cells_of, codes, column_by, cond, cut_at, ends, ends_rows, entries_if, entries_in, entry_if, entry_in_line, entry_or_nothing, enumerate_from, eqb-suc-zero, eqb-zero-suc, false, fault_in, fits_in_column, flat_map, instr_in, instr_or_nothing, instr_put, is_well_named, label, label_named, label_of, labels_by, length, line, map, names_added, nat_lt, ne_eqb, no_column, no_columns, nothing, number_raw, op_after, op_in, op_numbered, over_in, place, place_named, place_of, placed_in, places_by, range_with_len, read_numbered, refl, row_read, rows_read, rows_scanned, suc, sym, take, true, with_before, with_names, with_places, written_in, zero, ℕ, ◌&&◌, ◌++◌, ◌+◌, ◌<◌, ◌==◌, ◌>>=◌, ◌∙◌, ◌∷◌, ◌≡◌, ◌≤◌}
+use Rattle.litmus_text.proofs.Vocabulary.{AllByRecursion, BadTable, Bool, Column, Err, Lines, List, MAX_ROWS, Micro, Name, None, Ok, Option, RawInstr, Result, Some, TableEntry, TextError, WithPlaces, Writing, [], a_fault, an_instr, ap, append_assoc}
+use Rattle.litmus_text.proofs.Vocabulary.{arith, before_columns, by_test, cell_entries, cell_if, cell_read, cells_of, codes, column_by, cond, cut_at, ends, ends_rows, entries_if, entries_in, entry_if, entry_in_line, entry_or_nothing, enumerate_from}
+use Rattle.litmus_text.proofs.Vocabulary.{eqb-suc-zero, eqb-zero-suc, false, fault_in, fits_in_column, flat_map, instr_in, instr_or_nothing, instr_put, is_well_named, label, label_named, label_of, labels_by, length, line, map, names_added, nat_lt}
+use Rattle.litmus_text.proofs.Vocabulary.{ne_eqb, no_column, no_columns, nothing, number_raw, op_after, op_in, op_numbered, over_in, place, place_named, place_of, placed_in, places_by, range_with_len, read_numbered, refl, row_read, rows_read}
+use Rattle.litmus_text.proofs.Vocabulary.{rows_scanned, suc, sym, take, true, with_before, with_names, with_places, written_in, zero, ℕ, ◌&&◌, ◌++◌, ◌+◌, ◌<◌, ◌==◌, ◌>>=◌, ◌∙◌, ◌∷◌, ◌≡◌, ◌≤◌}
 
 -- the errors of entries, with those that come before them
 abbrev faults : List (List ℕ) → List TableEntry → List TableEntry → List TextError

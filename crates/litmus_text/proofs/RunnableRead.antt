@@ -1,8 +1,11 @@
 -- What is read can be run.
-use Rattle.litmus_text.specs.declared.reading.table.Column.{Column as ThreadColumn}
+use Rattle.litmus_text.{specs.declared.reading.table.Column.Column as ThreadColumn, proofs.Vocabulary.{flat_map, unless, with_after, landing_error, All-filter, All-from_recursion, All-get_or, All-map, All-replicate, AllByRecursion, AllNameRegisters}}
+use Rattle.litmus_text.proofs.Vocabulary.{AllRunnable, Bool, Column, Err, InRange, InstrError, IsRunnable, Lines, List, Micro, Name, NamesRegisters, None, Ok, Option, Placed, RawInstr, ReadInstr, Result, Some, TextError, Value, WithPlaces, Writing}
+use Rattle.litmus_text.proofs.Vocabulary.{Written, [], all_labels_judged, ap, arith, by_test, cell_if, cell_read, cells_of, column_seen, comes_once, cond, count_by, cut_at, ends, ends_rows, filter, fits_in_column, get_or, get_or-map, instr_in}
+use Rattle.litmus_text.proofs.Vocabulary.{instr_or_nothing, instr_put, instr_read, is_access, is_label_row, is_load, lands, lands_among, length, length-append, length-map, line, ltb-true, map, nat_lt, no_column, no_columns, number_raw, occurs, occurs_if}
+use Rattle.litmus_text.proofs.Vocabulary.{ops_in, read_numbered, recursion_from_All, refl, row_read, rows_scanned, subst, sum_by-cons, sum_by_push, sym, target, true, values_of_thread, with_label, with_places, written_in, ℕ, ◌++◌, ◌+◌, ◌<◌, ◌==◌, ◌>>=◌}
+use Rattle.litmus_text.proofs.{Vocabulary.{◌∙◌, ◌∷◌, ◌≡◌, ◌≤◌}, ElementLaws.all_weaker}
 use Rattle.arch_trait.specs.declared.reading.InstrError.TheVariants as instrs
-use Rattle.litmus_text.proofs.Vocabulary.{flat_map, unless, with_after, landing_error, All-filter, All-from_recursion, All-get_or, All-map, All-replicate, AllByRecursion, AllNameRegisters, AllRunnable, Bool, Column, Err, InRange, InstrError, IsRunnable, Lines, List, Micro, Name, NamesRegisters, None, Ok, Option, Placed, RawInstr, ReadInstr, Result, Some, TextError, Value, WithPlaces, Writing, Written, [], all_labels_judged, ap, arith, by_test, cell_if, cell_read, cells_of, column_seen, comes_once, cond, count_by, cut_at, ends, ends_rows, filter, fits_in_column, get_or, get_or-map, instr_in, instr_or_nothing, instr_put, instr_read, is_access, is_label_row, is_load, lands, lands_among, length, length-append, length-map, line, ltb-true, map, nat_lt, no_column, no_columns, number_raw, occurs, occurs_if, ops_in, read_numbered, recursion_from_All, refl, row_read, rows_scanned, subst, sum_by-cons, sum_by_push, sym, target, true, values_of_thread, with_label, with_places, written_in, ℕ, ◌++◌, ◌+◌, ◌<◌, ◌==◌, ◌>>=◌, ◌∙◌, ◌∷◌, ◌≡◌, ◌≤◌}
-use Rattle.litmus_text.proofs.ElementLaws.{all_weaker}
 
 -- what is read raw names registers of the machine
 abbrev pub RawInRange : Writing → Type 0

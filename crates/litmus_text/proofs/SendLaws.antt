@@ -1,5 +1,6 @@
 -- Laws of sending a text part by part, by way of a page.
-use Rattle.litmus_text.proofs.Vocabulary.{Edges, Err, Failed, IsErrAnd, List, None, Ok, Option, PutsPart, Result, SPILL, Sends, SentAll, SinkSeen, Some, TestSeen, TextPart, Writing, WrotePart, [], ap, append-nil, append_assoc, length, refl, sent_line, sent_nothing, sent_part, sent_part_more, sent_same, subst, sym, text_from, ℕ, ◌++◌, ◌<◌, ◌∙◌, ◌≡◌}
+use Rattle.litmus_text.proofs.Vocabulary.{Edges, Err, Failed, IsErrAnd, List, None, Ok, Option, PutsPart, Result, SPILL, Sends, SentAll, SinkSeen, Some, TestSeen, TextPart, Writing, WrotePart, [], ap, append-nil, append_assoc, length, refl, sent_line}
+use Rattle.litmus_text.proofs.Vocabulary.{sent_nothing, sent_part, sent_part_more, sent_same, subst, sym, text_from, ℕ, ◌++◌, ◌<◌, ◌∙◌, ◌≡◌}
 
 abbrev Answer : Type 0
 Answer = Result (Unit {0}) Failed

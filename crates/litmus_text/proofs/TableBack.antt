@@ -1,7 +1,9 @@
 -- The printed rows are the rows of the threads.
-use Rattle.litmus_text.proofs.Vocabulary.{AllByRecursion, Bool, CodeFits, List, Micro, OpFits, Puts, RowProgress, Some, ThreadCode, WritesBack, WritesCells, Writing, [], add-one, add-zero, advanced, after_run, all_both, and_from, and_parts, ap, append-nil, append_assoc, arith, by_test, cell_text, cells_if, cells_of, codes, column_of, columns_of, cond, cut_at, cut_back, drop, ends_rows, enumerate_from, false, first_word, flat_map, get_or, inl, inr, is_access, is_blank, is_cell_byte, is_label_op, is_line_byte, is_next, is_row_byte, is_without, join_by, labels_after, leading_run, length, list_all, list_all-weaker, map, moved, name_in, not, op_text, pieces, progress, range_with_len, refl, replicate, replicate_more, row_line, spaces_class, subst, suc, sym, take, true, unblanked_spaces, width_of, without_class, zero, ℕ, ◌++◌, ◌+◌, ◌-◌, ◌==◌, ◌||◌, ◌∙◌, ◌∷◌, ◌≡◌, ◌⊎◌}
-use Rattle.litmus_text.proofs.{LineBack.IsLine, HeadBack.line_is, HeadBack.not_all_blank, CutBack.piece_back, CutBack.piece_last, CellBack.padded, CellBack.Begins}
-use Rattle.litmus_text.proofs.RowBack.{next_text, AreCells, IsRow, AreRows, after_rows, named_op, text_begins}
+use Rattle.litmus_text.proofs.Vocabulary.{AllByRecursion, Bool, CodeFits, List, Micro, OpFits, Puts, RowProgress, Some, ThreadCode, WritesBack, WritesCells, Writing, [], add-one, add-zero, advanced, after_run, all_both, and_from, and_parts, ap}
+use Rattle.litmus_text.proofs.Vocabulary.{append-nil, append_assoc, arith, by_test, cell_text, cells_if, cells_of, codes, column_of, columns_of, cond, cut_at, cut_back, drop, ends_rows, enumerate_from, false, first_word, flat_map, get_or, inl, inr}
+use Rattle.litmus_text.proofs.Vocabulary.{is_access, is_blank, is_cell_byte, is_label_op, is_line_byte, is_next, is_row_byte, is_without, join_by, labels_after, leading_run, length, list_all, list_all-weaker, map, moved, name_in, not, op_text, pieces}
+use Rattle.litmus_text.proofs.Vocabulary.{progress, range_with_len, refl, replicate, replicate_more, row_line, spaces_class, subst, suc, sym, take, true, unblanked_spaces, width_of, without_class, zero, ℕ, ◌++◌, ◌+◌, ◌-◌, ◌==◌, ◌||◌, ◌∙◌, ◌∷◌, ◌≡◌, ◌⊎◌}
+use Rattle.litmus_text.proofs.{LineBack.IsLine, HeadBack.{line_is, not_all_blank}, CutBack.{piece_back, piece_last}, CellBack.{padded, Begins}, RowBack.{next_text, AreCells, IsRow, AreRows, after_rows, named_op, text_begins}}
 
 -- the cells of a row, with a blank on both sides
 abbrev pub spaced : (List (List ℕ) → List ℕ) → List (List ℕ) → List ℕ

@@ -1,7 +1,8 @@
 -- The columns and rows of the table.
 use Rattle.std.proofs.lemmas.List.{get_or-map}
-use Rattle.litmus_text.proofs.Vocabulary.{Code, List, Micro, ThreadCode, Writing, [], add-one, ap, append_assoc, arith, cases_lt, cell_text, codes, column_of, columns_of, decimal, enumerate_from, fold, fold_more, get_or, get_or_past, inl, inr, join_by, length, length-enumerate_from, length-map, map, map-append, max, name_in, op_text, refl, replicate, row_count, row_line, suc, sym, take, take_all, take_more, thread_code_of, width_of, with_line_feed, zero, ℕ, ◌++◌, ◌+◌, ◌-◌, ◌<◌, ◌∙◌, ◌∷◌, ◌≡◌, ◌≤◌}
-use Rattle.litmus_text.proofs.ElementLaws.{numbered_at}
+use Rattle.litmus_text.proofs.Vocabulary.{Code, List, Micro, ThreadCode, Writing, [], add-one, ap, append_assoc, arith, cases_lt, cell_text, codes, column_of, columns_of, decimal, enumerate_from, fold, fold_more, get_or, get_or_past, inl, inr, join_by}
+use Rattle.litmus_text.proofs.Vocabulary.{length, length-enumerate_from, length-map, map, map-append, max, name_in, op_text, refl, replicate, row_count, row_line, suc, sym, take, take_all, take_more, thread_code_of, width_of, with_line_feed, zero, ℕ}
+use Rattle.litmus_text.proofs.{Vocabulary.{◌++◌, ◌+◌, ◌-◌, ◌<◌, ◌∙◌, ◌∷◌, ◌≡◌, ◌≤◌}, ElementLaws.numbered_at}
 
 -- the first cell of a column is the header, made piece by piece
 pub header_cell : (w : Writing) (places : List (List ℕ)) (t : ℕ × ThreadCode) (row : ℕ) (start a b number : List ℕ) → row ≡ 0

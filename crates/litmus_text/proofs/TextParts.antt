@@ -1,7 +1,9 @@
 -- What a part of a text is that is appended to a page.
 use Rattle.std.proofs.lemmas.List.{get_or-map}
-use Rattle.litmus_text.proofs.Vocabulary.{Code, Edges, Items, LINE_ROOM, List, None, PutsPart, Row, Some, TestSeen, TextPart, ThreadCode, Writing, [], ap, append_assoc, arith, codes, columns_of, cond_text, drop, drop_all, drop_more, edges_line, enumerate_from, flat_map, get_or, get_or-range_with_len, initial_lines, items_lines, length, length-append, length-enumerate_from, length-map, length-range_with_len, map, page_after, page_more, page_nothing, part_lines, parts_left, range_with_len, refl, row_count, row_line, rows_from, sym, table_lines, text_from, thread_code_of, with_line_feed, ℕ, ◌++◌, ◌+◌, ◌-◌, ◌<◌, ◌∷◌, ◌≡◌, ◌≤◌}
-use Rattle.litmus_text.proofs.{ElementLaws.numbered_at, InitialLaws.printed_items}
+use Rattle.litmus_text.proofs.Vocabulary.{Code, Edges, Items, LINE_ROOM, List, None, PutsPart, Row, Some, TestSeen, TextPart, ThreadCode, Writing, [], ap, append_assoc, arith, codes, columns_of, cond_text, drop, drop_all, drop_more, edges_line}
+use Rattle.litmus_text.proofs.Vocabulary.{enumerate_from, flat_map, get_or, get_or-range_with_len, initial_lines, items_lines, length, length-append, length-enumerate_from, length-map, length-range_with_len, map, page_after, page_more, page_nothing}
+use Rattle.litmus_text.proofs.{Vocabulary.{part_lines, parts_left, range_with_len, refl, row_count, row_line, rows_from, sym, table_lines, text_from, thread_code_of, with_line_feed, ℕ, ◌++◌, ◌+◌, ◌-◌, ◌<◌, ◌∷◌, ◌≡◌, ◌≤◌}, ElementLaws.numbered_at}
+use Rattle.litmus_text.proofs.InitialLaws.{printed_items}
 
 -- the edges and the opening brace
 edges_text : (w : Writing) (test : TestSeen) → text_from w test (Some Edges) ≡ (with_line_feed (edges_line test.edges) ++ codes "{\n") ++ text_from w test (Some (Items 0))

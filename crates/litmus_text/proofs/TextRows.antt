@@ -2,7 +2,9 @@
 use Rattle.relax_edges.specs.declared.kinds.Dir.TheVariants as dirs
 use Rattle.relax_edges.specs.declared.edge.Edge.TheVariants as edges
 use Rattle.micro_ops.specs.declared.operation.Micro.TheVariants as ops
-use Rattle.litmus_text.proofs.Vocabulary.{Addr, AtPlace, CondSeen, Diff, Exists, External, Fence, Fr, InRegister, LeftSeen, List, LwSync, Micro, None, PPC, Rf, Some, TermSeen, TestSeen, ThreadCode, Writing, Written, Ws, X86, [], bracketed, cell_text, codes, column_of, cond_text, decimal, digits, edges_line, flat_map, header_line, initial_lines, item_text, left_text, name_in, none, refl, row_count, row_line, table_lines, term_text, test_lines, test_text, three, two, width_of, ℕ, ◌++◌, ◌∷◌, ◌≡◌}
+use Rattle.litmus_text.proofs.Vocabulary.{Addr, AtPlace, CondSeen, Diff, Exists, External, Fence, Fr, InRegister, LeftSeen, List, LwSync, Micro, None, PPC, Rf, Some, TermSeen, TestSeen, ThreadCode, Writing, Written, Ws, X86, [], bracketed, cell_text}
+use Rattle.litmus_text.proofs.Vocabulary.{codes, column_of, cond_text, decimal, digits, edges_line, flat_map, header_line, initial_lines, item_text, left_text, name_in, none, refl, row_count, row_line, table_lines, term_text, test_lines, test_text}
+use Rattle.litmus_text.proofs.Vocabulary.{three, two, width_of, ℕ, ◌++◌, ◌∷◌, ◌≡◌}
 
 x86_registers : List (List ℕ)
 x86_registers = codes "EAX" ∷ codes "EBX" ∷ []

@@ -1,12 +1,13 @@
 -- A printed test reads back.
 use Rattle.relax_edges.specs.declared.kinds.Value.TheVariants as values
-use Rattle.litmus_text.proofs.Vocabulary.{AllByRecursion, ArchName, Begun, CodeFits, Column, CondSeen, Edge, IsReadable, Lines, Link, List, Micro, Ok, Option, Puts, Some, TestSeen, ThreadCode, ThreadRead, Value, WritesBack, WritesCells, Writing, [], after_locations, after_settings, all_append, all_labels_judged, ap, append-nil, arith, code_lands, codes, column_at, column_of, column_so_far, columns_of, cond_text, condition_read, drop, ends, enumerate_from, false, fold, head_read, header_read, initial_lines, initial_read, join_by, length, length-map, length-range_with_len, line, lines_read, link_values, links_mention, links_of, map, max, name_in, no_columns, op_renumbered, op_text, place_in, placed_from, quote_read, range_with_len, refl, reread, row_count, row_line, rows_scanned, suc, table_lines, take_all, terms_mention, test_lines, test_read, test_text, thread_reread, threads_of, true, values_of_thread, with_places, word_of, ℕ, ◌++◌, ◌+◌, ◌<◌, ◌==◌, ◌∙◌, ◌∷◌, ◌≡◌, ◌≤◌}
-use Rattle.litmus_text.proofs.{NamesBack.{within_trans, none_among}, ItemBack.links_among, HeadRowBack.{head_back, head_line_is}, RowsScanned.rows_same}
-use Rattle.litmus_text.proofs.{LabelBack.labels_back, TableBack.{AreTexts, code_texts, at_row, rows_are_read, rows_are_lines, rows_end}}
-use Rattle.litmus_text.proofs.RowBack.{IsReady, after_rows, rows_mention, rows_within, rows_among, rows_back}
-use Rattle.litmus_text.proofs.HeadBack.{header_back, quote_back, settings_back, header_line_is, edges_line_is}
-use Rattle.litmus_text.proofs.{CondBack.{terms_within, condition_back, cond_ends, no_locations, cond_line_is}, LineBack.{IsLine, before, lines_back}}
-use Rattle.litmus_text.proofs.InitBack.{initial_back, initial_lines_are, links_there}
+use Rattle.litmus_text.proofs.Vocabulary.{AllByRecursion, ArchName, Begun, CodeFits, Column, CondSeen, Edge, IsReadable, Lines, Link, List, Micro, Ok, Option, Puts, Some, TestSeen, ThreadCode, ThreadRead, Value, WritesBack, WritesCells, Writing, []}
+use Rattle.litmus_text.proofs.Vocabulary.{after_locations, after_settings, all_append, all_labels_judged, ap, append-nil, arith, code_lands, codes, column_at, column_of, column_so_far, columns_of, cond_text, condition_read, drop, ends, enumerate_from}
+use Rattle.litmus_text.proofs.Vocabulary.{false, fold, head_read, header_read, initial_lines, initial_read, join_by, length, length-map, length-range_with_len, line, lines_read, link_values, links_mention, links_of, map, max, name_in, no_columns}
+use Rattle.litmus_text.proofs.Vocabulary.{op_renumbered, op_text, place_in, placed_from, quote_read, range_with_len, refl, reread, row_count, row_line, rows_scanned, suc, table_lines, take_all, terms_mention, test_lines, test_read, test_text}
+use Rattle.litmus_text.proofs.{Vocabulary.{thread_reread, threads_of, true, values_of_thread, with_places, word_of, ℕ, ◌++◌, ◌+◌, ◌<◌, ◌==◌, ◌∙◌, ◌∷◌, ◌≡◌, ◌≤◌}, NamesBack.{within_trans, none_among}, ItemBack.links_among, HeadRowBack.head_back}
+use Rattle.litmus_text.proofs.{HeadRowBack.head_line_is, RowsScanned.rows_same, LabelBack.labels_back, TableBack.{AreTexts, code_texts, at_row, rows_are_read, rows_are_lines, rows_end}, RowBack.{IsReady, after_rows, rows_mention, rows_within}}
+use Rattle.litmus_text.proofs.{RowBack.{rows_among, rows_back}, HeadBack.{header_back, quote_back, settings_back, header_line_is, edges_line_is}, CondBack.{terms_within, condition_back, cond_ends, no_locations, cond_line_is}, LineBack.{IsLine, before}}
+use Rattle.litmus_text.proofs.{LineBack.lines_back, InitBack.{initial_back, initial_lines_are, links_there}}
 
 before_append : (n : ℕ) (xs ys : List (List ℕ)) (rest : ℕ → Lines) → before n (xs ++ ys) rest ≡ before n xs (λ k. before k ys rest)
 before_append n [] ys rest = refl

@@ -2,18 +2,15 @@
 -- it begins. Below, `n` is the number of a line, `here` the setting of the condition, and `w` says how the architecture names its
 -- registers.
 -- Source: the litmus format of the herdtools manual; what is an error, and where, is our own.
-use Rattle.std.specs.Prelude.{ℕ, zero, suc, ◌-◌, ◌==◌, Bool, true, cond, ◌&&◌, nat_lt, List, [], ◌∷◌, ◌++◌, Option, Some, None, Result, Ok, Err, length, is_some, not}
-use Rattle.std.specs.List.{filter, flat_map}
+use Rattle.std.specs.{Prelude.{ℕ, zero, suc, ◌-◌, ◌==◌, Bool, true, cond, ◌&&◌, nat_lt, List, [], ◌∷◌, ◌++◌, Option, Some, None, Result, Ok, Err, length, is_some, not}, List.{filter, flat_map}}
 use Rattle.list_laws.specs.Errors.{with_before, unless}
-use Rattle.final_cond.specs.{declared.cond.TheConstants.MAX_TERMS, declared.cond.Quantifier.Quantifier, declared.read.Follow.Follow}
-use Rattle.final_cond.specs.Conditions.{LeftSeen, InRegister, AtPlace, TermSeen, CondSeen}
-use Rattle.final_cond.specs.ConditionReading.{Fault, opening_read, left_read, right_read, follow_read, end_at_start, has_form}
+use Rattle.final_cond.specs.{declared.{cond.{TheConstants.MAX_TERMS, Quantifier.Quantifier}, read.Follow.Follow}, Conditions.{LeftSeen, InRegister, AtPlace, TermSeen, CondSeen}, ConditionReading.{Fault, opening_read, left_read, right_read, follow_read}}
+use Rattle.final_cond.specs.ConditionReading.{end_at_start, has_form}
 use Rattle.final_cond.specs.declared.read.Follow.TheVariants as follows
 use Rattle.text_parts.specs.{Blanks.unblanked, ReadingSteps.◌>>=◌}
 use Rattle.arch_trait.specs.{PlaceNames.{number_in, number_added}, Writing.Writing}
-use Rattle.litmus_text.specs.{declared.errors.TestKind.TestKind, declared.errors.TestKind.TheVariants.{BadCondition, TooLarge, EndMissing}}
-use Rattle.litmus_text.specs.{declared.errors.TextError.TextError, TextLines.{Lines, ends, line, bad}, TestTable.with_names}
-use Rattle.litmus_text.specs.Joined.{Joined, no_text, with_text, all_joined, line_at}
+use Rattle.litmus_text.specs.{declared.errors.{TestKind.{TestKind, TheVariants.{BadCondition, TooLarge, EndMissing}}, TextError.TextError}, TextLines.{Lines, ends, line, bad}, TestTable.with_names, Joined.{Joined, no_text, with_text, all_joined}}
+use Rattle.litmus_text.specs.Joined.{line_at}
 
 -- the setting of a condition: how many threads the table has, the number of the line where the condition begins, and its text
 pub record Setting : Type 0 where

@@ -1,13 +1,11 @@
 -- The condition as the code reads it, term by term, for the clauses of private functions: `Condition` says what it is.
 -- Source: own.
-use Rattle.std.specs.Prelude.{ℕ, zero, suc, ◌==◌, cond, ◌&&◌, nat_lt, List, [], ◌∷◌, Option, Some, None, Result, Ok, is_some}
-use Rattle.final_cond.specs.{declared.cond.TheConstants.MAX_TERMS, declared.read.Follow.Follow, Conditions.{LeftSeen, InRegister, AtPlace, TermSeen}}
-use Rattle.final_cond.specs.ConditionReading.{opening_read, left_read, right_read, follow_read, end_at_start, has_form}
+use Rattle.std.specs.Prelude.{ℕ, zero, suc, ◌==◌, cond, ◌&&◌, nat_lt, List, [], ◌∷◌, ◌++◌, Option, Some, None, Result, Ok, Err, is_some}
+use Rattle.final_cond.specs.{declared.{cond.TheConstants.MAX_TERMS, read.Follow.Follow}, Conditions.{LeftSeen, InRegister, AtPlace, TermSeen}, ConditionReading.{opening_read, left_read, right_read, follow_read, end_at_start, has_form}}
 use Rattle.final_cond.specs.declared.read.Follow.TheVariants as follows
 use Rattle.text_parts.specs.{Blanks.unblanked, ReadingSteps.◌>>=◌}
 use Rattle.arch_trait.specs.{PlaceNames.{number_in, number_added, names_added}, Writing.Writing}
-use Rattle.litmus_text.specs.{declared.errors.TestKind.TheVariants.{BadCondition, TooLarge}, declared.errors.TextError.TextError, TextLines.bad}
-use Rattle.litmus_text.specs.Condition.{Setting, CondRead, at_begin, line_of_rest}
+use Rattle.litmus_text.specs.{declared.errors.{TestKind.TheVariants.{BadCondition, TooLarge}, TextError.TextError}, TextLines.bad, Condition.{Setting, CondRead, at_begin, line_of_rest}}
 
 -- the names of locations, and the line of the first location that was one too many, after the line where the condition begins
 pub record Mentioned : Type 0 where
@@ -61,6 +59,11 @@ pub record TermsRead : Type 0 where
 -- a term before others
 abbrev pub before_read : TermSeen → TermsRead → TermsRead
 before_read term others = record others { terms = term ∷ others.terms }
+
+-- terms that were read before others
+abbrev pub after_terms : List TermSeen → Result TermsRead TextError → Result TermsRead TextError
+after_terms before (Ok others) = Ok (record others { terms = before ++ others.terms })
+after_terms before (Err error) = Err error
 
 -- a term, and the further terms if `/\` announces them
 abbrev pub and_more : TermRead → (Mentioned → List ℕ → Result TermsRead TextError) → Follow → List ℕ → Result TermsRead TextError

@@ -1,11 +1,9 @@
 -- What comes above the initial state: the header, the quoted text, and settings, which are skipped.
 -- Source: the litmus format of the herdtools manual.
-use Rattle.std.specs.{Prelude.{ℕ, ◌==◌, Bool, false, cond, not, ◌&&◌, nat_le, List, [], ◌∷◌, Option, Some, None, Ok, length}, Char.is_ascii_alphabetic}
-use Rattle.std.specs.Str.{bytes_eq}
+use Rattle.std.specs.{Prelude.{ℕ, ◌==◌, Bool, false, cond, not, ◌&&◌, nat_le, List, [], ◌∷◌, Option, Some, None, Ok, length}, Char.is_ascii_alphabetic, Str.bytes_eq}
 use Rattle.relax_edges.specs.{declared.kinds.ArchName.ArchName, Architectures.{arch_word, arch_of}}
 use Rattle.text_parts.specs.{LeadingRuns.{leading_run, after_run}, Words.{is_nil, words}, Cuts.cut_at}
-use Rattle.litmus_text.specs.{declared.errors.TestKind.TheVariants.{BadHeader, BadQuote, EndMissing}, declared.limits.TheConstants.MAX_TEST_NAME}
-use Rattle.litmus_text.specs.TextLines.{Lines, ends, line, TextRead, bad}
+use Rattle.litmus_text.specs.{declared.{errors.TestKind.TheVariants.{BadHeader, BadQuote, EndMissing}, limits.TheConstants.MAX_TEST_NAME}, TextLines.{Lines, ends, line, TextRead, bad}}
 
 -- the two words of a header
 abbrev pub two_words : List (List ℕ) → Option (List ℕ × List ℕ)

@@ -1,16 +1,13 @@
 -- The initial state of a test.
 -- Source: the litmus format of the herdtools manual; what is an error, and where, is our own.
-use Rattle.std.specs.{Prelude.{ℕ, ◌+◌, ◌-◌, ◌==◌, Bool, cond, ◌&&◌, nat_lt, List, [], ◌∷◌, ◌++◌, Option, Some, None, Result, Ok, codes, length}, List.list_any}
-use Rattle.std.specs.Str.{bytes_eq}
+use Rattle.std.specs.{Prelude.{ℕ, ◌+◌, ◌-◌, ◌==◌, Bool, cond, ◌&&◌, nat_lt, List, [], ◌∷◌, ◌++◌, Option, Some, None, Result, Ok, codes, length}, List.list_any, Str.bytes_eq}
 use Rattle.relax_edges.specs.declared.kinds.Value.{Value}
 use Rattle.relax_edges.specs.declared.kinds.Value.TheVariants as values
-use Rattle.text_parts.specs.{Names.is_place_name, NumberTexts.number_of, Blanks.{unblanked, trim_blanks, before_blanks}, ReadingSteps.◌>>=◌, Words.is_nil}
-use Rattle.text_parts.specs.{Cuts.cut_at, Lines.but_last}
+use Rattle.text_parts.specs.{Names.is_place_name, NumberTexts.number_of, Blanks.{unblanked, trim_blanks, before_blanks}, ReadingSteps.◌>>=◌, Words.is_nil, Cuts.cut_at, Lines.but_last}
 use Rattle.final_cond.specs.{Conditions.{LeftSeen, InRegister, AtPlace}, ConditionReading.left_at_start}
 use Rattle.arch_trait.specs.{PlaceNames.{number_in, number_added, names_added}, Writing.Writing}
-use Rattle.litmus_text.specs.{declared.errors.TestKind.TheVariants.{BadInit, TooLarge, EndMissing}, declared.errors.TextError.TextError}
-use Rattle.litmus_text.specs.{declared.limits.TheConstants.MAX_THREADS, TextLines.{Lines, ends, line, TextRead, bad}, TextCuts.pieces}
-use Rattle.litmus_text.specs.Joined.{Joined, no_text, with_text, line_at}
+use Rattle.litmus_text.specs.{declared.{errors.{TestKind.TheVariants.{BadInit, TooLarge, EndMissing}, TextError.TextError}, limits.TheConstants.MAX_THREADS}, TextLines.{Lines, ends, line, TextRead, bad}, TextCuts.pieces, Joined.{Joined, no_text}}
+use Rattle.litmus_text.specs.Joined.{with_text, line_at}
 
 -- what an item gives a register: a number, or the address of a location
 pub data Worth : Type 0 where

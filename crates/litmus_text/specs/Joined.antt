@@ -1,7 +1,6 @@
 -- Lines that are read as one text.
 -- Source: own.
-use Rattle.std.specs.Prelude.{ℕ, List, [], ◌∷◌, ◌++◌, length, get_or}
-use Rattle.std.proofs.Math.ListN.{replicate}
+use Rattle.std.{specs.Prelude.{ℕ, List, [], ◌∷◌, ◌++◌, length, get_or}, proofs.Math.ListN.replicate}
 use Rattle.litmus_text.specs.TextLines.{Lines, ends, line}
 
 -- a text, and for each of its bytes the number of its line

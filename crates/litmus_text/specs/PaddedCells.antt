@@ -1,9 +1,8 @@
 -- A cell as it is kept for its row. Only private functions cite this.
 -- Source: own.
-use Rattle.std.specs.Prelude.{◌≡◌, ◌≤◌, ◌-◌, ◌++◌, ℕ, List, length, codes, take, drop}
-use Rattle.std.proofs.Math.ListN.{replicate}
+use Rattle.std.{specs.Prelude.{◌≡◌, ◌≤◌, ◌-◌, ◌++◌, ℕ, List, length, codes, take, drop}, proofs.Math.ListN.replicate}
 use Rattle.diy_io.specs.Page.{page_after}
-use Rattle.litmus_text.specs.{declared.cell.PaddedCell.PaddedCell, declared.cell.TheConstants.CELL_ROOM, Separators.separator_at}
+use Rattle.litmus_text.specs.{declared.cell.{PaddedCell.PaddedCell, TheConstants.CELL_ROOM}, Separators.separator_at}
 
 -- the text of a cell that is kept
 abbrev pub text_in : PaddedCell → List ℕ

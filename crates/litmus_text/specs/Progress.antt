@@ -4,9 +4,8 @@ use Rattle.std.specs.Prelude.{◌≡◌, ℕ, ◌+◌, Bool, true, not, ◌&&◌
 use Rattle.text_parts.specs.Names.{is_place_name}
 use Rattle.micro_ops.specs.declared.operation.Micro.{Micro}
 use Rattle.micro_ops.specs.declared.operation.Micro.TheVariants as ops
-use Rattle.arch_trait.specs.{Threads.Puts, PlaceNames.number_in, Cells.is_access, LabelOrder.is_next, LabelOrder.labels_after}
-use Rattle.litmus_text.specs.declared.limits.TheConstants.{MAX_ACCESSES}
-use Rattle.litmus_text.specs.{TestTable.Column, TestTable.is_label_of, TestTable.lands_among, Placing.mentioned, TablePlan.column_so_far}
+use Rattle.arch_trait.specs.{Threads.Puts, PlaceNames.number_in, Cells.is_access, LabelOrder.{is_next, labels_after}}
+use Rattle.litmus_text.specs.{declared.limits.TheConstants.MAX_ACCESSES, TestTable.{Column, is_label_of, lands_among}, Placing.mentioned, TablePlan.column_so_far}
 
 -- the operations of a thread that were read, and those that are left
 pub record RowProgress : Type 0 where

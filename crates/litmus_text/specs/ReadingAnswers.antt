@@ -1,7 +1,7 @@
 -- What code that reads returns, as the definitions see it.
 -- Source: own.
 use Rattle.std.specs.Prelude.{◌≡◌, Result, Ok, Err}
-use Rattle.litmus_text.specs.declared.errors.{TextError.TextError, ReadError.ReadError, ReadError.TheVariants.Text, ReadError.TheVariants.NoMemory}
+use Rattle.litmus_text.specs.declared.errors.{TextError.TextError, ReadError.{ReadError, TheVariants.{Text, NoMemory}}}
 
 -- a result of the code is what the definition gives: an error as such, and any other value as seen by `view`
 abbrev pub GivesTest : {X Y : Type 0} → (X → Y) → Result X TextError → Result Y TextError → Type 0

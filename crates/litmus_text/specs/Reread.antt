@@ -5,9 +5,8 @@ use Rattle.relax_edges.specs.{declared.kinds.ArchName.ArchName, WordParts.word_o
 use Rattle.relax_edges.specs.declared.kinds.Value.TheVariants as values
 use Rattle.final_cond.specs.declared.cond.TheConstants.{MAX_TERMS}
 use Rattle.arch_trait.specs.{declared.places.TheConstants.MAX_PLACES, Threads.{Puts, ThreadCode}, Writing.{Writing, name_in}, SeenTests.TestSeen}
-use Rattle.litmus_text.specs.{declared.limits.TheConstants.{MAX_TEST_TEXT, MAX_THREADS, MAX_ROWS}, TestText.test_text, TestReading.{ThreadRead, TestRead}}
-use Rattle.litmus_text.specs.{Placing.{place_in, op_renumbered}, Printable.IsTestName, Progress.{CodeFits, code_lands}, Items.{links_of, links_once, LinkFits}}
-use Rattle.litmus_text.specs.ReadTerms.{TermFits}
+use Rattle.litmus_text.specs.{declared.limits.TheConstants.{MAX_TEST_TEXT, MAX_THREADS, MAX_ROWS}, TestText.test_text, TestReading.{ThreadRead, TestRead}, Placing.{place_in, op_renumbered}, Printable.IsTestName, Progress.{CodeFits, code_lands}}
+use Rattle.litmus_text.specs.{Items.{links_of, links_once, LinkFits}, ReadTerms.TermFits}
 
 -- a thread as it is read, with its locations numbered by a table
 abbrev pub thread_reread : List (List ℕ) → (ℕ → List ℕ) → ThreadCode → ThreadRead

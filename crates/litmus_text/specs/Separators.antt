@@ -1,6 +1,5 @@
 -- What comes between the elements of a list that is written, and a text with what comes before and after it in a cell.
-use Rattle.std.specs.Prelude.{◌-◌, ◌++◌, ℕ, zero, suc, List, [], length, codes}
-use Rattle.std.proofs.Math.ListN.{replicate}
+use Rattle.std.{specs.Prelude.{◌-◌, ◌++◌, ℕ, zero, suc, List, [], length, codes}, proofs.Math.ListN.replicate}
 use Rattle.arch_trait.specs.declared.arch.TheConstants.{MAX_INSTRUCTION_TEXT}
 
 -- what comes before element number i of a list that is written with separators

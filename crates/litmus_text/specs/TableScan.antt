@@ -4,9 +4,8 @@ use Rattle.std.specs.Prelude.{ℕ, ◌+◌, Bool, cond, nat_lt, List, [], ◌∷
 use Rattle.arch_trait.specs.{Cells.ends_rows, InstructionReading.{ReadInstr, instr_read}, Writing.Writing, declared.reading.InstrError.InstrError}
 use Rattle.arch_trait.specs.declared.reading.InstrError.TheVariants as instrs
 use Rattle.text_parts.specs.{Blanks.trim_blanks, ReadingSteps.◌>>=◌, Words.is_nil, Cuts.cut_at}
-use Rattle.litmus_text.specs.{declared.errors.TestKind.TheVariants.{BadTable, BadInstruction, TooLarge, EndMissing}, declared.errors.TextError.TextError}
-use Rattle.litmus_text.specs.{declared.limits.TheConstants.MAX_ROWS, TextLines.{Lines, ends, line, TextRead, bad}}
-use Rattle.litmus_text.specs.TestTable.{cells_of, Column, WithPlaces, with_places, fits_in_column}
+use Rattle.litmus_text.specs.{declared.{errors.{TestKind.TheVariants.{BadTable, BadInstruction, TooLarge, EndMissing}, TextError.TextError}, limits.TheConstants.MAX_ROWS}, TextLines.{Lines, ends, line, TextRead, bad}, TestTable.{cells_of, Column}}
+use Rattle.litmus_text.specs.TestTable.{WithPlaces, with_places, fits_in_column}
 
 -- a column with one more operation
 abbrev pub with_op : ℕ → Column → ReadInstr → Column

@@ -2,14 +2,12 @@
 -- first error ends the reading. If a part gives a pair, `.0` is what it means and `.1` the lines that are left.
 -- Source: the litmus format of the herdtools manual; the limits and the order of the errors are our own.
 use Rattle.std.specs.{Prelude.{ℕ, ◌==◌, cond, nat_lt, List, Option, Result, Ok, length, map}, List.{filter, enumerate_from}}
-use Rattle.relax_edges.specs.{declared.kinds.ArchName.ArchName, declared.kinds.Value.Value}
+use Rattle.relax_edges.specs.declared.kinds.{ArchName.ArchName, Value.Value}
 use Rattle.micro_ops.specs.declared.operation.Micro.{Micro}
 use Rattle.arch_trait.specs.Writing.{Writing}
 use Rattle.final_cond.specs.Conditions.{CondSeen}
-use Rattle.litmus_text.specs.{declared.errors.TestKind.TheVariants.TooLarge, declared.errors.TextError.TextError, declared.limits.TheConstants.MAX_TEST_TEXT}
-use Rattle.litmus_text.specs.{TextLines.{Lines, lines_from, bad}, InitialState.{Begun, initial_read}, Condition.condition_read}
-use Rattle.litmus_text.specs.Header.{header_read, quote_read, after_settings, arch_read}
-use Rattle.litmus_text.specs.TestTable.{Column, head_read, rows_read, all_labels_judged, after_locations}
+use Rattle.litmus_text.specs.{declared.{errors.{TestKind.TheVariants.TooLarge, TextError.TextError}, limits.TheConstants.MAX_TEST_TEXT}, TextLines.{Lines, lines_from, bad}, InitialState.{Begun, initial_read}, Condition.condition_read, Header.header_read}
+use Rattle.litmus_text.specs.{Header.{quote_read, after_settings, arch_read}, TestTable.{Column, head_read, rows_read, all_labels_judged, after_locations}}
 use Rattle.text_parts.specs.ReadingSteps.{◌>>=◌}
 
 -- a thread: its registers to which the initial state gives values, in the order of their items, and its operations

@@ -1,19 +1,15 @@
 -- The table of a test: its header, its rows, and the labels in its columns. Below, `n` is the number of a line of the text, and `w` says
 -- how the architecture writes its instructions.
 -- Source: the litmus format of the herdtools manual; what is an error, and where, is our own.
-use Rattle.std.specs.Prelude.{ℕ, ◌+◌, ◌==◌, Bool, true, false, cond, not, ◌&&◌, ◌||◌, nat_lt, List, [], ◌∷◌, ◌++◌, Option, Some, None, Result, Ok, codes, option_map, count_by, length, map, take}
-use Rattle.std.specs.{List.{list_all, flat_map, enumerate_from, range_with_len}, Fmt.decimal, Str.bytes_eq}
-use Rattle.std.proofs.Math.ListN.{replicate}
+use Rattle.std.specs.{Prelude.{ℕ, ◌+◌, ◌==◌, Bool, true, false, cond, not, ◌&&◌, ◌||◌, nat_lt, List, [], ◌∷◌, ◌++◌, Option, Some, None, Result, Ok, codes, option_map, count_by, length, map, take}, List.{list_all, flat_map, enumerate_from}}
+use Rattle.std.{specs.{List.range_with_len, Fmt.decimal, Str.bytes_eq}, proofs.Math.ListN.replicate}
 use Rattle.list_laws.specs.Errors.{with_before, unless}
 use Rattle.micro_ops.specs.declared.operation.Micro.{Micro}
 use Rattle.micro_ops.specs.declared.operation.Micro.TheVariants as ops
-use Rattle.arch_trait.specs.{Cells.{ends_rows, first_word, is_access}, PlaceNames.{number_added, names_added}, InstructionReading.written_in}
-use Rattle.arch_trait.specs.Writing.{Writing, Name, RawInstr, is_well_named, with_number}
+use Rattle.arch_trait.specs.{Cells.{ends_rows, first_word, is_access}, PlaceNames.{number_added, names_added}, InstructionReading.written_in, Writing.{Writing, Name, RawInstr, is_well_named, with_number}}
 use Rattle.text_parts.specs.{Blanks.trim_blanks, ReadingSteps.◌>>=◌, Words.is_nil, Cuts.cut_at}
 use Rattle.arch_trait.specs.Writing as writing
-use Rattle.litmus_text.specs.{declared.errors.TestKind.TestKind, declared.errors.TextError.TextError}
-use Rattle.litmus_text.specs.{declared.limits.TheConstants.{MAX_THREADS, MAX_ROWS, MAX_ACCESSES}, declared.reading.table.Placed.Placed}
-use Rattle.litmus_text.specs.declared.errors.TestKind.TheVariants.{BadTable, BadInstruction, BadLabel, TooLarge, EndMissing}
+use Rattle.litmus_text.specs.declared.{errors.{TestKind.{TestKind, TheVariants.{BadTable, BadInstruction, BadLabel, TooLarge, EndMissing}}, TextError.TextError}, limits.TheConstants.{MAX_THREADS, MAX_ROWS, MAX_ACCESSES}, reading.table.Placed.Placed}
 use Rattle.litmus_text.specs.{TextLines.{Lines, ends, line, TextRead, bad}, TextCuts.pieces, InitialState.Begun}
 
 -- the texts of the cells of a row, and whether the row is whole: its first `;` ends its line

@@ -1,9 +1,7 @@
 -- The text of a test.
 -- Source: the litmus format of the herdtools manual, as diy lays it out.
-use Rattle.std.specs.Prelude.{ℕ, ◌-◌, List, [], ◌∷◌, ◌++◌, map, length, codes, max, slice_index_or}
-use Rattle.std.specs.{List.{flat_map, join_by, fold, enumerate_from, range_with_len}, Fmt.decimal}
-use Rattle.std.proofs.Math.ListN.{replicate}
-use Rattle.relax_edges.specs.{declared.kinds.ArchName.ArchName, declared.edge.Edge.Edge, Architectures.arch_word, WordParts.word_of}
+use Rattle.std.{specs.{Prelude.{ℕ, ◌-◌, List, [], ◌∷◌, ◌++◌, map, length, codes, max, slice_index_or}, List.{flat_map, join_by, fold, enumerate_from, range_with_len}, Fmt.decimal}, proofs.Math.ListN.replicate}
+use Rattle.relax_edges.specs.{declared.{kinds.ArchName.ArchName, edge.Edge.Edge}, Architectures.arch_word, WordParts.word_of}
 use Rattle.arch_trait.specs.{SeenTests.TestSeen, Threads.ThreadCode, Writing.{Writing, op_text, name_in}}
 use Rattle.final_cond.specs.CondText.{cond_text}
 

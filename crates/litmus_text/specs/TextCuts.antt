@@ -1,6 +1,6 @@
 -- How a line is cut into pieces.
 -- Source: own.
-use Rattle.std.specs.{Prelude.ℕ, Prelude.◌==◌, Prelude.List, List.slice_split}
+use Rattle.std.specs.{Prelude.{ℕ, ◌==◌, List}, List.slice_split}
 
 -- the pieces of a text between bytes of one value
 abbrev pub pieces : ℕ → List ℕ → List (List ℕ)

@@ -1,8 +1,7 @@
 -- The lines of a text, with their numbers.
 -- Source: own; the litmus format is read line by line.
-use Rattle.std.specs.Prelude.{ℕ, ◌+◌, ◌-◌, Bool, cond, ◌&&◌, ◌||◌, List, [], ◌∷◌, Result, Err, codes, length, take, drop}
-use Rattle.std.specs.{List.list_all, List.slice_split, Str.bytes_eq}
-use Rattle.text_parts.specs.{Blanks.is_blank, Blanks.trim_blanks, Lines.is_line_feed, Lines.without_return}
+use Rattle.std.specs.{Prelude.{ℕ, ◌+◌, ◌-◌, Bool, cond, ◌&&◌, ◌||◌, List, [], ◌∷◌, Result, Err, codes, length, take, drop}, List.{list_all, slice_split}, Str.bytes_eq}
+use Rattle.text_parts.specs.{Blanks.{is_blank, trim_blanks}, Lines.{is_line_feed, without_return}}
 use Rattle.litmus_text.specs.declared.errors.{TestKind.TestKind, TextError.TextError}
 
 -- the lines that aren't skipped, each with its number among all lines, and the number after that of the last line

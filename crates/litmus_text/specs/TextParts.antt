@@ -4,8 +4,7 @@ use Rattle.std.specs.{Prelude.{◌≡◌, ◌≤◌, ◌<◌, ◌+◌, ◌-◌, 
 use Rattle.diy_io.specs.{declared.page.TheConstants.LINE_ROOM, Page.page_after}
 use Rattle.arch_trait.specs.{Writing.Writing, SeenTests.TestSeen}
 use Rattle.final_cond.specs.CondText.{cond_text}
-use Rattle.litmus_text.specs.{declared.parts.TextPart.TextPart, declared.parts.TextPart.TheVariants.{Edges, Items, Row}}
-use Rattle.litmus_text.specs.TestText.{edges_line, items_lines, initial_lines, columns_of, row_count, table_lines, with_line_feed}
+use Rattle.litmus_text.specs.{declared.parts.TextPart.{TextPart, TheVariants.{Edges, Items, Row}}, TestText.{edges_line, items_lines, initial_lines, columns_of, row_count, table_lines, with_line_feed}}
 
 -- the lines of the rows of the table from one row on, and of the condition
 unfoldable pub rows_from : Writing → TestSeen → ℕ → List (List ℕ)

@@ -1,24 +1,17 @@
 -- The values of the code that reads, as the definitions see them.
 -- Source: own.
 use Rattle.std.specs.{Prelude.{◌≡◌, ◌<◌, ℕ, length, Bool, true, List, [], ◌∷◌, Option, Some, None, option_map, Result, Ok, map}, Borrow.Bor}
-use Rattle.final_cond.specs.{declared.cond.Cond.Cond, declared.cond.Term.Term, declared.cond.TheConstants.MAX_TERMS}
-use Rattle.final_cond.specs.Conditions.{TermSeen, term_view, cond_view}
+use Rattle.final_cond.specs.{declared.cond.{Cond.Cond, Term.Term}, Conditions.{term_view, cond_view}}
 use Rattle.text_parts.specs.{Names.is_place_name, ReadingSteps.◌>>=◌}
-use Rattle.litmus_text.specs.declared.{reading.cuts.Pieces.Pieces, reading.text.Text.Text, reading.lines.Lines.Lines as Left}
-use Rattle.litmus_text.specs.declared.{reading.joined.Joined.Joined as JoinedText, reading.items.Worth.Worth as TextWorth}
-use Rattle.litmus_text.specs.declared.{reading.items.Item.Item as TextItem, reading.initial.Begun.Begun as State}
-use Rattle.litmus_text.specs.declared.{reading.initial.Braced.Braced as BracedText, reading.table.Cells.Cells as RowCells}
-use Rattle.litmus_text.specs.declared.{reading.table.Column.Column as ThreadColumn, reading.terms.Setting.Setting as Here, reading.whole.Head.Head}
-use Rattle.litmus_text.specs.declared.{reading.terms.Mentioned.Mentioned as Names, errors.TextError.TextError}
+use Rattle.litmus_text.specs.declared.reading.{cuts.Pieces.Pieces, text.Text.Text, lines.Lines.Lines as Left, joined.Joined.Joined as JoinedText, items.{Worth.Worth as TextWorth, Item.Item as TextItem}, initial.Begun.Begun as State}
+use Rattle.litmus_text.specs.declared.reading.{initial.Braced.Braced as BracedText, table.{Cells.Cells as RowCells, Column.Column as ThreadColumn}, terms.{Setting.Setting as Here, Mentioned.Mentioned as Names}, whole.Head.Head}
+use Rattle.litmus_text.specs.{declared.errors.TextError.TextError, TextCuts.pieces, Joined.Joined, Condition.{Setting, CondRead, condition_read}, TestReading.{TestRead, threads_of}, TextLines.{Lines, ends, line, lines_from}, InitialState.Worth}
+use Rattle.litmus_text.specs.{InitialState.{a_number, a_place, InitialItem, empty, gives, zero_at, Begun, items_read, initial_read, Braced, closed, open_to}, TestTable.{Cells, Column, WithPlaces, with_places, rows_read, head_read, all_labels_judged}}
+use Rattle.litmus_text.specs.{TestTable.after_locations, ConditionScan.{Mentioned, TermRead, TermsRead}}
 use Rattle.litmus_text.specs.declared.reading.lines.Lines.TheVariants as lefts
 use Rattle.litmus_text.specs.declared.reading.items.Worth.TheVariants as worths
 use Rattle.litmus_text.specs.declared.reading.items.Item.TheVariants as items
 use Rattle.litmus_text.specs.declared.reading.initial.Braced.TheVariants as ends_of
-use Rattle.litmus_text.specs.{TextCuts.pieces, ReadingAnswers.GivesTest, Joined.Joined, TableScan.row_read, Condition.{Setting, CondRead, condition_read}}
-use Rattle.litmus_text.specs.{TestReading.{TestRead, threads_of}, TextLines.{Lines, ends, line, lines_from}}
-use Rattle.litmus_text.specs.InitialState.{Worth, a_number, a_place, InitialItem, empty, gives, zero_at, Begun, items_read, initial_read, Braced, closed, open_to}
-use Rattle.litmus_text.specs.TestTable.{Cells, Column, WithPlaces, with_places, rows_read, head_read, all_labels_judged, after_locations}
-use Rattle.litmus_text.specs.ConditionScan.{Mentioned, TermRead, TermsRead, terms_here}
 use Rattle.arch_trait.specs.Writing.{Writing}
 use Rattle.relax_edges.specs.declared.kinds.Value.{Value}
 
@@ -109,18 +102,6 @@ column_with_places names column = with_places names (column_seen column)
 abbrev pub columns_with_places : List (List ℕ) → List ThreadColumn → WithPlaces (List Column)
 columns_with_places names columns = with_places names (map column_seen columns)
 
--- the columns of a table, and what is left of the text after its rows
-abbrev pub columns_before : List (List ℕ) → List ThreadColumn → Text → WithPlaces (List Column) × Lines
-columns_before names columns text = (columns_with_places names columns, text_left text)
-
--- the cells of a row, read into the columns
-abbrev pub cells_read : Writing → ℕ → RowCells → List (List ℕ) → List ThreadColumn → Result (WithPlaces (List Column)) TextError
-cells_read w n cells names columns = row_read w n (cells_seen cells).whole (cells_seen cells).texts names (map column_seen columns)
-
--- a result is what the definition gives for the cells of a row after its last column, whatever the names of locations are
-abbrev pub EndsRow : ℕ → Bool → List (List ℕ) → Result (Unit {0}) TextError → Type 0
-EndsRow n whole cells answer = (w : Writing) → (names : List (List ℕ)) → GivesTest (λ _. with_places names []) answer (row_read w n whole cells names [])
-
 -- what the code sees of the text of a condition and its threads
 abbrev pub setting_seen : Here → Setting
 setting_seen h = record { threads = h.threads; begins = h.begins; text = joined_seen h.text }
@@ -133,21 +114,9 @@ mentioned_seen m = record { names = m.names; over = m.over }
 abbrev pub term_read_seen : Names → Term × Bor (List ℕ) → TermRead
 term_read_seen m t = record { term = term_view t.0; state = mentioned_seen m; rest = t.1.now }
 
--- what the code sees of the terms that were read
-abbrev pub terms_read_seen : List TermSeen → Names → List ℕ → TermsRead
-terms_read_seen terms m rest = record { terms = terms; state = mentioned_seen m; rest = rest }
-
--- a result is what the definition gives, with the locations that are named then
-abbrev pub GivesMentioned : Names → Result (Unit {0}) TextError → Result Mentioned TextError → Type 0
-GivesMentioned new answer read = GivesTest (λ _. mentioned_seen new) answer read
-
 -- terms that were read, the locations that are named then, and what is left of the text
 abbrev pub all_terms_seen : List Term → Names → Bor (List ℕ) → TermsRead
-all_terms_seen terms m rest = terms_read_seen (map term_view terms) m rest.now
-
--- the terms in what is left of the text, given the locations that are named so far
-abbrev pub terms_from : Writing → Here → Names → List ℕ → Result TermsRead TextError
-terms_from w here m text = terms_here w (setting_seen here) MAX_TERMS (mentioned_seen m) text
+all_terms_seen terms m rest = record { terms = map term_view terms; state = mentioned_seen m; rest = rest.now }
 
 -- what the code sees of a condition that was read
 abbrev pub cond_read_seen : Cond × List (List ℕ) → CondRead

@@ -6,7 +6,6 @@ ghost use Rattle.litmus_text.specs.{TestText.{header_line, edges_line, with_line
 use crate::limits::MAX_TEST_NAME;
 use crate::separators::put_separator;
 use arch_trait::Arch;
-use arrayvec::ArrayString;
 use diy_io::{Failed, LINE_ROOM, Page, Sink};
 use relax_edges::{ArchName, Edge, MAX_EDGES};
 
@@ -72,8 +71,6 @@ fn print_word(i: usize, edge: Edge, page: &mut Page)
     ensures text { page.new ≡ page_after page.old (separator_at (codes " ") i ++ word_of edge) }
     ensures short { length (separator_at (codes " ") i ++ word_of edge) ≤ WORD_ROOM }
 {
-    let mut word: ArrayString<16> = ArrayString::new();
-    edge.word(&mut word);
     put_separator(i, b" ", page);
-    page.put(word.as_str().as_bytes());
+    page.put(edge.text().as_bytes());
 }

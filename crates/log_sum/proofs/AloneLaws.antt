@@ -1,19 +1,11 @@
 -- A block with an error costs itself alone.
-use Rattle.std.proofs.Common.{◌≡◌, ℕ, ◌+◌, List, [], ◌∷◌, ◌++◌, length, true, false, inl, inr, refl, sym, ap, ◌∙◌, subst, arith, append_assoc, append-nil}
-use Rattle.std.proofs.{lemmas.List.Sums.fold-append, lemmas.List.map-append}
-use Rattle.std.specs.{Prelude.{◌⊎◌, map, fold, Result, Ok, Err}, List.{AllByRecursion, list_any, slice_split}}
-use Rattle.list_laws.proofs.Cases.{by_test}
-use Rattle.diy_io.specs.Sink.{line_feed_count}
-use Rattle.text_parts.specs.{Lines.{is_line_feed, but_last, last_of, whole_lines, unended, last_line}, ReadingSteps.◌>>=◌}
-use Rattle.text_parts.proofs.PieceLaws.{first_piece, split_append, but_last_append, last_append}
-use Rattle.log_sum.specs.declared.{errors.LogError.LogError, kinds.Place.TheVariants.Outside}
-use Rattle.log_sum.specs.{Facts.Entry, LogGrammar.all_judged, Representing.logs_text}
-use Rattle.log_sum.specs.LogReading.{LogSeen, nothing_seen, line_judged, lines_judged, last_judged, end_judged, file_judged, files_judged}
-use Rattle.log_sum.specs.Skipping.{lines_with_ends, opens, Piece, with_line, begun_after, pieces_from, pieces_of, all_pieces, Skipped, Sifted, nothing_sifted, sifted_by, with_piece, skipped_at, sifted, IsBlock, BeginsBlock, IsWrong, IsOfPiece, CostsItself, SkippingLaws}
-use Rattle.log_sum.proofs.ReadingLaws.{is_one_line, read_on}
-use Rattle.log_sum.proofs.Grammar.{between, files_by_blocks, judged_text}
-use Rattle.log_sum.proofs.SiftLaws.{Right, right_text, judged_right, Keeps, InPiece, piece_ends, begun_in, line_in, line_opens, last_opens, lines_sifted, whole_are_lines, unended_is_line, begins_in, log_sifted, logs_sifted, end_entries, kept_none, whole_kept, none_whole, none_unended}
-use Rattle.log_sum.proofs.{LineLaws.whole_count, SieveLaws.feeds_line, WrongLines.{IsUpTo, file_wrong_within}}
+use Rattle.std.{proofs.{Common.{◌≡◌, ℕ, ◌+◌, List, [], ◌∷◌, ◌++◌, length, true, false, inl, inr, refl, sym, ap, ◌∙◌, subst, arith, append_assoc, append-nil}, lemmas.List.{Sums.fold-append, map-append}}, specs.Prelude.{◌⊎◌, map, fold, Result, Ok, Err}}
+use Rattle.log_sum.proofs.{Vocabulary.{AllByRecursion, list_any, slice_split, by_test, line_feed_count}, ReadingLaws.{is_one_line, read_on}, Grammar.{between, files_by_blocks, judged_text}, SiftLaws.{Right, right_text, judged_right, Keeps, InPiece}}
+use Rattle.log_sum.proofs.SiftLaws.{piece_ends, begun_in, line_in, line_opens, last_opens, lines_sifted, whole_are_lines, unended_is_line, begins_in, log_sifted, logs_sifted, end_entries, kept_none, whole_kept, none_whole, none_unended}
+use Rattle.log_sum.{proofs.{LineLaws.whole_count, SieveLaws.feeds_line, WrongLines.{IsUpTo, file_wrong_within}}, specs.{declared.{errors.LogError.LogError, kinds.Place.TheVariants.Outside}, Facts.Entry, LogGrammar.all_judged, Representing.logs_text}}
+use Rattle.log_sum.specs.{LogReading.{LogSeen, nothing_seen, line_judged, lines_judged, last_judged, end_judged, file_judged, files_judged}, Skipping.{lines_with_ends, opens, Piece, with_line, begun_after, pieces_from, pieces_of, all_pieces, Skipped}}
+use Rattle.log_sum.specs.Skipping.{Sifted, nothing_sifted, sifted_by, with_piece, skipped_at, sifted, IsBlock, BeginsBlock, IsWrong, IsOfPiece, CostsItself, SkippingLaws}
+use Rattle.text_parts.{specs.{Lines.{is_line_feed, but_last, last_of, whole_lines, unended, last_line}, ReadingSteps.◌>>=◌}, proofs.PieceLaws.{first_piece, split_append, but_last_append, last_append}}
 
 -- ===== the lines of two texts, of which the first ends with a line feed
 abbrev concat : List (List ℕ) → List ℕ

@@ -1,18 +1,12 @@
 -- What is read line by line, by the blocks: the facts of lines, the place where they end, and the error that bytes show.
-use Rattle.std.proofs.Common.{◌≡◌, ◌<◌, ℕ, zero, suc, ◌+◌, List, [], ◌∷◌, ◌++◌, length, drop, true, false, refl, sym, ap, ◌∙◌, arith, subst, append_assoc, append-nil, Some, None}
-use Rattle.std.specs.Prelude.{Option, Result, Ok, Err}
-use Rattle.text_parts.specs.{Lines.{without_return, whole_lines, unended}, ReadingSteps.◌>>=◌}
-use Rattle.log_sum.specs.{declared.errors.LogKind.LogKind, declared.errors.LogKind.TheVariants.LineTooLong, declared.errors.LogError.LogError}
-use Rattle.log_sum.specs.{declared.errors.SumError.SumError, declared.errors.Fault.Fault, declared.errors.Fault.TheVariants.{Wrong, NoMemory}}
-use Rattle.log_sum.specs.{declared.kinds.Place.Place, declared.kinds.Place.TheVariants.Outside, Facts.{Fact, Entry, fact_fault}, Counts.count_read}
-use Rattle.log_sum.specs.{LogStates.form_read, LogLines.{histogram_line, log_row}, LineReading.{Said, log_line_said, place_after, fact_said, test_after}}
-use Rattle.log_sum.specs.LogGrammar.{Statement, is_too_long, ended_texts, texts_before, LogLine, numbered, facts_in, lines_say, inside, all_judged}
-use Rattle.log_sum.specs.LogReading.{LogSeen, fault_at, next_line, nothing_seen, said_put, text_judged, line_judged, lines_judged, rest_judged, bytes_judged, last_judged, end_judged, files_judged, input_judged}
-use Rattle.log_sum.specs.Representing.{SumProgress, Kept, Represents, ShowsFault, ShowsNone, IsInside, FedTo, sum_table, lines_so_far, facts_so_far, logs_text}
-use Rattle.log_sum.specs.Feeding.{IsFed, IsAtSeen, IsRunning, PieceTo, entry_of, sum_refusal}
-use Rattle.log_sum.proofs.PlaceLaws.{HasStates, goes_on, ends_in, fact_says, LineGoes, line_goes, has_states}
-use Rattle.log_sum.proofs.{ReadingLaws.{is_one_line, so_far_more, input_by_lines, rest_more}, FeedLaws.{middle_of, rest_same, part_long, file_by_lines}}
-use Rattle.log_sum.proofs.{StayLaws.{files_fault, long_rest}, LineLaws.input_line, Grammar.{between, files_by_blocks, judged_text, text_fault}}
+use Rattle.std.{proofs.Common.{◌≡◌, ◌<◌, ℕ, zero, suc, ◌+◌, List, [], ◌∷◌, ◌++◌, length, drop, true, false, refl, sym, ap, ◌∙◌, arith, subst, append_assoc, append-nil, Some, None}, specs.Prelude.{Option, Result, Ok, Err}}
+use Rattle.log_sum.proofs.{Vocabulary.{without_return, whole_lines, unended, ◌>>=◌}, PlaceLaws.{HasStates, goes_on, ends_in, fact_says, LineGoes, line_goes, has_states}, ReadingLaws.{is_one_line, so_far_more, input_by_lines, rest_more}}
+use Rattle.log_sum.{proofs.{FeedLaws.{middle_of, rest_same, part_long, file_by_lines}, StayLaws.{files_fault, long_rest}, LineLaws.input_line, Grammar.{between, files_by_blocks, judged_text, text_fault}}, specs.declared.errors.LogKind.LogKind}
+use Rattle.log_sum.specs.{declared.{errors.{LogKind.TheVariants.LineTooLong, LogError.LogError, SumError.SumError, Fault.{Fault, TheVariants.{Wrong, NoMemory}}}, kinds.Place.{Place, TheVariants.Outside}}, Facts.{Fact, Entry, fact_fault}}
+use Rattle.log_sum.specs.{Counts.count_read, LogStates.form_read, LogLines.{histogram_line, log_row}, LineReading.{Said, log_line_said, place_after, fact_said, test_after}, LogGrammar.{Statement, is_too_long, ended_texts, texts_before, LogLine}}
+use Rattle.log_sum.specs.{LogGrammar.{numbered, facts_in, lines_say, inside, all_judged}, LogReading.{LogSeen, fault_at, next_line, nothing_seen, said_put, text_judged, line_judged, lines_judged, rest_judged, bytes_judged, last_judged, end_judged}}
+use Rattle.log_sum.specs.{LogReading.{files_judged, input_judged}, Representing.{SumProgress, Kept, Represents, ShowsFault, ShowsNone, IsInside, FedTo, sum_table, lines_so_far, facts_so_far, logs_text}, Feeding.{IsFed, IsAtSeen, IsRunning, PieceTo}}
+use Rattle.log_sum.specs.Feeding.{entry_of, sum_refusal}
 
 -- the entry of a fact, if there is one
 abbrev said_entries : List ℕ → Option Fact → List Entry

@@ -1,11 +1,7 @@
 -- Counts and the digits that write them.
-use Rattle.std.proofs.{Common.{◌≡◌, ℕ, zero, suc, ◌^◌, ◌<◌, ◌+◌, ◌-◌, List, [], ◌∷◌, length, get_or, take, ap, ◌∙◌, arith}, Math.Seq.{take-length}}
-use Rattle.std.proofs.lemmas.{Str.digit_value_digit, Int.Digits.digits_value_more, Str.Parse.digits_value-take-le}
-use Rattle.std.specs.{Prelude.{true, false, ◌*◌, cond, nat_lt, Option, Some, None, Ok, Err}, Char.{is_ascii_digit, digit_value}, List.list_all}
-use Rattle.std.specs.Str.Parse.{digits_value}
-use Rattle.log_sum.specs.{declared.errors.LogKind.TheVariants.{BadState, BadCount}, Counts.count_read}
-use Rattle.text_parts.specs.{LeadingRuns.{leading_run, after_run}, Words.is_nil}
-use Rattle.text_parts.proofs.RunLaws.{run_passes}
+use Rattle.std.proofs.{Common.{◌≡◌, ℕ, zero, suc, ◌^◌, ◌<◌, ◌+◌, ◌-◌, List, [], ◌∷◌, length, get_or, take, ap, ◌∙◌, arith}, Math.Seq.take-length, lemmas.{Str.{digit_value_digit, Parse.digits_value-take-le}, Int.Digits.digits_value_more}}
+use Rattle.std.specs.{Prelude.{true, false, ◌*◌, cond, nat_lt, Option, Some, None, Ok, Err}, Char.{is_ascii_digit, digit_value}, List.list_all, Str.Parse.digits_value}
+use Rattle.log_sum.{specs.{declared.errors.LogKind.TheVariants.{BadState, BadCount}, Counts.count_read}, proofs.Vocabulary.{leading_run, after_run, is_nil, run_passes}}
 
 -- what a digit is worth
 pub digit_is : (digit : ℕ) → is_ascii_digit digit ≡ true → digit - 48 ≡ digit_value digit

@@ -1,18 +1,10 @@
 -- States with their sums, as a table keeps them.
-use Rattle.std.proofs.Common.{◌≡◌, ℕ, zero, suc, ◌+◌, List, [], ◌∷◌, ◌++◌, Some, None, true, false, cond, length, refl, sym, ap, ◌∙◌, arith, subst}
-use Rattle.std.proofs.{lemmas.Map.Text.is_eq-slice_cmp, lemmas.Slice.Eq.bytes_eq-Decides, lemmas.List.length-map}
-use Rattle.std.specs.Prelude.{Bool, Option, map, slice_get, option_map, T, min, Result, Ok, Err, OnOk, OnErr, IfOk}
-use Rattle.std.specs.{Bool.OnTrue, Ordering.{nat_cmp, is_eq}, Cmp.Lexicographic.slice_cmp, BTreeMap.insert_entry, FinMap.Entries.{is_sorted, below_all}}
-use Rattle.std.specs.{List.{IsDistinct, AllByRecursion}, List.Sorted.IsStrictlySortedBy, Str.bytes_eq, Map.{lookup, keys_of, values_of}, declared.vec.Vec.Vec}
-use Rattle.std.specs.{declared.alloc.Global.Global, declared.cmp.Ordering.TheVariants.Less}
-use Rattle.list_laws.proofs.Cases.{by_test}
-use Rattle.log_sum.specs.{declared.kinds.Mark.Mark, declared.spelling.Spelling.Spelling, declared.state_table.StateSum.StateSum, Summed.StateSummed}
-use Rattle.log_sum.specs.{LogStates.form_read, SummingSteps.known_state, StateSpelling.{is_spelled, IsSpelled, AddsText}}
-use Rattle.log_sum.specs.StateEntries.{sum_view, sum_in, is_kept, has_text, is_state, state_view, state_at, states_view, and_state, placed_state, EntriesAreWritten, HasState}
-use Rattle.log_sum.specs.TextPlaces.{set_value_at, index_among, places_view, ArePlaced, IsSeenAt}
-use Rattle.diy_io.specs.Count.{last_count}
-use Rattle.log_sum.proofs.TextPlaceLaws.{last_text, text_at}
-use Rattle.log_sum.proofs.OrderLaws.{ordered_known, ordered_put, ordered_sorted, same_states}
+use Rattle.std.{proofs.{Common.{◌≡◌, ℕ, zero, suc, ◌+◌, List, [], ◌∷◌, ◌++◌, Some, None, true, false, cond, length, refl, sym, ap, ◌∙◌, arith, subst}, lemmas.{Map.Text.is_eq-slice_cmp, Slice.Eq.bytes_eq-Decides, List.length-map}}, specs.Prelude.Bool}
+use Rattle.std.specs.{Prelude.{Option, map, slice_get, option_map, T, min, Result, Ok, Err, OnOk, OnErr, IfOk}, Bool.OnTrue, Ordering.{nat_cmp, is_eq}, Cmp.Lexicographic.slice_cmp, BTreeMap.insert_entry, FinMap.Entries.{is_sorted, below_all}}
+use Rattle.log_sum.proofs.{Vocabulary.{IsDistinct, AllByRecursion, IsStrictlySortedBy, bytes_eq, lookup, keys_of, values_of, Vec, Global, Less, by_test, last_count}, TextPlaceLaws.{last_text, text_at}, OrderLaws.{ordered_known, ordered_put}}
+use Rattle.log_sum.{proofs.OrderLaws.{ordered_sorted, same_states}, specs.{declared.{kinds.Mark.Mark, spelling.Spelling.Spelling, state_table.StateSum.StateSum}, Summed.StateSummed, LogStates.form_read, SummingSteps.known_state}}
+use Rattle.log_sum.specs.{StateSpelling.{is_spelled, IsSpelled, AddsText}, StateEntries.{sum_view, sum_in, is_kept, has_text, is_state, state_view, state_at, states_view, and_state, placed_state, EntriesAreWritten, HasState}, TextPlaces.set_value_at}
+use Rattle.log_sum.specs.TextPlaces.{index_among, places_view, ArePlaced, IsSeenAt}
 
 -- the texts that are kept of states are read as these where a sum is changed to one whose texts are
 pub written_again : (es : List (Vec ℕ Global × StateSum)) (i : ℕ) (v w : StateSum) → slice_get (values_of es) i ≡ Some v

@@ -1,13 +1,9 @@
 -- What a summer keeps, fed piece by piece.
-use Rattle.std.proofs.Common.{◌≡◌, ◌<◌, ◌≤◌, ℕ, ◌+◌, List, [], ◌∷◌, ◌++◌, Some, None, true, false, length, refl, sym, ap, ◌∙◌, arith, append_assoc, length-append, subst}
-use Rattle.std.specs.Prelude.{Result, Ok, Err, OnOk, ◌==◌}
-use Rattle.log_sum.specs.{declared.errors.Fault.Fault, declared.errors.Fault.TheVariants.{Wrong, NoMemory}, declared.errors.LogError.LogError}
-use Rattle.log_sum.specs.{declared.errors.LogKind.TheVariants.LineTooLong, declared.errors.SumError.SumError, declared.kinds.Place.Place}
-use Rattle.log_sum.specs.LogReading.{LogSeen, fault_at, is_too_long, nothing_seen, text_judged, line_judged, lines_judged, rest_judged, bytes_judged, last_judged, end_at, end_judged, file_judged, files_judged, input_judged}
-use Rattle.log_sum.specs.{Representing.{SumProgress, Kept, EndedTo}, Feeding.{IsFed, AreMarked, FollowsSeen, ReadOn, JudgedTo, PieceTo, EndTo, sum_refusal}}
-use Rattle.text_parts.specs.{ReadingSteps.◌>>=◌, Lines.{without_return, whole_lines, unended}}
-use Rattle.log_sum.proofs.{ReadingLaws.{is_one_line, so_far, so_far_more, so_far_ended, input_by_lines, rest_more, rest_ended, read_on}, SumLaws.none_marked}
-use Rattle.log_sum.proofs.{FollowLaws.entry_marked, StayLaws.{input_fault, nothing_more}, Grammar.judged_text}
+use Rattle.std.{proofs.Common.{◌≡◌, ◌<◌, ◌≤◌, ℕ, ◌+◌, List, [], ◌∷◌, ◌++◌, Some, None, true, false, length, refl, sym, ap, ◌∙◌, arith, append_assoc, length-append, subst}, specs.Prelude.{Result, Ok, Err, OnOk, ◌==◌}}
+use Rattle.log_sum.specs.{declared.{errors.{Fault.{Fault, TheVariants.{Wrong, NoMemory}}, LogError.LogError, LogKind.TheVariants.LineTooLong, SumError.SumError}, kinds.Place.Place}, LogReading.{LogSeen, fault_at, is_too_long, nothing_seen, text_judged}}
+use Rattle.log_sum.specs.{LogReading.{line_judged, lines_judged, rest_judged, bytes_judged, last_judged, end_at, end_judged, file_judged, files_judged, input_judged}, Representing.{SumProgress, Kept, EndedTo}, Feeding.{IsFed, AreMarked, FollowsSeen}}
+use Rattle.log_sum.{specs.Feeding.{ReadOn, JudgedTo, PieceTo, EndTo, sum_refusal}, proofs.{ReadingLaws.{is_one_line, so_far, so_far_more, so_far_ended, input_by_lines, rest_more, rest_ended, read_on}, SumLaws.none_marked, FollowLaws.entry_marked}}
+use Rattle.log_sum.proofs.{StayLaws.{input_fault, nothing_more}, Grammar.judged_text, Vocabulary.{◌>>=◌, without_return, whole_lines, unended}}
 
 -- what one step and then another give
 pub record Middle {A B : Type 0} (r : Result A LogError) (next : A → Result B LogError) (y : B) : Type 0 where

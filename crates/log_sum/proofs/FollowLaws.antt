@@ -1,13 +1,9 @@
 -- The reading that the code keeps follows the definitions.
-use Rattle.std.proofs.{Common.{◌≡◌, ℕ, List, [], ◌∷◌, ◌++◌, Some, None, true, false, refl, sym, ap, ◌∙◌, append-nil, arith}, lemmas.Slice.Eq.bytes_eq-Decides}
-use Rattle.std.specs.Prelude.{Bool, Result, Ok, Err}
-use Rattle.log_sum.specs.{declared.errors.LogKind.LogKind, declared.errors.Fault.Fault, declared.errors.Fault.TheVariants.{Wrong, NoMemory}}
-use Rattle.log_sum.specs.{declared.kinds.Place.Place, declared.table.Table.Table, SumViews.{tests_view, IsLineFault}, Representing.{SumProgress, test_name_at}}
-use Rattle.log_sum.specs.{Feeding.{IsRunning, Marked, AreMarked, entry_of, FactPut, RowPut, FollowsSeen, ReadOn, JudgedTo}, Summed.Summed}
-use Rattle.log_sum.specs.Facts.{Row, Fact, Entry, a_row, facts_of, rows, fact_fault}
-use Rattle.log_sum.specs.LineReading.{Said, passed_over, begins, counts, a_state, judged, conditioned, hashed, ends, row_said, log_line_said, place_after, fact_said, test_after}
-use Rattle.log_sum.specs.LogReading.{LogSeen, fact_put, fault_at, said_to, said_judged, text_judged, next_line}
-use Rattle.log_sum.proofs.{SumLaws.{rows_more, marked_put}, ReadingLaws.{facts_here, facts_elsewhere}}
+use Rattle.std.{proofs.{Common.{◌≡◌, ℕ, List, [], ◌∷◌, ◌++◌, Some, None, true, false, refl, sym, ap, ◌∙◌, append-nil, arith}, lemmas.Slice.Eq.bytes_eq-Decides}, specs.Prelude.{Bool, Result, Ok, Err}}
+use Rattle.log_sum.specs.{declared.{errors.{LogKind.LogKind, Fault.{Fault, TheVariants.{Wrong, NoMemory}}}, kinds.Place.Place, table.Table.Table}, SumViews.{tests_view, IsLineFault}, Representing.{SumProgress, test_name_at}, Feeding.{IsRunning, Marked}}
+use Rattle.log_sum.specs.{Feeding.{AreMarked, entry_of, FactPut, RowPut, FollowsSeen, ReadOn, JudgedTo}, Summed.Summed, Facts.{Row, Fact, Entry, a_row, facts_of, rows, fact_fault}, LineReading.{Said, passed_over, begins, counts, a_state, judged}}
+use Rattle.log_sum.{specs.{LineReading.{conditioned, hashed, ends, row_said, log_line_said, place_after, fact_said, test_after}, LogReading.{LogSeen, fact_put, fault_at, said_to, said_judged, text_judged, next_line}}, proofs.SumLaws.rows_more}
+use Rattle.log_sum.proofs.{SumLaws.marked_put, ReadingLaws.{facts_here, facts_elsewhere}}
 
 -- the marks of a test with a fact more that has no error
 facts_marked : (facts : List Fact) (fact : Fact) → Marked (rows facts) → fact_fault facts fact ≡ None → Marked (rows (facts ++ fact ∷ []))

@@ -1,13 +1,9 @@
 -- The sieve's code follows the reading where blocks with errors are left out.
-use Rattle.std.proofs.Common.{◌≡◌, ℕ, List, [], true, false, Some, None, refl, sym, ap, ◌∙◌, subst}
-use Rattle.std.specs.Prelude.{Bool, Option, Result, Err}
-use Rattle.log_sum.specs.declared.{errors.LogError.LogError, errors.LogKind.LogKind, kinds.Place.Place}
-use Rattle.log_sum.specs.declared.{errors.LogKind.TheVariants.{Truncated, LineTooLong}, kinds.Place.TheVariants.{Outside, Histogram, States, Judgement, Rest, Conditioned}}
-use Rattle.log_sum.specs.{declared.errors.Fault.Fault, declared.errors.Fault.TheVariants.{Wrong, NoMemory}, Facts.Entry, Summed.Summed}
-use Rattle.log_sum.specs.LogReading.{LogSeen, fault_at, next_line, text_judged}
-use Rattle.log_sum.specs.{Undoing.UnlessNoMemory, Representing.{SumProgress, sum_table}, Feeding.{AreMarked, FollowsSeen, ReadOn, JudgedTo}, Skipping.{Skipped}}
-use Rattle.log_sum.specs.Sieving.{is_outside, SieveKept, Sieved, seen_outside, left_out_with, begun_with, ended_at, ended_by, piece_ended, judged_by, text_by, too_long_by, too_long_sieved, log_begun, nothing_sieved, passed_over, LeftOutFrom, FollowsRunning, FollowsSieved, FollowsEnded, UndoneAfter, IsReady}
-use Rattle.log_sum.proofs.{LineLaws.text_line, SieveLaws.text_wrong_at}
+use Rattle.std.{proofs.Common.{◌≡◌, ℕ, List, [], true, false, Some, None, refl, sym, ap, ◌∙◌, subst}, specs.Prelude.{Bool, Option, Result, Err}}
+use Rattle.log_sum.specs.declared.{errors.{LogError.LogError, LogKind.{LogKind, TheVariants.{Truncated, LineTooLong}}, Fault.{Fault, TheVariants.{Wrong, NoMemory}}}, kinds.Place.{Place, TheVariants.{Outside, Histogram, States, Judgement, Rest}}}
+use Rattle.log_sum.specs.{declared.kinds.Place.TheVariants.Conditioned, Facts.Entry, Summed.Summed, LogReading.{LogSeen, fault_at, next_line, text_judged}, Undoing.UnlessNoMemory, Representing.{SumProgress, sum_table}, Feeding.{AreMarked, FollowsSeen}}
+use Rattle.log_sum.specs.{Feeding.{ReadOn, JudgedTo}, Skipping.Skipped, Sieving.{is_outside, SieveKept, Sieved, seen_outside, left_out_with, begun_with, ended_at, ended_by, piece_ended, judged_by, text_by, too_long_by, too_long_sieved, log_begun}}
+use Rattle.log_sum.{specs.Sieving.{nothing_sieved, passed_over, LeftOutFrom, FollowsRunning, FollowsSieved, FollowsEnded, UndoneAfter, IsReady}, proofs.{LineLaws.text_line, SieveLaws.text_wrong_at}}
 
 -- ===== leaving out
 -- what was left out has its table without the running block

@@ -1,11 +1,6 @@
 -- Entries by their texts without the last of them.
-use Rattle.std.proofs.Common.{◌≡◌, ℕ, List, [], ◌∷◌, ◌++◌, None, false, refl, sym, ap, ◌∙◌, arith}
-use Rattle.std.proofs.{lemmas.Map.Text.is_eq-slice_cmp, lemmas.Slice.Eq.bytes_eq-Decides}
-use Rattle.std.specs.{Ordering.{nat_cmp, is_eq}, Cmp.Lexicographic.slice_cmp}
-use Rattle.std.specs.{List.{AllByRecursion, IsDistinct}, Str.bytes_eq, Map.{lookup, keys_of, remove_entry}, declared.vec.Vec.Vec, declared.alloc.Global.Global}
-use Rattle.log_sum.specs.TextPlaces.{index_among, index_in, AreApart, ArePlaced}
-use Rattle.log_sum.proofs.TextPlaceLaws.{index_last, index_by}
-use Rattle.list_laws.proofs.Cases.{by_test}
+use Rattle.std.{proofs.{Common.{◌≡◌, ℕ, List, [], ◌∷◌, ◌++◌, None, false, refl, sym, ap, ◌∙◌, arith}, lemmas.{Map.Text.is_eq-slice_cmp, Slice.Eq.bytes_eq-Decides}}, specs.{Ordering.{nat_cmp, is_eq}, Cmp.Lexicographic.slice_cmp, List.AllByRecursion}}
+use Rattle.log_sum.{proofs.{Vocabulary.{IsDistinct, bytes_eq, lookup, keys_of, remove_entry, Vec, Global, by_test}, TextPlaceLaws.{index_last, index_by}}, specs.TextPlaces.{index_among, index_in, AreApart, ArePlaced}}
 
 -- keys that are apart stay apart without the last
 all_front : (x : List ℕ) {X : Type 0} (es : List (Vec ℕ Global × X)) (e : Vec ℕ Global × X) → AllByRecursion (λ (y : Vec ℕ Global). bytes_eq x y.items ≡ false) (keys_of (es ++ e ∷ []))

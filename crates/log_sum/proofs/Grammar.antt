@@ -1,15 +1,9 @@
 -- Logs that are read line by line say what their blocks say.
-use Rattle.std.specs.{Prelude.{◌≡◌, ℕ, ◌+◌, List, [], ◌∷◌, ◌++◌, length, map, Option, Some, None, Result, Ok, Err}, List.{flat_map, list_any}, Option.is_none}
-use Rattle.std.proofs.Common.{refl, ap, ◌∙◌, arith, append_assoc, append-nil}
-use Rattle.list_laws.specs.Errors.{with_before, unless}
-use Rattle.diy_io.specs.Count.{count_of}
-use Rattle.text_parts.specs.{Lines.{last_line, whole_lines, unended}, ReadingSteps.◌>>=◌}
-use Rattle.log_sum.specs.{declared.errors.LogKind.LogKind, declared.errors.LogKind.TheVariants.LineTooLong, declared.errors.LogError.LogError}
-use Rattle.log_sum.specs.{declared.kinds.Place.Place, declared.kinds.Place.TheVariants.Outside, Facts.{Entry, Fact, facts_of, fact_fault}, SumText.sum_text}
-use Rattle.log_sum.specs.{Representing.logs_text, LineReading.{Said, log_line_said, place_after, fact_said, test_after}}
-use Rattle.log_sum.specs.LogReading.{LogSeen, nothing_seen, fault_at, next_line, fact_put, at_next_line, said_put, text_judged, line_judged, lines_judged, last_judged, end_judged, file_judged, files_judged}
-use Rattle.log_sum.specs.LogGrammar.{text_in, ended_texts, log_texts, LogLine, Statement, numbered, texts_before, end_says, log_says, facts_in, error_after, logs_say, all_judged}
-use Rattle.log_sum.proofs.PlaceLaws.{HasStates, goes_on, ends_in, fact_says, StopsAt, LineGoes, line_goes, has_states}
+use Rattle.std.{specs.{Prelude.{◌≡◌, ℕ, ◌+◌, List, [], ◌∷◌, ◌++◌, length, map, Option, Some, None, Result, Ok, Err}, List.{flat_map, list_any}, Option.is_none}, proofs.Common.{refl, ap, ◌∙◌, arith, append_assoc, append-nil}}
+use Rattle.log_sum.{proofs.{Vocabulary.{with_before, unless, count_of, last_line, whole_lines, unended, ◌>>=◌}, PlaceLaws.{HasStates, goes_on, ends_in, fact_says, StopsAt, LineGoes, line_goes, has_states}}, specs.declared.errors.LogKind.LogKind}
+use Rattle.log_sum.specs.{declared.{errors.{LogKind.TheVariants.LineTooLong, LogError.LogError}, kinds.Place.{Place, TheVariants.Outside}}, Facts.{Entry, Fact, facts_of, fact_fault}, SumText.sum_text, Representing.logs_text, LineReading.Said}
+use Rattle.log_sum.specs.{LineReading.{log_line_said, place_after, fact_said, test_after}, LogReading.{LogSeen, nothing_seen, fault_at, next_line, fact_put, at_next_line, said_put, text_judged, line_judged, lines_judged, last_judged, end_judged}}
+use Rattle.log_sum.specs.{LogReading.{file_judged, files_judged}, LogGrammar.{text_in, ended_texts, log_texts, LogLine, Statement, numbered, texts_before, end_says, log_says, facts_in, error_after, logs_say, all_judged}}
 
 -- what was seen, by its parts
 abbrev pub at_place : List Entry → List ℕ → Place → ℕ → LogSeen

@@ -1,14 +1,8 @@
 -- What a summer that leaves out blocks with errors keeps, fed piece by piece.
-use Rattle.std.proofs.Common.{◌≡◌, ◌<◌, ◌≤◌, ℕ, ◌+◌, List, [], ◌∷◌, ◌++◌, length, true, false, refl, sym, ap, ◌∙◌, subst, arith, append_assoc, append-nil, length-append}
-use Rattle.std.specs.Prelude.{Bool, cond, Result, Ok, Err, OnOk}
-use Rattle.diy_io.specs.declared.errors.NoMemory.{NoMemory}
-use Rattle.text_parts.specs.Lines.{without_return, unended}
-use Rattle.log_sum.specs.{LogReading.{next_line, is_too_long}}
-use Rattle.log_sum.specs.Sieving.{KeptPieces, Sieved, nothing_sieved, text_sieved, too_long_sieved, passed_over, log_sieved, FollowsSieved, IsSieved, RepresentsPieces}
-use Rattle.log_sum.proofs.ReadingLaws.{is_one_line, rest_more, rest_ended}
-use Rattle.log_sum.proofs.SiftLaws.{ends_there, none_unended}
-use Rattle.log_sum.proofs.FollowSieve.{passed_follows}
-use Rattle.log_sum.proofs.SievedLaws.{long_on, line_fed, part_fed, long_fed, long_none, long_stays, long_ended, log_ended, log_ended_long, log_ended_last, nothing_is_sieved}
+use Rattle.std.{proofs.Common.{◌≡◌, ◌<◌, ◌≤◌, ℕ, ◌+◌, List, [], ◌∷◌, ◌++◌, length, true, false, refl, sym, ap, ◌∙◌, subst, arith, append_assoc, append-nil, length-append}, specs.Prelude.{Bool, cond, Result, Ok, Err, OnOk}}
+use Rattle.log_sum.proofs.{Vocabulary.{NoMemory, without_return, unended}, ReadingLaws.{is_one_line, rest_more, rest_ended}, SiftLaws.{ends_there, none_unended}, FollowSieve.passed_follows, SievedLaws.{long_on, line_fed, part_fed, long_fed, long_none}}
+use Rattle.log_sum.{proofs.SievedLaws.{long_stays, long_ended, log_ended, log_ended_long, log_ended_last, nothing_is_sieved}, specs.{LogReading.{next_line, is_too_long}, Sieving.{KeptPieces, Sieved, nothing_sieved, text_sieved, too_long_sieved}}}
+use Rattle.log_sum.specs.Sieving.{passed_over, log_sieved, FollowsSieved, IsSieved, RepresentsPieces}
 
 pub on_ok : {P Q : Type 0} (r : Result (Unit {0}) NoMemory) → (P → Q) → OnOk r P → OnOk r Q
 on_ok (Ok x) f h = f h

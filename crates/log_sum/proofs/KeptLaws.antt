@@ -1,8 +1,6 @@
 -- The test with a name is the one at its index.
-use Rattle.std.proofs.Common.{◌≡◌, ℕ, zero, suc, List, [], ◌∷◌, Option, Some, None, cond, map, refl, sym, ap, ◌∙◌, arith}
-use Rattle.std.specs.{Prelude.{slice_get, option_map}, Str.bytes_eq, declared.vec.Vec.Vec, declared.alloc.Global.Global}
-use Rattle.list_laws.proofs.Cases.{by_test}
-use Rattle.log_sum.specs.{declared.test_sum.TestSum.TestSum, SumViews.{named_view, test_view}, TextPlaces.index_among, KeptStates.{states_kept, test_named}, Representing.Kept}
+use Rattle.std.{proofs.Common.{◌≡◌, ℕ, zero, suc, List, [], ◌∷◌, Option, Some, None, cond, map, refl, sym, ap, ◌∙◌, arith}, specs.{Prelude.{slice_get, option_map}, Str.bytes_eq, declared.{vec.Vec.Vec, alloc.Global.Global}}}
+use Rattle.log_sum.{proofs.Vocabulary.by_test, specs.{declared.test_sum.TestSum.TestSum, SumViews.{named_view, test_view}, TextPlaces.index_among, KeptStates.{states_kept, test_named}, Representing.Kept}}
 
 -- where no test has the name, none is found
 pub named_none : (name : List ℕ) (tests : List (Vec ℕ Global × TestSum)) → index_among name tests ≡ None → test_named name (map named_view tests) ≡ None

@@ -1,15 +1,8 @@
 -- The left sides of equalities: in byte order those that have one left side are neighbours.
-use Rattle.std.proofs.Common.{◌≡◌, ℕ, suc, ◌+◌, ◌-◌, ◌<◌, List, [], ◌∷◌, ◌++◌, Some, None, true, false, length, drop, refl, sym, ap, ◌∙◌, arith, append_assoc}
-use Rattle.std.proofs.{lemmas.Bool.{or_from, or_parts, or_right, false_from_ne_true}, lemmas.Bool.Decides.Decides-eqb}
-use Rattle.std.proofs.{lemmas.List.Elements.{All-head, All-tail}, lemmas.Slice.Eq.{bytes_eq-Decides, starts_is}}
-use Rattle.std.specs.{Prelude.{Option, IsSome, is_some, map, slice_index_or}, List.{All, AllByRecursion, IsDistinct}}
-use Rattle.std.specs.{List.Sorted.{IsSortedBy, IsStrictlySortedBy}, Ordering.{nat_cmp, is_lt}, Cmp.both_ways, Cmp.Lexicographic.slice_cmp, Str.bytes_eq}
-use Rattle.std.specs.declared.cmp.Ordering.TheVariants.{Less}
-use Rattle.log_sum.specs.{Texts.begins_with, LogStates.{left_kept, sides_read}}
-use Rattle.log_sum.specs.Equalities.{equality_of, before_sign, left_side, HasSign, same_left, has_left_twice}
-use Rattle.text_parts.specs.Cuts.{cut_at, is_without, CutParts}
-use Rattle.text_parts.proofs.{CutLaws.{cut_back, cut_parts, all_both}, OrderLaws.order}
-use Rattle.log_sum.proofs.{OrderLaws.apart_less, StateLaws.{text_at, shown_at}}
+use Rattle.std.proofs.{Common.{◌≡◌, ℕ, suc, ◌+◌, ◌-◌, ◌<◌, List, [], ◌∷◌, ◌++◌, Some, None, true, false, length, drop, refl, sym, ap, ◌∙◌, arith, append_assoc}, lemmas.Bool.{or_from, or_parts, or_right, false_from_ne_true, Decides.Decides-eqb}}
+use Rattle.std.{proofs.lemmas.{List.Elements.{All-head, All-tail}, Slice.Eq.{bytes_eq-Decides, starts_is}}, specs.{Prelude.{Option, IsSome, is_some, map, slice_index_or}, List.{All, AllByRecursion, IsDistinct, Sorted.{IsSortedBy, IsStrictlySortedBy}}}}
+use Rattle.log_sum.{proofs.{Vocabulary.{nat_cmp, is_lt, both_ways, slice_cmp, bytes_eq, Less, cut_at, is_without, CutParts, cut_back, cut_parts, all_both, order}, OrderLaws.apart_less, StateLaws.{text_at, shown_at}}, specs.Texts.begins_with}
+use Rattle.log_sum.specs.{LogStates.{left_kept, sides_read}, Equalities.{equality_of, before_sign, left_side, HasSign, same_left, has_left_twice}}
 
 -- a text has no sign
 abbrev NoSign : List ℕ → Type 0

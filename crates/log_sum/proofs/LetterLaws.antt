@@ -1,12 +1,7 @@
 -- What a line doesn't say, by its first letter.
-use Rattle.std.proofs.Common.{◌≡◌, ◌==◌, ℕ, List, [], ◌∷◌, get_or, true, false, None, Ok, refl, ap, ◌∙◌, arith}
-use Rattle.std.proofs.lemmas.Slice.Eq.{bytes_eq-Decides}
-use Rattle.std.specs.{Prelude.codes, Option.is_some, Str.bytes_eq}
-use Rattle.list_laws.proofs.Cases.{by_test}
-use Rattle.text_parts.specs.{Words.{words, is_nil}, Blanks.{is_blank, is_inked, unblanked, kept_before, before_blanks}, LeadingRuns.{leading_run, after_run}}
-use Rattle.text_parts.proofs.WordLaws.{word_found, no_word_found}
-use Rattle.log_sum.specs.{declared.kinds.Kind.Kind, Texts.begins_with, LogLines.{test_line, condition_line, hash_line, is_observation}}
-use Rattle.log_sum.specs.LineReading.{passed_over, first_letter, may_open, hash_said, condition_said, no_test, rest_said}
+use Rattle.std.{proofs.{Common.{◌≡◌, ◌==◌, ℕ, List, [], ◌∷◌, get_or, true, false, None, Ok, refl, ap, ◌∙◌, arith}, lemmas.Slice.Eq.bytes_eq-Decides}, specs.{Prelude.codes, Option.is_some, Str.bytes_eq}}
+use Rattle.log_sum.{proofs.Vocabulary.{by_test, words, is_nil, is_blank, is_inked, unblanked, kept_before, before_blanks, leading_run, after_run, word_found, no_word_found}, specs.{declared.kinds.Kind.Kind, Texts.begins_with, LogLines.test_line}}
+use Rattle.log_sum.specs.{LogLines.{condition_line, hash_line, is_observation}, LineReading.{passed_over, first_letter, may_open, hash_said, condition_said, no_test, rest_said}}
 
 run_letter : (text : List ℕ) → is_nil (leading_run is_inked text) ≡ false → get_or (leading_run is_inked text) 0 0 ≡ get_or text 0 0
 unfolding leading_run

@@ -1,3 +1,4 @@
+pub mod Vocabulary
 mod ReadingRows
 mod SkippingRows
 pub mod TextLaws

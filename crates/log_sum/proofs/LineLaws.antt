@@ -1,12 +1,8 @@
 -- The number of the running line: one more than the line feeds of its log so far.
-use Rattle.std.proofs.{Common.{◌≡◌, ℕ, ◌+◌, List, [], ◌∷◌, length, refl, sym, ap, ◌∙◌, arith}, lemmas.List.Splits.length-slice_split}
-use Rattle.std.specs.Prelude.{Ok}
-use Rattle.text_parts.specs.Lines.{is_line_feed, whole_lines, unended}
-use Rattle.text_parts.proofs.PieceLaws.{first_piece, length-but_last}
-use Rattle.diy_io.specs.{Count.count_of, Sink.line_feed_count}
-use Rattle.log_sum.specs.LogReading.{LogSeen, nothing_seen, next_line, text_judged, line_judged, lines_judged, rest_judged, bytes_judged, file_judged, files_judged, input_judged}
-use Rattle.log_sum.specs.Representing.{running_line}
-use Rattle.log_sum.proofs.FeedLaws.{middle_of, rest_same}
+use Rattle.std.{proofs.{Common.{◌≡◌, ℕ, ◌+◌, List, [], ◌∷◌, length, refl, sym, ap, ◌∙◌, arith}, lemmas.List.Splits.length-slice_split}, specs.Prelude.Ok}
+use Rattle.text_parts.{specs.Lines.{is_line_feed, whole_lines, unended}, proofs.PieceLaws.{first_piece, length-but_last}}
+use Rattle.log_sum.{proofs.{Vocabulary.{count_of, line_feed_count}, FeedLaws.{middle_of, rest_same}}, specs.LogReading.{LogSeen, nothing_seen, next_line, text_judged, line_judged, lines_judged, rest_judged, bytes_judged, file_judged, files_judged}}
+use Rattle.log_sum.specs.{LogReading.input_judged, Representing.running_line}
 
 -- after the text of a line comes the next line
 pub text_line : (seen next : LogSeen) (text : List ℕ) → text_judged seen text ≡ Ok next → next.line ≡ next_line seen.line

@@ -1,11 +1,7 @@
 -- Which lines open a block, and where.
-use Rattle.std.proofs.Common.{◌≡◌, ℕ, List, true, false, arith}
-use Rattle.std.specs.{Prelude.{Err}, Option.is_some}
-use Rattle.text_parts.specs.{Words.{words}}
-use Rattle.log_sum.specs.declared.{errors.LogKind.LogKind, kinds.Place.Place, kinds.Place.TheVariants.{Outside, Histogram, States, Judgement, Rest, Conditioned}}
-use Rattle.log_sum.specs.{declared.errors.Fault.Fault, declared.errors.Fault.TheVariants.{Wrong, NoMemory}}
-use Rattle.log_sum.specs.{SumViews.{IsLineFault}, LogLines.{test_line}, LineReading.{log_line_said}}
-use Rattle.log_sum.specs.{Sieving.says_opening, Undoing.{UnlessNoMemory}}
+use Rattle.std.{proofs.Common.{◌≡◌, ℕ, List, true, false, arith}, specs.{Prelude.Err, Option.is_some}}
+use Rattle.log_sum.{proofs.Vocabulary.words, specs.{declared.{errors.{LogKind.LogKind, Fault.{Fault, TheVariants.{Wrong, NoMemory}}}, kinds.Place.{Place, TheVariants.{Outside, Histogram, States, Judgement, Rest, Conditioned}}}, SumViews.IsLineFault}}
+use Rattle.log_sum.specs.{LogLines.test_line, LineReading.log_line_said, Sieving.says_opening, Undoing.UnlessNoMemory}
 
 -- what a line says begins a block only if the line opens one
 pub says_what_opens : (place : Place) (text : List ℕ) → is_some (test_line (words text)) ≡ false → says_opening (log_line_said place text) ≡ false

@@ -1,9 +1,6 @@
 -- States in byte order, whatever the order in which a table keeps them.
-use Rattle.std.proofs.{Common.{◌≡◌, ℕ, List, [], ◌∷◌, Some, false, cond, refl, sym, ap, ◌∙◌, subst, arith}, lemmas.Map.Text.is_eq-slice_cmp}
-use Rattle.std.specs.{Prelude.T, Ordering.{nat_cmp, is_eq, is_lt}, Cmp.Lexicographic.slice_cmp, BTreeMap.insert_entry, Str.bytes_eq}
-use Rattle.std.specs.{declared.cmp.Ordering.TheVariants.Less, FinMap.Entries.{put, find, is_sorted, is_sorted-put, find-put, same_entries}}
-use Rattle.log_sum.specs.{declared.kinds.Mark.Mark, Summed.StateSummed, SummingSteps.known_state, StateEntries.ordered}
-use Rattle.text_parts.proofs.OrderLaws.{order, is_text}
+use Rattle.std.{proofs.{Common.{◌≡◌, ℕ, List, [], ◌∷◌, Some, false, cond, refl, sym, ap, ◌∙◌, subst, arith}, lemmas.Map.Text.is_eq-slice_cmp}, specs.{Prelude.T, Ordering.{nat_cmp, is_eq, is_lt}, Cmp.Lexicographic.slice_cmp, BTreeMap.insert_entry}}
+use Rattle.log_sum.{proofs.Vocabulary.{bytes_eq, Less, put, find, is_sorted, is_sorted-put, find-put, same_entries, order, is_text}, specs.{declared.kinds.Mark.Mark, Summed.StateSummed, SummingSteps.known_state, StateEntries.ordered}}
 
 -- a text is below another that differs from it and isn't below it
 pub apart_less : (x y : List ℕ) → is_lt (slice_cmp nat_cmp y x) ≡ false → bytes_eq x y ≡ false → slice_cmp nat_cmp x y ≡ Less

@@ -1,10 +1,7 @@
 -- Summers that were fed the same bytes in other pieces.
-use Rattle.std.proofs.Common.{◌≡◌, ℕ, List, [], ◌∷◌, ◌++◌, Ok, Err, sym, ap, ◌∙◌, refl, inl, inr}
-use Rattle.std.specs.Prelude.{Result}
-use Rattle.log_sum.specs.{declared.errors.LogError.LogError, declared.errors.SumError.SumError, declared.errors.SumError.TheVariants.{Log, NoMemory}}
-use Rattle.log_sum.specs.{Representing.{Kept, Represents, FedTo, EndedTo, logs_text, facts_so_far, kept_text}, Facts.Entry, SumText.sum_text}
-use Rattle.log_sum.specs.SumPieces.{SameAnswers, IsOneAnswer}
-use Rattle.log_sum.proofs.{PrintLaws.sum_is, RepresentingLaws.{one_fault, fault_stays, represented_text}}
+use Rattle.std.{proofs.Common.{◌≡◌, ℕ, List, [], ◌∷◌, ◌++◌, Ok, Err, sym, ap, ◌∙◌, refl, inl, inr}, specs.Prelude.Result}
+use Rattle.log_sum.specs.{declared.errors.{LogError.LogError, SumError.{SumError, TheVariants.{Log, NoMemory}}}, Representing.{Kept, Represents, FedTo, EndedTo, logs_text, facts_so_far, kept_text}, Facts.Entry, SumText.sum_text, SumPieces.SameAnswers}
+use Rattle.log_sum.{specs.SumPieces.IsOneAnswer, proofs.{PrintLaws.sum_is, RepresentingLaws.{one_fault, fault_stays, represented_text}}}
 
 fed_one : (one other : Kept) (files : List (List ℕ)) (bytes : List ℕ) (r s : Result (Unit {0}) SumError)
     → FedTo one files bytes r → FedTo other files bytes s → IsOneAnswer r s

@@ -1,15 +1,9 @@
 -- What the lines of a log say from a place of the reading on, line by line.
-use Rattle.std.proofs.Common.{◌≡◌, ◌-◌, ℕ, zero, suc, List, [], ◌∷◌, ◌++◌, length, take, drop, true, false, refl, arith, Some, None}
-use Rattle.std.proofs.lemmas.Slice.Eq.{bytes_eq-Decides}
-use Rattle.std.specs.{Prelude.{Option, Result, Ok, Err, Bool, cond, nat_lt, filter, fold, option_map}, List.{flat_map, before_first}}
-use Rattle.list_laws.proofs.Cases.{by_test}
-use Rattle.text_parts.specs.{Words.words, Blanks.{is_blank, is_inked, before_blanks}, LeadingRuns.{leading_run, after_run}}
-use Rattle.text_parts.proofs.WordLaws.{word_found}
-use Rattle.log_sum.specs.{declared.errors.LogKind.LogKind, declared.kinds.Kind.Kind, declared.kinds.Verdict.Verdict, declared.kinds.Place.Place}
-use Rattle.log_sum.specs.{declared.kinds.Place.TheVariants.{Outside, Histogram, States, Judgement, Rest, Conditioned}, Texts.begins_with, Counts.count_read}
-use Rattle.log_sum.specs.{Facts.{Row, Fact}, LogLines.{quantifier, test_line, histogram_line, log_row, is_judgement, is_observation, hash_line}}
-use Rattle.log_sum.specs.LineReading.{Said, counts_said, row_said, no_test, condition_said, hash_said, log_line_said, states_left, after_state, place_after, fact_said, test_after}
-use Rattle.log_sum.specs.LogGrammar.{LogLine, Statement, opening, condition, is_closing, blocks, block_parts, says, row_says, judgement_says, further_says, closing_says, has_condition, count_says, lines_say, no_lines, place_in, inside_block}
+use Rattle.std.{proofs.{Common.{◌≡◌, ◌-◌, ℕ, zero, suc, List, [], ◌∷◌, ◌++◌, length, take, drop, true, false, refl, arith, Some, None}, lemmas.Slice.Eq.bytes_eq-Decides}, specs.Prelude.{Option, Result, Ok, Err, Bool, cond, nat_lt, filter, fold}}
+use Rattle.log_sum.{proofs.Vocabulary.{option_map, flat_map, before_first, by_test, words, is_blank, is_inked, before_blanks, leading_run, after_run, word_found}, specs.declared.{errors.LogKind.LogKind, kinds.{Kind.Kind, Verdict.Verdict, Place.Place}}}
+use Rattle.log_sum.specs.{declared.kinds.Place.TheVariants.{Outside, Histogram, States, Judgement, Rest, Conditioned}, Texts.begins_with, Counts.count_read, Facts.{Row, Fact}, LogLines.{quantifier, test_line, histogram_line, log_row, is_judgement}}
+use Rattle.log_sum.specs.{LogLines.{is_observation, hash_line}, LineReading.{Said, counts_said, row_said, no_test, condition_said, hash_said, log_line_said, states_left, after_state, place_after, fact_said, test_after}, LogGrammar.{LogLine, Statement}}
+use Rattle.log_sum.specs.LogGrammar.{opening, condition, is_closing, blocks, block_parts, says, row_says, judgement_says, further_says, closing_says, has_condition, count_says, lines_say, no_lines, place_in, inside_block}
 
 -- a condition came, or is among lines
 abbrev had_condition : Bool → List LogLine → Bool

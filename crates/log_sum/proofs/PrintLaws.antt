@@ -1,13 +1,9 @@
 -- The printed sum, piece by piece.
-use Rattle.std.proofs.Common.{◌≡◌, ◌≤◌, ◌<◌, get_or, ℕ, zero, suc, ◌+◌, ◌-◌, List, [], ◌∷◌, ◌++◌, length, take, drop, refl, sym, ap, ◌∙◌, subst, arith, min, append_assoc, append-nil}
-use Rattle.std.proofs.{lemmas.List.Concat.flat_map-append, lemmas.List.map_push, lemmas.List.take_more}
+use Rattle.std.proofs.{Common.{◌≡◌, ◌≤◌, ◌<◌, get_or, ℕ, zero, suc, ◌+◌, ◌-◌, List, [], ◌∷◌, ◌++◌, length, take, drop, refl, sym, ap, ◌∙◌, subst, arith, min, append_assoc, append-nil}, lemmas.List.{Concat.flat_map-append, map_push, take_more}}
 use Rattle.std.specs.{Prelude.{map, replicate, codes, Result, Ok, Err}, Fmt.decimal, List.flat_map, Result.IsErrAnd}
-use Rattle.diy_io.specs.{declared.errors.Failed.Failed, Wrote.{SinkSeen, WrotePart}, Page.{SentAll, Sends}}
-use Rattle.diy_io.specs.PageLaws.{sent_both, sent_part, sent_part_more, sends_then, sends_stopped}
-use Rattle.log_sum.specs.{declared.kinds.Kind.TheVariants.Allowed, declared.kinds.Mark.Mark, Summed.{Summed, summed, some_or, is_validated}}
-use Rattle.log_sum.specs.{Representing.{Kept, sum_table, kept_text, kept_table}, Facts.{Entry, facts_of, tests_of}}
-use Rattle.log_sum.specs.SumText.{summed_text, sum_text, line_end, filling, mark_sign, state_line, sum_kind_word, verdict_word, how_often, head_text, sum_verdict_text, observation_text, table_line, table_text, TableIsObserved}
-use Rattle.log_sum.proofs.StateLaws.{take_whole}
+use Rattle.log_sum.{proofs.{Vocabulary.{Failed, SinkSeen, WrotePart, SentAll, Sends, sent_both, sent_part, sent_part_more, sends_then, sends_stopped}, StateLaws.take_whole}, specs.{declared.kinds.{Kind.TheVariants.Allowed, Mark.Mark}, Summed.Summed}}
+use Rattle.log_sum.specs.{Summed.{summed, some_or, is_validated}, Representing.{Kept, sum_table, kept_text, kept_table}, Facts.{Entry, facts_of, tests_of}, SumText.{summed_text, sum_text, line_end, filling, mark_sign, state_line, sum_kind_word}}
+use Rattle.log_sum.specs.SumText.{verdict_word, how_often, head_text, sum_verdict_text, observation_text, table_line, table_text, TableIsObserved}
 
 -- the rest of six blanks and a sign, from a place on
 pub blanks_and_sign : (k a b : ℕ) → k ≤ 6 → take (8 - k) (drop k (32 ∷ 32 ∷ 32 ∷ 32 ∷ 32 ∷ 32 ∷ a ∷ b ∷ [])) ≡ replicate (6 - k) 32 ++ a ∷ b ∷ []

@@ -1,14 +1,9 @@
 -- A log may come in any pieces.
-use Rattle.std.proofs.{Common.{◌≡◌, ℕ, List, [], ◌∷◌, ◌++◌, true, false, refl, sym, ap, ◌∙◌, append-nil, arith}, lemmas.List.Elements.filter-append}
-use Rattle.std.proofs.{lemmas.List.Sums.fold-append, lemmas.Slice.Eq.bytes_eq-Decides, lemmas.List.map_push}
-use Rattle.std.specs.{Prelude.{Bool, not, cond, map, Result, Ok, fold}, List.{slice_split, list_any, list_all}, Str.bytes_eq}
-use Rattle.list_laws.proofs.Cases.{by_test, eq_swap}
-use Rattle.log_sum.specs.{declared.errors.LogError.LogError, Facts.{Fact, Entry, facts_of, tests_of, with_test_name}, Summed.{Summed, summed}}
-use Rattle.log_sum.specs.{Representing.sum_table, Feeding.entry_of}
-use Rattle.log_sum.specs.LogReading.{LogSeen, lines_judged, line_judged, bytes_judged, rest_judged, file_judged, files_judged, input_judged, nothing_seen}
-use Rattle.text_parts.specs.{ReadingSteps.◌>>=◌, Lines.{is_line_feed, but_last, last_of, whole_lines, unended}}
-use Rattle.text_parts.proofs.PieceLaws.{first_piece, split_whole, split_both, split_append, but_last_append, last_append, whole_split}
-use Rattle.text_parts.proofs.OrderLaws.{bytes_same}
+use Rattle.std.{proofs.{Common.{◌≡◌, ℕ, List, [], ◌∷◌, ◌++◌, true, false, refl, sym, ap, ◌∙◌, append-nil, arith}, lemmas.{List.{Elements.filter-append, Sums.fold-append, map_push}, Slice.Eq.bytes_eq-Decides}}, specs.Prelude.{Bool, not, cond, map}}
+use Rattle.std.specs.{Prelude.{Result, Ok, fold}, List.{slice_split, list_any, list_all}, Str.bytes_eq}
+use Rattle.log_sum.{proofs.Vocabulary.{by_test, eq_swap}, specs.{declared.errors.LogError.LogError, Facts.{Fact, Entry, facts_of, tests_of, with_test_name}, Summed.{Summed, summed}, Representing.sum_table, Feeding.entry_of, LogReading.LogSeen}}
+use Rattle.log_sum.specs.LogReading.{lines_judged, line_judged, bytes_judged, rest_judged, file_judged, files_judged, input_judged, nothing_seen}
+use Rattle.text_parts.{specs.{ReadingSteps.◌>>=◌, Lines.{is_line_feed, but_last, last_of, whole_lines, unended}}, proofs.{PieceLaws.{first_piece, split_whole, split_both, split_append, but_last_append, last_append, whole_split}, OrderLaws.bytes_same}}
 
 -- a text has no line feed
 abbrev pub is_one_line : List ℕ → Bool

@@ -1,13 +1,9 @@
 -- The definitions tried on logs.
-use Rattle.std.proofs.Common.{◌≡◌, ℕ, List, [], ◌∷◌, ◌++◌, take, refl}
-use Rattle.std.specs.{Prelude.{codes, Result, Ok, Err}, Fmt.digits}
-use Rattle.log_sum.specs.declared.errors.LogKind.TheVariants.{Truncated, BadState, NoCounts, SumTooLarge, BadCount, MarkDiffers, KindDiffers}
-use Rattle.log_sum.specs.{declared.errors.LogError.LogError, declared.errors.LogKind.LogKind, Counts.count_read, Summed.summed}
-use Rattle.log_sum.specs.{LogStates.{form_read, with_pieces, state_read, state_form}, Facts.{marked_sum, state_sum, states_of, mark_in, fact_fault}}
-use Rattle.log_sum.specs.{LogLines.{test_line, histogram_line, log_row, condition_line, hash_line}, LogGrammar.log_texts, Representing.logs_text}
-use Rattle.log_sum.specs.SumText.{state_line, head_text, sum_verdict_text, condition_text, claim_text, hash_text, observation_text, summed_text, sum_text}
-use Rattle.text_parts.specs.{LeadingRuns.{leading_run, after_run}, Blanks.before_blanks, Words.words, Cuts.cut_at}
-use Rattle.text_parts.specs.Lines.{without_return, whole_lines, unended}
+use Rattle.std.{proofs.Common.{◌≡◌, ℕ, List, [], ◌∷◌, ◌++◌, take, refl}, specs.{Prelude.{codes, Result, Ok, Err}, Fmt.digits}}
+use Rattle.log_sum.specs.{declared.errors.{LogKind.{TheVariants.{Truncated, BadState, NoCounts, SumTooLarge, BadCount, MarkDiffers, KindDiffers}, LogKind}, LogError.LogError}, Counts.count_read, Summed.summed, LogStates.{form_read, with_pieces}}
+use Rattle.log_sum.specs.{LogStates.{state_read, state_form}, Facts.{marked_sum, state_sum, states_of, mark_in, fact_fault}, LogLines.{test_line, histogram_line, log_row, condition_line, hash_line}, LogGrammar.log_texts, Representing.logs_text}
+use Rattle.log_sum.{specs.SumText.{state_line, head_text, sum_verdict_text, condition_text, claim_text, hash_text, observation_text, summed_text, sum_text}, proofs.Vocabulary.{leading_run, after_run, before_blanks, words, cut_at, without_return}}
+use Rattle.log_sum.proofs.Vocabulary.{whole_lines, unended}
 
 abbrev nl : List ℕ → List ℕ
 nl line = line ++ 10 ∷ []

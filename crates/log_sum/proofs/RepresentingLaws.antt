@@ -1,10 +1,7 @@
 -- Laws of a summer that was fed in pieces, for those who use it.
-use Rattle.std.proofs.Common.{◌≡◌, ◌⊎◌, ℕ, List, [], ◌∷◌, ◌++◌, Ok, Err, refl, sym, ap, ◌∙◌, arith, append_assoc, append-nil, inl, inr}
-use Rattle.std.specs.Prelude.{Result}
-use Rattle.text_parts.specs.{Lines.whole_lines, ReadingSteps.◌>>=◌}
-use Rattle.log_sum.specs.{Facts.Entry, SumText.{sum_text, table_text}, declared.errors.LogError.LogError, LogReading.{LogSeen, input_judged}}
-use Rattle.log_sum.specs.Representing.{Kept, Represents, ShowsFault, ShowsNone, sum_table, facts_so_far, kept_text, kept_table, logs_text, logs_table, SumOrFault}
-use Rattle.log_sum.proofs.{PrintLaws.{sum_is, table_is}, StayLaws.file_more, Grammar.{judged_text, text_fault}, CarryLaws.{fault_shown, none_shown}}
+use Rattle.std.{proofs.Common.{◌≡◌, ◌⊎◌, ℕ, List, [], ◌∷◌, ◌++◌, Ok, Err, refl, sym, ap, ◌∙◌, arith, append_assoc, append-nil, inl, inr}, specs.Prelude.Result}
+use Rattle.log_sum.{proofs.{Vocabulary.{whole_lines, ◌>>=◌}, PrintLaws.{sum_is, table_is}, StayLaws.file_more, Grammar.{judged_text, text_fault}, CarryLaws.{fault_shown, none_shown}}, specs.{Facts.Entry, SumText.{sum_text, table_text}}}
+use Rattle.log_sum.specs.{declared.errors.LogError.LogError, LogReading.{LogSeen, input_judged}, Representing.{Kept, Represents, ShowsFault, ShowsNone, sum_table, facts_so_far, kept_text, kept_table, logs_text, logs_table, SumOrFault}}
 
 -- nothing has been said so far where nothing has come
 nothing_said : (entries : List Entry) → entries ++ facts_so_far [] ≡ entries

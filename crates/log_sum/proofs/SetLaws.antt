@@ -1,18 +1,10 @@
 -- Equalities that are sorted at once are the set of those that are inserted one by one.
-use Rattle.std.proofs.{Common.{◌≡◌, ℕ, List, [], ◌∷◌, ◌++◌, Some, None, true, false, refl, sym, ap, ◌∙◌, subst, arith}, lemmas.Bool.{and_from, or_from}}
-use Rattle.std.proofs.{lemmas.Map.Keys.IsDistinct-IsPermutation, lemmas.List.map_push, lemmas.List.Elements.{All-nil, All-head, All-tail, All-push}}
-use Rattle.std.proofs.lemmas.List.Sorted.{All-permutation, IsPermutation-map, IsPermutation-sym, list_any-IsPermutation}
-use Rattle.std.specs.{Prelude.{Bool, ◌||◌, cond, Option, Ok, Err, T, map}, List.{list_any, All, AllByRecursion, IsDistinct}}
-use Rattle.std.specs.{List.Sorted.{IsPermutation, IsSortedBy, IsStrictlySortedBy}, Ordering.{nat_cmp, eq_by_cmp, is_lt}}
-use Rattle.std.specs.{Cmp.Lexicographic.{slice_cmp, nat_list_eq_equiv}, BTreeSet.insert_key, declared.cmp.Ordering.TheVariants.Less}
-use Rattle.std.specs.FinMap.Entries.{put, find, is_sorted, below_all, is_sorted-put, same_entries}
-use Rattle.text_parts.specs.{Words.is_nil, Blanks.unblanked, Cuts.cut_at}
-use Rattle.log_sum.specs.{LogStates.{has_left, sides_read, with_equality, and_then, state_read, or_bad}, declared.errors.LogKind.LogKind}
-use Rattle.log_sum.specs.Equalities.{equality_of, and_equality, with_piece, left_side, HasSign, same_left, has_left_twice, with_one, with_all}
-use Rattle.list_laws.proofs.Cases.{by_test}
-use Rattle.text_parts.proofs.OrderLaws.{order, is_text, any_insert}
-use Rattle.log_sum.proofs.StateLaws.{rest_read, rest_goes, rest_whole, set_begins}
-use Rattle.log_sum.proofs.LeftLaws.{read_left, read_sign, begins_left, ascend_apart, twice_not_apart, sorted_ascends}
+use Rattle.std.proofs.{Common.{◌≡◌, ℕ, List, [], ◌∷◌, ◌++◌, Some, None, true, false, refl, sym, ap, ◌∙◌, subst, arith}, lemmas.{Bool.{and_from, or_from}, Map.Keys.IsDistinct-IsPermutation, List.{map_push, Elements.{All-nil, All-head, All-tail}}}}
+use Rattle.std.{proofs.lemmas.List.{Elements.All-push, Sorted.{All-permutation, IsPermutation-map, IsPermutation-sym, list_any-IsPermutation}}, specs.{Prelude.{Bool, ◌||◌, cond, Option, Ok, Err, T, map}, List.{list_any, All, AllByRecursion, IsDistinct}}}
+use Rattle.log_sum.proofs.Vocabulary.{IsPermutation, IsSortedBy, IsStrictlySortedBy, nat_cmp, eq_by_cmp, is_lt, slice_cmp, nat_list_eq_equiv, insert_key, Less, put, find, is_sorted, below_all, is_sorted-put, same_entries, is_nil, unblanked, cut_at}
+use Rattle.log_sum.proofs.{Vocabulary.{order, is_text, any_insert, by_test}, StateLaws.{rest_read, rest_goes, rest_whole, set_begins}, LeftLaws.{read_left, read_sign, begins_left, ascend_apart, twice_not_apart, sorted_ascends}}
+use Rattle.log_sum.specs.{LogStates.{has_left, sides_read, with_equality, and_then, state_read, or_bad}, declared.errors.LogKind.LogKind, Equalities.{equality_of, and_equality, with_piece, left_side, HasSign, same_left, has_left_twice, with_one}}
+use Rattle.log_sum.specs.Equalities.{with_all}
 
 -- texts in byte order, as std's entries: they are all that is in them
 abbrev tagged : List (List ℕ) → List (List ℕ × Unit {0})

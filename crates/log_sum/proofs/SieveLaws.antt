@@ -1,19 +1,10 @@
 -- Pieces of logs that are read line by line: each is kept or left out as the definition says.
-use Rattle.std.proofs.Common.{◌≡◌, ◌≤◌, ℕ, ◌+◌, List, [], ◌∷◌, ◌++◌, length, true, false, Some, None, refl, sym, ap, ◌∙◌, arith, append-nil}
-use Rattle.std.proofs.{lemmas.List.Sums.{sum_by-append}}
-use Rattle.std.specs.Prelude.{◌==◌, cond, Option, Result, Ok, Err}
-use Rattle.diy_io.specs.{Count.{count_of, next_count}, Sink.line_feed_count}
-use Rattle.text_parts.specs.{Lines.{without_return, whole_lines, unended}, ReadingSteps.◌>>=◌}
-use Rattle.log_sum.specs.declared.{errors.LogError.LogError, errors.LogKind.LogKind, errors.LogKind.TheVariants.{Truncated, LineTooLong}}
-use Rattle.log_sum.specs.declared.{kinds.Place.Place, kinds.Place.TheVariants.Outside}
-use Rattle.log_sum.specs.{Facts.{Entry, Fact}, LogGrammar.all_judged, LineReading.{Said, log_line_said, fact_said}}
-use Rattle.log_sum.specs.LogReading.{LogSeen, nothing_seen, fault_at, next_line, fact_put, said_put, is_too_long, text_judged, line_judged, lines_judged, rest_judged, bytes_judged, last_judged, end_at, end_judged, file_judged}
-use Rattle.log_sum.specs.Skipping.{Piece, with_line, Sifted, with_piece, skipped_at, Skipped}
-use Rattle.log_sum.specs.Sieving.{Sieved, seen_outside, left_out_with, begun_with, ended_at, ended_by, piece_ended, judged_by, text_by, IsKeptSoFar, RunningIs, IsInPiece}
-use Rattle.log_sum.specs.Representing.{running_line}
-use Rattle.log_sum.proofs.ReadingLaws.{is_one_line, lines_more, rest_more, lines_both, read_on}
-use Rattle.log_sum.proofs.{StayLaws.{bytes_fault, file_fault}, FeedLaws.line_fits, LineLaws.text_line, Grammar.{between, files_by_blocks}}
-use Rattle.log_sum.proofs.SiftLaws.{Right, judged_right, right_judged, piece_kept, line_more, ends_there, none_unended}
+use Rattle.std.{proofs.{Common.{◌≡◌, ◌≤◌, ℕ, ◌+◌, List, [], ◌∷◌, ◌++◌, length, true, false, Some, None, refl, sym, ap, ◌∙◌, arith, append-nil}, lemmas.List.Sums.sum_by-append}, specs.Prelude.{◌==◌, cond, Option, Result, Ok, Err}}
+use Rattle.log_sum.proofs.{Vocabulary.{count_of, next_count, line_feed_count, without_return, whole_lines, unended, ◌>>=◌}, ReadingLaws.{is_one_line, lines_more, rest_more, lines_both, read_on}, StayLaws.{bytes_fault, file_fault}, FeedLaws.line_fits}
+use Rattle.log_sum.{proofs.{LineLaws.text_line, Grammar.{between, files_by_blocks}, SiftLaws.{Right, judged_right, right_judged, piece_kept, line_more, ends_there, none_unended}}, specs.declared.errors.{LogError.LogError, LogKind.LogKind}}
+use Rattle.log_sum.specs.{declared.{errors.LogKind.TheVariants.{Truncated, LineTooLong}, kinds.Place.{Place, TheVariants.Outside}}, Facts.{Entry, Fact}, LogGrammar.all_judged, LineReading.{Said, log_line_said, fact_said}, LogReading.LogSeen}
+use Rattle.log_sum.specs.{LogReading.{nothing_seen, fault_at, next_line, fact_put, said_put, is_too_long, text_judged, line_judged, lines_judged, rest_judged, bytes_judged, last_judged, end_at, end_judged, file_judged}, Skipping.{Piece, with_line}}
+use Rattle.log_sum.specs.{Skipping.{Sifted, with_piece, skipped_at, Skipped}, Sieving.{Sieved, seen_outside, left_out_with, begun_with, ended_at, ended_by, piece_ended, judged_by, text_by, IsKeptSoFar, RunningIs, IsInPiece}, Representing.running_line}
 
 -- ===== the same reading at another number
 -- a line that is judged at another number

@@ -1,21 +1,13 @@
 -- Logs that are read where blocks with errors are left out: the lines of a log, as they are fed, and its end.
-use Rattle.std.proofs.Common.{◌≡◌, ◌⊎◌, ◌<◌, ◌≤◌, ℕ, ◌+◌, List, [], ◌∷◌, ◌++◌, length, true, false, Some, None, refl, sym, ap, ◌∙◌, subst, arith, append_assoc, append-nil, length-append, inl, inr}
-use Rattle.std.proofs.{lemmas.List.Sums.fold-append, lemmas.List.map-append}
-use Rattle.std.specs.{Prelude.{Bool, cond, map, fold, Option, Result, Ok, Err}}
-use Rattle.list_laws.proofs.Cases.{by_test}
-use Rattle.diy_io.specs.{Count.{count_of, next_count}, Sink.line_feed_count}
-use Rattle.text_parts.specs.{Lines.{without_return, whole_lines, unended, last_line}, ReadingSteps.◌>>=◌}
-use Rattle.log_sum.specs.{declared.errors.LogError.LogError, declared.errors.LogKind.TheVariants.LineTooLong}
-use Rattle.log_sum.specs.{Facts.Entry, SumText.{sum_text, table_text}, LogGrammar.{all_judged, text_in}}
-use Rattle.log_sum.specs.LogReading.{LogSeen, next_line, is_too_long, text_judged, bytes_judged, end_judged}
-use Rattle.log_sum.specs.Skipping.{is_opening, opens, Piece, with_line, begun_after, pieces_from, pieces_of, all_pieces, Skipped, Sifted, nothing_sifted, with_piece, skipped_at, sifted}
-use Rattle.log_sum.specs.Sieving.{SieveKept, KeptPieces, Sieved, seen_outside, piece_ended, judged_by, text_by, opening_by, text_sieved, too_long_by, too_long_sieved, passed_over, log_sieved, nothing_sieved}
-use Rattle.log_sum.specs.Sieving.{pieces_so_far, sifted_before, FollowsRunning, IsKeptSoFar, IsLeftOut, RunningIs, IsInPiece, IsSieved, RepresentsPieces, SumOfKept}
-use Rattle.log_sum.specs.Representing.{Kept, running_line, sum_table, logs_text, logs_table}
-use Rattle.log_sum.proofs.ReadingLaws.{is_one_line, lines_more, rest_more, lines_ended, rest_ended}
-use Rattle.log_sum.proofs.{StayLaws.bytes_fault, FeedLaws.last_text, PrintLaws.{sum_is, table_is}}
-use Rattle.log_sum.proofs.SiftLaws.{ends_there, none_whole, none_unended, opens_ended, opens_last, unended_is_line}
-use Rattle.log_sum.proofs.SieveLaws.{text_moved, text_wrong_at, rest_fits, rest_long, file_last, file_wrong, feeds_both, feeds_none, feeds_line, next_number, next_running, counted_twice, IsWhole, piece_sifted, in_whole, long_whole, line_sieved, nothing_read, begins_piece}
+use Rattle.std.proofs.{Common.{◌≡◌, ◌⊎◌, ◌<◌, ◌≤◌, ℕ, ◌+◌, List, [], ◌∷◌, ◌++◌, length, true, false, Some, None, refl, sym, ap, ◌∙◌, subst, arith, append_assoc, append-nil, length-append, inl, inr}, lemmas.List.{Sums.fold-append, map-append}}
+use Rattle.std.specs.Prelude.{Bool, cond, map, fold, Option, Result, Ok, Err}
+use Rattle.log_sum.proofs.{Vocabulary.{by_test, count_of, next_count, line_feed_count, without_return, whole_lines, unended, last_line, ◌>>=◌}, ReadingLaws.{is_one_line, lines_more, rest_more, lines_ended, rest_ended}, StayLaws.bytes_fault}
+use Rattle.log_sum.proofs.{FeedLaws.last_text, PrintLaws.{sum_is, table_is}, SiftLaws.{ends_there, none_whole, none_unended, opens_ended, opens_last, unended_is_line}, SieveLaws.{text_moved, text_wrong_at, rest_fits, rest_long, file_last, file_wrong}}
+use Rattle.log_sum.{proofs.SieveLaws.{feeds_both, feeds_none, feeds_line, next_number, next_running, counted_twice, IsWhole, piece_sifted, in_whole, long_whole, line_sieved, nothing_read, begins_piece}, specs.declared.errors.LogError.LogError}
+use Rattle.log_sum.specs.{declared.errors.LogKind.TheVariants.LineTooLong, Facts.Entry, SumText.{sum_text, table_text}, LogGrammar.{all_judged, text_in}, LogReading.{LogSeen, next_line, is_too_long, text_judged, bytes_judged, end_judged}}
+use Rattle.log_sum.specs.{Skipping.{is_opening, opens, Piece, with_line, begun_after, pieces_from, pieces_of, all_pieces, Skipped, Sifted, nothing_sifted, with_piece, skipped_at, sifted}, Sieving.{SieveKept, KeptPieces, Sieved, seen_outside}}
+use Rattle.log_sum.specs.Sieving.{piece_ended, judged_by, text_by, opening_by, text_sieved, too_long_by, too_long_sieved, passed_over, log_sieved, nothing_sieved, pieces_so_far, sifted_before, FollowsRunning, IsKeptSoFar, IsLeftOut, RunningIs, IsInPiece}
+use Rattle.log_sum.specs.{Sieving.{IsSieved, RepresentsPieces, SumOfKept}, Representing.{Kept, running_line, sum_table, logs_text, logs_table}}
 
 -- ===== the pieces of lines, and of one line more
 some_piece : (p : Piece) (ls : List (List ℕ)) → pieces_from p ls ≡ [] → ⊥

@@ -1,21 +1,12 @@
 -- Logs of which the blocks with errors are left out: what is kept has no error, and logs without an error are kept whole.
-use Rattle.std.proofs.Common.{◌≡◌, ℕ, ◌+◌, List, [], ◌∷◌, ◌++◌, true, refl, sym, ap, ◌∙◌, subst, arith, append_assoc, Some, None}
-use Rattle.std.proofs.{lemmas.List.Sums.fold-append}
-use Rattle.std.specs.{Prelude.{map, fold, Option, Result, Ok, Err, IfErr}, List.{AllByRecursion, slice_split}, Option.is_some}
-use Rattle.list_laws.proofs.Cases.{by_test}
-use Rattle.text_parts.specs.{Words.words, Lines.{is_line_feed, but_last, last_of, whole_lines, unended, last_line, without_return}, ReadingSteps.◌>>=◌}
-use Rattle.text_parts.proofs.PieceLaws.{first_piece}
-use Rattle.log_sum.specs.declared.{errors.LogError.LogError, errors.LogKind.LogKind, kinds.Place.Place, kinds.Kind.Kind}
-use Rattle.log_sum.specs.declared.kinds.Place.TheVariants.{Outside, Histogram, States, Judgement, Rest, Conditioned}
-use Rattle.log_sum.specs.{Facts.{Entry, Fact, a_kind, facts_of, fact_fault}, LogLines.{test_line}, SumText.sum_text}
-use Rattle.log_sum.specs.LineReading.{Said, passed_over, begins, log_line_said, place_after, fact_said, test_after}
-use Rattle.log_sum.specs.LogReading.{LogSeen, nothing_seen, next_line, fact_put, at_next_line, said_put, is_too_long, text_judged, line_judged, lines_judged, last_judged, end_judged, file_judged, files_judged}
-use Rattle.log_sum.specs.{LogGrammar.{log_texts, text_in, all_judged}, Representing.logs_text}
-use Rattle.log_sum.specs.Skipping.{is_opening, opens, Piece, with_line, begun_after, pieces_from, pieces_of, all_pieces, Sifted, nothing_sifted, sifted_by, with_piece, sifted, kept_sum}
-use Rattle.log_sum.proofs.ReadingLaws.{is_one_line, lines_more, rest_more, lines_ended, rest_ended, lines_both, read_on}
-use Rattle.log_sum.proofs.FollowLaws.{in_block}
-use Rattle.log_sum.proofs.Grammar.{between, files_by_blocks, judged_text}
-use Rattle.log_sum.proofs.PlaceLaws.{count_no_test, judgement_no_test, closing_no_test, row_no_test}
+use Rattle.std.{proofs.{Common.{◌≡◌, ℕ, ◌+◌, List, [], ◌∷◌, ◌++◌, true, refl, sym, ap, ◌∙◌, subst, arith, append_assoc, Some, None}, lemmas.List.Sums.fold-append}, specs.{Prelude.{map, fold, Option, Result, Ok, Err, IfErr}, List.AllByRecursion}}
+use Rattle.std.specs.{List.slice_split, Option.is_some}
+use Rattle.log_sum.proofs.{Vocabulary.by_test, ReadingLaws.{is_one_line, lines_more, rest_more, lines_ended, rest_ended, lines_both, read_on}, FollowLaws.in_block, Grammar.{between, files_by_blocks, judged_text}, PlaceLaws.count_no_test}
+use Rattle.log_sum.{proofs.PlaceLaws.{judgement_no_test, closing_no_test, row_no_test}, specs.declared.{errors.{LogError.LogError, LogKind.LogKind}, kinds.Place.{Place, TheVariants.{Outside, Histogram, States, Judgement, Rest, Conditioned}}}}
+use Rattle.log_sum.specs.{declared.kinds.Kind.Kind, Facts.{Entry, Fact, a_kind, facts_of, fact_fault}, LogLines.test_line, SumText.sum_text, LineReading.{Said, passed_over, begins, log_line_said, place_after, fact_said, test_after}, LogReading.LogSeen}
+use Rattle.log_sum.specs.{LogReading.{nothing_seen, next_line, fact_put, at_next_line, said_put, is_too_long, text_judged, line_judged, lines_judged, last_judged, end_judged, file_judged, files_judged}, LogGrammar.{log_texts, text_in, all_judged}}
+use Rattle.log_sum.specs.{Representing.logs_text, Skipping.{is_opening, opens, Piece, with_line, begun_after, pieces_from, pieces_of, all_pieces, Sifted, nothing_sifted, sifted_by, with_piece, sifted, kept_sum}}
+use Rattle.text_parts.{specs.{Words.words, Lines.{is_line_feed, but_last, last_of, whole_lines, unended, last_line, without_return}, ReadingSteps.◌>>=◌}, proofs.PieceLaws.first_piece}
 
 -- ===== lines of a text have no line feed
 split_lines : (bytes : List ℕ) → AllByRecursion (λ line. is_one_line line ≡ true) (slice_split is_line_feed bytes)

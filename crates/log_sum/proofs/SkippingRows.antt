@@ -1,16 +1,8 @@
 -- Worked rows of logs whose blocks with errors are left out: those of docs/LOGS.md, whole and cut off.
-use Rattle.std.specs.Prelude.{◌≡◌, ℕ, List, [], ◌∷◌, ◌++◌, take, Ok, codes}
-use Rattle.std.proofs.Common.{refl}
-use Rattle.std.specs.Fmt.{digits}
-use Rattle.text_parts.specs.{LeadingRuns.{leading_run, after_run}, Blanks.before_blanks, Words.words, Cuts.cut_at, Lines.{without_return, whole_lines, unended}}
-use Rattle.log_sum.specs.{Counts.count_read, LogStates.{with_pieces, state_read, state_form, form_read}, LogGrammar.log_texts}
-use Rattle.log_sum.specs.Facts.{marked_sum, state_sum, states_of, mark_in, fact_fault}
-use Rattle.log_sum.specs.LogLines.{test_line, histogram_line, log_row, condition_line, hash_line}
-use Rattle.log_sum.specs.{Summed.summed, Representing.logs_text}
-use Rattle.log_sum.specs.SumText.{state_line, head_text, sum_verdict_text, condition_text, claim_text, hash_text, observation_text, summed_text, sum_text}
-use Rattle.log_sum.specs.declared.errors.LogKind.{LogKind}
-use Rattle.log_sum.specs.declared.errors.LogKind.TheVariants.{Truncated, ConditionDiffers, BadState}
-use Rattle.log_sum.specs.Skipping.{Skipped, IsBlock, sifted, kept_sum}
+use Rattle.std.{specs.{Prelude.{◌≡◌, ℕ, List, [], ◌∷◌, ◌++◌, take, Ok, codes}, Fmt.digits}, proofs.Common.refl}
+use Rattle.log_sum.{proofs.Vocabulary.{leading_run, after_run, before_blanks, words, cut_at, without_return, whole_lines, unended}, specs.{Counts.count_read, LogStates.{with_pieces, state_read, state_form, form_read}, LogGrammar.log_texts}}
+use Rattle.log_sum.specs.{Facts.{marked_sum, state_sum, states_of, mark_in, fact_fault}, LogLines.{test_line, histogram_line, log_row, condition_line, hash_line}, Summed.summed, Representing.logs_text, SumText.{state_line, head_text, sum_verdict_text}}
+use Rattle.log_sum.specs.{SumText.{condition_text, claim_text, hash_text, observation_text, summed_text, sum_text}, declared.errors.LogKind.{LogKind, TheVariants.{Truncated, ConditionDiffers, BadState}}, Skipping.{Skipped, IsBlock, sifted, kept_sum}}
 
 abbrev nl : List ℕ → List ℕ
 nl line = line ++ 10 ∷ []

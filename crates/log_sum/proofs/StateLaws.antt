@@ -1,12 +1,8 @@
 -- Sets of texts, as the code keeps them.
-use Rattle.std.proofs.Common.{◌≡◌, ◌==◌, ℕ, zero, suc, ◌<◌, ◌≤◌, List, [], ◌∷◌, ◌++◌, Some, None, true, false, length, refl, sym, ap, ◌∙◌, arith, append_assoc, append-nil}
-use Rattle.std.proofs.{lemmas.Bool.eqb-true, lemmas.List.map_push}
-use Rattle.std.specs.{Prelude.{cond, Option, map, Result, Err, get_or, take, slice_index_or}, List.slice_split}
-use Rattle.list_laws.proofs.Cases.{by_test}
-use Rattle.text_parts.specs.{Blanks.{is_blank, unblanked}, Words.is_nil, LeadingRuns.after_run, Cuts.cut_at}
-use Rattle.text_parts.proofs.{CutLaws.{cut_parts, uncut_without}, PieceLaws.{split_off, split_whole}}
-use Rattle.log_sum.specs.LogStates.{with_pieces, with_equality, sides_read, and_then, later_unblanked, state_read, state_form, later_forms, separated, form_with}
-use Rattle.log_sum.specs.{declared.errors.LogKind.LogKind, declared.errors.Fault.Fault, SumViews.IsLineFault}
+use Rattle.std.{proofs.{Common.{◌≡◌, ◌==◌, ℕ, zero, suc, ◌<◌, ◌≤◌, List, [], ◌∷◌, ◌++◌, Some, None, true, false, length, refl, sym, ap, ◌∙◌, arith, append_assoc, append-nil}, lemmas.{Bool.eqb-true, List.map_push}}, specs.Prelude.{cond, Option, map}}
+use Rattle.std.specs.{Prelude.{Result, Err, get_or, take, slice_index_or}, List.slice_split}
+use Rattle.log_sum.{proofs.Vocabulary.{by_test, is_blank, unblanked, is_nil, after_run, cut_at, cut_parts, uncut_without, split_off, split_whole}, specs.LogStates.{with_pieces, with_equality, sides_read, and_then, later_unblanked, state_read}}
+use Rattle.log_sum.specs.{LogStates.{state_form, later_forms, separated, form_with}, declared.errors.{LogKind.LogKind, Fault.Fault}, SumViews.IsLineFault}
 
 -- the pieces of a text, cut at its first semicolon
 pub pieces_cut : (sign : ℕ) (text : List ℕ) (parts : List ℕ × List ℕ) → cut_at sign text ≡ Some parts

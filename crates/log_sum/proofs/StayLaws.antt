@@ -1,12 +1,7 @@
 -- An error stays the first error, whatever follows.
-use Rattle.std.proofs.Common.{◌≡◌, ℕ, List, [], ◌∷◌, ◌++◌, Some, None, true, refl, sym, ap, ◌∙◌, arith, append_assoc, length-append}
-use Rattle.std.specs.Prelude.{Option, Result, Ok, Err}
-use Rattle.log_sum.specs.declared.errors.{LogError.LogError, LogKind.TheVariants.LineTooLong}
-use Rattle.text_parts.specs.{Cuts.cut_at, Lines.whole_lines, Lines.unended, ReadingSteps.◌>>=◌}
-use Rattle.text_parts.proofs.CutLaws.{cut_parts, uncut_without}
-use Rattle.log_sum.specs.LogReading.{LogSeen, fault_at, is_too_long, nothing_seen, lines_judged, line_judged, rest_judged, bytes_judged, last_judged, end_judged, file_judged, files_judged, input_judged}
-use Rattle.log_sum.specs.JudgedLaws.{files_both}
-use Rattle.log_sum.proofs.ReadingLaws.{lines_cut, lines_both, lines_more, rest_more}
+use Rattle.std.{proofs.Common.{◌≡◌, ℕ, List, [], ◌∷◌, ◌++◌, Some, None, true, refl, sym, ap, ◌∙◌, arith, append_assoc, length-append}, specs.Prelude.{Option, Result, Ok, Err}}
+use Rattle.log_sum.specs.{declared.errors.{LogError.LogError, LogKind.TheVariants.LineTooLong}, LogReading.{LogSeen, fault_at, is_too_long, nothing_seen, lines_judged, line_judged, rest_judged, bytes_judged, last_judged, end_judged, file_judged}}
+use Rattle.log_sum.{specs.{LogReading.{files_judged, input_judged}, JudgedLaws.files_both}, proofs.{ReadingLaws.{lines_cut, lines_both, lines_more, rest_more}, Vocabulary.{cut_at, whole_lines, unended, ◌>>=◌, cut_parts, uncut_without}}}
 
 -- bytes with more after them: the line that goes on is longer, or it has ended and others follow
 pub data Goes (bytes rest : List ℕ) : Type 0 where

@@ -1,17 +1,9 @@
 -- What is kept of a test follows its facts.
-use Rattle.std.proofs.Common.{◌≡◌, ℕ, zero-add, add-zero, ◌+◌, ◌≤◌, List, [], ◌∷◌, ◌++◌, Some, None, true, false, refl, sym, ap, ◌∙◌, arith, append-nil, min}
-use Rattle.std.proofs.{lemmas.Map.Text.is_eq-slice_cmp, lemmas.List.Elements.filter-append, lemmas.List.Sums.{fold-append, sum_by-append}}
-use Rattle.std.proofs.{lemmas.List.Folds.list_all-append, lemmas.Bool.and_parts, lemmas.Slice.Eq.bytes_eq-Decides, lemmas.List.map_push}
-use Rattle.std.specs.{Prelude.{Bool, not, ◌&&◌, ◌||◌, cond, Option, map, Result, Ok, Err, filter, fold, sum_by, option_map, is_some}, List.{list_any, list_all}}
-use Rattle.std.specs.{Ordering.{nat_cmp, match_ordering}, Cmp.Lexicographic.slice_cmp, BTreeSet.insert_key, BTreeMap.insert_entry, Str.bytes_eq}
-use Rattle.std.specs.{declared.cmp.Ordering.Ordering, declared.cmp.Ordering.TheVariants.{Less, Equal, Greater}}
-use Rattle.log_sum.specs.{declared.errors.LogKind.LogKind, declared.kinds.Mark.Mark, declared.kinds.Mark.TheVariants.Plain}
-use Rattle.log_sum.specs.Facts.{Row, Fact, a_row, kinds, rows, conditions, hashes, same_state_mark, marked_sum, state_sum, states_of, mark_in, is_other, fact_fault}
-use Rattle.log_sum.specs.Summed.{Summed, StateSummed, some_or, state_by, summed}
-use Rattle.log_sum.specs.{SummingSteps.{or_this, marked, with_marked, known_state, count_known, with_row, fact_to}, Feeding.Marked}
-use Rattle.list_laws.proofs.Cases.{by_test, eq_swap}
-use Rattle.diy_io.specs.Count.{last_count}
-use Rattle.text_parts.proofs.OrderLaws.{is_text, compare, Above, Ascends, above_all, fold_ascends, not_equal, any_fold, bytes_same}
+use Rattle.std.proofs.{Common.{◌≡◌, ℕ, zero-add, add-zero, ◌+◌, ◌≤◌, List, [], ◌∷◌, ◌++◌, Some, None, true, false, refl, sym, ap, ◌∙◌, arith, append-nil, min}, lemmas.{Map.Text.is_eq-slice_cmp, List.{Elements.filter-append, Sums.fold-append}}}
+use Rattle.std.{proofs.lemmas.{List.{Sums.sum_by-append, Folds.list_all-append, map_push}, Bool.and_parts, Slice.Eq.bytes_eq-Decides}, specs.Prelude.{Bool, not, ◌&&◌, ◌||◌, cond, Option, map, Result, Ok, Err, filter, fold, sum_by, option_map, is_some}}
+use Rattle.log_sum.proofs.Vocabulary.{list_any, list_all, nat_cmp, match_ordering, slice_cmp, insert_key, insert_entry, bytes_eq, Ordering, Less, Equal, Greater, by_test, eq_swap, last_count, is_text, compare, Above, Ascends, above_all, fold_ascends}
+use Rattle.log_sum.{proofs.Vocabulary.{not_equal, any_fold, bytes_same}, specs.{declared.{errors.LogKind.LogKind, kinds.Mark.{Mark, TheVariants.Plain}}, Facts.{Row, Fact, a_row, kinds, rows, conditions, hashes, same_state_mark, marked_sum, state_sum}}}
+use Rattle.log_sum.specs.{Facts.{states_of, mark_in, is_other, fact_fault}, Summed.{Summed, StateSummed, some_or, state_by, summed}, SummingSteps.{or_this, marked, with_marked, known_state, count_known, with_row, fact_to}, Feeding.Marked}
 
 -- the facts of a sort, with a fact more
 kinds_more : (facts : List Fact) (fact : Fact) → kinds (facts ++ fact ∷ []) ≡ kinds facts ++ kinds (fact ∷ [])

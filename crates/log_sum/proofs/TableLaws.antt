@@ -1,17 +1,8 @@
 -- The tests as the code's table keeps them.
-use Rattle.std.proofs.Common.{◌≡◌, ℕ, suc, List, [], ◌∷◌, ◌++◌, Some, None, true, false, length, refl, sym, ap, ◌∙◌, arith, subst}
-use Rattle.std.proofs.{lemmas.Slice.Eq.bytes_eq-Decides}
-use Rattle.std.specs.{Prelude.{Option, map, Result, Ok, Err, slice_get, fold, option_map}, List.{list_any}}
-use Rattle.std.specs.{Map.{values_of}, Str.bytes_eq, declared.vec.Vec.Vec, declared.alloc.Global.Global}
-use Rattle.list_laws.proofs.Cases.{by_test, eq_swap}
-use Rattle.log_sum.specs.TextPlaces.{set_value_at, index_among}
-use Rattle.log_sum.specs.{declared.errors.LogKind.LogKind, declared.kinds.Kind.Kind, declared.table.Table.Table}
-use Rattle.log_sum.specs.{declared.test_sum.TestSum.TestSum, declared.errors.Fault.Fault, SumViews.{named_view, test_view, GivesOr}}
-use Rattle.log_sum.specs.{Summed.{Summed, summed}, SummingSteps.{fact_to, row_to, of_kind}}
-use Rattle.log_sum.specs.Representing.{sum_table, test_name_at}
-use Rattle.log_sum.specs.Facts.{Fact, Entry, Row, a_kind, facts_of, tests_of, fact_fault, with_test_name, marked_sum, states_of}
-use Rattle.log_sum.specs.Feeding.{AreMarked, WithFact, FactPut, RowPut}
-use Rattle.log_sum.proofs.{SumLaws.{by_fault, fact_put_is}, ReadingLaws.{Differ, more, put_at, table_put, tests_differ}}
+use Rattle.std.{proofs.{Common.{◌≡◌, ℕ, suc, List, [], ◌∷◌, ◌++◌, Some, None, true, false, length, refl, sym, ap, ◌∙◌, arith, subst}, lemmas.Slice.Eq.bytes_eq-Decides}, specs.Prelude.{Option, map, Result, Ok, Err, slice_get, fold, option_map}}
+use Rattle.log_sum.{proofs.{Vocabulary.{list_any, values_of, bytes_eq, Vec, Global, by_test, eq_swap}, SumLaws.{by_fault, fact_put_is}, ReadingLaws.{Differ, more, put_at, table_put, tests_differ}}, specs.TextPlaces.{set_value_at, index_among}}
+use Rattle.log_sum.specs.{declared.{errors.{LogKind.LogKind, Fault.Fault}, kinds.Kind.Kind, table.Table.Table, test_sum.TestSum.TestSum}, SumViews.{named_view, test_view, GivesOr}, Summed.{Summed, summed}, SummingSteps.{fact_to, row_to, of_kind}}
+use Rattle.log_sum.specs.{Representing.{sum_table, test_name_at}, Facts.{Fact, Entry, Row, a_kind, facts_of, tests_of, fact_fault, with_test_name, marked_sum, states_of}, Feeding.{AreMarked, WithFact, FactPut, RowPut}}
 
 abbrev names : List (List ℕ × Summed) → List (List ℕ)
 names shown = map (λ (r : List ℕ × Summed). r.0) shown

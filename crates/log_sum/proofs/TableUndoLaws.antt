@@ -1,10 +1,7 @@
 -- A table without its running block.
-use Rattle.std.proofs.Common.{◌≡◌, ℕ, zero, suc, ◌≤◌, List, [], ◌∷◌, ◌++◌, Some, None, length, refl, sym, ap, ◌∙◌, arith, subst}
-use Rattle.std.proofs.{lemmas.List.{length-map, take-map, take_all}, Math.Seq.{take-append_seam}}
-use Rattle.std.specs.Prelude.{Option, Result, Ok, Err, take, map, slice_get}
-use Rattle.std.specs.{Map.values_of, declared.vec.Vec.Vec, declared.alloc.Global.Global}
-use Rattle.log_sum.specs.{declared.errors.Fault.Fault, declared.errors.Fault.TheVariants.{NoMemory, Wrong}, declared.test_sum.TestSum.TestSum, declared.undo.TestBefore.TestBefore}
-use Rattle.log_sum.specs.{Summed.Summed, TextPlaces.set_value_at, SumViews.{named_view, test_view}, BlockBefore.{IsBefore, FitsEntries}}
+use Rattle.std.{proofs.{Common.{◌≡◌, ℕ, zero, suc, ◌≤◌, List, [], ◌∷◌, ◌++◌, Some, None, length, refl, sym, ap, ◌∙◌, arith, subst}, lemmas.List.{length-map, take-map, take_all}, Math.Seq.take-append_seam}, specs.Prelude.{Option, Result, Ok, Err, take}}
+use Rattle.std.specs.{Prelude.{map, slice_get}, Map.values_of, declared.{vec.Vec.Vec, alloc.Global.Global}}
+use Rattle.log_sum.specs.{declared.{errors.Fault.{Fault, TheVariants.{NoMemory, Wrong}}, test_sum.TestSum.TestSum, undo.TestBefore.TestBefore}, Summed.Summed, TextPlaces.set_value_at, SumViews.{named_view, test_view}, BlockBefore.{IsBefore, FitsEntries}}
 use Rattle.log_sum.specs.Undoing.{UndoneStays, UnlessNoMemory, entries_undone, test_undone, undone_at}
 
 -- what holds holds unless there was no memory

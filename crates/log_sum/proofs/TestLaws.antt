@@ -1,13 +1,7 @@
 -- States as the code keeps them.
-use Rattle.std.proofs.Common.{◌≡◌, ℕ, ◌+◌, ◌-◌, ◌<◌, ◌≤◌, List, [], ◌∷◌, Some, None, true, false, refl, sym, arith, min}
-use Rattle.std.specs.{Prelude.{Option, Ok, Err, cond, is_some, option_map, nat_lt}, Ordering.{nat_cmp, ordering_reverse}, Cmp.Lexicographic.slice_cmp, BTreeMap.insert_entry}
-use Rattle.std.specs.{declared.cmp.Ordering.Ordering, declared.cmp.Ordering.TheVariants.Equal}
-use Rattle.log_sum.specs.{declared.errors.LogKind.TheVariants.{MarkDiffers, SumTooLarge}, declared.kinds.Mark.Mark}
-use Rattle.log_sum.specs.{Facts.{Row, a_row, is_other, same_state_mark}, Summed.{Summed, StateSummed}}
-use Rattle.log_sum.specs.SummingSteps.{known_state, count_known, marked, with_marked, with_row, fact_to}
-use Rattle.diy_io.specs.Count.{last_count}
-use Rattle.log_sum.proofs.OrderLaws.{known_put}
-use Rattle.text_parts.proofs.OrderLaws.{order}
+use Rattle.std.{proofs.Common.{◌≡◌, ℕ, ◌+◌, ◌-◌, ◌<◌, ◌≤◌, List, [], ◌∷◌, Some, None, true, false, refl, sym, arith, min}, specs.{Prelude.{Option, Ok, Err, cond, is_some, option_map, nat_lt}, Ordering.{nat_cmp, ordering_reverse}}}
+use Rattle.log_sum.{proofs.{Vocabulary.{slice_cmp, insert_entry, Ordering, Equal, last_count, order}, OrderLaws.known_put}, specs.{declared.{errors.LogKind.TheVariants.{MarkDiffers, SumTooLarge}, kinds.Mark.Mark}, Facts.{Row, a_row, is_other}}}
+use Rattle.log_sum.specs.{Facts.same_state_mark, Summed.{Summed, StateSummed}, SummingSteps.{known_state, count_known, marked, with_marked, with_row, fact_to}}
 
 -- a row whose mark isn't that of its state has that error
 pub row_other : (test : Summed) (row : Row) (known : Option (Mark × ℕ)) → known ≡ known_state test.states row.state

@@ -1,10 +1,7 @@
 -- A test without its running block, by the counts that were noted.
-use Rattle.std.proofs.Common.{◌≡◌, ℕ, zero, suc, ◌≤◌, List, [], ◌∷◌, ◌++◌, length, refl, sym, ap, ◌∙◌, arith}
-use Rattle.std.proofs.lemmas.List.{length-map, length-take, take-take}
-use Rattle.std.specs.{Prelude.{take, map}, Option.is_some}
-use Rattle.log_sum.specs.{declared.test_sum.TestSum.TestSum, declared.undo.TestBefore.TestBefore, Summed.StateSummed}
-use Rattle.log_sum.specs.{StateEntries.{state_view, ordered, with_count, count_in, counts_back, states_undone}, BlockBefore.IsBefore, Undoing.{test_undone, UndoneStays, UndoneKept, CountNoted}}
-use Rattle.log_sum.proofs.UndoLaws.{own_count, undone_more}
+use Rattle.std.{proofs.{Common.{◌≡◌, ℕ, zero, suc, ◌≤◌, List, [], ◌∷◌, ◌++◌, length, refl, sym, ap, ◌∙◌, arith}, lemmas.List.{length-map, length-take, take-take}}, specs.{Prelude.{take, map}, Option.is_some}}
+use Rattle.log_sum.specs.{declared.{test_sum.TestSum.TestSum, undo.TestBefore.TestBefore}, Summed.StateSummed, StateEntries.{state_view, ordered, with_count, count_in, counts_back, states_undone}, BlockBefore.IsBefore, Undoing.{test_undone, UndoneStays}}
+use Rattle.log_sum.{specs.Undoing.{UndoneKept, CountNoted}, proofs.UndoLaws.{own_count, undone_more}}
 
 length_count : (states : List StateSummed) (i count : ℕ) → length (with_count states i count) ≡ length states
 length_count [] i count = refl

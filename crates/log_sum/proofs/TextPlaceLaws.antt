@@ -1,12 +1,7 @@
 -- Entries by their texts, and the map that has the index of each.
-use Rattle.std.proofs.Common.{◌≡◌, ℕ, zero, suc, ◌<◌, ◌≤◌, get_or, List, [], ◌∷◌, ◌++◌, Some, None, true, false, cond, length, refl, sym, ap, ◌∙◌, arith, subst}
-use Rattle.std.proofs.{lemmas.Map.Text.is_eq-slice_cmp, lemmas.Slice.Eq.bytes_eq-Decides, lemmas.Map.Keys.IsDistinct-push}
-use Rattle.std.specs.{Prelude.{Option, slice_get, slice_set, option_map, unwrap_or}, Ordering.{nat_cmp, is_eq}, Cmp.Lexicographic.slice_cmp, BTreeMap.insert_entry}
-use Rattle.std.specs.{List.{IsDistinct, list_any}, Str.bytes_eq, Map.{lookup, keys_of, values_of, set_value}, declared.vec.Vec.Vec, declared.alloc.Global.Global}
-use Rattle.std.specs.{Cmp.IsEquivalence, FinMap.Entries.{put, find, find-put}}
-use Rattle.log_sum.specs.TextPlaces.{set_value_at, index_among, index_in, places_view, AreApart, ArePlaced, IsPut}
-use Rattle.text_parts.proofs.OrderLaws.{order}
-use Rattle.list_laws.proofs.Cases.{by_test}
+use Rattle.std.proofs.{Common.{◌≡◌, ℕ, zero, suc, ◌<◌, ◌≤◌, get_or, List, [], ◌∷◌, ◌++◌, Some, None, true, false, cond, length, refl, sym, ap, ◌∙◌, arith, subst}, lemmas.{Map.{Text.is_eq-slice_cmp, Keys.IsDistinct-push}, Slice.Eq.bytes_eq-Decides}}
+use Rattle.std.specs.{Prelude.{Option, slice_get, slice_set, option_map, unwrap_or}, Ordering.{nat_cmp, is_eq}, Cmp.{Lexicographic.slice_cmp, IsEquivalence}, BTreeMap.insert_entry, List.{IsDistinct, list_any}, Str.bytes_eq, Map.{lookup, keys_of}}
+use Rattle.log_sum.{proofs.Vocabulary.{values_of, set_value, Vec, Global, put, find, find-put, order, by_test}, specs.TextPlaces.{set_value_at, index_among, index_in, places_view, AreApart, ArePlaced, IsPut}}
 
 by_bytes : IsEquivalence (λ (x y : Vec ℕ Global). bytes_eq x.items y.items)
 by_bytes = grind (arith, bytes_eq-Decides)

@@ -1,10 +1,7 @@
 -- States and tests without a block, by the counts that were noted.
-use Rattle.std.proofs.Common.{◌≡◌, ℕ, zero, suc, ◌≤◌, List, [], ◌∷◌, ◌++◌, Some, None, length, refl, sym, ap, ◌∙◌, arith}
-use Rattle.std.proofs.{lemmas.List.{take-map, take_all}, Math.Seq.{take-append_seam}}
-use Rattle.std.specs.Prelude.{Option, Result, Ok, Err, OnErr, IfOk, take, map, slice_get}
-use Rattle.std.specs.{Map.values_of, declared.vec.Vec.Vec, declared.alloc.Global.Global}
-use Rattle.log_sum.specs.{declared.state_table.StateSum.StateSum, Summed.StateSummed, TextPlaces.{set_value_at, IsSeenAt}}
-use Rattle.log_sum.specs.StateEntries.{EntriesAreWritten, state_view, with_count, count_in, counts_back, states_undone}
+use Rattle.std.{proofs.{Common.{◌≡◌, ℕ, zero, suc, ◌≤◌, List, [], ◌∷◌, ◌++◌, Some, None, length, refl, sym, ap, ◌∙◌, arith}, lemmas.List.{take-map, take_all}, Math.Seq.take-append_seam}, specs.Prelude.{Option, Result, Ok, Err, OnErr, IfOk, take, map}}
+use Rattle.log_sum.{proofs.Vocabulary.{slice_get, values_of, Vec, Global}, specs.{declared.state_table.StateSum.StateSum, Summed.StateSummed, TextPlaces.{set_value_at, IsSeenAt}, StateEntries.{EntriesAreWritten, state_view, with_count, count_in}}}
+use Rattle.log_sum.specs.StateEntries.{counts_back, states_undone}
 
 -- a state at an index with its own count
 pub own_count : (es : List (Vec ℕ Global × StateSum)) (i : ℕ) → with_count (map state_view es) i (count_in es i) ≡ map state_view es

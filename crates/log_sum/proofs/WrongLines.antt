@@ -1,13 +1,7 @@
 -- An error of a log is at one of its lines, or at the line right after the last one.
-use Rattle.std.proofs.Common.{◌≡◌, ◌≤◌, ℕ, ◌+◌, List, [], ◌∷◌, ◌++◌, length, refl, ap, arith, length-append}
-use Rattle.std.proofs.lemmas.List.{length-map}
-use Rattle.std.specs.Prelude.{map, Result, Ok, Err}
-use Rattle.list_laws.proofs.Cases.{by_test}
-use Rattle.text_parts.specs.{Lines.{without_return, whole_lines, unended, last_line}, ReadingSteps.◌>>=◌}
-use Rattle.log_sum.specs.declared.{errors.LogError.LogError}
-use Rattle.log_sum.specs.LogReading.{LogSeen, next_line, is_too_long, text_judged, line_judged, lines_judged, last_judged, end_judged, file_judged}
-use Rattle.log_sum.specs.Skipping.{lines_with_ends}
-use Rattle.log_sum.proofs.{LineLaws.text_line, SieveLaws.text_wrong_at}
+use Rattle.std.{proofs.{Common.{◌≡◌, ◌≤◌, ℕ, ◌+◌, List, [], ◌∷◌, ◌++◌, length, refl, ap, arith, length-append}, lemmas.List.length-map}, specs.Prelude.{map, Result, Ok, Err}}
+use Rattle.log_sum.{proofs.{Vocabulary.{by_test, without_return, whole_lines, unended, last_line, ◌>>=◌}, LineLaws.text_line, SieveLaws.text_wrong_at}, specs.{declared.errors.LogError.LogError, LogReading.{LogSeen, next_line, is_too_long, text_judged}}}
+use Rattle.log_sum.specs.{LogReading.{line_judged, lines_judged, last_judged, end_judged, file_judged}, Skipping.lines_with_ends}
 
 -- a number of a line, from 1 to a bound
 abbrev pub IsUpTo : ℕ → ℕ → Type 0

@@ -1,8 +1,7 @@
 -- What a test was before its running block.
 -- Source: own.
-use Rattle.std.specs.{Prelude.{◌≡◌, ◌≤◌, ℕ, true, List, Option, Some, length, slice_get}, Option.is_some, Map.values_of}
-use Rattle.std.specs.{declared.vec.Vec.Vec, declared.alloc.Global.Global}
-use Rattle.log_sum.specs.{declared.undo.TestBefore.TestBefore, declared.test_sum.TestSum.TestSum}
+use Rattle.std.specs.{Prelude.{◌≡◌, ◌≤◌, ℕ, true, List, Option, Some, length, slice_get}, Option.is_some, Map.values_of, declared.{vec.Vec.Vec, alloc.Global.Global}}
+use Rattle.log_sum.specs.declared.{undo.TestBefore.TestBefore, test_sum.TestSum.TestSum}
 
 -- this was before the running block of a test: it has all the states and facts that it had then
 pub record IsBefore (before : TestBefore) (test : TestSum) : Type 0 where

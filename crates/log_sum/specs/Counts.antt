@@ -2,7 +2,7 @@
 -- Source: the logs of litmus7; the limit is own.
 use Rattle.std.specs.{Prelude.{ℕ, nat_le, cond, List, [], ◌∷◌, Result, Ok, Err}, Char.is_ascii_digit, Str.Parse.digits_value}
 use Rattle.diy_io.specs.Count.{last_count}
-use Rattle.log_sum.specs.{declared.errors.LogKind.LogKind, declared.errors.LogKind.TheVariants.{BadState, BadCount}}
+use Rattle.log_sum.specs.declared.errors.LogKind.{LogKind, TheVariants.{BadState, BadCount}}
 use Rattle.text_parts.specs.LeadingRuns.{leading_run, after_run}
 
 -- the count that digits write, and the text after them; an error if there is no digit, or the count is above 2^64-1

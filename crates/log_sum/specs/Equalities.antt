@@ -1,8 +1,7 @@
 -- The equalities of a state as they are collected, before they are put in byte order.
 -- Source: own.
-use Rattle.std.specs.{Prelude.{ℕ, Bool, false, ◌||◌, cond, List, [], ◌∷◌, ◌++◌, Option, Some, None, Result, Ok, Err, IsSome}, Ordering.nat_cmp}
-use Rattle.std.specs.{Cmp.Lexicographic.slice_cmp, BTreeSet.insert_key, Str.bytes_eq}
-use Rattle.log_sum.specs.{declared.errors.LogKind.LogKind, declared.errors.LogKind.TheVariants.BadState, LogStates.{left_kept, sides_read, has_left, and_then}}
+use Rattle.std.specs.{Prelude.{ℕ, Bool, false, ◌||◌, cond, List, [], ◌∷◌, ◌++◌, Option, Some, None, Result, Ok, Err, IsSome}, Ordering.nat_cmp, Cmp.Lexicographic.slice_cmp, BTreeSet.insert_key, Str.bytes_eq}
+use Rattle.log_sum.specs.{declared.errors.LogKind.{LogKind, TheVariants.BadState}, LogStates.{left_kept, sides_read, has_left, and_then}}
 use Rattle.text_parts.specs.Cuts.{cut_at}
 
 -- an equality as it is kept, from the sides of its piece

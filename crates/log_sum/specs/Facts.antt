@@ -1,11 +1,9 @@
 -- What logs say about tests, one fact after another, and which fact contradicts those before it.
 -- Source: own; the sum of logs is that of msum7.
-use Rattle.std.specs.Prelude.{ℕ, ◌+◌, nat_lt, Bool, true, false, not, cond, List, [], ◌∷◌, ◌++◌, Option, Some, None, map, filter, sum_by, fold}
-use Rattle.std.specs.{Option.option_map, List.list_any, Ordering.nat_cmp, Cmp.Lexicographic.slice_cmp, BTreeSet.insert_key, Str.bytes_eq}
-use Rattle.log_sum.specs.declared.{errors.LogKind.LogKind, kinds.Kind.Kind, kinds.Kind.TheVariants.Allowed, kinds.Kind.TheVariants.Forbidden}
-use Rattle.log_sum.specs.declared.{kinds.Kind.TheVariants.Required, kinds.Mark.Mark, kinds.Mark.TheVariants.Starred, kinds.Mark.TheVariants.Plain}
-use Rattle.log_sum.specs.declared.{kinds.Verdict.Verdict, kinds.Verdict.TheVariants.Validated, kinds.Verdict.TheVariants.NotValidated}
-use Rattle.log_sum.specs.declared.errors.LogKind.TheVariants.{MarkDiffers, HashDiffers, ConditionDiffers, SumTooLarge, KindDiffers}
+use Rattle.std.specs.{Prelude.{ℕ, ◌+◌, nat_lt, Bool, true, false, not, cond, List, [], ◌∷◌, ◌++◌, Option, Some, None, map, filter, sum_by, fold}, Option.option_map, List.list_any, Ordering.nat_cmp, Cmp.Lexicographic.slice_cmp, BTreeSet.insert_key}
+use Rattle.std.specs.Str.{bytes_eq}
+use Rattle.log_sum.specs.declared.{errors.LogKind.{LogKind, TheVariants.{MarkDiffers, HashDiffers, ConditionDiffers, SumTooLarge, KindDiffers}}, kinds.{Kind.{Kind, TheVariants.{Allowed, Forbidden, Required}}, Mark.{Mark, TheVariants.{Starred, Plain}}}}
+use Rattle.log_sum.specs.declared.kinds.Verdict.{Verdict, TheVariants.{Validated, NotValidated}}
 use Rattle.diy_io.specs.Count.{last_count}
 
 -- a state, by its printed form, with its mark, was seen this many times

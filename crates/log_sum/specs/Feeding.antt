@@ -1,12 +1,9 @@
 -- What the steps of a summer return, compared with the reading of the same bytes line by line.
 -- Source: own.
 use Rattle.std.specs.{Prelude.{◌≡◌, ℕ, true, not, ◌||◌, List, [], ◌∷◌, ◌++◌, Some, None, Result, Ok, Err}, List.list_all, Str.bytes_eq}
-use Rattle.log_sum.specs.{declared.errors.Fault.Fault, declared.errors.Fault.TheVariants.{Wrong, NoMemory}, declared.errors.LogError.LogError}
-use Rattle.log_sum.specs.{declared.errors.LogKind.LogKind, declared.errors.SumError.SumError, declared.kinds.Mark.Mark, declared.table.Table.Table}
-use Rattle.log_sum.specs.{SumViews.tests_view, LineReading.{Said, log_line_said}}
-use Rattle.log_sum.specs.Facts.{Row, Fact, Entry, a_row, facts_of, rows, same_state_mark, mark_in, fact_fault}
-use Rattle.log_sum.specs.{LogReading.{LogSeen, nothing_seen, fault_at, said_judged, input_judged, files_judged}, declared.kinds.Place.Place}
-use Rattle.log_sum.specs.{declared.kinds.Place.TheVariants.Outside, Representing.{SumProgress, Kept, sum_table, test_name_at}, Summed.Summed}
+use Rattle.log_sum.specs.{declared.{errors.{Fault.{Fault, TheVariants.{Wrong, NoMemory}}, LogError.LogError, LogKind.LogKind, SumError.SumError}, kinds.{Mark.Mark, Place.{Place, TheVariants.Outside}}, table.Table.Table}, SumViews.tests_view}
+use Rattle.log_sum.specs.{LineReading.{Said, log_line_said}, Facts.{Row, Fact, Entry, a_row, facts_of, rows, same_state_mark, mark_in, fact_fault}, LogReading.{LogSeen, nothing_seen, fault_at, said_judged, input_judged, files_judged}}
+use Rattle.log_sum.specs.{Representing.{SumProgress, Kept, sum_table, test_name_at}, Summed.Summed}
 use Rattle.log_sum.specs.declared.errors.SumError.TheVariants as sums
 use Rattle.text_parts.specs.Lines.{unended}
 

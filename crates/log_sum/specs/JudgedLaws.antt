@@ -1,10 +1,8 @@
 -- Laws of judging files one after another, and of marks that are the same.
 -- Source: own.
-use Rattle.std.proofs.Common.{◌≡◌, ℕ, List, [], ◌∷◌, ◌++◌, true, refl}
-use Rattle.std.specs.Prelude.{Result, Ok, Err}
+use Rattle.std.{proofs.Common.{◌≡◌, ℕ, List, [], ◌∷◌, ◌++◌, true, refl}, specs.Prelude.{Result, Ok, Err}}
 use Rattle.text_parts.specs.ReadingSteps.{◌>>=◌}
-use Rattle.log_sum.specs.declared.{errors.LogError.LogError, kinds.Mark.Mark, kinds.Mark.TheVariants.Starred, kinds.Mark.TheVariants.Plain}
-use Rattle.log_sum.specs.{Facts.same_state_mark, LogReading.LogSeen, LogReading.file_judged, LogReading.files_judged}
+use Rattle.log_sum.specs.{declared.{errors.LogError.LogError, kinds.Mark.{Mark, TheVariants.{Starred, Plain}}}, Facts.same_state_mark, LogReading.{LogSeen, file_judged, files_judged}}
 
 -- files are judged one after another
 pub files_both : (seen : LogSeen) (files more : List (List ℕ)) → files_judged seen (files ++ more) ≡ (files_judged seen files >>= (λ next. files_judged next more))

@@ -1,12 +1,9 @@
 -- What a line of a log says by its position in its block, as the code reads it; `LogGrammar` says it by blocks.
 -- Source: own.
 use Rattle.std.specs.Prelude.{ℕ, zero, suc, Bool, false, ◌||◌, ◌==◌, cond, List, [], ◌∷◌, get_or, Option, Some, None, Result, Ok, Err}
-use Rattle.log_sum.specs.{declared.errors.LogKind.LogKind, declared.kinds.Kind.Kind, declared.kinds.Kind.TheVariants.Allowed, declared.kinds.Verdict.Verdict}
-use Rattle.log_sum.specs.{declared.kinds.Place.Place, declared.errors.LogKind.TheVariants.{Truncated, BadState, KindDiffers}}
-use Rattle.log_sum.specs.{declared.kinds.Place.TheVariants.{Outside, Histogram, States, Judgement, Rest, Conditioned}, Texts.begins_with}
-use Rattle.log_sum.specs.Facts.{Row, Fact, a_kind, a_row, a_condition, a_hash}
-use Rattle.log_sum.specs.LogLines.{test_line, histogram_line, log_row, is_judgement, condition_line, quantifier, hash_line, is_observation}
-use Rattle.text_parts.specs.{Words.{words}, Blanks.{is_blank, unblanked}}
+use Rattle.log_sum.specs.declared.{errors.LogKind.{LogKind, TheVariants.{Truncated, BadState, KindDiffers}}, kinds.{Kind.{Kind, TheVariants.Allowed}, Verdict.Verdict, Place.{Place, TheVariants.{Outside, Histogram, States, Judgement, Rest, Conditioned}}}}
+use Rattle.log_sum.specs.{Texts.begins_with, Facts.{Row, Fact, a_kind, a_row, a_condition, a_hash}, LogLines.{test_line, histogram_line, log_row, is_judgement, condition_line, quantifier, hash_line, is_observation}}
+use Rattle.text_parts.specs.{Words.words, Blanks.{is_blank, unblanked}}
 
 -- what a line says
 pub data Said : Type 0 where

@@ -1,15 +1,12 @@
 -- What a log is, as a grammar of lines, and what it says: the facts of its tests, up to the first error.
 -- Source: the logs of litmus7; which logs have an error is this project's choice.
-use Rattle.std.specs.Prelude.{ℕ, ◌+◌, ◌-◌, nat_lt, Bool, true, false, cond, List, [], ◌∷◌, ◌++◌, length, map, take, drop, filter, fold, Option, Some, None, option_map, Result, Ok, Err}
-use Rattle.std.specs.{List.{flat_map, list_any, before_first}, Option.{is_some, is_none}}
+use Rattle.std.specs.{Prelude.{ℕ, ◌+◌, ◌-◌, nat_lt, Bool, true, false, cond, List, [], ◌∷◌, ◌++◌, length, map, take, drop, filter, fold, Option, Some, None, option_map, Result, Ok, Err}, List.{flat_map, list_any, before_first}, Option.{is_some, is_none}}
 use Rattle.list_laws.specs.Errors.{with_before, unless}
 use Rattle.text_parts.specs.{Words.words, Lines.{without_return, whole_lines, unended, last_line}}
 use Rattle.diy_io.specs.Count.{count_of, next_count}
-use Rattle.log_sum.specs.{declared.errors.LogKind.LogKind, declared.errors.LogError.LogError, declared.kinds.Kind.Kind, declared.kinds.Verdict.Verdict}
-use Rattle.log_sum.specs.{declared.kinds.Place.Place, declared.errors.LogKind.TheVariants.{Truncated, BadState, KindDiffers, LineTooLong}}
-use Rattle.log_sum.specs.{declared.kinds.Place.TheVariants.{Histogram, States, Judgement, Rest, Conditioned}, Texts.begins_with}
-use Rattle.log_sum.specs.Facts.{Fact, a_kind, a_row, a_condition, a_hash, Entry, facts_of, fact_fault}
-use Rattle.log_sum.specs.LogLines.{test_line, histogram_line, log_row, is_judgement, is_observation, condition_line, quantifier, hash_line}
+use Rattle.log_sum.specs.declared.{errors.{LogKind.{LogKind, TheVariants.{Truncated, BadState, KindDiffers, LineTooLong}}, LogError.LogError}, kinds.{Kind.Kind, Verdict.Verdict, Place.{Place, TheVariants.{Histogram, States, Judgement, Rest}}}}
+use Rattle.log_sum.specs.{declared.kinds.Place.TheVariants.Conditioned, Texts.begins_with, Facts.{Fact, a_kind, a_row, a_condition, a_hash, Entry, facts_of, fact_fault}, LogLines.{test_line, histogram_line, log_row, is_judgement, is_observation}}
+use Rattle.log_sum.specs.LogLines.{condition_line, quantifier, hash_line}
 
 -- the most bytes of a line, its line feed not counted
 abbrev pub max_line : ℕ

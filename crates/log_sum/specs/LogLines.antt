@@ -1,10 +1,8 @@
 -- The forms of the lines of a log.
 -- Source: the logs of litmus7; what is an error is own.
 use Rattle.std.specs.{Prelude.{ℕ, ◌==◌, Bool, false, ◌||◌, ◌&&◌, cond, List, [], ◌∷◌, drop, Option, Some, None, Result, Ok, Err, codes}, Str.bytes_eq}
-use Rattle.log_sum.specs.{declared.errors.LogKind.LogKind, declared.kinds.Kind.Kind, declared.kinds.Kind.TheVariants.{Allowed, Forbidden, Required}}
-use Rattle.log_sum.specs.{declared.kinds.Mark.Mark, declared.kinds.Mark.TheVariants.{Starred, Plain}, declared.kinds.Verdict.Verdict}
-use Rattle.log_sum.specs.{declared.kinds.Verdict.TheVariants.{Validated, NotValidated}, declared.errors.LogKind.TheVariants.{BadState, NoCounts}}
-use Rattle.log_sum.specs.{Texts.{joined_words, ends_with, before_end, begins_with}, Counts.count_read, LogStates.form_read, Facts.Row}
+use Rattle.log_sum.specs.declared.{errors.LogKind.{LogKind, TheVariants.{BadState, NoCounts}}, kinds.{Kind.{Kind, TheVariants.{Allowed, Forbidden, Required}}, Mark.{Mark, TheVariants.{Starred, Plain}}, Verdict.{Verdict, TheVariants.Validated}}}
+use Rattle.log_sum.specs.{declared.kinds.Verdict.TheVariants.NotValidated, Texts.{joined_words, ends_with, before_end, begins_with}, Counts.count_read, LogStates.form_read, Facts.Row}
 use Rattle.text_parts.specs.{Words.is_nil, Blanks.{trim_blanks, unblanked}}
 
 -- a kind by its word

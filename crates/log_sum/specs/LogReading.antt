@@ -2,12 +2,11 @@
 -- only clauses of private functions cite this file.
 -- Source: own.
 use Rattle.std.specs.Prelude.{ℕ, cond, List, [], ◌∷◌, ◌++◌, Option, Some, None, Result, Ok, Err}
-use Rattle.text_parts.specs.{Lines.without_return, Lines.whole_lines, Lines.unended, ReadingSteps.◌>>=◌}
-use Rattle.log_sum.specs.declared.{errors.LogKind.LogKind, errors.LogKind.TheVariants.Truncated, errors.LogKind.TheVariants.LineTooLong}
-use Rattle.log_sum.specs.declared.{errors.LogError.LogError, kinds.Place.Place, kinds.Place.TheVariants.Outside}
+use Rattle.text_parts.specs.{Lines.{without_return, whole_lines, unended}, ReadingSteps.◌>>=◌}
+use Rattle.log_sum.specs.{declared.{errors.{LogKind.{LogKind, TheVariants.{Truncated, LineTooLong}}, LogError.LogError}, kinds.Place.{Place, TheVariants.Outside}}, Facts.{Fact, Entry, facts_of, fact_fault}, LineReading.{Said, log_line_said, place_after}}
+use Rattle.log_sum.specs.LineReading.{fact_said, test_after}
 pub use Rattle.log_sum.specs.LogGrammar.{is_too_long}
 use Rattle.diy_io.specs.Count.{next_count}
-use Rattle.log_sum.specs.{Facts.{Fact, Entry, facts_of, fact_fault}, LineReading.{Said, log_line_said, place_after, fact_said, test_after}}
 
 -- the number of the next line; it stops at the greatest count
 abbrev pub next_line : ℕ → ℕ

@@ -1,8 +1,8 @@
 -- States: sets of equalities between a location or register and a value.
 -- Source: the logs of litmus7; own where they leave a form open.
-use Rattle.std.specs.Prelude.{ℕ, ◌==◌, Bool, false, ◌||◌, ◌&&◌, not, cond, List, [], ◌∷◌, ◌++◌, Option, Some, None, Result, Ok, Err, option_map, map}
-use Rattle.std.specs.{List.{list_any, list_all, slice_split}, Ordering.nat_cmp, Cmp.Lexicographic.slice_cmp, BTreeSet.insert_key}
-use Rattle.log_sum.specs.{declared.errors.LogKind.LogKind, declared.errors.LogKind.TheVariants.BadState, Texts.begins_with}
+use Rattle.std.specs.{Prelude.{ℕ, ◌==◌, Bool, false, ◌||◌, ◌&&◌, not, cond, List, [], ◌∷◌, ◌++◌, Option, Some, None, Result, Ok, Err, option_map, map}, List.{list_any, list_all, slice_split}, Ordering.nat_cmp, Cmp.Lexicographic.slice_cmp}
+use Rattle.std.specs.BTreeSet.{insert_key}
+use Rattle.log_sum.specs.{declared.errors.LogKind.{LogKind, TheVariants.BadState}, Texts.begins_with}
 use Rattle.text_parts.specs.{Blanks.{is_inked, unblanked}, Words.is_nil, Cuts.cut_at}
 
 -- a text begins with a bracket

@@ -1,11 +1,9 @@
 -- What a summer keeps, and which input this represents.
 -- Source: own.
-use Rattle.std.specs.Prelude.{◌≡◌, ◌⊎◌, ℕ, ◌+◌, List, [], ◌∷◌, ◌++◌, map, slice_get, Option, Some, None, option_map, Result, Ok, Err, IfErr}
-use Rattle.std.specs.List.{flat_map}
+use Rattle.std.specs.{Prelude.{◌≡◌, ◌⊎◌, ℕ, ◌+◌, List, [], ◌∷◌, ◌++◌, map, slice_get, Option, Some, None, option_map, Result, Ok, Err, IfErr}, List.flat_map}
 use Rattle.diy_io.specs.{Count.count_of, Sink.line_feed_count}
-use Rattle.log_sum.specs.{declared.errors.LogError.LogError, declared.errors.SumError.SumError, declared.errors.SumError.TheVariants.{Log, NoMemory}}
-use Rattle.log_sum.specs.{declared.kinds.Place.Place, declared.kinds.Place.TheVariants.Outside, Facts.{Entry, facts_of, tests_of}, Summed.{Summed, summed}}
-use Rattle.log_sum.specs.{SumText.{summed_text, sum_text, table_line, table_text}, LogGrammar.{LogLine, ended_texts, texts_before, numbered, facts_in, lines_say, inside, all_judged}}
+use Rattle.log_sum.specs.{declared.{errors.{LogError.LogError, SumError.{SumError, TheVariants.{Log, NoMemory}}}, kinds.Place.{Place, TheVariants.Outside}}, Facts.{Entry, facts_of, tests_of}, Summed.{Summed, summed}, SumText.{summed_text, sum_text}}
+use Rattle.log_sum.specs.{SumText.{table_line, table_text}, LogGrammar.{LogLine, ended_texts, texts_before, numbered, facts_in, lines_say, inside, all_judged}}
 use Rattle.text_parts.specs.{Lines.{whole_lines, unended}, ReadingSteps.◌>>=◌}
 
 -- how far the reading is: the tests by name, in the order in which each was first seen; the position in the running log, the

@@ -1,18 +1,12 @@
 -- What a summer that leaves out blocks with errors keeps, and which input this represents.
 -- Source: own.
-use Rattle.std.specs.{Prelude.{◌≡◌, ℕ, ◌+◌, Bool, true, false, not, cond, List, [], ◌∷◌, ◌++◌, length, map, fold, Option, Some, None}}
-use Rattle.std.specs.{Prelude.{Result, Ok, Err}, List.{flat_map, list_all}}
+use Rattle.std.specs.{Prelude.{◌≡◌, ℕ, ◌+◌, Bool, true, false, not, cond, List, [], ◌∷◌, ◌++◌, length, map, fold, Option, Some, None, Result, Ok, Err}, List.{flat_map, list_all}}
 use Rattle.text_parts.specs.Lines.{is_line_feed, whole_lines, unended}
 use Rattle.diy_io.specs.{Count.{count_of, next_count}, Sink.line_feed_count}
-use Rattle.log_sum.specs.{declared.errors.LogError.LogError, declared.skipping.SkippedBlock.SkippedBlock, declared.kinds.Place.Place}
-use Rattle.log_sum.specs.{SumViews.progress_view, Undoing.tests_undone, LineReading.{Said, begins}, declared.skipping.Sieve.Sieve}
-use Rattle.log_sum.specs.{declared.errors.LogKind.LogKind, declared.errors.LogKind.TheVariants.{Truncated, LineTooLong}}
-use Rattle.log_sum.specs.declared.kinds.Place.TheVariants.{Outside}
-use Rattle.log_sum.specs.{Facts.Entry, Summed.Summed, SumText.{summed_text, table_line}, LogGrammar.{is_too_long, all_judged}}
-use Rattle.log_sum.specs.{LogReading.{LogSeen, next_line, text_judged, bytes_judged}, Feeding.{AreMarked, FollowsSeen}}
-use Rattle.log_sum.specs.Skipping.{Piece, Skipped, Sifted, nothing_sifted, with_piece, pieces_from, all_pieces, skipped_at}
-use Rattle.log_sum.specs.Skipping.{is_opening, sifted}
-use Rattle.log_sum.specs.Representing.{SumProgress, sum_table, running_line, logs_text, logs_table}
+use Rattle.log_sum.specs.{declared.{errors.{LogError.LogError, LogKind.{LogKind, TheVariants.{Truncated, LineTooLong}}}, skipping.{SkippedBlock.SkippedBlock, Sieve.Sieve}, kinds.Place.{Place, TheVariants.Outside}}, SumViews.progress_view}
+use Rattle.log_sum.specs.{Undoing.tests_undone, LineReading.{Said, begins}, Facts.Entry, Summed.Summed, SumText.{summed_text, table_line}, LogGrammar.{is_too_long, all_judged}, LogReading.{LogSeen, next_line, text_judged, bytes_judged}}
+use Rattle.log_sum.specs.{Feeding.{AreMarked, FollowsSeen}, Skipping.{Piece, Skipped, Sifted, nothing_sifted, with_piece, pieces_from, all_pieces, skipped_at, is_opening, sifted}, Representing.{SumProgress, sum_table, running_line, logs_text}}
+use Rattle.log_sum.specs.Representing.{logs_table}
 
 -- a place is outside the blocks
 abbrev pub is_outside : Place → Bool

@@ -3,8 +3,7 @@
 use Rattle.std.specs.{Prelude.{◌≡◌, ◌≤◌, ◌⊎◌, ℕ, ◌+◌, Bool, true, false, cond, List, [], ◌∷◌, ◌++◌, length, map, fold, Option, Some, None, Result, Ok, Err, IfErr}, List.list_any, Option.is_some}
 use Rattle.diy_io.specs.{Count.count_of, Sink.line_feed_count}
 use Rattle.text_parts.specs.{Words.words, Lines.{whole_lines, unended, last_line}}
-use Rattle.log_sum.specs.{declared.errors.LogError.LogError, Facts.Entry, LogLines.test_line}
-use Rattle.log_sum.specs.{LogGrammar.{log_texts, all_judged}, Representing.{logs_text, logs_table}}
+use Rattle.log_sum.specs.{declared.errors.LogError.LogError, Facts.Entry, LogLines.test_line, LogGrammar.{log_texts, all_judged}, Representing.{logs_text, logs_table}}
 
 -- the lines of a log, each with its line feed if it has one
 abbrev pub lines_with_ends : List ℕ → List (List ℕ)

@@ -1,10 +1,8 @@
 -- States with their sums, as a table keeps them.
 -- Source: own.
-use Rattle.std.specs.Prelude.{◌≡◌, ◌+◌, ℕ, zero, suc, Bool, false, cond, min, List, [], ◌∷◌, Option, Some, None, map, take, option_map, slice_get, is_some, Ok}
-use Rattle.std.specs.{Str.bytes_eq, Ordering.nat_cmp, Cmp.Lexicographic.slice_cmp, BTreeMap.insert_entry}
-use Rattle.std.specs.{declared.vec.Vec.Vec, declared.alloc.Global.Global}
-use Rattle.log_sum.specs.{declared.kinds.Mark.Mark, declared.kinds.Mark.TheVariants.Plain, declared.state_table.StateSum.StateSum, LogStates.form_read, StateSpelling.{IsSpelled, is_spelled}}
-use Rattle.log_sum.specs.{SummingSteps.known_state, Summed.StateSummed}
+use Rattle.std.specs.{Prelude.{◌≡◌, ◌+◌, ℕ, zero, suc, Bool, false, cond, min, List, [], ◌∷◌, Option, Some, None, map, take, option_map, slice_get, is_some, Ok}, Str.bytes_eq, Ordering.nat_cmp, Cmp.Lexicographic.slice_cmp, BTreeMap.insert_entry}
+use Rattle.std.specs.declared.{vec.Vec.Vec, alloc.Global.Global}
+use Rattle.log_sum.specs.{declared.{kinds.Mark.{Mark, TheVariants.Plain}, state_table.StateSum.StateSum}, LogStates.form_read, StateSpelling.{IsSpelled, is_spelled}, SummingSteps.known_state, Summed.StateSummed}
 use Rattle.diy_io.specs.Count.{last_count}
 
 -- a state's mark and count

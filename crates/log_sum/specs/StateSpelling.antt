@@ -1,7 +1,6 @@
 -- The texts that are kept for a state, by which logs wrote it.
 -- Source: own.
-use Rattle.std.specs.{Prelude.{◌≡◌, ◌⊎◌, ◌||◌, ℕ, Bool, false, List, Option, Some, None, Ok}, Option.ForSome, Str.bytes_eq, declared.vec.Vec.Vec}
-use Rattle.std.specs.declared.alloc.Global.{Global}
+use Rattle.std.specs.{Prelude.{◌≡◌, ◌⊎◌, ◌||◌, ℕ, Bool, false, List, Option, Some, None, Ok}, Option.ForSome, Str.bytes_eq, declared.{vec.Vec.Vec, alloc.Global.Global}}
 use Rattle.log_sum.specs.{declared.spelling.Spelling.Spelling, LogStates.form_read}
 
 -- the text by which a log wrote a state first: its printed form, unless another is kept

@@ -1,8 +1,7 @@
 -- What a summer returns and sums is the same, whatever the pieces in which the same bytes came.
 -- Source: own.
 use Rattle.std.specs.Prelude.{◌≡◌, ◌⊎◌, ℕ, List, ◌++◌, Result, Err}
-use Rattle.log_sum.specs.declared.errors.{LogError.LogError, SumError.SumError, SumError.TheVariants.Log, SumError.TheVariants.NoMemory}
-use Rattle.log_sum.specs.Representing.{Kept, Represents, FedTo, EndedTo, kept_text}
+use Rattle.log_sum.specs.{declared.errors.{LogError.LogError, SumError.{SumError, TheVariants.{Log, NoMemory}}}, Representing.{Kept, Represents, FedTo, EndedTo, kept_text}}
 
 -- two results are the same, unless one is that there was no memory
 abbrev pub IsOneAnswer : Result (Unit {0}) SumError → Result (Unit {0}) SumError → Type 0

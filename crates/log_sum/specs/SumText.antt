@@ -1,10 +1,7 @@
 -- The printed sum of logs.
 -- Source: the output of msum7; for conditions that aren't `exists`, the two sums and the word of the observation are own.
-use Rattle.std.specs.Prelude.{◌≡◌, ℕ, ◌-◌, ◌==◌, Bool, true, false, cond, List, [], ◌∷◌, ◌++◌, length, replicate, Option, Some, None, codes, decimal}
-use Rattle.std.specs.List.{flat_map}
-use Rattle.log_sum.specs.{declared.kinds.Kind.Kind, declared.kinds.Kind.TheVariants.{Allowed, Forbidden, Required}, declared.kinds.Mark.Mark}
-use Rattle.log_sum.specs.{declared.kinds.Mark.TheVariants.{Starred, Plain}, Facts.{Entry, facts_of, tests_of}}
-use Rattle.log_sum.specs.Summed.{StateSummed, Summed, summed, is_validated, some_or}
+use Rattle.std.specs.{Prelude.{◌≡◌, ℕ, ◌-◌, ◌==◌, Bool, true, false, cond, List, [], ◌∷◌, ◌++◌, length, replicate, Option, Some, None, codes, decimal}, List.flat_map}
+use Rattle.log_sum.specs.{declared.kinds.{Kind.{Kind, TheVariants.{Allowed, Forbidden, Required}}, Mark.{Mark, TheVariants.{Starred, Plain}}}, Facts.{Entry, facts_of, tests_of}, Summed.{StateSummed, Summed, summed, is_validated, some_or}}
 
 -- the line feed that ends a line
 abbrev pub line_end : List ℕ

@@ -1,13 +1,10 @@
 -- What the values of the code mean to the definitions.
 -- Source: own.
-use Rattle.std.specs.{Prelude.{◌≡◌, ℕ, List, Some, Result, Ok, Err, map, option_map}, Borrow.Bor}
-use Rattle.log_sum.specs.declared.{errors.LogKind.LogKind, errors.Fault.Fault, lines.Row.Row as RowCode, lines.Said.Said as SaidCode}
-use Rattle.log_sum.specs.{declared.kinds.Verdict.Verdict, declared.test_sum.TestSum.TestSum, declared.table.Table.Table, declared.reading.Reading.Reading}
+use Rattle.std.specs.{Prelude.{◌≡◌, ℕ, List, Some, Result, Ok, Err, map, option_map}, Borrow.Bor, declared.{vec.Vec.Vec, alloc.Global.Global}}
+use Rattle.log_sum.specs.{declared.{errors.{LogKind.LogKind, Fault.Fault}, lines.{Row.Row as RowCode, Said.Said as SaidCode}, kinds.Verdict.Verdict, test_sum.TestSum.TestSum, table.Table.Table, reading.Reading.Reading}, Summed.Summed}
+use Rattle.log_sum.specs.{StateEntries.states_view, Facts.{Row, Fact}, Representing.SumProgress, LogStates.form_read, SummingSteps.fact_to, LogLines.row_of, LineReading.{Said, row_said, passed_over, begins, counts, judged, conditioned, hashed, ends}}
 pub use Rattle.log_sum.specs.LineFaults.{IsLineFault}
 use Rattle.log_sum.specs.declared.lines.Said.TheVariants as code
-use Rattle.std.specs.{declared.vec.Vec.Vec, declared.alloc.Global.Global}
-use Rattle.log_sum.specs.{Summed.Summed, StateEntries.states_view, Facts.{Row, Fact}, Representing.SumProgress, LogStates.form_read, SummingSteps.fact_to}
-use Rattle.log_sum.specs.{LogLines.row_of, LineReading.{Said, row_said, passed_over, begins, counts, judged, conditioned, hashed, ends}}
 
 -- a result is what the definition gives; `view` says what its value means
 abbrev pub GivesParsed : {X Y : Type 0} → (X → Y) → Result X LogKind → Result Y LogKind → Type 0

@@ -1,9 +1,7 @@
 -- What a test is by all its facts.
 -- Source: own; the sum of logs is that of msum7.
 use Rattle.std.specs.{Prelude.{ℕ, Bool, List, map, Option, Some, None}, List.{list_any, list_all}, Option.option_map}
-use Rattle.log_sum.specs.{declared.kinds.Kind.Kind, declared.kinds.Kind.TheVariants.{Forbidden, Required}, declared.kinds.Mark.Mark}
-use Rattle.log_sum.specs.declared.kinds.Mark.TheVariants.{Starred, Plain}
-use Rattle.log_sum.specs.Facts.{Row, Fact, kinds, rows, conditions, hashes, first_of, marked_sum, state_sum, states_of, mark_in, verdicts}
+use Rattle.log_sum.specs.{declared.kinds.{Kind.{Kind, TheVariants.{Forbidden, Required}}, Mark.{Mark, TheVariants.{Starred, Plain}}}, Facts.{Row, Fact, kinds, rows, conditions, hashes, first_of, marked_sum, state_sum, states_of, mark_in, verdicts}}
 
 -- a state with its mark and the sum of its counts
 abbrev pub StateSummed : Type 0

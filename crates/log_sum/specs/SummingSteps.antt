@@ -1,13 +1,9 @@
 -- A test with one more fact, by what is kept of it.
 -- Source: own.
-use Rattle.std.specs.Prelude.{ℕ, ◌+◌, min, nat_lt, true, false, ◌&&◌, ◌||◌, cond, List, [], Option, Some, None, Result, Ok, Err, option_map}
-use Rattle.std.specs.{Ordering.nat_cmp, Cmp.Lexicographic.slice_cmp, BTreeMap.insert_entry, BTreeMap.is_at, Map.lookup, Str.bytes_eq}
-use Rattle.log_sum.specs.declared.{errors.LogKind.LogKind, kinds.Kind.Kind, kinds.Mark.Mark, kinds.Mark.TheVariants.Starred}
-use Rattle.log_sum.specs.declared.{kinds.Mark.TheVariants.Plain, kinds.Verdict.Verdict}
-use Rattle.log_sum.specs.declared.errors.LogKind.TheVariants.{MarkDiffers, HashDiffers, ConditionDiffers, SumTooLarge, KindDiffers}
+use Rattle.std.specs.{Prelude.{ℕ, ◌+◌, min, nat_lt, true, false, ◌&&◌, ◌||◌, cond, List, [], Option, Some, None, Result, Ok, Err, option_map}, Ordering.nat_cmp, Cmp.Lexicographic.slice_cmp, BTreeMap.{insert_entry, is_at}, Map.lookup, Str.bytes_eq}
+use Rattle.log_sum.specs.{declared.{errors.LogKind.{LogKind, TheVariants.{MarkDiffers, HashDiffers, ConditionDiffers, SumTooLarge, KindDiffers}}, kinds.{Kind.Kind, Mark.{Mark, TheVariants.{Starred, Plain}}, Verdict.Verdict}}, Facts.{Row, Fact, a_kind}}
+use Rattle.log_sum.specs.{Facts.{a_row, a_condition, a_hash, same_kind, same_state_mark, says_validated, is_other}, Summed.{Summed, StateSummed}}
 use Rattle.diy_io.specs.Count.{last_count}
-use Rattle.log_sum.specs.Facts.{Row, Fact, a_kind, a_row, a_condition, a_hash, same_kind, same_state_mark, says_validated, is_other}
-use Rattle.log_sum.specs.Summed.{Summed, StateSummed}
 
 -- what was said first, or this if nothing was
 abbrev pub or_this : {A : Type 0} → Option A → A → Option A

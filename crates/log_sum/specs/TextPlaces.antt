@@ -1,8 +1,7 @@
 -- Entries by their texts: the index of each, which a map in byte order gives.
 -- Source: own.
-use Rattle.std.specs.Prelude.{◌≡◌, ℕ, zero, suc, cond, List, [], ◌∷◌, ◌++◌, Option, Some, None, map, option_map, unwrap_or, length, Result, Ok, Err}
-use Rattle.std.specs.{Ordering.nat_cmp, Cmp.Lexicographic.slice_cmp, BTreeMap.is_at, List.IsDistinct, Map.{lookup, keys_of}, Str.bytes_eq}
-use Rattle.std.specs.{declared.vec.Vec.Vec, declared.alloc.Global.Global}
+use Rattle.std.specs.{Prelude.{◌≡◌, ℕ, zero, suc, cond, List, [], ◌∷◌, ◌++◌, Option, Some, None, map, option_map, unwrap_or, length, Result, Ok, Err}, Ordering.nat_cmp, Cmp.Lexicographic.slice_cmp, BTreeMap.is_at, List.IsDistinct, Map.{lookup, keys_of}}
+use Rattle.std.specs.{Str.bytes_eq, declared.{vec.Vec.Vec, alloc.Global.Global}}
 
 -- entries, of which the one at an index has this value
 abbrev pub set_value_at : {K X : Type 0} → List (K × X) → ℕ → X → List (K × X)

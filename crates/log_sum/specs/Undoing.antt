@@ -1,11 +1,8 @@
 -- A table without its running block, by what was noted when the block began and since.
 -- Source: own.
-use Rattle.std.specs.Prelude.{◌≡◌, ℕ, zero, suc, cond, List, [], ◌∷◌, ◌++◌, Option, Some, None, Result, Err, map, take}
-use Rattle.std.specs.{declared.vec.Vec.Vec, declared.alloc.Global.Global}
-use Rattle.log_sum.specs.declared.errors.Fault.{Fault}
-use Rattle.log_sum.specs.declared.errors.Fault.TheVariants.{NoMemory}
-use Rattle.log_sum.specs.{declared.undo.TestBefore.TestBefore, declared.table.Table.Table, declared.test_sum.TestSum.TestSum}
-use Rattle.log_sum.specs.{BlockBefore.IsBefore, Summed.Summed, StateEntries.{state_view, ordered, states_undone}, SumViews.{test_view, named_view}}
+use Rattle.std.specs.{Prelude.{◌≡◌, ℕ, zero, suc, cond, List, [], ◌∷◌, ◌++◌, Option, Some, None, Result, Err, map, take}, declared.{vec.Vec.Vec, alloc.Global.Global}}
+use Rattle.log_sum.specs.{declared.{errors.Fault.{Fault, TheVariants.NoMemory}, undo.TestBefore.TestBefore, table.Table.Table, test_sum.TestSum.TestSum}, BlockBefore.IsBefore, Summed.Summed, StateEntries.{state_view, ordered, states_undone}}
+use Rattle.log_sum.specs.SumViews.{test_view, named_view}
 
 -- a test without its running block
 abbrev pub test_undone : TestBefore → List (ℕ × ℕ) → TestSum → Summed

@@ -1,6 +1,7 @@
 -- Facts that have no error in any order: they agree.
-use Rattle.log_sum_laws.proofs.Vocabulary.{AllByRecursion, option_map, bytes_eq, ◌≡◌, ℕ, ◌+◌, ◌≤◌, List, [], ◌∷◌, ◌++◌, true, false, refl, sym, ◌∙◌, arith, subst, append_assoc, append-nil, zero-add, Some, None, Bool, cond, Option, nat_lt, map-append, filter-append, sum_by-append, bytes_eq-Decides, by_test, all_append, all_parts, LogKind, HashDiffers, last_count, Row, Fact, Entry, a_kind, a_row, a_condition, a_hash, kinds, rows, conditions, hashes, first_of, same_state_mark, marked_sum, state_sum, mark_in, is_other, fault_if, fact_fault, facts_of, same_mark_is, some_or, bytes_same}
-use Rattle.log_sum_laws.proofs.{Cases.{Kind, Mark, Allowed, Plain}, Blocks.Clean}
+use Rattle.log_sum_laws.proofs.Vocabulary.{AllByRecursion, option_map, bytes_eq, ◌≡◌, ℕ, ◌+◌, ◌≤◌, List, [], ◌∷◌, ◌++◌, true, false, refl, sym, ◌∙◌, arith, subst, append_assoc, append-nil, zero-add, Some, None, Bool, cond, Option, nat_lt, map-append}
+use Rattle.log_sum_laws.proofs.Vocabulary.{filter-append, sum_by-append, bytes_eq-Decides, by_test, all_append, all_parts, LogKind, HashDiffers, last_count, Row, Fact, Entry, a_kind, a_row, a_condition, a_hash, kinds, rows, conditions, hashes, first_of}
+use Rattle.log_sum_laws.proofs.{Vocabulary.{same_state_mark, marked_sum, state_sum, mark_in, is_other, fault_if, fact_fault, facts_of, same_mark_is, some_or, bytes_same}, Cases.{Kind, Mark, Allowed, Plain}, Blocks.Clean}
 
 -- facts of a sort
 pub kinds_both : (facts more : List Fact) → kinds (facts ++ more) ≡ kinds facts ++ kinds more

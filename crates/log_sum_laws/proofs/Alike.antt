@@ -1,8 +1,10 @@
 -- Facts and what is printed of them, between other facts.
-use Rattle.log_sum_laws.proofs.Vocabulary.{◌≡◌, ℕ, ◌+◌, List, [], ◌∷◌, ◌++◌, true, false, refl, sym, ap, ◌∙◌, arith, Some, None, Bool, cond, Option, map, fold, list_any, list_all, AllByRecursion, option_map, nat_cmp, slice_cmp, insert_key, bytes_eq, or_right, map-append, fold-append, list_any-append, list_all-append, all_append, all_parts, Row, Fact, kinds, rows, conditions, hashes, first_of, marked_sum, states_of, mark_in, verdicts, says_validated, Summed, some_or, state_by, summed, validated_by, is_validated, summed_text, head_text, sum_verdict_text, claim_text, condition_text, observation_text, Ascends, bytes_same}
-use Rattle.log_sum_laws.proofs.{Cases.{Kind, Mark, Verdict, Allowed, Plain, Starred}, Lines.said_as, Printed.{kind_of_test, IsCondition}, Orders.fold_sorted}
-use Rattle.log_sum_laws.proofs.AgreeingFacts.{Profile, FitsTo, Agrees, kinds_both, rows_both, conditions_both, hashes_both, or_first, marked_both, state_both, mark_both, kind_fits, condition_fits, hash_fits}
-use Rattle.log_sum_laws.proofs.Sums.{state_facts, hash_facts, printed_facts, rows_of_printed, printed_conditions, line_of_hash_first, row_of_state, printed_rows, printed_state, printed_mark, printed_marked, Marks, mark_law, a_state_there, states_in, states_ascend}
+use Rattle.log_sum_laws.proofs.Vocabulary.{◌≡◌, ℕ, ◌+◌, List, [], ◌∷◌, ◌++◌, true, false, refl, sym, ap, ◌∙◌, arith, Some, None, Bool, cond, Option, map, fold, list_any, list_all, AllByRecursion, option_map, nat_cmp, slice_cmp, insert_key, bytes_eq}
+use Rattle.log_sum_laws.proofs.Vocabulary.{or_right, map-append, fold-append, list_any-append, list_all-append, all_append, all_parts, Row, Fact, kinds, rows, conditions, hashes, first_of, marked_sum, states_of, mark_in, verdicts, says_validated, Summed}
+use Rattle.log_sum_laws.proofs.{Vocabulary.{some_or, state_by, summed, validated_by, is_validated, summed_text, head_text, sum_verdict_text, claim_text, condition_text, observation_text, Ascends, bytes_same}, Cases.{Kind, Mark, Verdict, Allowed, Plain}}
+use Rattle.log_sum_laws.proofs.{Cases.Starred, Lines.said_as, Printed.{kind_of_test, IsCondition}, Orders.fold_sorted, AgreeingFacts.{Profile, FitsTo, Agrees, kinds_both, rows_both, conditions_both, hashes_both, or_first, marked_both, state_both}}
+use Rattle.log_sum_laws.proofs.{AgreeingFacts.{mark_both, kind_fits, condition_fits, hash_fits}, Sums.{state_facts, hash_facts, printed_facts, rows_of_printed, printed_conditions, line_of_hash_first, row_of_state, printed_rows, printed_state}}
+use Rattle.log_sum_laws.proofs.Sums.{printed_mark, printed_marked, Marks, mark_law, a_state_there, states_in, states_ascend}
 
 -- the facts of a test have a kind and a condition, as those of whole blocks do
 pub record Complete (facts : List Fact) : Type 0 where

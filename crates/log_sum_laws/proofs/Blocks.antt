@@ -1,6 +1,7 @@
 -- Printed blocks are read as what they print.
-use Rattle.log_sum_laws.proofs.Vocabulary.{◌≡◌, ◌==◌, ℕ, ◌≤◌, List, [], ◌∷◌, ◌++◌, true, false, refl, ap, ◌∙◌, arith, append_assoc, append-nil, Some, None, not, Option, Ok, decimal, list_all, is_nil, last_count, Fact, Entry, facts_of, fact_fault, Said, log_line_said, place_after, fact_said, test_after, LogSeen, is_too_long, next_line, text_judged, line_judged, lines_judged, is_line_feed, without_return, whole_lines, unended, all_both, class_kept, first_piece, split_off}
-use Rattle.log_sum_laws.proofs.{Cases.Place, Texts.no_feed, Lines.digits_pass}
+use Rattle.log_sum_laws.proofs.Vocabulary.{◌≡◌, ◌==◌, ℕ, ◌≤◌, List, [], ◌∷◌, ◌++◌, true, false, refl, ap, ◌∙◌, arith, append_assoc, append-nil, Some, None, not, Option, Ok, decimal, list_all, is_nil, last_count, Fact, Entry, facts_of, fact_fault, Said}
+use Rattle.log_sum_laws.proofs.Vocabulary.{log_line_said, place_after, fact_said, test_after, LogSeen, is_too_long, next_line, text_judged, line_judged, lines_judged, is_line_feed, without_return, whole_lines, unended, all_both, class_kept, first_piece}
+use Rattle.log_sum_laws.proofs.{Vocabulary.split_off, Cases.Place, Texts.no_feed, Lines.digits_pass}
 
 -- what was seen, by its parts
 abbrev pub seen_at : List Entry → List ℕ → Place → ℕ → LogSeen

@@ -1,6 +1,8 @@
 -- The laws tried on logs.
-use Rattle.log_sum_laws.proofs.Vocabulary.{◌≡◌, ℕ, List, [], ◌∷◌, ◌++◌, refl, arith, digits, Entry, a_kind, a_row, a_condition, a_hash, row_with, marked_sum, state_sum, states_of, mark_in, fact_fault, IsSum, codes, Result, Ok, Err, HashDiffers, LogError, leading_run, after_run, before_blanks, words, cut_at, without_return, whole_lines, unended, count_read, log_texts, summed, logs_text, logs_table, table_line, table_text, form_read, with_pieces, state_read, state_form, test_line, histogram_line, log_row, condition_line, hash_line, state_line, head_text, sum_verdict_text, condition_text, claim_text, hash_text, observation_text, summed_text, sum_text}
-use Rattle.log_sum_laws.proofs.{Cases.Forbidden, Cases.Plain, Cases.NotValidated, Blocks.entry}
+use Rattle.log_sum_laws.proofs.Vocabulary.{◌≡◌, ℕ, List, [], ◌∷◌, ◌++◌, refl, arith, digits, Entry, a_kind, a_row, a_condition, a_hash, row_with, marked_sum, state_sum, states_of, mark_in, fact_fault, IsSum, codes, Result, Ok, Err, HashDiffers, LogError}
+use Rattle.log_sum_laws.proofs.Vocabulary.{leading_run, after_run, before_blanks, words, cut_at, without_return, whole_lines, unended, count_read, log_texts, summed, logs_text, logs_table, table_line, table_text, form_read, with_pieces, state_read}
+use Rattle.log_sum_laws.proofs.Vocabulary.{state_form, test_line, histogram_line, log_row, condition_line, hash_line, state_line, head_text, sum_verdict_text, condition_text, claim_text, hash_text, observation_text, summed_text, sum_text}
+use Rattle.log_sum_laws.proofs.{Cases.{Forbidden, Plain, NotValidated}, Blocks.entry}
 
 abbrev nl : List ℕ → List ℕ
 nl line = line ++ 10 ∷ []

@@ -1,6 +1,9 @@
 -- A printed form is read as itself.
-use Rattle.log_sum_laws.proofs.Vocabulary.{◌≡◌, ◌==◌, ℕ, List, [], ◌∷◌, ◌++◌, length, drop, true, false, refl, sym, ap, ◌∙◌, subst, append_assoc, append-nil, Some, None, arith, Bool, not, ◌&&◌, ◌||◌, cond, Option, Ok, map, list_any, list_all, slice_split, AllByRecursion, option_map, nat_cmp, slice_cmp, insert_key, bytes_eq, Less, and_parts, and_from, not-true, take_at, take-append-drop, bytes_eq-Decides, is_inked, before_blanks, unblanked, is_nil, after_run, cut_at, CutParts, without_return, begins_with, is_bracketed, left_kept, is_side, sides_read, has_left, with_equality, and_then, with_pieces, later_unblanked, state_read, later_forms, state_form, or_bad, form_read, split_off, all_both, cut_back, cut_parts, after_class, end_stays, ink_stays, list_all-weaker, all_append, by_test, compare, Above, Ascends, insert_ascends, bytes_same}
-use Rattle.log_sum_laws.proofs.{Texts.{all_parts, all_and, no_feed}, Blocks.{IsLine, append_line}, Printed.IsForm, Orders.reversed_less}
+use Rattle.log_sum_laws.proofs.Vocabulary.{◌≡◌, ◌==◌, ℕ, List, [], ◌∷◌, ◌++◌, length, drop, true, false, refl, sym, ap, ◌∙◌, subst, append_assoc, append-nil, Some, None, arith, Bool, not, ◌&&◌, ◌||◌, cond, Option, Ok, map, list_any, list_all}
+use Rattle.log_sum_laws.proofs.Vocabulary.{slice_split, AllByRecursion, option_map, nat_cmp, slice_cmp, insert_key, bytes_eq, Less, and_parts, and_from, not-true, take_at, take-append-drop, bytes_eq-Decides, is_inked, before_blanks, unblanked, is_nil}
+use Rattle.log_sum_laws.proofs.Vocabulary.{after_run, cut_at, CutParts, without_return, begins_with, is_bracketed, left_kept, is_side, sides_read, has_left, with_equality, and_then, with_pieces, later_unblanked, state_read, later_forms, state_form}
+use Rattle.log_sum_laws.proofs.{Vocabulary.{or_bad, form_read, split_off, all_both, cut_back, cut_parts, after_class, end_stays, ink_stays, list_all-weaker, all_append, by_test, compare, Above, Ascends, insert_ascends, bytes_same}, Texts.all_parts}
+use Rattle.log_sum_laws.proofs.{Texts.{all_and, no_feed}, Blocks.{IsLine, append_line}, Printed.IsForm, Orders.reversed_less}
 
 -- bytes of an equality, and of its left side
 abbrev pub is_part : ℕ → Bool

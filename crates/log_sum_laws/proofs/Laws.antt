@@ -1,16 +1,13 @@
 -- The laws of sums of sums.
-use Rattle.log_sum_laws.proofs.Vocabulary.{◌≡◌, ℕ, ◌≤◌, List, [], ◌∷◌, ◌++◌, true, refl, sym, ap, ◌∙◌, arith, subst, append_assoc, append-nil, Some, Ok, map, codes, list_any, flat_map, AllByRecursion, bytes_eq, by_test, last_count, Row, Fact, Entry, a_hash, rows, hashes, first_of, marked_sum, state_sum, facts_of, tests_of, LogSeen, nothing_seen, file_judged, files_judged, files_both, state_by, summed, summed_text, sum_text, logs_text, without_return, KeepsSumLimits, NoFault, IsSum, Represent, none, a_log, a_sum, SumsAreLogs, SumOfSums, Result, Err, LogError, bytes_same, judged_text, files_by_blocks}
+use Rattle.log_sum_laws.proofs.Vocabulary.{◌≡◌, ℕ, ◌≤◌, List, [], ◌∷◌, ◌++◌, true, refl, sym, ap, ◌∙◌, arith, subst, append_assoc, append-nil, Some, Ok, map, codes, list_any, flat_map, AllByRecursion, bytes_eq, by_test, last_count, Row, Fact, Entry}
+use Rattle.log_sum_laws.proofs.Vocabulary.{a_hash, rows, hashes, first_of, marked_sum, state_sum, facts_of, tests_of, LogSeen, nothing_seen, file_judged, files_judged, files_both, state_by, summed, summed_text, sum_text, logs_text, without_return}
+use Rattle.log_sum_laws.proofs.{Vocabulary.{KeepsSumLimits, NoFault, IsSum, Represent, none, a_log, a_sum, SumsAreLogs, SumOfSums, Result, Err, LogError, bytes_same, judged_text, files_by_blocks}, Cases.{Mark, Outside, Starred, Plain}, Texts.is_word}
+use Rattle.log_sum_laws.proofs.{Lines.line_of_hash, Sums.{Marks, printed_facts}, LineFacts.IsRead, Blocks.{seen_at, Clean, clean_parts, return_prefix}, Printed.{IsForm, AreForms, Printable, given, file_goes}, Scans.{files_scan, files_end, IsEnd}}
+use Rattle.log_sum_laws.proofs.{Scans.clean_both, AgreeingFacts.{Agrees, facts_both, clean_facts, clean_all, clean_from_agrees, agrees_from_clean, marked_both, state_both, marked_one, state_one, bytes_is}, Alike.{Complete, printed_alike, printed_agrees}}
+use Rattle.log_sum_laws.proofs.{Alike.{agrees_between, alike_text, kind_summed, text_summed, hash_is, states_are, states_there, marks_fit}, WholeTests.{IsPrintable, IsPrintableEntry, Keeps, WholeOrRunning, keeps_nothing, files_keep}}
+use Rattle.log_sum_laws.{proofs.Names.{tests_distinct, tests_between, printed_of, none_printed_of, test_there, no_facts}, specs.Laws.SumsOfKept}
 use Rattle.std.specs.Prelude.{IfErr}
-use Rattle.log_sum.specs.Skipping.{sifted, kept_sum, IsWrong}
-use Rattle.log_sum.proofs.SiftLaws.{kept_none}
-use Rattle.log_sum_laws.specs.Laws.{SumsOfKept}
-use Rattle.log_sum_laws.proofs.{Cases.{Mark, Outside, Starred, Plain}, Texts.is_word, Lines.line_of_hash, Sums.{Marks, printed_facts}, LineFacts.IsRead}
-use Rattle.log_sum_laws.proofs.{Blocks.{seen_at, Clean, clean_parts, return_prefix}, Printed.{IsForm, AreForms, Printable, given, file_goes}}
-use Rattle.log_sum_laws.proofs.Scans.{files_scan, files_end, IsEnd, clean_both}
-use Rattle.log_sum_laws.proofs.AgreeingFacts.{Agrees, facts_both, clean_facts, clean_all, clean_from_agrees, agrees_from_clean, marked_both, state_both, marked_one, state_one, bytes_is}
-use Rattle.log_sum_laws.proofs.Alike.{Complete, printed_alike, printed_agrees, agrees_between, alike_text, kind_summed, text_summed, hash_is, states_are, states_there, marks_fit}
-use Rattle.log_sum_laws.proofs.WholeTests.{IsPrintable, IsPrintableEntry, Keeps, WholeOrRunning, keeps_nothing, files_keep}
-use Rattle.log_sum_laws.proofs.Names.{tests_distinct, tests_between, printed_of, none_printed_of, test_there, no_facts}
+use Rattle.log_sum.{specs.Skipping.{sifted, kept_sum, IsWrong}, proofs.SiftLaws.kept_none}
 
 -- what is said of a test
 printable_facts_of : (name : List ℕ) (entries : List Entry) → AllByRecursion IsPrintableEntry entries → AllByRecursion IsPrintable (facts_of name entries)

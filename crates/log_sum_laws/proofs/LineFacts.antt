@@ -1,8 +1,9 @@
 -- What the lines of logs say.
-use Rattle.log_sum_laws.proofs.Vocabulary.{◌≡◌, ℕ, ◌+◌, ◌-◌, List, [], ◌∷◌, ◌++◌, length, true, false, refl, ap, ◌∙◌, arith, subst, Some, None, Bool, Option, Result, Ok, Err, codes, list_all, bytes_eq, and_parts, take-append-drop, append_cancel_right, bytes_eq-Decides, by_test, LogKind, is_blank, before_blanks, unblanked, trim_blanks, words, later_words, joined_words, ends_with, before_end, begins_with, count_read, form_read, Row, test_line, mark_read, row_of, row_marked, row_counted, log_row, verdict_cut, condition_line, quantifier, hash_line, Said, passed_over, begins, counts, a_state, judged, conditioned, hashed, ends, outside_said, hash_said, condition_said, no_test, rest_said, log_line_said, kind_at, words_both, after_class, trimmed_class, before_twice}
-use Rattle.log_sum_laws.proofs.Cases.{Kind, Mark, Verdict, Place, Outside, Histogram, Judgement, Rest, Conditioned, States, is_outside}
-use Rattle.log_sum_laws.proofs.Texts.{no_feed, is_word, words_plain, joined_is, joined_both, joined_no_feed, all_take, all_drop}
-use Rattle.log_sum_laws.proofs.{Lines.line_of_hash, Printed.IsForm, Printed.IsCondition, Forms.form_is}
+use Rattle.log_sum_laws.proofs.Vocabulary.{◌≡◌, ℕ, ◌+◌, ◌-◌, List, [], ◌∷◌, ◌++◌, length, true, false, refl, ap, ◌∙◌, arith, subst, Some, None, Bool, Option, Result, Ok, Err, codes, list_all, bytes_eq, and_parts, take-append-drop, append_cancel_right}
+use Rattle.log_sum_laws.proofs.Vocabulary.{bytes_eq-Decides, by_test, LogKind, is_blank, before_blanks, unblanked, trim_blanks, words, later_words, joined_words, ends_with, before_end, begins_with, count_read, form_read, Row, test_line, mark_read}
+use Rattle.log_sum_laws.proofs.Vocabulary.{row_of, row_marked, row_counted, log_row, verdict_cut, condition_line, quantifier, hash_line, Said, passed_over, begins, counts, a_state, judged, conditioned, hashed, ends, outside_said, hash_said}
+use Rattle.log_sum_laws.proofs.{Vocabulary.{condition_said, no_test, rest_said, log_line_said, kind_at, words_both, after_class, trimmed_class, before_twice}, Cases.{Kind, Mark, Verdict, Place, Outside, Histogram, Judgement, Rest, Conditioned, States}}
+use Rattle.log_sum_laws.proofs.{Cases.is_outside, Texts.{no_feed, is_word, words_plain, joined_is, joined_both, joined_no_feed, all_take, all_drop}, Lines.line_of_hash, Printed.{IsForm, IsCondition}, Forms.form_is}
 
 -- a hash that was read
 pub record IsRead (hash : List ℕ) : Type 0 where

@@ -1,7 +1,10 @@
 -- What the printed lines say where they are read.
-use Rattle.log_sum_laws.proofs.Vocabulary.{◌≡◌, ◌==◌, ℕ, suc, ◌^◌, ◌<◌, ◌≤◌, List, [], ◌∷◌, ◌++◌, length, true, false, refl, sym, ap, ◌∙◌, arith, length-append, append_assoc, append-nil, Some, None, Bool, not, Ok, codes, decimal, nat_le, is_ascii_digit, filter, list_all, bytes_eq, digits_value, and_parts, drop_at, drop-drop, digits_decimal, digits_value-decimal, decimal_nonempty, digits_model, list_all-weaker, is_blank, is_inked, before_blanks, kept_before, unblanked, trim_blanks, is_nil, words, after_run, later_words, joined_words, ends_with, begins_with, last_count, count_read, count_of_digits, form_read, row_with, test_line, histogram_line, log_row, condition_line, verdict_cut, hash_line, quantifier, passed_over, begins, counts, a_state, judged, conditioned, hashed, ends, log_line_said, states_left, sum_kind_word, mark_sign, filling, verdict_word, verdict_end, end_stays, ink_stays, unblanked_spaces, first_piece, after_halts, stops, whole_run, words_both, one_word}
-use Rattle.log_sum_laws.proofs.Cases.{Kind, Mark, Verdict, Validated, NotValidated, Outside, Histogram, Judgement, Rest, Conditioned}
-use Rattle.log_sum_laws.proofs.Texts.{is_plain, is_word, word_is, ends_so, before_so, joined_both}
+use Rattle.log_sum_laws.proofs.Vocabulary.{◌≡◌, ◌==◌, ℕ, suc, ◌^◌, ◌<◌, ◌≤◌, List, [], ◌∷◌, ◌++◌, length, true, false, refl, sym, ap, ◌∙◌, arith, length-append, append_assoc, append-nil, Some, None, Bool, not, Ok, codes, decimal, nat_le, is_ascii_digit}
+use Rattle.log_sum_laws.proofs.Vocabulary.{filter, list_all, bytes_eq, digits_value, and_parts, drop_at, drop-drop, digits_decimal, digits_value-decimal, decimal_nonempty, digits_model, list_all-weaker, is_blank, is_inked, before_blanks, kept_before}
+use Rattle.log_sum_laws.proofs.Vocabulary.{unblanked, trim_blanks, is_nil, words, after_run, later_words, joined_words, ends_with, begins_with, last_count, count_read, count_of_digits, form_read, row_with, test_line, histogram_line, log_row}
+use Rattle.log_sum_laws.proofs.Vocabulary.{condition_line, verdict_cut, hash_line, quantifier, passed_over, begins, counts, a_state, judged, conditioned, hashed, ends, log_line_said, states_left, sum_kind_word, mark_sign, filling, verdict_word}
+use Rattle.log_sum_laws.proofs.{Vocabulary.{verdict_end, end_stays, ink_stays, unblanked_spaces, first_piece, after_halts, stops, whole_run, words_both, one_word}, Cases.{Kind, Mark, Verdict, Validated, NotValidated, Outside, Histogram, Judgement, Rest}}
+use Rattle.log_sum_laws.proofs.{Cases.Conditioned, Texts.{is_plain, is_word, word_is, ends_so, before_so, joined_both}}
 
 -- counts
 below : (n : ℕ) → n ≤ last_count → n < 2 ^ 64

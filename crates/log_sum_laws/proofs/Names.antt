@@ -1,6 +1,6 @@
 -- Tests in the order in which each was first seen.
-use Rattle.log_sum_laws.proofs.Vocabulary.{◌≡◌, ℕ, List, [], ◌∷◌, ◌++◌, true, false, refl, sym, ◌∙◌, append-nil, arith, ◌||◌, map, fold, list_any, flat_map, AllByRecursion, bytes_eq, or_right, map-append, fold-append, list_any-append, or-false, by_test, eq_swap, all_append, Entry, facts_of, with_test_name, tests_of, Summed, StateSummed, bytes_same}
-use Rattle.log_sum_laws.proofs.{Printed.state_entries, Printed.given, AgreeingFacts.facts_both, AgreeingFacts.bytes_is, Sums.printed_facts, Sums.printed_here}
+use Rattle.log_sum_laws.proofs.Vocabulary.{◌≡◌, ℕ, List, [], ◌∷◌, ◌++◌, true, false, refl, sym, ◌∙◌, append-nil, arith, ◌||◌, map, fold, list_any, flat_map, AllByRecursion, bytes_eq, or_right, map-append, fold-append, list_any-append, or-false, by_test}
+use Rattle.log_sum_laws.proofs.{Vocabulary.{eq_swap, all_append, Entry, facts_of, with_test_name, tests_of, Summed, StateSummed, bytes_same}, Printed.{state_entries, given}, AgreeingFacts.{facts_both, bytes_is}, Sums.{printed_facts, printed_here}}
 use Rattle.log_sum_laws.proofs.{Sums.printed_elsewhere, Orders.Distinct}
 
 any_with : (k : List ℕ) (names : List (List ℕ)) (x : List ℕ) → list_any (bytes_eq k) (with_test_name names x) ≡ list_any (bytes_eq k) names || bytes_eq k x

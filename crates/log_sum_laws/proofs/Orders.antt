@@ -1,5 +1,6 @@
 -- Texts in byte order, each once: two such lists with the same texts are the same.
-use Rattle.log_sum_laws.proofs.Vocabulary.{◌≡◌, ℕ, List, [], ◌∷◌, true, false, refl, sym, ap, ◌∙◌, subst, arith, fold, list_any, nat_cmp, ordering_reverse, slice_cmp, insert_key, bytes_eq, Ordering, Less, Equal, Greater, bytes_eq-Decides, order, is_text, compare, Above, Ascends, above_all, reversed, fold_ascends, none_above, any_fold, bytes_same}
+use Rattle.log_sum_laws.proofs.Vocabulary.{◌≡◌, ℕ, List, [], ◌∷◌, true, false, refl, sym, ap, ◌∙◌, subst, arith, fold, list_any, nat_cmp, ordering_reverse, slice_cmp, insert_key, bytes_eq, Ordering, Less, Equal, Greater, bytes_eq-Decides, order, is_text}
+use Rattle.log_sum_laws.proofs.Vocabulary.{compare, Above, Ascends, above_all, reversed, fold_ascends, none_above, any_fold, bytes_same}
 
 -- a text below another: the other is above it
 pub reversed_less : (k x : List ℕ) → compare k x ≡ Less → compare x k ≡ Greater

@@ -1,9 +1,11 @@
 -- A printed sum is read as the facts that it prints.
-use Rattle.log_sum_laws.proofs.Vocabulary.{◌≡◌, ◌==◌, ℕ, zero, suc, ◌-◌, ◌≤◌, List, [], ◌∷◌, ◌++◌, length, true, false, refl, sym, append_assoc, append-nil, subst, Some, None, arith, Bool, Option, Ok, codes, decimal, replicate, list_all, flat_map, AllByRecursion, by_test, is_nil, words, before_blanks, without_return, whole_lines, unended, joined_words, begins_with, form_read, last_count, Entry, a_kind, a_row, a_condition, a_hash, row_with, quantifier, Said, passed_over, begins, counts, a_state, judged, conditioned, hashed, ends, log_line_said, place_after, states_left, fact_said, test_after, LogSeen, next_line, last_judged, file_judged, Summed, StateSummed, some_or, is_validated, sum_kind_word, mark_sign, filling, state_line, verdict_word, verdict_end, how_often, hash_text, head_text, sum_verdict_text, claim_text, condition_text, observation_text, summed_text}
-use Rattle.log_sum_laws.proofs.Cases.{Kind, Mark, Place, Allowed, Forbidden, Required, Outside, Histogram, Judgement, Rest, Conditioned}
-use Rattle.log_sum_laws.proofs.Texts.{no_feed, is_word, word_parts}
-use Rattle.log_sum_laws.proofs.Lines.{decimal_some, head_line, number_line, counted_line, totals_line, claim_line, line_of_hash, end_line, said_as, head_said, number_said, state_said, verdict_said, empty_said, outside_said, witnesses_said, totals_said, claim_said, hash_said, end_said}
-use Rattle.log_sum_laws.proofs.Blocks.{seen_at, entry, Clean, clean_parts, Goes, goes_on, IsLine, Fits, step, append_line, decimal_line}
+use Rattle.log_sum_laws.proofs.Vocabulary.{◌≡◌, ◌==◌, ℕ, zero, suc, ◌-◌, ◌≤◌, List, [], ◌∷◌, ◌++◌, length, true, false, refl, sym, append_assoc, append-nil, subst, Some, None, arith, Bool, Option, Ok, codes, decimal, replicate, list_all, flat_map}
+use Rattle.log_sum_laws.proofs.Vocabulary.{AllByRecursion, by_test, is_nil, words, before_blanks, without_return, whole_lines, unended, joined_words, begins_with, form_read, last_count, Entry, a_kind, a_row, a_condition, a_hash, row_with, quantifier}
+use Rattle.log_sum_laws.proofs.Vocabulary.{Said, passed_over, begins, counts, a_state, judged, conditioned, hashed, ends, log_line_said, place_after, states_left, fact_said, test_after, LogSeen, next_line, last_judged, file_judged, Summed, StateSummed}
+use Rattle.log_sum_laws.proofs.Vocabulary.{some_or, is_validated, sum_kind_word, mark_sign, filling, state_line, verdict_word, verdict_end, how_often, hash_text, head_text, sum_verdict_text, claim_text, condition_text, observation_text, summed_text}
+use Rattle.log_sum_laws.proofs.{Cases.{Kind, Mark, Place, Allowed, Forbidden, Required, Outside, Histogram, Judgement, Rest, Conditioned}, Texts.{no_feed, is_word, word_parts}, Lines.{decimal_some, head_line, number_line, counted_line, totals_line}}
+use Rattle.log_sum_laws.proofs.{Lines.{claim_line, line_of_hash, end_line, said_as, head_said, number_said, state_said, verdict_said, empty_said, outside_said, witnesses_said, totals_said, claim_said, hash_said, end_said}, Blocks.{seen_at, entry, Clean}}
+use Rattle.log_sum_laws.proofs.Blocks.{clean_parts, Goes, goes_on, IsLine, Fits, step, append_line, decimal_line}
 
 -- what a printed form, condition and hash are
 pub record IsForm (form : List ℕ) : Type 0 where

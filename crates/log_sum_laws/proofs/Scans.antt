@@ -1,6 +1,6 @@
 -- What logs say is the same after any entries, where it has no error there.
-use Rattle.log_sum_laws.proofs.Vocabulary.{◌≡◌, ℕ, List, [], ◌∷◌, ◌++◌, refl, sym, ap, ◌∙◌, arith, subst, append_assoc, append-nil, Result, Ok, Err, LogError, Entry, LogSeen, text_judged, line_judged, lines_judged, last_judged, end_judged, file_judged, files_judged, ◌>>=◌, without_return}
-use Rattle.log_sum_laws.proofs.{Cases.Outside, Blocks.seen_at, Blocks.Clean, Blocks.clean_parts}
+use Rattle.log_sum_laws.proofs.Vocabulary.{◌≡◌, ℕ, List, [], ◌∷◌, ◌++◌, refl, sym, ap, ◌∙◌, arith, subst, append_assoc, append-nil, Result, Ok, Err, LogError, Entry, LogSeen, text_judged, line_judged, lines_judged, last_judged, end_judged, file_judged}
+use Rattle.log_sum_laws.proofs.{Vocabulary.{files_judged, ◌>>=◌, without_return}, Cases.Outside, Blocks.{seen_at, Clean, clean_parts}}
 
 -- entries without an error, and others without an error after them, have none together
 pub clean_both : (before one two : List Entry) → Clean before one → Clean (before ++ one) two → Clean before (one ++ two)

@@ -1,8 +1,8 @@
 -- The facts of a printed test have the sum that the test was printed from.
-use Rattle.log_sum_laws.proofs.Vocabulary.{◌≡◌, ℕ, ◌+◌, List, [], ◌∷◌, ◌++◌, true, false, refl, sym, ap, ◌∙◌, arith, append-nil, Some, None, Bool, cond, Option, map, list_any, AllByRecursion, bytes_eq, or_right, map-map, eq_swap, Row, Fact, a_kind, a_row, a_condition, a_hash, row_with, rows, conditions, hashes, first_of, same_state_mark, marked_sum, state_sum, states_of, mark_in, facts_of, Summed, StateSummed, some_or, state_by, is_validated, Ascends, fold_ascends, any_fold, bytes_same}
-use Rattle.log_sum_laws.proofs.{Cases.Mark, Cases.Plain, Lines.said_as, Blocks.entry, Printed.kind_of_test, Printed.state_entries, Printed.given}
-use Rattle.log_sum_laws.proofs.{Orders.Distinct, Orders.ascends_distinct}
-use Rattle.log_sum_laws.proofs.AgreeingFacts.{rows_both, conditions_both, hashes_both, marked_both, state_both, mark_both, marked_one, state_one, mark_one, marked_none, fact_elsewhere, facts_both, bytes_is}
+use Rattle.log_sum_laws.proofs.Vocabulary.{◌≡◌, ℕ, ◌+◌, List, [], ◌∷◌, ◌++◌, true, false, refl, sym, ap, ◌∙◌, arith, append-nil, Some, None, Bool, cond, Option, map, list_any, AllByRecursion, bytes_eq, or_right, map-map, eq_swap, Row, Fact, a_kind}
+use Rattle.log_sum_laws.proofs.Vocabulary.{a_row, a_condition, a_hash, row_with, rows, conditions, hashes, first_of, same_state_mark, marked_sum, state_sum, states_of, mark_in, facts_of, Summed, StateSummed, some_or, state_by, is_validated, Ascends}
+use Rattle.log_sum_laws.proofs.{Vocabulary.{fold_ascends, any_fold, bytes_same}, Cases.{Mark, Plain}, Lines.said_as, Blocks.entry, Printed.{kind_of_test, state_entries, given}, Orders.{Distinct, ascends_distinct}, AgreeingFacts.rows_both}
+use Rattle.log_sum_laws.proofs.AgreeingFacts.{conditions_both, hashes_both, marked_both, state_both, mark_both, marked_one, state_one, mark_one, marked_none, fact_elsewhere, facts_both, bytes_is}
 
 -- the facts of the states of a printed test
 abbrev pub state_facts : List StateSummed → List Fact

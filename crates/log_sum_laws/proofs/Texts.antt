@@ -1,5 +1,6 @@
 -- Bytes of texts: what passes a test does so in parts of the text; words of texts that are joined.
-use Rattle.log_sum_laws.proofs.Vocabulary.{◌≡◌, ◌==◌, ℕ, suc, ◌-◌, List, [], ◌∷◌, ◌++◌, length, take, drop, true, false, refl, sym, ap, ◌∙◌, arith, length-append, append_assoc, append-nil, Bool, not, ◌&&◌, slice_split, filter, list_all, bytes_eq, drop_at, take_at, list_all-append, and_parts, list_all-weaker, is_blank, is_inked, is_nil, words, later_words, joined_words, ends_with, before_end, all_both, bytes_same, words_both, one_word}
+use Rattle.log_sum_laws.proofs.Vocabulary.{◌≡◌, ◌==◌, ℕ, suc, ◌-◌, List, [], ◌∷◌, ◌++◌, length, take, drop, true, false, refl, sym, ap, ◌∙◌, arith, length-append, append_assoc, append-nil, Bool, not, ◌&&◌, slice_split, filter, list_all, bytes_eq}
+use Rattle.log_sum_laws.proofs.Vocabulary.{drop_at, take_at, list_all-append, and_parts, list_all-weaker, is_blank, is_inked, is_nil, words, later_words, joined_words, ends_with, before_end, all_both, bytes_same, words_both, one_word}
 
 -- what holds of all elements of two lists together holds of all elements of each
 pub all_parts : {A : Type 0} (p : A → Bool) (xs ys : List A) → list_all p (xs ++ ys) ≡ true → (list_all p xs ≡ true) × (list_all p ys ≡ true)

@@ -1,9 +1,10 @@
 -- Logs give whole tests: after them each test has a kind and a condition, and what logs say of it can be printed.
-use Rattle.log_sum_laws.proofs.Vocabulary.{◌≡◌, ℕ, zero, suc, List, [], ◌∷◌, ◌++◌, true, false, refl, sym, ap, ◌∙◌, subst, Some, None, arith, Bool, Option, Ok, list_any, list_all, AllByRecursion, option_map, bytes_eq, and_parts, not-false, list_any-append, by_test, all_append, ConditionDiffers, Fact, Entry, a_kind, a_row, a_condition, a_hash, kinds, conditions, first_of, facts_of, fact_fault, is_other, Said, passed_over, begins, counts, a_state, judged, conditioned, hashed, ends, place_after, kind_at, left_at, states_left, after_state, fact_said, LogSeen, nothing_seen, next_line, fact_put, at_next_line, said_to, text_judged, line_judged, lines_judged, last_judged, file_judged, files_judged, ◌>>=◌, without_return, but_last, last_of, whole_lines, unended, bytes_same}
-use Rattle.log_sum_laws.proofs.Cases.{Kind, Verdict, Place, Histogram, Rest, Conditioned, is_outside}
-use Rattle.log_sum_laws.proofs.{Texts.no_feed, Texts.is_word, Blocks.entry, Printed.IsForm, Printed.IsCondition, Forms.split_lacks, Alike.Complete}
-use Rattle.log_sum_laws.proofs.AgreeingFacts.{kinds_both, conditions_both, or_first, first_both, facts_both, fact_here, none_if, bytes_is}
-use Rattle.log_sum_laws.proofs.LineFacts.{IsRead, SaidOf, is_after, line_says}
+use Rattle.log_sum_laws.proofs.Vocabulary.{◌≡◌, ℕ, zero, suc, List, [], ◌∷◌, ◌++◌, true, false, refl, sym, ap, ◌∙◌, subst, Some, None, arith, Bool, Option, Ok, list_any, list_all, AllByRecursion, option_map, bytes_eq, and_parts, not-false}
+use Rattle.log_sum_laws.proofs.Vocabulary.{list_any-append, by_test, all_append, ConditionDiffers, Fact, Entry, a_kind, a_row, a_condition, a_hash, kinds, conditions, first_of, facts_of, fact_fault, is_other, Said, passed_over, begins, counts, a_state}
+use Rattle.log_sum_laws.proofs.Vocabulary.{judged, conditioned, hashed, ends, place_after, kind_at, left_at, states_left, after_state, fact_said, LogSeen, nothing_seen, next_line, fact_put, at_next_line, said_to, text_judged, line_judged, lines_judged}
+use Rattle.log_sum_laws.proofs.{Vocabulary.{last_judged, file_judged, files_judged, ◌>>=◌, without_return, but_last, last_of, whole_lines, unended, bytes_same}, Cases.{Kind, Verdict, Place, Histogram, Rest, Conditioned, is_outside}, Texts.no_feed}
+use Rattle.log_sum_laws.proofs.{Texts.is_word, Blocks.entry, Printed.{IsForm, IsCondition}, Forms.split_lacks, Alike.Complete, AgreeingFacts.{kinds_both, conditions_both, or_first, first_both, facts_both, fact_here, none_if, bytes_is}, LineFacts.IsRead}
+use Rattle.log_sum_laws.proofs.LineFacts.{SaidOf, is_after, line_says}
 
 -- a fact can be printed
 abbrev pub IsPrintable : Fact → Type 0

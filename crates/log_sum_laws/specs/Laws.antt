@@ -2,8 +2,7 @@
 -- Source: own.
 use Rattle.std.specs.{Prelude.{◌≡◌, ℕ, ◌≤◌, true, not, List, [], ◌∷◌, ◌++◌, length, Some, Ok, Err}, List.list_all}
 use Rattle.diy_io.specs.Count.{last_count}
-use Rattle.log_sum.specs.{Facts.{Entry, facts_of}, LogGrammar.{is_too_long, all_judged}, Summed.summed, SumText.sum_text, Representing.logs_text}
-use Rattle.log_sum.specs.{declared.errors.LogError.LogError, Skipping.{sifted, kept_sum, IsWrong}}
+use Rattle.log_sum.specs.{Facts.{Entry, facts_of}, LogGrammar.{is_too_long, all_judged}, Summed.summed, SumText.sum_text, Representing.logs_text, declared.errors.LogError.LogError, Skipping.{sifted, kept_sum, IsWrong}}
 use Rattle.text_parts.specs.Lines.{without_return, whole_lines}
 
 -- a printed sum keeps the limits of a log: none of its lines is too long, the number of states of each test isn't above the

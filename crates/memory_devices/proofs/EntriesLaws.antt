@@ -1,8 +1,7 @@
 -- Files by the memory that they have.
-use Rattle.std.proofs.Common.{◌≡◌, ℕ, ◌+◌, ◌<◌, List, [], ◌∷◌, ◌++◌, ◌-◌, length, get_or, set, map, refl, sym, ap, ◌∙◌, subst, arith, All}
-use Rattle.std.proofs.{lemmas.List.{map-set, get_or-map, length-map, map-append}, lemmas.List.Elements.All-get_or}
+use Rattle.std.{proofs.{Common.{◌≡◌, ℕ, ◌+◌, ◌<◌, List, [], ◌∷◌, ◌++◌, ◌-◌, length, get_or, set, map, refl, sym, ap, ◌∙◌, subst, arith, All}, lemmas.List.{map-set, get_or-map, length-map, map-append, Elements.All-get_or}}, specs.Prelude.{Option, IfSome}}
+use Rattle.std.specs.Prelude.{MatchOption, Result, OnOk, OnErr, Ok, Err, Some, None, Bool, true, false, is_err, is_ok, if◌then◌else◌}
 use Rattle.memory_devices.specs.{declared.mem_files.Entry.Entry, MemFiles.{NamedFile, MemFilesState, file_name_at, bytes_at}, MemEntries.{file_view, IsSpare}}
-use Rattle.std.specs.Prelude.{Option, IfSome, MatchOption, Result, OnOk, OnErr, Ok, Err, Some, None, Bool, true, false, is_err, is_ok, if◌then◌else◌}
 
 abbrev pub state_of : List NamedFile → ℕ → ℕ → MemFilesState
 state_of files room names = record { files = files; room = room; names = names }

@@ -1,7 +1,6 @@
 -- Files by their names, and by their places in a list.
-use Rattle.std.proofs.Common.{◌≡◌, ℕ, suc, ◌+◌, ◌<◌, Bool, true, false, cond, List, [], ◌∷◌, ◌++◌, length, get_or, set, refl, ap, ◌∙◌, arith, Some, None, zero-add}
-use Rattle.std.proofs.{Math.Path.fun_ext, lemmas.Option.{none-some, same_Some}, lemmas.List.Folds.find-append, lemmas.Slice.Eq.bytes_eq-Decides}
-use Rattle.std.specs.{Prelude.{Option, IfSome, find}, Option.option_map, List.position_from, Str.bytes_eq}
+use Rattle.std.proofs.{Common.{◌≡◌, ℕ, suc, ◌+◌, ◌<◌, Bool, true, false, cond, List, [], ◌∷◌, ◌++◌, length, get_or, set, refl, ap, ◌∙◌, arith, Some, None, zero-add}, Math.Path.fun_ext, lemmas.{Option.{none-some, same_Some}, List.Folds.find-append}}
+use Rattle.std.{proofs.lemmas.Slice.Eq.bytes_eq-Decides, specs.{Prelude.{Option, IfSome, find}, Option.option_map, List.position_from, Str.bytes_eq}}
 use Rattle.list_laws.proofs.Cases.{eq_swap}
 use Rattle.diy_io.specs.Shelf.{with_file}
 use Rattle.memory_devices.specs.MemFiles.{NamedFile, has_name, file_place, file_name_at, bytes_at, files_named}

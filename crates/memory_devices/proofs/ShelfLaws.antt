@@ -1,14 +1,10 @@
 -- What the calls of a shelf in memory do to what it shows.
-use Rattle.std.proofs.Common.{◌≡◌, ◌≤◌, ◌<◌, ℕ, ◌+◌, List, [], ◌∷◌, ◌++◌, length, take, drop, set, min, refl, sym, ap, ◌∙◌, subst, arith, Some, None, length-drop, length-append}
-use Rattle.std.proofs.{lemmas.List.{take-append-drop, drop_all, drop-drop, get_or-set_same, length-take-le, take-append-le, take-take}, lemmas.Option.same_Some}
-use Rattle.std.specs.Prelude.{Result, OnErr}
-use Rattle.diy_io.specs.Count.{next_count, count_of, ends_after}
-use Rattle.diy_io.specs.Shelf.{Idle, name_written, IsWriting, with_more, Opened, NotThere, Stopped, Gave, Created, AppendedPart}
-use Rattle.memory_devices.specs.{declared.mem_shelf.Work.Work, declared.mem_shelf.MemShelf.TheInside.Inside}
-use Rattle.memory_devices.specs.MemFiles.{MemFilesState, NamedFile, file_place, file_name_at, bytes_at, files_named}
-use Rattle.memory_devices.specs.MemShelf.{MemShelfState, mem_shelf_seen, mode_of, IsPlace, IsAt}
-use Rattle.memory_devices.specs.declared.mem_shelf.Work.TheVariants as works
+use Rattle.std.proofs.{Common.{◌≡◌, ◌≤◌, ◌<◌, ℕ, ◌+◌, List, [], ◌∷◌, ◌++◌, length, take, drop, set, min, refl, sym, ap, ◌∙◌, subst, arith, Some, None, length-drop, length-append}, lemmas.List.{take-append-drop, drop_all, drop-drop, get_or-set_same}}
+use Rattle.std.{proofs.lemmas.{List.{length-take-le, take-append-le, take-take}, Option.same_Some}, specs.Prelude.{Result, OnErr}}
+use Rattle.diy_io.specs.{Count.{next_count, count_of, ends_after}, Shelf.{Idle, name_written, IsWriting, with_more, Opened, NotThere, Stopped, Gave, Created, AppendedPart}}
+use Rattle.memory_devices.specs.{declared.mem_shelf.{Work.Work, MemShelf.TheInside.Inside}, MemFiles.{MemFilesState, NamedFile, file_place, file_name_at, bytes_at, files_named}, MemShelf.{MemShelfState, mem_shelf_seen, mode_of, IsPlace, IsAt}}
 use Rattle.memory_devices.proofs.FilesLaws.{place_inside, name_there, bytes_there, bytes_not_there, files_put, files_added, place_stays, place_added}
+use Rattle.memory_devices.specs.declared.mem_shelf.Work.TheVariants as works
 
 -- the place of a file that was found
 pub is_place : (name : List ℕ) (files : List NamedFile) (i : ℕ) → file_place name files ≡ Some i → IsPlace i files

@@ -1,5 +1,5 @@
 -- The memory that is reserved for files in memory.
-use Rattle.std.specs.{Prelude.{ℕ, ◌+◌, ◌≤◌, All, vec_len, vec_capacity, ◌≡◌, []}, declared.vec.Vec.Vec, declared.alloc.Global.Global}
+use Rattle.std.specs.{Prelude.{ℕ, ◌+◌, ◌≤◌, All, vec_len, vec_capacity, ◌≡◌, []}, declared.{vec.Vec.Vec, alloc.Global.Global}}
 use Rattle.memory_devices.specs.{declared.mem_files.Entry.Entry, MemFiles.NamedFile}
 
 -- the name and the bytes of a file

@@ -1,6 +1,5 @@
 -- Files in memory, whose number and bytes are bounded.
-use Rattle.std.specs.Prelude.{◌≡◌, ◌⊎◌, ◌<◌, ◌-◌, ℕ, Bool, is_some, if◌then◌else◌, length, List, [], ◌∷◌, ◌++◌, Option, None, Some, find, slice_index_or, slice_set}
-use Rattle.std.specs.{Option.option_map, List.position_from, Str.bytes_eq}
+use Rattle.std.specs.{Prelude.{◌≡◌, ◌⊎◌, ◌<◌, ◌-◌, ℕ, Bool, is_some, if◌then◌else◌, length, List, [], ◌∷◌, ◌++◌, Option, None, Some, find, slice_index_or, slice_set}, Option.option_map, List.position_from, Str.bytes_eq}
 use Rattle.diy_io.specs.Shelf.{Files}
 
 -- a file: its name and its bytes

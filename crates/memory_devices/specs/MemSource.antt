@@ -1,7 +1,7 @@
 -- A source in memory that fails at chosen calls.
 use Rattle.std.specs.Prelude.{ℕ, List, Some}
 use Rattle.diy_io.specs.{Count.next_count, Taken.SourceSeen}
-use Rattle.memory_devices.specs.{SureSource.SureSourceState, SureSource.sure_source_after}
+use Rattle.memory_devices.specs.SureSource.{SureSourceState, sure_source_after}
 
 -- the source of its bytes, the numbers of the calls that fail, the number of the next call, and how many calls failed
 pub record MemSourceState : Type 0 where

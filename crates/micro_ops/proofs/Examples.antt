@@ -1,8 +1,8 @@
 -- Runs written out.
 use Rattle.std.proofs.Common.{ℕ, ◌≡◌, ◌==◌, refl, cond, List, [], ◌∷◌, Some, None}
-use Rattle.relax_edges.specs.{declared.kinds.Mark.TheVariants.Plain, declared.kinds.Value.Value, declared.kinds.Value.TheVariants.{Num, Place}}
+use Rattle.relax_edges.specs.declared.kinds.{Mark.TheVariants.Plain, Value.{Value, TheVariants.{Num, Place}}}
 use Rattle.relax_edges.specs.declared.kinds.Dir.TheVariants as dirs
-use Rattle.micro_ops.specs.{declared.operation.Micro.Micro, declared.operation.Item.Item, Running.{Outcome, Ended, ReadsLeft, ReadsShort, runs}}
+use Rattle.micro_ops.specs.{declared.operation.{Micro.Micro, Item.Item}, Running.{Outcome, Ended, ReadsLeft, ReadsShort, runs}}
 use Rattle.micro_ops.specs.declared.operation.Micro.TheVariants as ops
 use Rattle.micro_ops.specs.declared.operation.Item.TheVariants as items
 

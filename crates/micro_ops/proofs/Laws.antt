@@ -1,13 +1,11 @@
 -- The laws of runs: jumps, registers that keep their value,
 -- what masks name.
-use Rattle.std.proofs.Common.{ℕ, ◌+◌, ◌^◌, ◌<◌, ◌≡◌, ◌==◌, refl, Bool, true, false, cond, ◌||◌, List, [], ◌∷◌, ◌++◌, Option, Some, None, ◌∙◌, ap, eq-eqb, ◌⊎◌, count_by, ◌≤◌, arith}
-use Rattle.std.proofs.{lemmas.Nat.pow_pos, lemmas.List.Sums.sum_by-append, Math.Pow.pow_mono}
+use Rattle.std.proofs.{Common.{ℕ, ◌+◌, ◌^◌, ◌<◌, ◌≡◌, ◌==◌, refl, Bool, true, false, cond, ◌||◌, List, [], ◌∷◌, ◌++◌, Option, Some, None, ◌∙◌, ap, eq-eqb, ◌⊎◌, count_by, ◌≤◌, arith}, lemmas.{Nat.pow_pos, List.Sums.sum_by-append}, Math.Pow.pow_mono}
 use Rattle.relax_edges.specs.declared.kinds.Value.{Value}
-use Rattle.micro_ops.specs.{declared.held.Held.Held, declared.operation.Micro.Micro, declared.operation.Item.Item, Machine.{Effect, step}}
-use Rattle.micro_ops.specs.Running.{Run, Point, At, Past, Wants, Stuck, go, exec, taken, led, wanting, is_load, occurs, lands, is_past, is_written, is_read_item, NamesLoads, beginning, starting, add_item, AllNameLoads, RunNamesLoads, OnRun}
+use Rattle.micro_ops.specs.{declared.{held.Held.Held, operation.{Micro.Micro, Item.Item}}, Machine.{Effect, step}, Running.{Run, Point, At, Past, Wants, Stuck, go, exec, taken, led, wanting, is_load, occurs, lands, is_past, is_written, is_read_item}}
+use Rattle.micro_ops.{specs.Running.{NamesLoads, beginning, starting, add_item, AllNameLoads, RunNamesLoads, OnRun}, proofs.Steps.{OnEffect, Named, step_named, reads_in, ItemNames}}
 use Rattle.micro_ops.specs.declared.operation.Micro.TheVariants as ops
 use Rattle.micro_ops.specs.declared.operation.Item.TheVariants as items
-use Rattle.micro_ops.proofs.Steps.{OnEffect, Named, step_named, reads_in, ItemNames}
 
 -- a jump goes on after its label
 pub jump_lands : (before after : List Micro) (l : ℕ) (r : Run) → occurs l before ≡ false →

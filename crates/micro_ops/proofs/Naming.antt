@@ -1,6 +1,5 @@
 -- Registers in an array, named by a list from its end.
-use Rattle.std.proofs.Common.{ℕ, suc, ◌≡◌, ◌==◌, ◌<◌, List, length, drop, set, get_or, replicate, ◌∙◌, sym, ap, eqb-true, drop_of_length-le, le_refl, arith}
-use Rattle.std.proofs.{lemmas.Bool.eqb-false, lemmas.List.{get_or-set_same, get_or-set_other}, Math.Seq.drop-cons}
+use Rattle.std.proofs.{Common.{ℕ, suc, ◌≡◌, ◌==◌, ◌<◌, List, length, drop, set, get_or, replicate, ◌∙◌, sym, ap, eqb-true, drop_of_length-le, le_refl, arith}, lemmas.{Bool.eqb-false, List.{get_or-set_same, get_or-set_other}}, Math.Seq.drop-cons}
 use Rattle.relax_edges.specs.declared.kinds.Value.{Value}
 use Rattle.micro_ops.specs.{declared.held.Held.Held, Machine.{num, written}, Machines.held_by_register, Running.starting}
 

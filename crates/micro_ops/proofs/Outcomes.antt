@@ -1,7 +1,7 @@
 -- How a run ends, from where its code led, and back.
 use Rattle.std.proofs.Common.{ℕ, ◌≡◌, List, []}
 use Rattle.relax_edges.specs.declared.kinds.Value.{Value}
-use Rattle.micro_ops.specs.{declared.operation.Micro.Micro, declared.operation.Item.Item, Running.{Run, At, exec, beginning}}
+use Rattle.micro_ops.specs.{declared.operation.{Micro.Micro, Item.Item}, Running.{Run, At, exec, beginning}}
 
 -- where a run that ended came to
 pub record EndedRun (code : List Micro) (init : List (ℕ × Value)) (reads : List ℕ) (made : List Item)

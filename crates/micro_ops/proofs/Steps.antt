@@ -1,11 +1,9 @@
 -- What each step keeps: its masks name loads that were stepped.
-use Rattle.std.proofs.Common.{ℕ, ◌+◌, ◌^◌, ◌<◌, ◌≡◌, Bool, cond, Option, Some, None, arith, lt_of_lt_of_le, pow-suc}
-use Rattle.std.proofs.{lemmas.Nat.or_lt, lemmas.Nat.pow_pos, Math.Pow.pow_mono}
-use Rattle.relax_edges.specs.declared.kinds.{Mark.Mark, Value.Value, Value.TheVariants.Num}
-use Rattle.micro_ops.specs.declared.{operation.Micro.Micro, operation.Item.Item}
+use Rattle.std.proofs.{Common.{ℕ, ◌+◌, ◌^◌, ◌<◌, ◌≡◌, Bool, cond, Option, Some, None, arith, lt_of_lt_of_le, pow-suc}, lemmas.Nat.{or_lt, pow_pos}, Math.Pow.pow_mono}
+use Rattle.relax_edges.specs.declared.kinds.{Mark.Mark, Value.{Value, TheVariants.Num}}
+use Rattle.micro_ops.specs.{declared.operation.{Micro.Micro, Item.Item}, Machine.{ThreadState, Effect, bit, put, step, write_effect, becomes, loading, storing, comparing, branching, branching_on, address_mask, both_masks}, Running.is_read_item}
+use Rattle.micro_ops.specs.Running.{MasksNameLoads, NamesLoads}
 use Rattle.micro_ops.specs.declared.operation.Micro.TheVariants as ops
-use Rattle.micro_ops.specs.Machine.{ThreadState, Effect, bit, put, step, write_effect, becomes, loading, storing, comparing, branching, branching_on, address_mask, both_masks}
-use Rattle.micro_ops.specs.Running.{is_read_item, MasksNameLoads, NamesLoads}
 
 -- a fact of what a rule leads to, where there is a rule
 abbrev pub OnEffect : (Effect → Type 0) → Option Effect → Type 0

@@ -1,14 +1,10 @@
 -- The run of a thread in code, which goes through the operations once.
-use Rattle.std.proofs.Common.{ℕ, ◌≡◌, ◌+◌, ◌<◌, ◌≤◌, true, false, List, [], ◌∷◌, length, take, get_or, ◌∙◌, arith, count_by, Result, IfErr}
-use Rattle.std.proofs.lemmas.{List.take_more, List.take_all, List.Sums.count_by_more_yes, List.Sums.sum_by-take-le}
+use Rattle.std.proofs.{Common.{ℕ, ◌≡◌, ◌+◌, ◌<◌, ◌≤◌, true, false, List, [], ◌∷◌, length, take, get_or, ◌∙◌, arith, count_by, Result, IfErr}, lemmas.List.{take_more, take_all, Sums.{count_by_more_yes, sum_by-take-le}}}
 use Rattle.relax_edges.specs.declared.kinds.Value.{Value}
-use Rattle.micro_ops.specs.declared.{operation.Micro.Micro, run.RunError.RunError, run.Halt.Halt}
+use Rattle.micro_ops.specs.{declared.{operation.Micro.Micro, run.{RunError.RunError, Halt.Halt}}, Machines.state_of, Runners.{RunProgress, point_of, error_of}, RunLaws.exec_append, Running.{Point, At, go, exec, is_load, is_past, lands, beginning}}
+use Rattle.micro_ops.{specs.{Running.{outcome, runs, ReadsLeft, OnRun}, RunThreads.{EndedRun, goes_on, StopsAt, CausedBy}}, proofs.Laws.{never_past, loads_within}}
 use Rattle.micro_ops.specs.declared.run.RunError.TheVariants as errors
 use Rattle.micro_ops.specs.declared.run.Halt.TheVariants as halts
-use Rattle.micro_ops.specs.{Machines.state_of, Runners.RunProgress, Runners.point_of, Runners.error_of, RunLaws.exec_append}
-use Rattle.micro_ops.specs.Running.{Point, At, go, exec, is_load, is_past, lands, beginning, outcome, runs, ReadsLeft, OnRun}
-use Rattle.micro_ops.specs.RunThreads.{EndedRun, goes_on, StopsAt, CausedBy}
-use Rattle.micro_ops.proofs.Laws.{never_past, loads_within}
 
 -- the run of one operation more is that operation from where the others led
 pub exec_more : (code : List Micro) (i : ℕ) (d : Micro) (p q : Point) → i < length code →

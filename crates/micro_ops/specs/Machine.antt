@@ -3,9 +3,8 @@
 -- tests use; dependencies on loads, through registers, are those manuals' syntactic dependencies.
 use Rattle.std.specs.Prelude.{ℕ, zero, ◌+◌, ◌^◌, Bool, true, cond, not, ◌==◌, nat_lt, bit_or, bit_xor, Option, Some, None}
 use Rattle.relax_edges.specs.declared.kinds.Dir.TheVariants as dirs
-use Rattle.relax_edges.specs.declared.kinds.{Mark.Mark, Mark.TheVariants.Plain, Mark.TheVariants.Acquire, Mark.TheVariants.Release, Value.Value}
-use Rattle.relax_edges.specs.declared.kinds.{Value.TheVariants.Num, Value.TheVariants.Place}
-use Rattle.micro_ops.specs.declared.{held.Held.Held, operation.Micro.Micro, operation.Item.Item}
+use Rattle.relax_edges.specs.declared.kinds.{Mark.{Mark, TheVariants.{Plain, Acquire, Release}}, Value.{Value, TheVariants.{Num, Place}}}
+use Rattle.micro_ops.specs.declared.{held.Held.Held, operation.{Micro.Micro, Item.Item}}
 use Rattle.micro_ops.specs.declared.operation.Micro.TheVariants as ops
 use Rattle.micro_ops.specs.declared.operation.Item.TheVariants as items
 

@@ -1,9 +1,8 @@
 -- What a machine holds, as a state, and what its step returns, in the form of a rule.
 -- Source: own.
 use Rattle.std.specs.Prelude.{ℕ, ◌<◌, Bool, get_or, List, Option, Some, None, Result, Ok, Err, IfSome}
-use Rattle.micro_ops.specs.declared.{held.Held.Held, machine.Stepped.Stepped, machine.Stuck.Stuck, operation.Micro.Micro}
+use Rattle.micro_ops.specs.{declared.{held.Held.Held, machine.{Stepped.Stepped, Stuck.Stuck}, operation.Micro.Micro}, Machine.{ThreadState, Effect, num}}
 use Rattle.micro_ops.specs.declared.operation.Micro.TheVariants as ops
-use Rattle.micro_ops.specs.Machine.{ThreadState, Effect, num}
 
 -- what a machine holds between two operations: its 32 registers, from register 0, whether the last
 -- two compared were equal and the loads that this depends on, the loads that branches depended on,

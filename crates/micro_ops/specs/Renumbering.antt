@@ -1,7 +1,7 @@
 -- Code whose locations have other numbers.
 -- Source: own.
 use Rattle.std.specs.Prelude.{ℕ}
-use Rattle.relax_edges.specs.declared.kinds.{Value.Value, Value.TheVariants.Num, Value.TheVariants.Place}
+use Rattle.relax_edges.specs.declared.kinds.Value.{Value, TheVariants.{Num, Place}}
 use Rattle.micro_ops.specs.declared.operation.{Micro.Micro, Item.Item}
 use Rattle.micro_ops.specs.declared.operation.Micro.TheVariants as ops
 use Rattle.micro_ops.specs.declared.operation.Item.TheVariants as items

@@ -1,10 +1,7 @@
 -- Laws of one list of operations after another, and of a run that no longer goes on.
-use Rattle.std.proofs.Common.{◌≡◌, refl, ◌∙◌, sym, ap, ℕ, ◌+◌, Bool, true, false, true≢false, ◌||◌, List, [], ◌∷◌, ◌++◌, Option, Some, None, take, drop, take-append-drop}
-use Rattle.std.proofs.lemmas.Bool.{and_parts, and_from}
-use Rattle.micro_ops.specs.declared.operation.Micro.{Micro}
+use Rattle.std.proofs.{Common.{◌≡◌, refl, ◌∙◌, sym, ap, ℕ, ◌+◌, Bool, true, false, true≢false, ◌||◌, List, [], ◌∷◌, ◌++◌, Option, Some, None, take, drop, take-append-drop}, lemmas.Bool.{and_parts, and_from}}
+use Rattle.micro_ops.specs.{declared.operation.Micro.Micro, Running.{Point, At, Past, Wants, Stuck, Run, go, exec, is_label, occurs, occurs_if, target, lands, labels_of}, RunThreads.{goes_on, StopsAt}}
 use Rattle.micro_ops.specs.declared.operation.Micro.TheVariants as ops
-use Rattle.micro_ops.specs.Running.{Point, At, Past, Wants, Stuck, Run, go, exec, is_label, occurs, occurs_if, target, lands, labels_of}
-use Rattle.micro_ops.specs.RunThreads.{goes_on, StopsAt}
 
 -- the run of one list and then another is the run of the second from where the first led
 pub exec_append : (code after : List Micro) (p : Point) →

@@ -2,8 +2,7 @@
 -- Source: own.
 use Rattle.std.specs.Prelude.{ℕ, ◌+◌, ◌<◌, ◌≡◌, Bool, true, false, List, take, length}
 use Rattle.relax_edges.specs.declared.kinds.Value.{Value}
-use Rattle.micro_ops.specs.{declared.held.Held.Held, declared.operation.Micro.Micro, declared.operation.Item.Item, declared.run.RunError.RunError}
-use Rattle.micro_ops.specs.{Running.{Point, At, Past, Wants, Stuck, exec, beginning, ReadsLeft, runs}, Machines.held_by_register}
+use Rattle.micro_ops.specs.{declared.{held.Held.Held, operation.{Micro.Micro, Item.Item}, run.RunError.RunError}, Running.{Point, At, Past, Wants, Stuck, exec, beginning, ReadsLeft, runs}, Machines.held_by_register}
 use Rattle.micro_ops.specs.declared.run.RunError.TheVariants as errors
 
 -- what a run that ended leaves: its items, in order, and what its 32 registers hold, from register 0

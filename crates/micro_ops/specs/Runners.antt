@@ -1,10 +1,9 @@
 -- What the code's runner holds and why it halts, only for clauses of private functions.
 -- Source: own.
 use Rattle.std.specs.Prelude.{ℕ, List, Option}
-use Rattle.micro_ops.specs.declared.{operation.Item.Item, run.RunError.RunError, run.Halt.Halt}
+use Rattle.micro_ops.specs.{declared.{operation.Item.Item, run.{RunError.RunError, Halt.Halt}}, Machines.{Contents, state_of}, Running.{Point, landing}}
 use Rattle.micro_ops.specs.declared.run.RunError.TheVariants as errors
 use Rattle.micro_ops.specs.declared.run.Halt.TheVariants as halts
-use Rattle.micro_ops.specs.{Machines.Contents, Machines.state_of, Running.Point, Running.landing}
 
 -- how far a run has come: what its machine holds, the items made, the label that it is on the way
 -- to, if any, and the numbers that are left to read

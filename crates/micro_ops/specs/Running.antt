@@ -2,7 +2,7 @@
 -- Source: own.
 use Rattle.std.specs.Prelude.{ℕ, ◌<◌, ◌^◌, ◌==◌, Bool, true, false, cond, ◌||◌, ◌&&◌, List, [], ◌∷◌, ◌++◌, count_by, Option, Some, None, ◌≡◌, ◌⊎◌}
 use Rattle.relax_edges.specs.declared.kinds.Value.{Value}
-use Rattle.micro_ops.specs.{declared.held.Held.Held, declared.operation.Micro.Micro, declared.operation.Item.Item, Machine.{ThreadState, Effect, step, num}}
+use Rattle.micro_ops.specs.{declared.{held.Held.Held, operation.{Micro.Micro, Item.Item}}, Machine.{ThreadState, Effect, step, num}}
 use Rattle.micro_ops.specs.declared.operation.Micro.TheVariants as ops
 use Rattle.micro_ops.specs.declared.operation.Item.TheVariants as items
 use Rattle.relax_edges.specs.declared.kinds.Dir.TheVariants as dirs

@@ -1,16 +1,9 @@
 -- Pieces of a log that are fed, and a device that is read.
-use Rattle.std.proofs.Common.{◌≡◌, ◌≤◌, ◌<◌, ◌^◌, ℕ, ◌+◌, List, [], ◌∷◌, ◌++◌, length, take, drop, refl, sym, ap, ◌∙◌, subst, arith, length-append, length-drop, append_assoc, append-nil, inl, inr}
-use Rattle.std.proofs.{lemmas.List.{take-append-drop, length-take-le}, lemmas.List.Sums.count_by-le-length}
-use Rattle.std.proofs.KnownBytes.{Consumes-nil, Consumes-trans, Consumes-whole}
-use Rattle.std.specs.{Prelude.{Ok, Err, ◌==◌}, Io.KnownBytes.{Consumes, IsAtEnd}}
-use Rattle.diy_io.specs.{Count.{count_of, next_count, ends_after, Rose}, Taken.{SourceSeen, Took, EndedOnce, NotEnded}}
-use Rattle.log_sum.specs.{declared.errors.LogError.LogError, Representing.{logs_text, running_line}}
-use Rattle.log_sum_laws.proofs.Represented.{end_fault_stays}
-use Rattle.msum7_files.specs.declared.{wrong_blocks.WrongBlocks.WrongBlocks, wrong_blocks.WrongBlocks.TheVariants.{End, Skip}, faults.LogFault.LogFault}
-use Rattle.msum7_files.specs.declared.faults.LogFault.TheVariants.{Wrong, TooMuch, NoMemory}
-use Rattle.msum7_files.specs.Logs.{IsShort, max_piece, AreWholeLogs, AreRight, IsRightSoFar, PrefixWrong, PrefixFull, UpToFault, IsWrongLog, TookCount, ReadFailed}
-use Rattle.msum7_files.specs.{Summers.{Fed, FedTo, EndedTo}, LogsRead.{LogRead, InputStopped}, Feeding.{FedOn, IsFaultOfLogs, IsFaulty, LogFed, ReadSoFar}}
-use Rattle.diy_io.proofs.{ConsumedLaws.prefix_of, EndLaws.{end_counted, no_end_counted}}
+use Rattle.msum7_files.proofs.Vocabulary.{◌≡◌, ◌≤◌, ◌<◌, ◌^◌, ℕ, ◌+◌, List, [], ◌∷◌, ◌++◌, length, take, drop, refl, sym, ap, ◌∙◌, subst, arith, length-append, length-drop, append_assoc, append-nil, inl, inr, take-append-drop, length-take-le, count_of}
+use Rattle.msum7_files.proofs.Vocabulary.{next_count, ends_after, Rose, SourceSeen, Took, EndedOnce, NotEnded, prefix_of, end_counted, no_end_counted, LogError, logs_text, running_line, end_fault_stays}
+use Rattle.msum7_files.specs.{declared.{wrong_blocks.WrongBlocks.{WrongBlocks, TheVariants.{End, Skip}}, faults.LogFault.{LogFault, TheVariants.{Wrong, TooMuch, NoMemory}}}, Logs.{IsShort, max_piece, AreWholeLogs, AreRight, IsRightSoFar, PrefixWrong}}
+use Rattle.msum7_files.specs.{Logs.{PrefixFull, UpToFault, IsWrongLog, TookCount, ReadFailed}, Summers.{Fed, FedTo, EndedTo}, LogsRead.{LogRead, InputStopped}, Feeding.{FedOn, IsFaultOfLogs, IsFaulty, LogFed, ReadSoFar}}
+use Rattle.std.{proofs.{lemmas.List.Sums.count_by-le-length, KnownBytes.{Consumes-nil, Consumes-trans, Consumes-whole}}, specs.{Prelude.{Ok, Err, ◌==◌}, Io.KnownBytes.{Consumes, IsAtEnd}}}
 
 parts_of : (bytes piece : List ℕ) (n : ℕ) → bytes ++ piece ≡ (bytes ++ take n piece) ++ drop n piece
 parts_of bytes piece n = ap (λ p. bytes ++ p) (sym (take-append-drop n piece)) ∙ sym (append_assoc bytes (take n piece) (drop n piece))

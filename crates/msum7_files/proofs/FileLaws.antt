@@ -1,15 +1,8 @@
 -- A file of a shelf that is read and closed.
-use Rattle.std.proofs.{Common.{◌≡◌, ◌≤◌, ◌<◌, ◌^◌, ◌∙◌, ℕ, List, [], ◌∷◌, ◌++◌, length, take, refl, sym, ap, subst, arith, append-nil, inl, inr}, lemmas.List.length-take-le}
-use Rattle.std.specs.{Prelude.{Result, Ok, Err, OnOk, OnErr}, Io.KnownBytes.IsAtEnd}
-use Rattle.diy_io.specs.{Count.{count_of, Rose}, Taken.{SourceSeen, Took, NotEnded}, declared.errors.Failed.Failed}
-use Rattle.diy_io.specs.Shelf.{ShelfSeen, Mode, Idle, IsReading, Gave, Stopped, Finished, left_to_read}
-use Rattle.log_sum.specs.{declared.errors.LogError.LogError, Representing.{ShowsNone, logs_text}}
-use Rattle.msum7_files.specs.declared.{wrong_blocks.WrongBlocks.WrongBlocks, wrong_blocks.WrongBlocks.TheVariants.{End, Skip}, faults.LogFault.LogFault}
-use Rattle.msum7_files.specs.declared.{faults.ReadFault.ReadFault, faults.ReadFault.TheVariants.{Log, Device}}
-use Rattle.msum7_files.specs.Logs.{EndsAt, AreWholeLogs, AreRight, IsRightSoFar, ReadFailed}
+use Rattle.std.{proofs.{Common.{◌≡◌, ◌≤◌, ◌<◌, ◌^◌, ◌∙◌, ℕ, List, [], ◌∷◌, ◌++◌, length, take, refl, sym, ap, subst, arith, append-nil, inl, inr}, lemmas.List.length-take-le}, specs.{Prelude.{Result, Ok, Err, OnOk, OnErr}, Io.KnownBytes.IsAtEnd}}
+use Rattle.msum7_files.proofs.{Vocabulary.{count_of, Rose, SourceSeen, Took, NotEnded, Failed, ShelfSeen, Mode, Idle, IsReading, Gave, Stopped, Finished, left_to_read, end_counted, no_end_counted, LogError, ShowsNone, logs_text}, FeedingLaws.reads_whole}
+use Rattle.msum7_files.specs.{declared.{wrong_blocks.WrongBlocks.{WrongBlocks, TheVariants.{End, Skip}}, faults.{LogFault.LogFault, ReadFault.{ReadFault, TheVariants.{Log, Device}}}}, Logs.{EndsAt, AreWholeLogs, AreRight, IsRightSoFar, ReadFailed}}
 use Rattle.msum7_files.specs.{Summers.Fed, LogsRead.{LogRead, LogStopped, InputStopped}, Feeding.{IsFaulty, LogFed, ReadSoFar, ReadTo, log_seen}}
-use Rattle.diy_io.proofs.EndLaws.{end_counted, no_end_counted}
-use Rattle.msum7_files.proofs.FeedingLaws.{reads_whole}
 
 -- the bytes that a shelf gave were taken
 pub gave_took : (old new : ShelfSeen) (bytes : List ℕ) (room : ℕ) → Gave old new bytes room → Took (log_seen old) (log_seen new) bytes

@@ -1,14 +1,9 @@
 -- Files of a shelf that are fed, one after another.
-use Rattle.std.proofs.Common.{◌≡◌, ◌+◌, ℕ, List, [], ◌∷◌, ◌++◌, length, refl, sym, ap, ◌∙◌, subst, arith, Some, None, inl, inr, length-append, get_or}
-use Rattle.std.proofs.lemmas.List.Elements.{All-append}
-use Rattle.std.specs.Prelude.{◌⊎◌, Option, Ok, Err, All, slice_get, zero, suc}
-use Rattle.diy_io.specs.{Taken.SourceSeen, Count.{next_count, Rose}, Shelf.{Files, ShelfSeen, Opened}, Opened.{IsFile, EndsSeen, EndsSeenOrOneMore}}
-use Rattle.msum7_files.specs.declared.{wrong_blocks.WrongBlocks.WrongBlocks, faults.LogFault.LogFault, faults.LogFault.TheVariants.{Wrong, TooMuch, NoMemory}}
-use Rattle.msum7_files.specs.declared.{faults.ReadFault.ReadFault, faults.ReadFault.TheVariants.{Log, Device}, faults.FileFault.FileFault}
-use Rattle.msum7_files.specs.{declared.faults.FileFault.TheVariants.{Missing, Read}, Faults.{fault_in_file, fault_in_input}}
-use Rattle.msum7_files.specs.{Logs.{IsShort, EndsAt, AreRight}, Summers.Fed, LogsRead.{AreLogs, FileStopped, FilesUpTo, IsAtWord, IsBegun, LogFilesUnread, LogInputUnread}}
-use Rattle.msum7_files.specs.Feeding.{IsFaulty, LogFed, ReadTo, ClosedTo, log_seen, FileFed, FileFaulty, FileTo}
-use Rattle.diy_io.proofs.{FileNameLaws.{absent_before, quiet_before, file_before}, OpenedLaws.{opened_text, opened_took, took_one_more, took_no_more}, EndLaws.{ends_both, no_ends, one_end}}
+use Rattle.std.{proofs.{Common.{◌≡◌, ◌+◌, ℕ, List, [], ◌∷◌, ◌++◌, length, refl, sym, ap, ◌∙◌, subst, arith, Some, None, inl, inr, length-append, get_or}, lemmas.List.Elements.All-append}, specs.Prelude.{◌⊎◌, Option, Ok, Err, All, slice_get, zero, suc}}
+use Rattle.msum7_files.proofs.Vocabulary.{SourceSeen, next_count, Rose, Files, ShelfSeen, Opened, IsFile, EndsSeen, EndsSeenOrOneMore, absent_before, quiet_before, file_before, opened_text, opened_took, took_one_more, took_no_more, ends_both, no_ends}
+use Rattle.msum7_files.{proofs.Vocabulary.one_end, specs.declared.{wrong_blocks.WrongBlocks.WrongBlocks, faults.{LogFault.{LogFault, TheVariants.{Wrong, TooMuch, NoMemory}}, ReadFault.{ReadFault, TheVariants.{Log, Device}}, FileFault.FileFault}}}
+use Rattle.msum7_files.specs.{declared.faults.FileFault.TheVariants.{Missing, Read}, Faults.{fault_in_file, fault_in_input}, Logs.{IsShort, EndsAt, AreRight}, Summers.Fed, LogsRead.{AreLogs, FileStopped, FilesUpTo, IsAtWord, IsBegun, LogFilesUnread}}
+use Rattle.msum7_files.specs.{LogsRead.LogInputUnread, Feeding.{IsFaulty, LogFed, ReadTo, ClosedTo, log_seen, FileFed, FileFaulty, FileTo}}
 
 -- a file that was opened is fed
 pub opened_fed : (old mid new : ShelfSeen) (IsFed : Fed) (before : List (List ℕ)) (name : List ℕ) → Opened old mid name

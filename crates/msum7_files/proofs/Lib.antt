@@ -1,3 +1,4 @@
+pub mod Vocabulary
 mod SummerFaults
 mod FeedingLaws
 mod FileLaws

@@ -1,9 +1,8 @@
 -- Why a summer takes no more, as the reason why no more of a log is fed.
 use Rattle.std.proofs.Common.{◌≡◌, ℕ, List, Err}
-use Rattle.log_sum.specs.{declared.errors.SumError.SumError, Representing.Kept}
+use Rattle.msum7_files.{proofs.Vocabulary.{SumError, Kept}, specs.{declared.wrong_blocks.WrongBlocks.TheVariants.End, Faults.sum_fault, Summers.{FedTo, EndedTo}}}
 use Rattle.log_sum.specs.Representing as kept
 use Rattle.log_sum.specs.declared.errors.SumError.TheVariants as sums
-use Rattle.msum7_files.specs.{declared.wrong_blocks.WrongBlocks.TheVariants.End, Faults.sum_fault, Summers.{FedTo, EndedTo}}
 
 -- a piece is refused
 pub fed_fault : (state : Kept) (logs : List (List ℕ)) (bytes : List ℕ) (error : SumError) (AreFed : Type 0) → kept.FedTo state logs bytes (Err error)

@@ -2,11 +2,8 @@
 use Rattle.std.specs.Prelude.{ℕ, Option, None, Some}
 use Rattle.log_sum.specs.declared.errors.SumError.{SumError}
 use Rattle.log_sum.specs.declared.errors.SumError.TheVariants as sums
-use Rattle.msum7_files.specs.declared.faults.{LogsFault.LogsFault, LogFault.LogFault, ReadFault.ReadFault, FileFault.FileFault}
+use Rattle.msum7_files.specs.declared.faults.{LogsFault.LogsFault, LogFault.{LogFault, TheVariants.{Wrong, TooMuch, NoMemory}}, ReadFault.{ReadFault, TheVariants.{Log, Device}}, FileFault.{FileFault, TheVariants.{Missing, Read}}}
 use Rattle.msum7_files.specs.declared.faults.LogsFault.TheVariants as faults
-use Rattle.msum7_files.specs.declared.faults.LogFault.TheVariants.{Wrong, TooMuch, NoMemory}
-use Rattle.msum7_files.specs.declared.faults.ReadFault.TheVariants.{Log, Device}
-use Rattle.msum7_files.specs.declared.faults.FileFault.TheVariants.{Missing, Read}
 
 -- why no more is fed, from the error that a summer returns
 abbrev pub sum_fault : SumError → LogFault

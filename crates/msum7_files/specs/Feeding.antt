@@ -1,13 +1,8 @@
 -- Only for private functions: what a result says about a log that is fed to a summer in pieces.
 use Rattle.std.specs.{Prelude.{◌≡◌, ◌⊎◌, ℕ, List, [], ◌∷◌, ◌++◌, length, Result, Ok, Err}, Io.KnownBytes.Consumes}
-use Rattle.diy_io.specs.{Count.Rose, Taken.{SourceSeen, NotEnded}, Opened.{EndsSeen, EndsSeenOrOneMore, FileAbsent, IsFile, TookFiles}}
-use Rattle.diy_io.specs.Shelf.{Mode, Idle, IsReading, ShelfSeen, left_to_read}
-use Rattle.msum7_files.specs.declared.{wrong_blocks.WrongBlocks.WrongBlocks, faults.LogFault.LogFault, faults.ReadFault.ReadFault, faults.FileFault.FileFault}
-use Rattle.msum7_files.specs.declared.faults.LogFault.TheVariants.{Wrong, TooMuch, NoMemory}
-use Rattle.msum7_files.specs.declared.faults.ReadFault.TheVariants.{Log, Device}
-use Rattle.msum7_files.specs.declared.faults.FileFault.TheVariants.{Missing, Read}
-use Rattle.msum7_files.specs.Logs.{IsShort, TookCount, EndsAnd, PrefixWrong, PrefixFull, IsWrongLog, IsTooMuch, ReadFailed}
-use Rattle.msum7_files.specs.{Summers.Fed, LogsRead.{LogRead, LogStopped, InputStopped, IsBegun}}
+use Rattle.diy_io.specs.{Count.Rose, Taken.{SourceSeen, NotEnded}, Opened.{EndsSeen, EndsSeenOrOneMore, FileAbsent, IsFile, TookFiles}, Shelf.{Mode, Idle, IsReading, ShelfSeen, left_to_read}}
+use Rattle.msum7_files.specs.declared.{wrong_blocks.WrongBlocks.WrongBlocks, faults.{LogFault.{LogFault, TheVariants.{Wrong, TooMuch, NoMemory}}, ReadFault.{ReadFault, TheVariants.{Log, Device}}, FileFault.{FileFault, TheVariants.{Missing, Read}}}}
+use Rattle.msum7_files.specs.{Logs.{IsShort, TookCount, EndsAnd, PrefixWrong, PrefixFull, IsWrongLog, IsTooMuch, ReadFailed}, Summers.Fed, LogsRead.{LogRead, LogStopped, InputStopped, IsBegun}}
 
 -- something holds of the logs that were fed, whatever they are, if no bytes of one more have been fed
 abbrev pub ForLogs : Fed → (List (List ℕ) → Type 0) → Type 0

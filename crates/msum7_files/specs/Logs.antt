@@ -4,8 +4,7 @@ use Rattle.std.specs.Prelude.{◌≡◌, ◌≤◌, ◌<◌, ◌⊎◌, ◌^◌,
 use Rattle.diy_io.specs.{Count.{count_of, Rose}, Taken.{SourceSeen, EndedOnce, NotEnded}, Sink.line_feed_count}
 use Rattle.log_sum.specs.{declared.errors.LogError.LogError, Representing.{ShowsFault, ShowsNone, logs_text}, Skipping.{Sifted, sifted}}
 use Rattle.log_sum_laws.specs.Laws.{NoFault}
-use Rattle.msum7_files.specs.declared.wrong_blocks.WrongBlocks.{WrongBlocks}
-use Rattle.msum7_files.specs.declared.wrong_blocks.WrongBlocks.TheVariants.{End, Skip}
+use Rattle.msum7_files.specs.declared.wrong_blocks.WrongBlocks.{WrongBlocks, TheVariants.{End, Skip}}
 
 -- a log has the text that is known, if one is known
 abbrev pub IsText : Option (List ℕ) → List ℕ → Type 0

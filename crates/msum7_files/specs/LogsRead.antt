@@ -1,11 +1,9 @@
 -- Logs that were read, as far as a call that feeds them to a summer went, and what it did to their device.
 -- Source: own.
-use Rattle.std.specs.Prelude.{◌≡◌, ◌⊎◌, ◌+◌, ⊤, ℕ, List, [], ◌∷◌, ◌++◌, length, slice_get, Option, None, Some, IfSome, MatchOption, All, Result, Ok, Err}
-use Rattle.std.specs.Io.KnownBytes.{IsAtEnd}
+use Rattle.std.specs.{Prelude.{◌≡◌, ◌⊎◌, ◌+◌, ⊤, ℕ, List, [], ◌∷◌, ◌++◌, length, slice_get, Option, None, Some, IfSome, MatchOption, All, Result, Ok, Err}, Io.KnownBytes.IsAtEnd}
 use Rattle.diy_io.specs.{Count.Rose, Shelf.{Files, ShelfSeen}, Taken.{SourceSeen, EndedOnce}, Opened.{EndsSeen, EndsSeenOrOneMore, IsFile, TookFiles}}
 use Rattle.log_sum.specs.declared.errors.{LogError.LogError, LogKind.LogKind}
-use Rattle.msum7_files.specs.{Logs.{IsText, IsShort, TookCount, EndsAt, AreRight, EndsAnd, IsRightSoFar, IsWrongLog, IsTooMuch, ReadFailed}, Summers.Fed}
-use Rattle.msum7_files.specs.declared.{wrong_blocks.WrongBlocks.WrongBlocks, faults.LogsFault.LogsFault}
+use Rattle.msum7_files.specs.{Logs.{IsText, IsShort, TookCount, EndsAt, AreRight, EndsAnd, IsRightSoFar, IsWrongLog, IsTooMuch, ReadFailed}, Summers.Fed, declared.{wrong_blocks.WrongBlocks.WrongBlocks, faults.LogsFault.LogsFault}}
 use Rattle.msum7_files.specs.declared.faults.LogsFault.TheVariants as faults
 
 -- an error of a kind, at a line

@@ -1,11 +1,9 @@
 -- How a call that sums logs ended, and what it did to its devices.
 -- Source: own.
-use Rattle.std.specs.Prelude.{◌≡◌, ℕ, List, [], ◌∷◌, map, Result, Ok, Err}
-use Rattle.std.specs.{declared.vec.Vec.Vec, declared.alloc.Global.Global}
+use Rattle.std.specs.{Prelude.{◌≡◌, ℕ, List, [], ◌∷◌, map, Result, Ok, Err}, declared.{vec.Vec.Vec, alloc.Global.Global}}
 use Rattle.diy_io.specs.{declared.errors.Failed.Failed, Shelf.ShelfSeen, Taken.SourceSeen, Wrote.{SinkSeen, WroteAll, WrotePart}}
 use Rattle.log_sum.specs.{Sieving.skipped_view, declared.skipping.SkippedBlock.SkippedBlock}
-use Rattle.msum7_files.specs.{Logs.summed_logs, SumForms.form_text, LogsRead.{LogRead, LogInputUnread, LogFilesRead, LogFilesUnread}}
-use Rattle.msum7_files.specs.declared.{wrong_blocks.WrongBlocks.WrongBlocks, sum_form.SumForm.SumForm, faults.SumFault.SumFault}
+use Rattle.msum7_files.specs.{Logs.summed_logs, SumForms.form_text, LogsRead.{LogRead, LogInputUnread, LogFilesRead, LogFilesUnread}, declared.{wrong_blocks.WrongBlocks.WrongBlocks, sum_form.SumForm.SumForm, faults.SumFault.SumFault}}
 use Rattle.msum7_files.specs.declared.faults.SumFault.TheVariants.{Unread, Out}
 
 -- logs have this sum in a form, and this was done with it

@@ -1,9 +1,7 @@
 -- Only for private functions: what the results of a summer say about the logs that it was fed.
 use Rattle.std.specs.Prelude.{◌≡◌, ℕ, List, [], ◌∷◌, ◌++◌, Result, Ok, Err}
 use Rattle.log_sum.specs.Representing.{ShowsFault, logs_text}
-use Rattle.msum7_files.specs.declared.{wrong_blocks.WrongBlocks.WrongBlocks, faults.LogFault.LogFault}
-use Rattle.msum7_files.specs.Logs.{EndsAnd}
-use Rattle.msum7_files.specs.declared.faults.LogFault.TheVariants.{Wrong, TooMuch, NoMemory}
+use Rattle.msum7_files.specs.{declared.{wrong_blocks.WrongBlocks.WrongBlocks, faults.LogFault.{LogFault, TheVariants.{Wrong, TooMuch, NoMemory}}}, Logs.EndsAnd}
 
 -- which whole logs, and which bytes of one more, a summer was fed
 abbrev pub Fed : Type 1

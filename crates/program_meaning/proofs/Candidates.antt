@@ -1,18 +1,13 @@
 -- The tests of reads, of orders and of candidates decide their definitions.
-use Rattle.std.proofs.Common.{◌≡◌, ℕ, zero, suc, Bool, true, false, cond, ◌==◌, ◌&&◌, ◌||◌, not, List, [], ◌∷◌, length, get_or, Option, Some, None, slice_get, refl, sym, ap, subst, ◌∙◌, arith}
-use Rattle.std.proofs.lemmas.Bool.{and_parts, and_from, eqb-true, eq-eqb}
-use Rattle.std.proofs.{lemmas.Option.{slice_get_within, slice_get-get_or, get_or_from_slice_get, same_Some}, lemmas.List.Folds.Any-from_list_any}
-use Rattle.std.proofs.{lemmas.List.Sums.{AllPass-from_list_all, list_all-from_AllPass}, lemmas.Map.Keys.any_passes_from_place}
-use Rattle.std.specs.{Prelude.unwrap_or, List.{filter, list_all, list_any}}
+use Rattle.std.proofs.{Common.{◌≡◌, ℕ, zero, suc, Bool, true, false, cond, ◌==◌, ◌&&◌, ◌||◌, not, List, [], ◌∷◌, length, get_or, Option, Some, None, slice_get, refl, sym, ap, subst, ◌∙◌, arith}, lemmas.Bool.{and_parts, and_from, eqb-true, eq-eqb}}
+use Rattle.std.{proofs.lemmas.{Option.{slice_get_within, slice_get-get_or, get_or_from_slice_get, same_Some}, List.{Folds.Any-from_list_any, Sums.{AllPass-from_list_all, list_all-from_AllPass}}, Map.Keys.any_passes_from_place}, specs.Prelude.unwrap_or}
+use Rattle.std.specs.List.{filter, list_all, list_any}
 use Rattle.list_laws.proofs.Cases.{by_test, implied}
 use Rattle.relax_edges.specs.declared.kinds.Dir.{Dir}
 use Rattle.relax_edges.specs.declared.kinds.Dir.TheVariants as dirs
-use Rattle.program_meaning.specs.{declared.WriteAt.WriteAt, Accesses.{Access, write, is_read, at_name}}
-use Rattle.program_meaning.specs.Executions.{Execution, CanRead, AreReadsOf, IsOrderOf, IsExecutionOf, same_write}
-use Rattle.program_meaning.specs.Programs.{Program, IsCandidate, runs_of, accesses_in}
-use Rattle.program_meaning.specs.Deciding.{every, writes_by, writes_to, writes_there, writes_value, can_read, first_read_passes, are_reads, are_distinct, is_covered, thread_covered, is_order, reads_of, reads_fit, orders_fit, lists_fit, all_ended, is_candidate}
-use Rattle.program_meaning.proofs.{Names.{same_write-refl, same_write-true}, Runs.{accesses-count, all_ended_means, all_ended_from}}
-use Rattle.program_meaning.proofs.ElementTests.{every_means, every_from, every_name, every_name_from}
+use Rattle.program_meaning.specs.{declared.WriteAt.WriteAt, Accesses.{Access, write, is_read, at_name}, Executions.{Execution, CanRead, AreReadsOf, IsOrderOf, IsExecutionOf, same_write}, Programs.{Program, IsCandidate, runs_of, accesses_in}}
+use Rattle.program_meaning.specs.Deciding.{every, writes_by, writes_to, writes_there, writes_value, can_read, first_read_passes, are_reads, are_distinct, is_covered, thread_covered, is_order, reads_of, reads_fit, orders_fit, lists_fit, all_ended}
+use Rattle.program_meaning.{specs.Deciding.is_candidate, proofs.{Names.{same_write-refl, same_write-true}, Runs.{accesses-count, all_ended_means, all_ended_from}, ElementTests.{every_means, every_from, every_name, every_name_from}}}
 
 -- an implication that holds passes its test
 pub implies : (a b : Bool) → (a ≡ true → b ≡ true) → (not a || b) ≡ true

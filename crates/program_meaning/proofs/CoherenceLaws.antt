@@ -1,13 +1,10 @@
 -- The test of coherence decides it.
-use Rattle.std.proofs.Common.{◌≡◌, ℕ, true, ◌==◌, ◌||◌, not, List, Some, slice_get, sym, subst, ◌∙◌, arith}
-use Rattle.std.specs.Prelude.{nat_lt}
-use Rattle.std.proofs.lemmas.Bool.{eqb-true, eq-eqb, lt-ltb, ltb-true, leb-true, le-leb}
+use Rattle.std.{proofs.{Common.{◌≡◌, ℕ, true, ◌==◌, ◌||◌, not, List, Some, slice_get, sym, subst, ◌∙◌, arith}, lemmas.Bool.{eqb-true, eq-eqb, lt-ltb, ltb-true, leb-true, le-leb}}, specs.Prelude.nat_lt}
 use Rattle.list_laws.proofs.Cases.{implied}
 use Rattle.relax_edges.specs.declared.kinds.Dir.{Dir}
 use Rattle.relax_edges.specs.declared.kinds.Dir.TheVariants as dirs
-use Rattle.program_meaning.specs.{Accesses.Access, Executions.Execution, Coherence.MayFollow, Coherence.IsCoherent, Coherence.coherence_place}
-use Rattle.program_meaning.specs.Deciding.{name, may_follow, agrees, agrees_later, thread_coheres, coheres}
-use Rattle.program_meaning.proofs.{Names.in_thread, Names.at_name_of, ElementTests.every_means, ElementTests.every_from, Candidates.implies}
+use Rattle.program_meaning.{specs.{Accesses.Access, Executions.Execution, Coherence.{MayFollow, IsCoherent, coherence_place}, Deciding.{name, may_follow, agrees, agrees_later, thread_coheres, coheres}}, proofs.Names.{in_thread, at_name_of}}
+use Rattle.program_meaning.proofs.{ElementTests.{every_means, every_from}, Candidates.implies}
 
 follow_means : (d : Dir) (m n : ℕ) → may_follow d m n ≡ true → MayFollow d m n
 follow_means dirs.R m n h = leb-true m n h

@@ -1,8 +1,6 @@
 -- What a test of each element with its number means, and of each access with its name.
-use Rattle.std.proofs.{Common.{◌≡◌, ℕ, zero, suc, ◌+◌, Bool, true, List, [], ◌∷◌, Some, slice_get, refl, subst, arith}, lemmas.Bool.{and_parts, and_from}}
-use Rattle.std.proofs.lemmas.Option.{same_Some}
-use Rattle.program_meaning.specs.{declared.WriteAt.WriteAt, Accesses.at_name, Deciding.{every, name}}
-use Rattle.program_meaning.proofs.Names.{in_thread, at_name_of}
+use Rattle.std.proofs.{Common.{◌≡◌, ℕ, zero, suc, ◌+◌, Bool, true, List, [], ◌∷◌, Some, slice_get, refl, subst, arith}, lemmas.{Bool.{and_parts, and_from}, Option.same_Some}}
+use Rattle.program_meaning.{specs.{declared.WriteAt.WriteAt, Accesses.at_name, Deciding.{every, name}}, proofs.Names.{in_thread, at_name_of}}
 
 -- where every element passes with its number, so does each one
 pub every_means : {X : Type 0} (p : ℕ → X → Bool) (n : ℕ) (xs : List X) → every p n xs ≡ true → (k j : ℕ) (x : X) → j ≡ n + k → slice_get xs k ≡ Some x → p j x ≡ true

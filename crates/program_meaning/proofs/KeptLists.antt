@@ -1,9 +1,7 @@
 -- A list of lists in which one list changes.
-use Rattle.std.proofs.{Common.{◌≡◌, ℕ, ◌<◌, List, [], ◌∷◌, ◌++◌, length, map, get_or, set, slice_get, sym, ap, subst, ◌∙◌, arith}, lemmas.List.map-set}
-use Rattle.std.proofs.{Math.ListN.get_or-map, Math.Seq.map-set_same, lemmas.Option.slice_get-get_or}
-use Rattle.std.specs.Prelude.{unwrap_or, Option}
-use Rattle.program_meaning.specs.{declared.WriteAt.WriteAt, Executions.Execution}
-use Rattle.program_meaning.specs.KeptExecutions.{added_to_list, with_read, with_write}
+use Rattle.std.{proofs.{Common.{◌≡◌, ℕ, ◌<◌, List, [], ◌∷◌, ◌++◌, length, map, get_or, set, slice_get, sym, ap, subst, ◌∙◌, arith}, lemmas.{List.map-set, Option.slice_get-get_or}, Math.{ListN.get_or-map, Seq.map-set_same}}, specs.Prelude.unwrap_or}
+use Rattle.std.specs.Prelude.{Option}
+use Rattle.program_meaning.specs.{declared.WriteAt.WriteAt, Executions.Execution, KeptExecutions.{added_to_list, with_read, with_write}}
 
 -- the list is one element longer
 added_to : {A X : Type 0} (f : A → List X) (lists : List A) (k : ℕ) (d v w : A) (x : X) → k < length (map f lists) → v ≡ get_or lists k d → f w ≡ f v ++ x ∷ [] → map f (set lists k w) ≡ added_to_list (map f lists) k x

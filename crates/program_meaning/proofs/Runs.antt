@@ -1,9 +1,7 @@
 -- The runs of a program's threads: as many as threads, and when all have come to their ends.
-use Rattle.std.proofs.Common.{◌≡◌, ℕ, zero, suc, true, List, [], ◌∷◌, length, Option, Some, slice_get, refl, ap, subst, ◌∙◌}
-use Rattle.std.proofs.{lemmas.Bool.{and_parts, and_from}, lemmas.List.length-map, lemmas.Option.same_Some}
+use Rattle.std.proofs.{Common.{◌≡◌, ℕ, zero, suc, true, List, [], ◌∷◌, length, Option, Some, slice_get, refl, ap, subst, ◌∙◌}, lemmas.{Bool.{and_parts, and_from}, List.length-map, Option.same_Some}}
 use Rattle.micro_ops.specs.Running.{Outcome, Ended, ReadsLeft, ReadsShort, NoRule}
-use Rattle.program_meaning.specs.{declared.WriteAt.WriteAt, Accesses.{visits_of, accesses_of}, Executions.Execution, Deciding.{has_ended, all_ended}}
-use Rattle.program_meaning.specs.Programs.{Program, Thread, HasEnded, runs_of, made_in, items_in, visits_in, accesses_in}
+use Rattle.program_meaning.specs.{declared.WriteAt.WriteAt, Accesses.{visits_of, accesses_of}, Executions.Execution, Deciding.{has_ended, all_ended}, Programs.{Program, Thread, HasEnded, runs_of, made_in, items_in, visits_in, accesses_in}}
 
 -- there are as many runs as threads
 pub runs-count : (threads : List Thread) (reads : List (List (ℕ × Option WriteAt))) → length (runs_of threads reads) ≡ length threads

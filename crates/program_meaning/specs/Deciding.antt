@@ -1,13 +1,11 @@
 -- The tests that decide executions, computed: whether one is a candidate, and whether one is coherent. Laws in proofs/ say that
 -- each of the two passes exactly when its definition holds.
 -- Source: own.
-use Rattle.std.specs.Prelude.{ℕ, ◌+◌, ◌==◌, ◌&&◌, ◌||◌, Bool, true, false, not, cond, nat_le, nat_lt, List, [], ◌∷◌, length, Option, Some, None, slice_get, unwrap_or}
-use Rattle.std.specs.List.{list_all, list_any}
+use Rattle.std.specs.{Prelude.{ℕ, ◌+◌, ◌==◌, ◌&&◌, ◌||◌, Bool, true, false, not, cond, nat_le, nat_lt, List, [], ◌∷◌, length, Option, Some, None, slice_get, unwrap_or}, List.{list_all, list_any}}
 use Rattle.relax_edges.specs.declared.kinds.Dir.{Dir}
 use Rattle.relax_edges.specs.declared.kinds.Dir.TheVariants as dirs
 use Rattle.micro_ops.specs.Running.{Outcome, Ended, ReadsLeft, ReadsShort, NoRule}
-use Rattle.program_meaning.specs.{declared.WriteAt.WriteAt, Accesses.{Access, is_read, at_name}, Executions.{Execution, same_write}, Coherence.coherence_place}
-use Rattle.program_meaning.specs.Programs.{Program, runs_of, accesses_in}
+use Rattle.program_meaning.specs.{declared.WriteAt.WriteAt, Accesses.{Access, is_read, at_name}, Executions.{Execution, same_write}, Coherence.coherence_place, Programs.{Program, runs_of, accesses_in}}
 pub use Rattle.program_meaning.specs.Interleavings.{writes_by, writes_to, writes_there}
 
 -- each element passes with its number, counted from this one

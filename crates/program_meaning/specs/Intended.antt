@@ -2,7 +2,7 @@
 -- locations and values are counted, and `number` gives the number that each location has in the program, there called its place.
 -- Source: own, after the way diy takes from a cycle to a test.
 use Rattle.std.specs.{Prelude.{ℕ, zero, suc, ◌≡◌, ◌<◌, ◌+◌, ◌==◌, List, ◌++◌, filter, map, unwrap_or, Option, None}, List.{find, filter_map}, Option.option_map}
-use Rattle.relax_edges.specs.{declared.kinds.ObsMode.ObsMode, declared.edge.Edge.Edge, EdgeTable.source_of}
+use Rattle.relax_edges.specs.{declared.{kinds.ObsMode.ObsMode, edge.Edge.Edge}, EdgeTable.source_of}
 use Rattle.list_laws.specs.Numbers.{upto}
 use Rattle.cycle_events.specs.{Resolution.{edge_at, external_count, move_count, location_of, events_in}, Values.{is_observed, value_of, write_at, write_count}}
 use Rattle.program_meaning.specs.{declared.WriteAt.WriteAt, Accesses.{Access, read, is_read}, Executions.Execution, Standing.{AccessAt, event_name}}

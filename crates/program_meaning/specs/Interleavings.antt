@@ -2,11 +2,10 @@
 -- Source: sequential consistency, of Lamport, 'How to Make a Multiprocessor Computer That Correctly Executes Multiprocess
 -- Programs', 1979.
 use Rattle.std.specs.{Prelude.{ℕ, ◌≡◌, ◌<◌, ◌==◌, Bool, false, List, [], ◌∷◌, map, take, filter, Option, Some, None, slice_get}, Option.option_and_then}
-use Rattle.relax_edges.specs.{declared.kinds.Dir.Dir, declared.kinds.Value.Value}
+use Rattle.relax_edges.specs.declared.kinds.{Dir.Dir, Value.Value}
 use Rattle.relax_edges.specs.declared.kinds.Dir.TheVariants as dirs
 use Rattle.micro_ops.specs.Running.{Outcome, runs}
-use Rattle.program_meaning.specs.{declared.WriteAt.WriteAt, Accesses.{Access, read, at_name, visits_of, accesses_of}, Coherence.{last_write, value_of_access}}
-use Rattle.program_meaning.specs.Programs.{Thread, Program, HasEnded, made_in, held_at_last}
+use Rattle.program_meaning.specs.{declared.WriteAt.WriteAt, Accesses.{Access, read, at_name, visits_of, accesses_of}, Coherence.{last_write, value_of_access}, Programs.{Thread, Program, HasEnded, made_in, held_at_last}}
 
 -- an access in this direction, at the first of two locations, writes to the second
 abbrev pub writes_by : Dir → ℕ → ℕ → Bool

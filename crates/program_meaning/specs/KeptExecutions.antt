@@ -1,7 +1,6 @@
 -- What an execution keeps, and how it grows.
 -- Source: own.
-use Rattle.std.specs.Prelude.{ℕ, ◌++◌, List, [], ◌∷◌, Option, slice_get, slice_set, unwrap_or}
-use Rattle.std.proofs.Math.ListN.{replicate}
+use Rattle.std.{specs.Prelude.{ℕ, ◌++◌, List, [], ◌∷◌, Option, slice_get, slice_set, unwrap_or}, proofs.Math.ListN.replicate}
 use Rattle.program_meaning.specs.{declared.WriteAt.WriteAt, Executions.Execution}
 
 -- this many empty lists

@@ -3,9 +3,8 @@
 -- Source: the litmus format of the herdtools manual, and the usual candidate executions of axiomatic memory models.
 use Rattle.std.specs.Prelude.{ℕ, ◌≡◌, List, [], ◌∷◌, map, Option, Some, None, slice_get}
 use Rattle.relax_edges.specs.declared.kinds.Value.{Value}
-use Rattle.micro_ops.specs.{declared.operation.Micro.Micro, declared.operation.Item.Item, Running.{Outcome, Ended, ReadsLeft, ReadsShort, NoRule, runs}}
-use Rattle.program_meaning.specs.{declared.WriteAt.WriteAt, Accesses.{Access, Visit, visits_of, accesses_of}, Executions.{Execution, IsExecutionOf}}
-use Rattle.program_meaning.specs.Coherence.{IsCoherent}
+use Rattle.micro_ops.specs.{declared.operation.{Micro.Micro, Item.Item}, Running.{Outcome, Ended, ReadsLeft, ReadsShort, NoRule, runs}}
+use Rattle.program_meaning.specs.{declared.WriteAt.WriteAt, Accesses.{Access, Visit, visits_of, accesses_of}, Executions.{Execution, IsExecutionOf}, Coherence.IsCoherent}
 
 -- a thread: the registers that it begins with, and its code
 pub record Thread : Type 0 where

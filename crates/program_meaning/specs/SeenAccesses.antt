@@ -2,8 +2,7 @@
 -- Source: own.
 use Rattle.std.specs.{Prelude.{ℕ, List, map}, List.{enumerate_from, flat_map}}
 use Rattle.relax_edges.specs.declared.kinds.Mark.{Mark}
-use Rattle.program_meaning.specs.{declared.seen.SeenAccess.SeenAccess, Accesses.{Access, Visit, accesses_of}, Executions.Execution}
-use Rattle.program_meaning.specs.{Coherence.{source_at, coherence_place}, Deciding.name, Programs.{Program, visits_in}}
+use Rattle.program_meaning.specs.{declared.seen.SeenAccess.SeenAccess, Accesses.{Access, Visit, accesses_of}, Executions.Execution, Coherence.{source_at, coherence_place}, Deciding.name, Programs.{Program, visits_in}}
 
 -- an access by its thread and its number there: what it does, its mark, the write that it reads, if it is a read, and its coherence
 -- position

@@ -2,19 +2,17 @@
 -- threads and slots are counted. Source: the diy part of the herdtools manual (what each edge means).
 use Rattle.std.specs.{Prelude.{ℕ, ◌≡◌, ◌≢◌, ◌+◌, ◌<◌, ◌≤◌, ◌^◌, ◌==◌, ◌&&◌, Bool, true, false, List, [], ◌∷◌, length, map, Some, slice_get}, Int.bit_at}
 use Rattle.relax_edges.specs.declared.kinds.Dir.TheVariants as dirs
-use Rattle.relax_edges.specs.{declared.kinds.Sd.Sd, declared.kinds.Sd.TheVariants.{Same, Diff}, declared.kinds.Reach.Reach}
-use Rattle.relax_edges.specs.{declared.kinds.Reach.TheVariants.{Internal, External}, declared.kinds.Com.Com, declared.kinds.DepKind.DepKind}
-use Rattle.relax_edges.specs.{declared.kinds.Kind.Kind, declared.kinds.Mark.TheVariants.Plain, declared.edge.Edge.Edge}
-use Rattle.relax_edges.specs.EdgeTable.{source_of, target_of, reach_of, sd_of, kind_of, source_mark, target_mark}
+use Rattle.relax_edges.specs.{declared.{kinds.{Sd.{Sd, TheVariants.{Same, Diff}}, Reach.{Reach, TheVariants.{Internal, External}}, Com.Com, DepKind.DepKind, Kind.Kind, Mark.TheVariants.Plain}, edge.Edge.Edge}, EdgeTable.{source_of, target_of, reach_of}}
+use Rattle.relax_edges.specs.EdgeTable.{sd_of, kind_of, source_mark, target_mark}
 use Rattle.relax_edges.specs.declared.kinds.Com.TheVariants as coms
 use Rattle.relax_edges.specs.declared.kinds.FenceKind.TheVariants as fences
 use Rattle.relax_edges.specs.declared.kinds.DepKind.TheVariants as deps
 use Rattle.relax_edges.specs.declared.kinds.Kind.TheVariants as edges
-use Rattle.micro_ops.specs.{declared.operation.Barrier.Barrier, declared.operation.Item.Item}
+use Rattle.micro_ops.specs.declared.operation.{Barrier.Barrier, Item.Item}
 use Rattle.micro_ops.specs.declared.operation.Barrier.TheVariants as kinds
 use Rattle.cycle_events.specs.Resolution.{edge_at, external_count, thread_of, slot_of, events_in, event_after}
-use Rattle.program_meaning.specs.{declared.WriteAt.WriteAt, Accesses.{Access, Barred, Visit, at_name, barriers_after, is_read, reads_before}}
-use Rattle.program_meaning.specs.{Executions.Execution, Coherence.{coherence_place, source_at}, Programs.{Program, accesses_in, items_in, visits_in}}
+use Rattle.program_meaning.specs.{declared.WriteAt.WriteAt, Accesses.{Access, Barred, Visit, at_name, barriers_after, is_read, reads_before}, Executions.Execution, Coherence.{coherence_place, source_at}, Programs.{Program, accesses_in, items_in}}
+use Rattle.program_meaning.specs.Programs.{visits_in}
 
 -- an access of an execution, with its name
 pub record AccessAt : Type 0 where

@@ -1,8 +1,6 @@
 -- What holds of the kind of each edge holds of each kind.
-use Rattle.std.specs.{Prelude.{◌≡◌, Bool, true}, List.list_all}
-use Rattle.std.proofs.Common.{arith, subst}
-use Rattle.relax_edges.specs.{declared.kinds.Kind.Kind, EdgeTable.{kind_of, unmarked}, AllEdges.edges_in_order}
-use Rattle.relax_edges.proofs.Ranks.{each_edge}
+use Rattle.std.{specs.{Prelude.{◌≡◌, Bool, true}, List.list_all}, proofs.Common.{arith, subst}}
+use Rattle.relax_edges.{specs.{declared.kinds.Kind.Kind, EdgeTable.{kind_of, unmarked}, AllEdges.edges_in_order}, proofs.Ranks.each_edge}
 
 -- the kind of the edge of a kind without marks is that kind
 pub kind_of_unmarked : (kind : Kind) → kind_of (unmarked kind) ≡ kind

@@ -1,8 +1,6 @@
 -- The edge of each rank in the list of all edges.
-use Rattle.std.specs.Prelude.{ℕ, ◌≡◌, ◌<◌, ◌+◌, ◌==◌, ◌&&◌, Bool, true, List, [], ◌∷◌, length}
-use Rattle.std.proofs.{Common.{refl, arith, get_or, zero, suc}, lemmas.Bool.eqb-true}
-use Rattle.relax_edges.specs.{declared.edge.Edge.Edge, declared.order.TheConstants.EDGES, Order.rank_of, AllEdges.edges_in_order}
-use Rattle.relax_edges.proofs.Ranks.{edges-length}
+use Rattle.std.{specs.Prelude.{ℕ, ◌≡◌, ◌<◌, ◌+◌, ◌==◌, ◌&&◌, Bool, true, List, [], ◌∷◌, length}, proofs.{Common.{refl, arith, get_or, zero, suc}, lemmas.Bool.eqb-true}}
+use Rattle.relax_edges.{specs.{declared.{edge.Edge.Edge, order.TheConstants.EDGES}, Order.rank_of, AllEdges.edges_in_order}, proofs.Ranks.edges-length}
 
 -- whether the ranks of some edges are those from a number on
 ranks_from : ℕ → List Edge → Bool

@@ -1,11 +1,7 @@
 -- A word names the edge at the rank that its hash gives, or none.
-use Rattle.std.specs.Prelude.{ℕ, ◌≡◌, ◌<◌, ◌==◌, ◌+◌, ◌/◌, ◌%◌, Bool, true, false, Option, Some, None, List, map}
-use Rattle.std.specs.{List.{list_all}, Str.bytes_eq}
-use Rattle.std.proofs.{Common.{refl, arith, ap, sym, ◌∙◌, get_or, nat_lt}}
-use Rattle.std.proofs.lemmas.{Bool.{eqb-true, ltb-true, false≢true}, List.Elements.All-get_or, List.Sums.AllPass-from_list_all, Slice.Eq.bytes_eq-Decides}
-use Rattle.relax_edges.specs.{declared.edge.Edge.Edge, declared.order.TheConstants.EDGES, declared.named.TheConstants.{STEPS, RANKS}}
-use Rattle.relax_edges.specs.{Order.rank_of, WordParts.word_of, AllEdges.edges_in_order, NamedKinds.kind_named_by}
-use Rattle.relax_edges.specs.HashedWords.{hashed, rank_by}
+use Rattle.std.{specs.{Prelude.{ℕ, ◌≡◌, ◌<◌, ◌==◌, ◌+◌, ◌/◌, ◌%◌, Bool, true, false, Option, Some, None, List, map}, List.list_all, Str.bytes_eq}, proofs.{Common.{refl, arith, ap, sym, ◌∙◌, get_or, nat_lt}, lemmas.Bool.{eqb-true, ltb-true, false≢true}}}
+use Rattle.std.proofs.lemmas.{List.{Elements.All-get_or, Sums.AllPass-from_list_all}, Slice.Eq.bytes_eq-Decides}
+use Rattle.relax_edges.specs.{declared.{edge.Edge.Edge, order.TheConstants.EDGES, named.TheConstants.{STEPS, RANKS}}, Order.rank_of, WordParts.word_of, AllEdges.edges_in_order, NamedKinds.kind_named_by, HashedWords.{hashed, rank_by}}
 use Rattle.relax_edges.proofs.{Ranks.each_edge, EdgeList.rank_at, WordTable.word_at, Spellings.{find_passes, find_none, word_injective}}
 
 all_below : list_all (λ rank. nat_lt rank EDGES) RANKS ≡ true

@@ -1,16 +1,9 @@
 -- The rank orders edges as the byte order of lists orders their printed words.
-use Rattle.std.specs.{Prelude.{◌≡◌, ◌<◌, ◌==◌, ◌↔◌, IsTrue, Bool, true, length, slice_get, Some}, Ordering.{nat_cmp, ordering_index}}
-use Rattle.std.specs.{Cmp.Lexicographic.slice_cmp, List.list_all}
-use Rattle.std.specs.declared.cmp.{Ordering.Ordering, Ordering.TheVariants.Less, Ordering.TheVariants.Equal, Ordering.TheVariants.Greater}
-use Rattle.std.proofs.{Common.{refl, ap, subst, arith}, lemmas.Bool.{eqb-true, eq-eqb}, lemmas.List.Elements.All-get_or, lemmas.List.Sums.AllPass-from_list_all}
-use Rattle.std.proofs.lemmas.Option.{slice_get_within, get_or_from_slice_get}
-use Rattle.relax_edges.specs.{declared.kinds.Dir.Dir, declared.kinds.Sd.Sd, declared.kinds.Sd.TheVariants.{Same, Diff}, declared.kinds.Reach.Reach}
-use Rattle.relax_edges.specs.{declared.kinds.Reach.TheVariants.{Internal, External}, declared.kinds.Com.Com, declared.kinds.FenceKind.FenceKind}
-use Rattle.relax_edges.specs.{declared.kinds.DepKind.DepKind, declared.order.TheConstants.EDGES, declared.marked.Dmb.Dmb}
-use Rattle.relax_edges.specs.{declared.marked.Dmb.TheVariants.{Sy, Ld, St}, declared.marked.MarkableDep.MarkableDep}
-use Rattle.relax_edges.specs.{declared.marked.MarkableDep.TheVariants.{Addr, Ctrl, CtrlIsb}, declared.marked.MarkableKind.MarkableKind}
-use Rattle.relax_edges.specs.{declared.marked.MarkedEnds.MarkedEnds, declared.marked.MarkedEnds.TheVariants.{Both, Source, Target}, declared.edge.Edge.Edge}
-use Rattle.relax_edges.specs.{Order.rank_of, WordParts.word_of, AllEdges.edges_in_order}
+use Rattle.std.specs.{Prelude.{◌≡◌, ◌<◌, ◌==◌, ◌↔◌, IsTrue, Bool, true, length, slice_get, Some}, Ordering.{nat_cmp, ordering_index}, Cmp.Lexicographic.slice_cmp, List.list_all, declared.cmp.Ordering.{Ordering, TheVariants.{Less, Equal, Greater}}}
+use Rattle.std.proofs.{Common.{refl, ap, subst, arith}, lemmas.{Bool.{eqb-true, eq-eqb}, List.{Elements.All-get_or, Sums.AllPass-from_list_all}, Option.{slice_get_within, get_or_from_slice_get}}}
+use Rattle.relax_edges.specs.declared.{kinds.{Dir.Dir, Sd.{Sd, TheVariants.{Same, Diff}}, Reach.{Reach, TheVariants.{Internal, External}}, Com.Com, FenceKind.FenceKind, DepKind.DepKind}, order.TheConstants.EDGES, marked.Dmb.{Dmb, TheVariants.{Sy, Ld}}}
+use Rattle.relax_edges.specs.{declared.{marked.{Dmb.TheVariants.St, MarkableDep.{MarkableDep, TheVariants.{Addr, Ctrl, CtrlIsb}}, MarkableKind.MarkableKind, MarkedEnds.{MarkedEnds, TheVariants.{Both, Source, Target}}}, edge.Edge.Edge}, Order.rank_of}
+use Rattle.relax_edges.specs.{WordParts.word_of, AllEdges.edges_in_order}
 use Rattle.relax_edges.specs.declared.kinds.Dir.TheVariants as dirs
 use Rattle.relax_edges.specs.declared.kinds.Com.TheVariants as coms
 use Rattle.relax_edges.specs.declared.kinds.Pick.TheVariants as picks

@@ -1,11 +1,8 @@
 -- The edge that a text spells is found, and no two edges share a spelling or a printed word.
-use Rattle.std.specs.{Prelude.{ℕ, ◌≡◌, ◌++◌, Bool, true, false, not, cond, List, [], ◌∷◌, Option, Some, None, take, drop, reverse, codes}}
-use Rattle.std.specs.{List.{list_all, list_any, find}, Str.bytes_eq, Ordering.nat_cmp, Cmp.nat_cmp_is, Cmp.Lexicographic.slice_cmp}
-use Rattle.std.specs.declared.cmp.Ordering.TheVariants.{Equal}
-use Rattle.std.proofs.{Common.{refl, arith, ap, sym, ◌∙◌}, lemmas.Bool.{false≢true, not-true}, lemmas.Slice.Eq.bytes_eq-Decides, lemmas.Map.Lookups.exact_unsigned}
-use Rattle.relax_edges.specs.{declared.kinds.Mark.Mark, declared.edge.Edge.Edge, Order.rank_of, WordParts.word_of, AllEdges.edges_in_order}
-use Rattle.relax_edges.specs.{NamedKinds.marks_read, Spelling.{spellings_of, is_spelling, edge_of}}
-use Rattle.relax_edges.proofs.Ranks.{each_edge, rank_injective, rank_orders}
+use Rattle.std.specs.{Prelude.{ℕ, ◌≡◌, ◌++◌, Bool, true, false, not, cond, List, [], ◌∷◌, Option, Some, None, take, drop, reverse, codes}, List.{list_all, list_any, find}, Str.bytes_eq, Ordering.nat_cmp, Cmp.{nat_cmp_is, Lexicographic.slice_cmp}}
+use Rattle.std.{specs.declared.cmp.Ordering.TheVariants.Equal, proofs.{Common.{refl, arith, ap, sym, ◌∙◌}, lemmas.{Bool.{false≢true, not-true}, Slice.Eq.bytes_eq-Decides, Map.Lookups.exact_unsigned}}}
+use Rattle.relax_edges.{specs.{declared.{kinds.Mark.Mark, edge.Edge.Edge}, Order.rank_of, WordParts.word_of, AllEdges.edges_in_order, NamedKinds.marks_read, Spelling.{spellings_of, is_spelling, edge_of}}, proofs.Ranks.{each_edge, rank_injective}}
+use Rattle.relax_edges.proofs.Ranks.{rank_orders}
 
 -- what `find` finds passes the test
 pub find_passes : {A : Type 0} (test : A → Bool) (xs : List A) (x : A) → find test xs ≡ Some x → test x ≡ true

@@ -1,9 +1,7 @@
 -- A printed word is ASCII, of 3 to 14 bytes.
-use Rattle.std.specs.{Prelude.{ℕ, ◌≡◌, ◌≤◌, ◌<◌, Bool, true, List, length}, List.{All, list_all}, Str.IsAscii}
-use Rattle.std.proofs.{Common.{refl, get_or, nat_le, nat_lt}, lemmas.Bool.{leb-true, ltb-true}, lemmas.List.Sums.AllPass-from_list_all}
+use Rattle.std.{specs.{Prelude.{ℕ, ◌≡◌, ◌≤◌, ◌<◌, Bool, true, List, length}, List.{All, list_all}, Str.IsAscii}, proofs.{Common.{refl, get_or, nat_le, nat_lt}, lemmas.{Bool.{leb-true, ltb-true}, List.Sums.AllPass-from_list_all}}}
 use Rattle.std.proofs.lemmas.Str.Ascii.{IsAscii-from_all}
-use Rattle.relax_edges.specs.{declared.edge.Edge.Edge, WordParts.word_of, AllEdges.edges_in_order}
-use Rattle.relax_edges.proofs.Ranks.{each_edge}
+use Rattle.relax_edges.{specs.{declared.edge.Edge.Edge, WordParts.word_of, AllEdges.edges_in_order}, proofs.Ranks.each_edge}
 
 has_three : Edge → Bool
 has_three edge = nat_le 3 (length (word_of edge))

@@ -1,8 +1,6 @@
 -- The word of each edge in a table of the words of all edges, in order.
-use Rattle.std.specs.Prelude.{ℕ, ◌≡◌, ◌<◌, List, [], length, map}
-use Rattle.std.proofs.{Common.{get_or, arith}, lemmas.List.{length-map, get_or-map}, lemmas.Option.{slice_get_within, get_or_from_slice_get}}
-use Rattle.relax_edges.specs.{declared.edge.Edge.Edge, Order.rank_of, WordParts.word_of, AllEdges.edges_in_order}
-use Rattle.relax_edges.proofs.Ranks.{placed}
+use Rattle.std.{specs.Prelude.{ℕ, ◌≡◌, ◌<◌, List, [], length, map}, proofs.{Common.{get_or, arith}, lemmas.{List.{length-map, get_or-map}, Option.{slice_get_within, get_or_from_slice_get}}}}
+use Rattle.relax_edges.{specs.{declared.edge.Edge.Edge, Order.rank_of, WordParts.word_of, AllEdges.edges_in_order}, proofs.Ranks.placed}
 
 edge_within : (edge : Edge) → rank_of edge < length edges_in_order
 edge_within edge = slice_get_within edges_in_order (rank_of edge) edge (placed edge)

@@ -1,12 +1,8 @@
 -- All edges, in the byte order of their printed names.
 -- Source: the diy part of the herdtools manual, "Candidate relaxations"; the order is own.
 use Rattle.std.specs.{Prelude.{List, [], ◌∷◌, ◌++◌}, List.flat_map}
-use Rattle.relax_edges.specs.{declared.kinds.Dir.Dir, declared.kinds.Sd.Sd, declared.kinds.Sd.TheVariants.{Same, Diff}}
-use Rattle.relax_edges.specs.{declared.kinds.Reach.TheVariants.{Internal, External}, declared.kinds.Com.Com, declared.kinds.Pick.Pick}
-use Rattle.relax_edges.specs.{declared.kinds.FenceKind.FenceKind, declared.marked.Dmb.Dmb, declared.marked.Dmb.TheVariants.{Sy, Ld, St}}
-use Rattle.relax_edges.specs.{declared.marked.MarkableDep.MarkableDep, declared.marked.MarkableDep.TheVariants.{Addr, Ctrl, CtrlIsb}}
-use Rattle.relax_edges.specs.{declared.marked.MarkableKind.MarkableKind, declared.marked.MarkedEnds.TheVariants.{Both, Source, Target}, declared.edge.Edge.Edge}
-use Rattle.relax_edges.specs.{Marks.markable_kind, EdgeTable.unmarked}
+use Rattle.relax_edges.specs.declared.{kinds.{Dir.Dir, Sd.{Sd, TheVariants.{Same, Diff}}, Reach.TheVariants.{Internal, External}, Com.Com, Pick.Pick, FenceKind.FenceKind}, marked.{Dmb.{Dmb, TheVariants.{Sy, Ld, St}}, MarkableDep.MarkableDep}}
+use Rattle.relax_edges.specs.{declared.{marked.{MarkableDep.TheVariants.{Addr, Ctrl, CtrlIsb}, MarkableKind.MarkableKind, MarkedEnds.TheVariants.{Both, Source, Target}}, edge.Edge.Edge}, Marks.markable_kind, EdgeTable.unmarked}
 use Rattle.relax_edges.specs.declared.kinds.Dir.TheVariants as dirs
 use Rattle.relax_edges.specs.declared.kinds.Com.TheVariants as coms
 use Rattle.relax_edges.specs.declared.kinds.Pick.TheVariants as picks

@@ -1,7 +1,7 @@
 -- The texts that name the architectures.
 -- Source: the diy part of the herdtools manual, option `-arch`.
 use Rattle.std.specs.Prelude.{ℕ, Option, List, [], ◌∷◌, codes}
-use Rattle.relax_edges.specs.{declared.kinds.ArchName.ArchName, declared.kinds.ArchName.TheVariants.{X86, PPC, AArch64, RISCV, ARM}, NamedKinds.kind_named_by}
+use Rattle.relax_edges.specs.{declared.kinds.ArchName.{ArchName, TheVariants.{X86, PPC, AArch64, RISCV, ARM}}, NamedKinds.kind_named_by}
 
 -- the text that names an architecture
 abbrev pub arch_word : ArchName → List ℕ

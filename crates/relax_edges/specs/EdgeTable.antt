@@ -1,13 +1,9 @@
 -- The edge table: what each edge joins, whether it leads to another thread or location, and which architectures have it.
 -- Source: the diy part of the herdtools manual, "Candidate relaxations".
 use Rattle.std.specs.{Prelude.{Bool, true, false, ◌&&◌, cond, Option, Some, None}, Option.option_map}
-use Rattle.relax_edges.specs.{declared.kinds.Dir.Dir, declared.kinds.Sd.Sd, declared.kinds.Sd.TheVariants.{Same, Diff}, declared.kinds.Reach.Reach}
-use Rattle.relax_edges.specs.{declared.kinds.Reach.TheVariants.{Internal, External}, declared.kinds.ArchName.ArchName, declared.kinds.Com.Com}
-use Rattle.relax_edges.specs.{declared.kinds.FenceKind.FenceKind, declared.kinds.DepKind.DepKind, declared.kinds.Kind.Kind, declared.kinds.Mark.Mark}
-use Rattle.relax_edges.specs.{declared.kinds.Mark.TheVariants.{Plain, Acquire, Release}, declared.marked.MarkableKind.MarkableKind}
-use Rattle.relax_edges.specs.{declared.marked.MarkedEnds.MarkedEnds, declared.marked.MarkedEdge.MarkedEdge, declared.edge.Edge.Edge}
-use Rattle.relax_edges.specs.declared.kinds.ArchName.TheVariants.{X86, PPC, AArch64, RISCV, ARM}
-use Rattle.relax_edges.specs.Marks.{markable_kind, as_markable, marks_source, marks_target, mark_of, ends_marked}
+use Rattle.relax_edges.specs.declared.kinds.{Dir.Dir, Sd.{Sd, TheVariants.{Same, Diff}}, Reach.{Reach, TheVariants.{Internal, External}}, ArchName.{ArchName, TheVariants.{X86, PPC, AArch64, RISCV, ARM}}, Com.Com, FenceKind.FenceKind, DepKind.DepKind}
+use Rattle.relax_edges.specs.{declared.{kinds.{Kind.Kind, Mark.{Mark, TheVariants.{Plain, Acquire, Release}}}, marked.{MarkableKind.MarkableKind, MarkedEnds.MarkedEnds, MarkedEdge.MarkedEdge}, edge.Edge.Edge}, Marks.{markable_kind, as_markable}}
+use Rattle.relax_edges.specs.Marks.{marks_source, marks_target, mark_of, ends_marked}
 use Rattle.relax_edges.specs.declared.kinds.Dir.TheVariants as dirs
 use Rattle.relax_edges.specs.declared.kinds.Com.TheVariants as coms
 use Rattle.relax_edges.specs.declared.kinds.FenceKind.TheVariants as fences

@@ -1,8 +1,7 @@
 -- The hash of a word, and the rank that the tables of `src/named.rt` give for it: how the edge with a printed name is found. Which edge
 -- that is doesn't depend on it.
 -- Source: own.
-use Rattle.std.specs.{Prelude.{ℕ, ◌+◌, ◌*◌, ◌^◌, ◌/◌, ◌%◌, List}, List.fold}
-use Rattle.std.proofs.Common.{get_or}
+use Rattle.std.{specs.{Prelude.{ℕ, ◌+◌, ◌*◌, ◌^◌, ◌/◌, ◌%◌, List}, List.fold}, proofs.Common.get_or}
 use Rattle.relax_edges.specs.declared.named.TheConstants.{STEPS, RANKS}
 
 -- the hash of some bytes and one more, by the hash of those before it; it has 32 bits

@@ -1,11 +1,8 @@
 -- The edges that may have marks, and which of their accesses have one.
 -- Source: the diy part of the herdtools manual (annotated relaxations of AArch64).
 use Rattle.std.specs.Prelude.{Bool, true, false, Option, Some, None}
-use Rattle.relax_edges.specs.{declared.kinds.Dir.Dir, declared.kinds.Sd.Sd, declared.kinds.FenceKind.FenceKind, declared.kinds.DepKind.DepKind}
-use Rattle.relax_edges.specs.{declared.kinds.Kind.Kind, declared.kinds.Mark.Mark, declared.kinds.Mark.TheVariants.{Plain, Acquire, Release}}
-use Rattle.relax_edges.specs.{declared.marked.Dmb.Dmb, declared.marked.Dmb.TheVariants.{Sy, Ld, St}, declared.marked.MarkableDep.MarkableDep}
-use Rattle.relax_edges.specs.{declared.marked.MarkableDep.TheVariants.{Addr, Ctrl, CtrlIsb}, declared.marked.MarkableKind.MarkableKind}
-use Rattle.relax_edges.specs.{declared.marked.MarkedEnds.MarkedEnds, declared.marked.MarkedEnds.TheVariants.{Both, Source, Target}}
+use Rattle.relax_edges.specs.declared.{kinds.{Dir.Dir, Sd.Sd, FenceKind.FenceKind, DepKind.DepKind, Kind.Kind, Mark.{Mark, TheVariants.{Plain, Acquire, Release}}}, marked.{Dmb.{Dmb, TheVariants.{Sy, Ld, St}}, MarkableDep.{MarkableDep, TheVariants.Addr}}}
+use Rattle.relax_edges.specs.declared.marked.{MarkableDep.TheVariants.{Ctrl, CtrlIsb}, MarkableKind.MarkableKind, MarkedEnds.{MarkedEnds, TheVariants.{Both, Source, Target}}}
 use Rattle.relax_edges.specs.declared.kinds.Dir.TheVariants as dirs
 use Rattle.relax_edges.specs.declared.kinds.FenceKind.TheVariants as fences
 use Rattle.relax_edges.specs.declared.kinds.DepKind.TheVariants as deps

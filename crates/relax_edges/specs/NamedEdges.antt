@@ -1,7 +1,6 @@
 -- Short names for some frequent edges.
 -- Source: the names of edges in the diy part of the herdtools manual.
-use Rattle.relax_edges.specs.{declared.kinds.Dir.Dir, declared.kinds.Sd.TheVariants.Diff, declared.kinds.Reach.TheVariants.{Internal, External}}
-use Rattle.relax_edges.specs.{declared.kinds.Com.TheVariants.{Rf, Fr, Ws}, declared.edge.Edge.Edge, declared.edge.Edge.TheVariants.{Com, Po}}
+use Rattle.relax_edges.specs.declared.{kinds.{Dir.Dir, Sd.TheVariants.Diff, Reach.TheVariants.{Internal, External}, Com.TheVariants.{Rf, Fr, Ws}}, edge.Edge.{Edge, TheVariants.{Com, Po}}}
 
 -- program order to another location
 abbrev pub pod : Dir → Dir → Edge

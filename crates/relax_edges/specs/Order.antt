@@ -1,11 +1,8 @@
 -- The order of edges is the byte order of their printed names. The rank of an edge is its position in that order, from 0.
 -- Source: own.
 use Rattle.std.specs.{Prelude.{ℕ, ◌+◌, ◌*◌, ◌==◌, Bool, List}, Cmp.Lexicographic.pointwise}
-use Rattle.relax_edges.specs.{declared.kinds.Dir.Dir, declared.kinds.Sd.Sd, declared.kinds.Sd.TheVariants.{Same, Diff}, declared.kinds.Reach.Reach}
-use Rattle.relax_edges.specs.{declared.kinds.Reach.TheVariants.{Internal, External}, declared.kinds.Com.Com, declared.kinds.Pick.Pick}
-use Rattle.relax_edges.specs.{declared.kinds.FenceKind.FenceKind, declared.kinds.DepKind.DepKind, declared.kinds.Kind.Kind}
-use Rattle.relax_edges.specs.{declared.marked.MarkedEnds.MarkedEnds, declared.marked.MarkedEnds.TheVariants.{Both, Source, Target}, declared.edge.Edge.Edge}
-use Rattle.relax_edges.specs.Marks.{markable_kind}
+use Rattle.relax_edges.specs.declared.{kinds.{Dir.Dir, Sd.{Sd, TheVariants.{Same, Diff}}, Reach.{Reach, TheVariants.{Internal, External}}, Com.Com, Pick.Pick, FenceKind.FenceKind, DepKind.DepKind, Kind.Kind}, marked.MarkedEnds.MarkedEnds}
+use Rattle.relax_edges.specs.{declared.{marked.MarkedEnds.TheVariants.{Both, Source, Target}, edge.Edge.Edge}, Marks.markable_kind}
 use Rattle.relax_edges.specs.declared.kinds.Dir.TheVariants as dirs
 use Rattle.relax_edges.specs.declared.kinds.Com.TheVariants as coms
 use Rattle.relax_edges.specs.declared.kinds.Pick.TheVariants as picks

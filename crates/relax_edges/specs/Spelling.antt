@@ -1,9 +1,8 @@
 -- The spellings of edges, and the edge that a text spells.
 -- Source: the diy part of the herdtools manual, "Candidate relaxations".
 use Rattle.std.specs.{Prelude.{ℕ, Bool, true, false, Option, List, [], ◌∷◌, ◌++◌, map, codes}, List.{find, list_any, flat_map}, Str.bytes_eq}
-use Rattle.relax_edges.specs.{declared.kinds.ArchName.TheVariants.AArch64, declared.kinds.Kind.Kind, declared.kinds.Mark.Mark}
-use Rattle.relax_edges.specs.{declared.kinds.Mark.TheVariants.Plain, declared.edge.Edge.Edge, EdgeTable.{kind_of, source_mark, target_mark, kind_is_of}}
-use Rattle.relax_edges.specs.{WordParts.{kind_word, mark_word, reach_word}, AllEdges.edges_in_order}
+use Rattle.relax_edges.specs.{declared.{kinds.{ArchName.TheVariants.AArch64, Kind.Kind, Mark.{Mark, TheVariants.Plain}}, edge.Edge.Edge}, EdgeTable.{kind_of, source_mark, target_mark, kind_is_of}, WordParts.{kind_word, mark_word, reach_word}}
+use Rattle.relax_edges.specs.AllEdges.{edges_in_order}
 use Rattle.relax_edges.specs.declared.kinds.Com.TheVariants as coms
 use Rattle.relax_edges.specs.declared.kinds.Kind.TheVariants as kinds
 

@@ -1,11 +1,8 @@
 -- The printed name of each edge, as bytes.
 -- Source: the diy part of the herdtools manual, "Candidate relaxations"; the names of `DpCtrlIsb`, `ISync` and `Fence.p.s` are own.
 use Rattle.std.specs.Prelude.{ℕ, List, ◌++◌, codes}
-use Rattle.relax_edges.specs.{declared.kinds.Dir.Dir, declared.kinds.Sd.Sd, declared.kinds.Sd.TheVariants.{Same, Diff}, declared.kinds.Reach.Reach}
-use Rattle.relax_edges.specs.{declared.kinds.Reach.TheVariants.{Internal, External}, declared.kinds.Com.Com, declared.kinds.Pick.Pick}
-use Rattle.relax_edges.specs.{declared.kinds.FenceKind.FenceKind, declared.kinds.DepKind.DepKind, declared.kinds.Kind.Kind, declared.kinds.Mark.Mark}
-use Rattle.relax_edges.specs.{declared.kinds.Mark.TheVariants.{Plain, Acquire, Release}, declared.marked.MarkedEdge.MarkedEdge, declared.edge.Edge.Edge}
-use Rattle.relax_edges.specs.{Marks.markable_kind, EdgeTable.{source_mark, target_mark}}
+use Rattle.relax_edges.specs.declared.kinds.{Dir.Dir, Sd.{Sd, TheVariants.{Same, Diff}}, Reach.{Reach, TheVariants.{Internal, External}}, Com.Com, Pick.Pick, FenceKind.FenceKind, DepKind.DepKind, Kind.Kind, Mark.{Mark, TheVariants.{Plain, Acquire}}}
+use Rattle.relax_edges.specs.{declared.{kinds.Mark.TheVariants.Release, marked.MarkedEdge.MarkedEdge, edge.Edge.Edge}, Marks.markable_kind, EdgeTable.{source_mark, target_mark}}
 use Rattle.relax_edges.specs.declared.kinds.Dir.TheVariants as dirs
 use Rattle.relax_edges.specs.declared.kinds.Com.TheVariants as coms
 use Rattle.relax_edges.specs.declared.kinds.Pick.TheVariants as picks

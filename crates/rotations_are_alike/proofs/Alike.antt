@@ -1,7 +1,5 @@
 -- Two lists of edges that have the same events under other numbers.
-use Rattle.std.proofs.Common.{◌≡◌, ℕ, ◌<◌, List, length, map}
-use Rattle.relax_edges.specs.declared.edge.Edge.{Edge}
-use Rattle.cycle_events.specs.Resolution.{external_count, edge_at, event_after, location_of, slot_of, events_in}
+use Rattle.rotations_are_alike.proofs.Vocabulary.{◌≡◌, ℕ, ◌<◌, List, length, map, Edge, external_count, edge_at, event_after, location_of, slot_of, events_in}
 
 -- event number x of a list is that of an event of the other
 pub record Comes (es : List Edge) (to : ℕ → ℕ) (x : ℕ) : Type 0 where

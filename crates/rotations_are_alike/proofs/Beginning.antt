@@ -1,17 +1,9 @@
 -- Which lists turn to a list whose last edge leads to another thread.
-use Rattle.std.proofs.Common.{◌≡◌, ℕ, ◌+◌, ◌-◌, ◌<◌, ◌≤◌, true, false, inl, inr, List, [], ◌∷◌, ◌++◌, length, take, drop, Some, refl, sym, ◌∙◌, ap, subst, arith, length-append, length-drop}
-use Rattle.std.proofs.{lemmas.Bool.cond-true, lemmas.List.Quantifiers.position-Some, lemmas.List.{append-nil, take-append-drop, take_at, drop_at, get_or-drop}}
-use Rattle.std.specs.List.{position}
-use Rattle.relax_edges.specs.{declared.kinds.Reach.TheVariants.Internal, declared.kinds.Com.TheVariants.Rf, declared.edge.Edge.Edge, EdgeTable.is_external}
+use Rattle.rotations_are_alike.proofs.Vocabulary.{◌≡◌, ℕ, ◌+◌, ◌-◌, ◌<◌, ◌≤◌, true, false, inl, inr, List, [], ◌∷◌, ◌++◌, length, take, drop, Some, refl, sym, ◌∙◌, ap, subst, arith, length-append, length-drop, cond-true, position-Some, append-nil}
+use Rattle.rotations_are_alike.proofs.Vocabulary.{take-append-drop, take_at, drop_at, get_or-drop, position, Internal, Rf, Edge, is_external, rotated, by_test, by_less, by_option, count_upto_none, count_take, count_take_more, edge_at, ends_outside}
+use Rattle.rotations_are_alike.proofs.Vocabulary.{external_count, slot_of, thread_of, turned, ends_with, slot-zero, slot_in, slot_out, thread-zero, thread_out, thread_up, outside_after, turn_of, turned_at_position, turned_by_first, turned_by_none}
+use Rattle.rotations_are_alike.{proofs.{Vocabulary.{turned_without, edge_first, ended_back, external_count-append, thread_second}, Parts.ended_below}, specs.Alike.{BeginsAlike, BeginsInside, TurnedAlike}}
 use Rattle.relax_edges.specs.declared.edge.Edge.TheVariants as edges
-use Rattle.edge_algebra_laws.specs.Rotation.{rotated}
-use Rattle.list_laws.proofs.{Cases.{by_test, by_less, by_option}, Counts.count_upto_none, Prefixes.{count_take, count_take_more}}
-use Rattle.cycle_events.specs.Resolution.{edge_at, ends_outside, external_count, slot_of, thread_of, turned}
-use Rattle.cycle_events.proofs.{Locations.ends_with, Threads.{slot-zero, slot_in, slot_out, thread-zero, thread_out, thread_up}}
-use Rattle.cycle_events.proofs.Turning.{outside_after, turn_of, turned_at_position, turned_by_first, turned_by_none, turned_without}
-use Rattle.cycle_events.proofs.Rotations.{edge_first, ended_back, external_count-append, thread_second}
-use Rattle.rotations_are_alike.specs.Alike.{BeginsAlike, BeginsInside, TurnedAlike}
-use Rattle.rotations_are_alike.proofs.Parts.{ended_below}
 
 not_empty : (us : List Edge) → ends_outside us ≡ true → 0 < length us
 not_empty [] h = cc

@@ -1,13 +1,6 @@
 -- Two lists of edges joined: the events of the threads of the first, and then those of the second.
-use Rattle.std.proofs.Common.{◌≡◌, ℕ, zero, suc, ◌+◌, ◌<◌, ◌≤◌, Bool, ◌==◌, cond, List, [], ◌∷◌, ◌++◌, length, map, refl, sym, ◌∙◌, ap, arith, length-append, append_assoc}
-use Rattle.std.specs.List.{AllByRecursion, filter}
-use Rattle.std.proofs.lemmas.{List.append-nil, List.map_push, List.Elements.filter-append, Bool.ne_eqb}
-use Rattle.list_laws.proofs.{Elements.all_append, Cases.by_test}
-use Rattle.relax_edges.specs.declared.edge.Edge.{Edge}
-use Rattle.list_laws.specs.Numbers.{upto}
-use Rattle.cycle_events.specs.Resolution.{external_count, thread_of, events_in}
-use Rattle.cycle_events.proofs.Rotations.{Ended, thread_first, thread_second, same_shifted}
-use Rattle.test_maker.proofs.Ranges.{filter_none}
+use Rattle.rotations_are_alike.proofs.Vocabulary.{◌≡◌, ℕ, zero, suc, ◌+◌, ◌<◌, ◌≤◌, Bool, ◌==◌, cond, List, [], ◌∷◌, ◌++◌, length, map, refl, sym, ◌∙◌, ap, arith, length-append, append_assoc, append-nil, map_push, filter-append, ne_eqb, AllByRecursion}
+use Rattle.rotations_are_alike.proofs.Vocabulary.{filter, all_append, by_test, upto, Edge, external_count, thread_of, events_in, Ended, thread_first, thread_second, same_shifted, filter_none}
 
 -- an event of a list whose threads have ended is in one of its threads
 pub ended_below : (a : List Edge) (i : ℕ) → Ended a → i < length a → thread_of a i < external_count a

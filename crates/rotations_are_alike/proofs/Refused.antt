@@ -1,22 +1,11 @@
 -- Rotations of a cycle are refused for the same kind of reason, or accepted.
-use Rattle.std.proofs.Common.{◌≡◌, ℕ, suc, ◌+◌, Bool, true, false, not, cond, ◌&&◌, List, [], ◌∷◌, ◌++◌, Option, Some, None, Result, Ok, Err, slice_get, refl, sym, ◌∙◌, ap, subst, nat_lt}
-use Rattle.std.proofs.{lemmas.Bool.and_parts, lemmas.List.Folds.list_all-append}
-use Rattle.std.specs.{List.{list_all, position_from}, Option.{option_map, option_or}}
-use Rattle.relax_edges.specs.{declared.kinds.ObsMode.ObsMode, declared.edge.Edge.Edge, EdgeTable.is_of_arch}
-use Rattle.relax_edges.specs.declared.kinds.ObsMode.TheVariants as modes
-use Rattle.edge_algebra_laws.specs.{Composable.IsCycle, Rotation.IsRotation}
-use Rattle.edge_algebra_laws.proofs.{Laws.cycle_of_rotation, Rotating.rotation_back}
-use Rattle.cycle_events.specs.{declared.errors.ResolveError.ResolveError, Resolution.{resolution_of, IsResolved}, Values.observer_need}
-use Rattle.cycle_events.proofs.{Rotations.refused_alike as resolution_refused_alike, Rotations.resolves_alike, Turning.resolution_resolved}
-use Rattle.arch_trait.specs.{declared.step.Step.Step, Threads.Puts}
-use Rattle.tests_force_cycles.specs.{CycleSteps.cycle_steps, TestOf.plain}
-use Rattle.tests_force_cycles.proofs.ListElements.{position_none}
-use Rattle.test_maker.specs.declared.refusal.Refusal.{Refusal}
-use Rattle.test_maker.specs.Refusals.{foreign_edge, need_refusal, unobserved_need, is_crowded, crowded_thread, resolved_refusal, refusal_of}
-use Rattle.test_maker.specs.declared.refusal.Refusal.TheVariants as refusals
-use Rattle.list_laws.proofs.Places.{none_foreign, none_fails}
+use Rattle.std.proofs.{Common.{◌≡◌, ℕ, suc, ◌+◌, Bool, true, false, not, cond, ◌&&◌, List, [], ◌∷◌, ◌++◌, Option, Some, None, Result, Ok, Err, slice_get, refl, sym, ◌∙◌, ap, subst, nat_lt}, lemmas.{Bool.and_parts, List.Folds.list_all-append}}
+use Rattle.rotations_are_alike.proofs.Vocabulary.{list_all, position_from, option_map, option_or, ObsMode, Edge, is_of_arch, IsCycle, IsRotation, cycle_of_rotation, rotation_back, Step, Puts, cycle_steps, plain, position_none, Refusal, foreign_edge}
+use Rattle.rotations_are_alike.proofs.{Vocabulary.{need_refusal, unobserved_need, is_crowded, crowded_thread, resolved_refusal, refusal_of, none_foreign, none_fails}, Steps.has_shape, Turns.{moved, exchanged, thread_exchanged}, Values.need_alike}
 use Rattle.rotations_are_alike.specs.Alike.{AcceptedAlike, RefusedAlike, refusal_kind}
-use Rattle.rotations_are_alike.proofs.{Steps.has_shape, Turns.{moved, exchanged, thread_exchanged}, Values.need_alike}
+use Rattle.relax_edges.specs.declared.kinds.ObsMode.TheVariants as modes
+use Rattle.cycle_events.{specs.{declared.errors.ResolveError.ResolveError, Resolution.{resolution_of, IsResolved}, Values.observer_need}, proofs.{Rotations.{refused_alike as resolution_refused_alike, resolves_alike}, Turning.resolution_resolved}}
+use Rattle.test_maker.specs.declared.refusal.Refusal.TheVariants as refusals
 
 -- two answers are of one kind: two reasons of one kind, or none
 OfOneKind : Option Refusal → Option Refusal → Type 0

@@ -1,8 +1,6 @@
 -- Threads with the same accesses, at places that are equal in the same cases, have the same shape.
-use Rattle.std.proofs.{Common.{◌≡◌, ℕ, ◌+◌, Bool, ◌==◌, ◌||◌, cond, List, [], ◌∷◌, map, refl, ◌∙◌, ap, arith}, lemmas.List.Sums.sum_by-cons}
-use Rattle.std.specs.List.{AllByRecursion, count_by}
-use Rattle.arch_trait.specs.{declared.step.Shape.Shape, declared.step.Step.Step, Links.is_addr}
-use Rattle.arch_trait.specs.Threads.{is_load_dir, is_store_dir, loads_in, places_in, shape_of, visits}
+use Rattle.rotations_are_alike.proofs.Vocabulary.{◌≡◌, ℕ, ◌+◌, Bool, ◌==◌, ◌||◌, cond, List, [], ◌∷◌, map, refl, ◌∙◌, ap, arith, sum_by-cons, AllByRecursion, count_by, Shape, Step, is_addr, is_load_dir, is_store_dir, loads_in, places_in, shape_of}
+use Rattle.rotations_are_alike.proofs.Vocabulary.{visits}
 
 -- two ways to make accesses of numbers: the accesses do the same, and their places are equal in the same cases
 pub record StepAlike (P : ℕ → Type 0) (f g : ℕ → Step) : Type 0 where

@@ -1,17 +1,8 @@
 -- Each thread of the test of a turned cycle has the shape of a thread of the cycle's test.
-use Rattle.std.proofs.Common.{◌≡◌, ℕ, ◌+◌, ◌<◌, true, ◌==◌, List, length, map, Some, slice_get, refl, sym, ◌∙◌, ap, subst, eq-eqb}
-use Rattle.std.specs.{List.count_by, Prelude.if◌then◌else◌}
-use Rattle.relax_edges.specs.{declared.kinds.ObsMode.ObsMode, declared.edge.Edge.Edge, EdgeTable.source_of}
-use Rattle.list_laws.specs.Numbers.{upto}
-use Rattle.list_laws.proofs.Ranks.{rank_upto}
-use Rattle.cycle_events.specs.Resolution.{external_count, edge_at, event_before, events_in, move_count, slot_of, IsResolved}
-use Rattle.cycle_events.specs.Values.{is_observed, write_count}
-use Rattle.arch_trait.specs.{declared.link.Link.TheVariants.Plain, declared.step.Step.Step, Links.edge_link, Threads.shape_of}
-use Rattle.accesses_force_cycles.proofs.Lists.{map-map}
-use Rattle.tests_force_cycles.specs.{CycleSteps.{cycle_steps, event_link, event_step, observer_steps, observing, thread_steps}, TestOf.plain}
-use Rattle.tests_force_cycles.proofs.{ListElements.all_from, StepsAt.{by_steps, observer_steps_at, thread_steps_at}}
-use Rattle.rotations_are_alike.proofs.{Alike.{Alike, ThreadFrom}, Parts.events_below, Shapes.{StepAlike, shape_alike}}
-use Rattle.rotations_are_alike.proofs.Values.{entered_alike, located_alike, observed_alike, spot_from}
+use Rattle.std.{proofs.Common.{◌≡◌, ℕ, ◌+◌, ◌<◌, true, ◌==◌, List, length, map, Some, slice_get, refl, sym, ◌∙◌, ap, subst, eq-eqb}, specs.{List.count_by, Prelude.if◌then◌else◌}}
+use Rattle.rotations_are_alike.proofs.Vocabulary.{ObsMode, Edge, source_of, upto, rank_upto, external_count, edge_at, event_before, events_in, move_count, slot_of, IsResolved, is_observed, write_count, Plain, Step, edge_link, shape_of, map-map}
+use Rattle.rotations_are_alike.proofs.{Vocabulary.{cycle_steps, event_link, event_step, observer_steps, observing, thread_steps, plain, all_from, by_steps, observer_steps_at, thread_steps_at}, Alike.{Alike, ThreadFrom}, Parts.events_below}
+use Rattle.rotations_are_alike.proofs.{Shapes.{StepAlike, shape_alike}, Values.{entered_alike, located_alike, observed_alike, spot_from}}
 
 -- the events of the two lists make accesses alike
 link_alike : (es fs : List Edge) (to : ℕ → ℕ) (i : ℕ) → Alike es fs to → i < length es → event_link fs (to i) ≡ event_link es i

@@ -1,11 +1,5 @@
 -- Lists that begin alike have tests of the same text.
-use Rattle.std.proofs.Common.{ℕ, List, ap, sym, ◌∙◌}
-use Rattle.relax_edges.specs.declared.{kinds.ObsMode.ObsMode, edge.Edge.Edge}
-use Rattle.arch_trait.specs.{Threads.Puts, Writing.Writing, Writing.name_in}
-use Rattle.litmus_text.specs.TestText.{test_text}
-use Rattle.tests_force_cycles.specs.TestOf.{test_of}
-use Rattle.rotations_are_alike.specs.Alike.{SameText}
-use Rattle.rotations_are_alike.proofs.Beginning.{stays, turned_alike, turns_to}
+use Rattle.rotations_are_alike.{proofs.{Vocabulary.{ℕ, List, ap, sym, ◌∙◌, ObsMode, Edge, Puts, Writing, name_in, test_text, test_of}, Beginning.{stays, turned_alike, turns_to}}, specs.Alike.SameText}
 
 -- the text of the test in which threads are counted in this list
 text_from : Puts → Writing → List ℕ → ObsMode → List Edge → List ℕ

@@ -1,14 +1,8 @@
 -- A list of edges and the same with two parts exchanged have the same events, where both end outside.
-use Rattle.std.proofs.Common.{◌≡◌, ℕ, ◌+◌, ◌-◌, ◌%◌, ◌<◌, true, nat_lt, List, [], ◌∷◌, ◌++◌, length, map, refl, sym, ◌∙◌, ap, arith, length-append}
-use Rattle.std.specs.{List.AllByRecursion, Prelude.if◌then◌else◌}
-use Rattle.std.proofs.{lemmas.Bool.lt-ltb, lemmas.Bool.le-ltb, Math.Nat.mod-eq_of_lt, Math.Nat.add-mod-mod, Math.Nat.add-mod_left}
-use Rattle.relax_edges.specs.declared.edge.Edge.{Edge}
-use Rattle.list_laws.proofs.Cases.{by_less}
-use Rattle.cycle_events.specs.Resolution.{external_count, move_count, edge_at, ends_outside, event_after, location_of, slot_of, events_in, IsResolved}
-use Rattle.cycle_events.proofs.{Arcs.location_below, CycleRound.by_after, CycleRound.after_below}
-use Rattle.accesses_force_cycles.proofs.Lists.{map-map}
+use Rattle.rotations_are_alike.proofs.Vocabulary.{◌≡◌, ℕ, ◌+◌, ◌-◌, ◌%◌, ◌<◌, true, nat_lt, List, [], ◌∷◌, ◌++◌, length, map, refl, sym, ◌∙◌, ap, arith, length-append, lt-ltb, le-ltb, mod-eq_of_lt, add-mod-mod, add-mod_left, AllByRecursion}
+use Rattle.rotations_are_alike.proofs.Vocabulary.{if◌then◌else◌, Edge, by_less, external_count, move_count, edge_at, ends_outside, event_after, location_of, slot_of, events_in, IsResolved, location_below, by_after, after_below, laid_out, map-map}
+use Rattle.rotations_are_alike.proofs.{Parts.{events_first, events_second, events_below}, Alike.{Alike, ThreadFrom}}
 use Rattle.cycle_events.proofs.Rotations.{edge_first, edge_second, external_count-append, move_count-append, ended_back, renumbered}
-use Rattle.rotations_are_alike.proofs.{Parts.events_first, Parts.events_second, Parts.events_below, Alike.Alike, Alike.ThreadFrom}
 
 -- where event i of a list goes when its two parts are exchanged
 unfoldable pub moved : List Edge → List Edge → ℕ → ℕ
@@ -100,7 +94,7 @@ moved_location a b i r s h =
     (λ j l e m. rw m (sym (
     ap (λ x. (move_count b + location_of (a ++ b) x) % move_count (b ++ a)) e
     ∙ ap (λ x. (move_count b + x) % move_count (b ++ a)) ((renumbered a b j s.outside l).location ∙ ap (λ n. (move_count a + location_of (b ++ a) j) % n) d)
-    ∙ there_and_back (move_count a) (move_count b) (move_count (b ++ a)) (location_of (b ++ a) j) (omega (arith, move_count-append b a)) (location_below (b ++ a) j s (omega (arith, l, length-append b a))))))
+    ∙ there_and_back (move_count a) (move_count b) (move_count (b ++ a)) (location_of (b ++ a) j) (omega (arith, move_count-append b a)) (location_below (b ++ a) j (laid_out s) (omega (arith, l, length-append b a))))))
 
 moved_together : (a b : List Edge) (i j : ℕ) → IsResolved (a ++ b) → IsResolved (b ++ a) → i < length (a ++ b) → j < length (a ++ b) → location_of (a ++ b) i ≡ location_of (a ++ b) j → location_of (b ++ a) (moved a b i) ≡ location_of (b ++ a) (moved a b j)
 moved_together a b i j r s h l e =

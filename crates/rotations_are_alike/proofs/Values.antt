@@ -1,19 +1,9 @@
 -- Cycles with the same events have the same values, writes and observers.
-use Rattle.std.proofs.Common.{◌≡◌, ℕ, zero, suc, ◌+◌, ◌-◌, ◌<◌, ◌≤◌, true, false, ◌==◌, ◌&&◌, cond, List, length, Option, Some, None, nat_lt, refl, sym, ◌∙◌, ap, arith, add-one, subst}
-use Rattle.std.proofs.lemmas.Bool.{eq-eqb, ne_eqb}
-use Rattle.std.specs.{Prelude.nat_le, Option.is_some}
+use Rattle.std.{proofs.{Common.{◌≡◌, ℕ, zero, suc, ◌+◌, ◌-◌, ◌<◌, ◌≤◌, true, false, ◌==◌, ◌&&◌, cond, List, length, Option, Some, None, nat_lt, refl, sym, ◌∙◌, ap, arith, add-one, subst}, lemmas.Bool.{eq-eqb, ne_eqb}}, specs.Prelude.nat_le}
+use Rattle.rotations_are_alike.proofs.Vocabulary.{is_some, ObsMode, Accept, Avoid, Force, Edge, source_of, same_dir, is_external, is_diff, upto, by_test, by_same, any_upto, any_upto_none, any_upto_passing, move_count, edge_at, event_before, event_after}
+use Rattle.rotations_are_alike.proofs.Vocabulary.{location_of, IsResolved, edge_into, is_write_at, value_of, write_count, is_inner_entry, is_observed, first_need, observer_need, inner_entry, laid_out, location_first, leaving, location_below}
+use Rattle.rotations_are_alike.proofs.{Vocabulary.{several_locations, is_write, value_after, value_at_end, inner_found, no_inner_entry, no_need_more, by_after, after_below, after_before, before_after, before_below, moves_within}, Alike.Alike}
 use Rattle.relax_edges.specs.declared.kinds.Dir.TheVariants as dirs
-use Rattle.relax_edges.specs.{declared.kinds.ObsMode.ObsMode, declared.kinds.ObsMode.TheVariants.{Accept, Avoid, Force}, declared.edge.Edge.Edge}
-use Rattle.relax_edges.specs.EdgeTable.{source_of, same_dir, is_external, is_diff}
-use Rattle.list_laws.specs.Numbers.{upto}
-use Rattle.list_laws.proofs.{Cases.{by_test, by_same}, Finds.{any_upto, any_upto_none, any_upto_passing}}
-use Rattle.cycle_events.specs.Resolution.{move_count, edge_at, event_before, event_after, location_of, IsResolved}
-use Rattle.cycle_events.specs.Values.{edge_into, is_write_at, value_of, write_count, is_inner_entry, is_observed, first_need, observer_need}
-use Rattle.cycle_events.specs.Entries.{inner_entry}
-use Rattle.cycle_events.proofs.{Locations.location_first, Arcs.{leaving, location_below, several_locations}, ValuesAlongEdges.{is_write, value_after, value_at_end}}
-use Rattle.cycle_events.proofs.Entries.{inner_found, no_inner_entry, no_need_more}
-use Rattle.cycle_events.proofs.CycleRound.{by_after, after_below, after_before, before_after, before_below, moves_within}
-use Rattle.rotations_are_alike.proofs.Alike.{Alike}
 
 -- from a number up to another below n
 climb : (P : ℕ → Type 0) (n m k : ℕ) → ((i : ℕ) → i + 1 < n → P i → P (i + 1)) → P m → m + k < n → P (m + k)
@@ -45,17 +35,17 @@ value_on es fs to i a r s h same =
     by_test (is_diff (edge_at es i))
     (λ t. rw (a.edge i h, t) refl)
     (λ f. rw (a.edge i h, f) (same f)) in
-    value_after es i r h
+    value_after es i (laid_out r) h
     ∙ ap (λ v. v + cond (is_write es (event_after es i)) 1 0) c
     ∙ ap (λ b. cond (is_diff (edge_at fs (to i))) 0 (value_of fs (to i)) + cond b 1 0) w
-    ∙ sym (value_after fs (to i) s (a.below i h))
+    ∙ sym (value_after fs (to i) (laid_out s) (a.below i h))
     ∙ ap (value_of fs) (sym (a.next i h))
 
 -- the values are the same
 pub values_alike : (es fs : List Edge) (to : ℕ → ℕ) → Alike es fs to → IsResolved es → IsResolved fs → (i : ℕ) → i < length es → value_of es i ≡ value_of fs (to i)
 values_alike es fs to a r s =
     let w = leaving es 0 (omega (arith, several_locations es r)) in
-    let within = moves_within es w.event r w.below w.passes in
+    let within = moves_within es w.event (laid_out r) w.below w.passes in
     let first : value_of es (event_after es w.event) ≡ value_of fs (to (event_after es w.event)) =
     value_on es fs to w.event a r s w.below (λ f. let e : true ≡ false = sym w.passes ∙ f in cc) in
     let one : event_after es w.event ≡ w.event + 1 = by_after es w.event w.below (λ l e. e) (λ l e. absurd (omega (arith, l, within))) in
@@ -82,17 +72,17 @@ spot_from es fs to l a r s h =
     let leaves : is_diff (edge_at es c.event) ≡ true = ap is_diff (sym (a.edge c.event c.below) ∙ ap (edge_at fs) c.is) ∙ w.passes in
     record {
       spot = location_of es c.event;
-      below = location_below es c.event r c.below;
+      below = location_below es c.event (laid_out r) c.below;
       event = c.event;
       event_below = c.below;
       here = refl;
       there = ap (location_of fs) c.is ∙ there;
       written =
           ap (write_count fs) (sym there)
-          ∙ sym (value_at_end fs w.event s w.below w.passes)
+          ∙ sym (value_at_end fs w.event (laid_out s) w.below w.passes)
           ∙ ap (value_of fs) (sym c.is)
           ∙ sym (values_alike es fs to a r s c.event c.below)
-          ∙ value_at_end es c.event r c.below leaves;
+          ∙ value_at_end es c.event (laid_out r) c.below leaves;
     }
 
 -- events of a list are at one location where those of the other are

@@ -1,8 +1,8 @@
 -- What rotations of a cycle have in common: whether they are accepted, and if they begin alike, the text of their test.
 -- Source: own.
 use Rattle.std.specs.{Prelude.{◌≡◌, ◌↔◌, ◌⊎◌, ℕ, ◌+◌, ◌<◌, true, List, length, None}, Option.option_map}
-use Rattle.relax_edges.specs.{declared.kinds.ObsMode.ObsMode, declared.edge.Edge.Edge}
-use Rattle.edge_algebra_laws.specs.{Composable.IsCycle, Rotation.{IsRotation, rotated}}
+use Rattle.relax_edges.specs.declared.{kinds.ObsMode.ObsMode, edge.Edge.Edge}
+use Rattle.edge_algebra.specs.{Composable.IsCycle, Rotation.{IsRotation, rotated}}
 use Rattle.cycle_events.specs.Resolution.{ends_outside, external_count, slot_of, thread_of, turned}
 use Rattle.arch_trait.specs.{Threads.Puts, Writing.{Writing, name_in}}
 use Rattle.litmus_text.specs.TestText.{test_text}

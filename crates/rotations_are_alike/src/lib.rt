@@ -1,4 +1,5 @@
-//! Rotations of a cycle: they are accepted alike, and those that begin alike have tests of the same text.
+//! Rotations of a cycle: they are accepted alike, those that begin alike have tests of the same text, and the tests of all of them are
+//! one, up to the numbers of threads and locations.
 #![tactic(auto)]
 
 ghost use Rattle.rotations_are_alike.specs.Alike.{AcceptedAlike, RefusedAlike, TurnedAlike, SameText};
@@ -29,3 +30,7 @@ pub fn turned_alike()
 pub fn same_text<A: Arch>()
     ensures { SameText A.puts A.writing }
 {}
+
+mod one_test;
+
+pub use one_test::{architectures_are_uniform, rotations_make_one_test};

@@ -1,11 +1,7 @@
 -- The names of locations, as a report finds them, and the line of words where none shows the error.
-use Rattle.std.proofs.Common.{◌≡◌, ℕ, ◌+◌, ◌<◌, ◌≤◌, List, [], ◌++◌, ◌∙◌, ap, arith, length, get_or, append-nil, inl, inr, subst}
-use Rattle.std.proofs.{lemmas.Option.slice_get_past, lemmas.List.FromFn.{get_or-map-range_with_len, length-map-range_with_len}}
-use Rattle.std.specs.{Prelude.{codes, slice_get, None, Result, Ok, Err}, Option.option_map, Result.IsErrAnd}
-use Rattle.arch_trait.specs.PlaceNames.{letters, location_name}
-use Rattle.diy_words.specs.declared.usage.UsageKind.{UsageKind}
-use Rattle.run_status.specs.{declared.status.Status.TheVariants.Usage, Report.{TakesLine, status_line, usage_line, usage_text, fault_part, shown_word}}
-use Rattle.diy_io.specs.{declared.errors.Failed.Failed, Page.{SentAll, Sends}, PageLaws.{sent_wrote, unsent_wrote}, Wrote.{SinkSeen, Wrote}}
+use Rattle.run_status.proofs.Vocabulary.{◌≡◌, ℕ, ◌+◌, ◌<◌, ◌≤◌, List, [], ◌++◌, ◌∙◌, ap, arith, length, get_or, append-nil, inl, inr, subst, slice_get_past, get_or-map-range_with_len, length-map-range_with_len, codes, slice_get, None, Result, Ok, Err}
+use Rattle.run_status.{proofs.Vocabulary.{option_map, IsErrAnd, letters, location_name, UsageKind, Failed, SentAll, Sends, sent_wrote, unsent_wrote, SinkSeen, Wrote}, specs.{declared.status.Status.TheVariants.Usage, Report.{TakesLine, status_line}}}
+use Rattle.run_status.specs.Report.{usage_line, usage_text, fault_part, shown_word}
 
 -- the last of some letters is the name of its location
 pub letter_at : (k : ℕ) → get_or (letters (k + 1)) k [] ≡ location_name k

@@ -1,13 +1,7 @@
 -- The lines of blocks that were skipped, as they are sent one after another.
-use Rattle.std.proofs.Common.{◌≡◌, ℕ, ◌+◌, ◌<◌, ◌≤◌, List, [], ◌∷◌, ◌++◌, ap, ◌∙◌, arith, length, get_or, take, refl, sym, subst}
-use Rattle.std.proofs.lemmas.List.{take_all}
-use Rattle.std.proofs.lemmas.{Bool.Decides.{nat_tests}, Option.{slice_get_past}}
-use Rattle.std.specs.{Prelude.{true, ◌==◌, map, unwrap_or, Option, Some, Result, Ok, Err}, List.flat_map, Result.IsErrAnd}
-use Rattle.diy_io.specs.{declared.errors.Failed.Failed, Page.{SentAll, Sends}, PageLaws.{each_unsent}, Wrote.{SinkSeen}}
-use Rattle.log_sum.specs.declared.skipping.SkippedBlock.{SkippedBlock}
-use Rattle.run_status.specs.{declared.status.Status.Status, declared.status.Status.TheVariants.Done}
-use Rattle.log_sum.specs.Sieving.{skipped_view}
-use Rattle.run_status.specs.{Report.{file_text, status_line}, SkippedLines.{file_of, block_line, skipped_lines, report_lines}}
+use Rattle.run_status.proofs.Vocabulary.{◌≡◌, ℕ, ◌+◌, ◌<◌, ◌≤◌, List, [], ◌∷◌, ◌++◌, ap, ◌∙◌, arith, length, get_or, take, refl, sym, subst, take_all, nat_tests, slice_get_past, true, ◌==◌, map, unwrap_or, Option, Some, Result, Ok, Err, flat_map}
+use Rattle.run_status.{proofs.Vocabulary.{IsErrAnd, Failed, SentAll, Sends, each_unsent, SinkSeen, SkippedBlock, skipped_view}, specs.{declared.status.Status.{Status, TheVariants.Done}, Report.{file_text, status_line}, SkippedLines.file_of}}
+use Rattle.run_status.specs.SkippedLines.{block_line, skipped_lines, report_lines}
 
 abbrev Answer : Type 0
 Answer = Result (Unit {0}) Failed

@@ -14,7 +14,7 @@ use Rattle.log_sum.specs.declared.errors.LogKind.TheVariants as logs
 use Rattle.diy_words.specs.declared.usage.UsageKind.{UsageKind}
 use Rattle.diy_words.specs.declared.usage.UsageKind.TheVariants as usages
 use Rattle.test_maker.specs.{declared.refusal.Refusal.Refusal, Made.NamesLocation}
-use Rattle.run_status.specs.{declared.status.Status.Status, declared.status.TextKind.TextKind, declared.status.Device.Device}
+use Rattle.run_status.specs.declared.status.{Status.Status, TextKind.TextKind, Device.Device}
 use Rattle.run_status.specs.declared.status.Status.TheVariants as statuses
 use Rattle.test_maker.specs.declared.refusal.Refusal.TheVariants as refusals
 use Rattle.run_status.specs.declared.status.TextKind.TheVariants as texts

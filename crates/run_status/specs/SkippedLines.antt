@@ -1,9 +1,7 @@
 -- The lines on standard error of the blocks that a sum skipped.
 -- Source: own.
 use Rattle.std.specs.{Prelude.{ℕ, ◌+◌, List, ◌++◌, codes, Option}, List.flat_map, Option.option_map}
-use Rattle.log_sum.specs.{Skipping.{Skipped}}
-use Rattle.log_sum.specs.Sieving.{skipped_view}
-use Rattle.log_sum.specs.declared.skipping.SkippedBlock.{SkippedBlock}
+use Rattle.log_sum.specs.{Skipping.Skipped, Sieving.skipped_view, declared.skipping.SkippedBlock.SkippedBlock}
 use Rattle.run_status.specs.{declared.status.Status.Status, Report.{file_text, text_line, log_text, status_line}}
 
 -- the argument that names the log at an index: `first` is the one that names the first log, or none if this is the input

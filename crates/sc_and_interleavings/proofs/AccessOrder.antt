@@ -1,7 +1,8 @@
 -- Which access has to come before which: the earlier of a thread, and at one place the one of lesser coherence place, a write before
 -- its reads. So the relations of an execution lead from the one to the other.
-use Rattle.sc_and_interleavings.proofs.Vocabulary.{◌≡◌, ℕ, ◌+◌, ◌<◌, Bool, true, false, cond, ◌==◌, ◌&&◌, ◌||◌, List, [], ◌∷◌, ◌++◌, Option, Some, None, sym, subst, arith, nat_lt, and_parts, and_from, eqb-true, eq-eqb, ltb-true, lt-ltb, Dir, by_less, WriteAt, Access, reads_by, at_name, Execution, order_place, order_at, source_at, coherence_place, IsWriteTo, IsReadOf, Precedes, StepBy, ByRf, ByCo, ByFr, IsPathBy, IsSequential}
-use Rattle.sc_and_interleavings.proofs.{Places.{Held, place_in}, Shapes.{writes_ordered, writes_same, read_before}, Sorting.IsAcyclic}
+use Rattle.sc_and_interleavings.proofs.Vocabulary.{◌≡◌, ℕ, ◌+◌, ◌<◌, Bool, true, false, cond, ◌==◌, ◌&&◌, ◌||◌, List, [], ◌∷◌, ◌++◌, Option, Some, None, sym, subst, arith, nat_lt, and_parts, and_from, eqb-true, eq-eqb, ltb-true, lt-ltb, Dir, by_less}
+use Rattle.sc_and_interleavings.proofs.{Vocabulary.{WriteAt, Access, reads_by, at_name, Execution, order_place, order_at, source_at, coherence_place, IsWriteTo, IsReadOf, Precedes, StepBy, ByRf, ByCo, ByFr, IsPathBy, IsSequential}, Places.Held}
+use Rattle.sc_and_interleavings.proofs.{Places.place_in, Shapes.{writes_ordered, writes_same, read_before}, Sorting.IsAcyclic}
 use Rattle.relax_edges.specs.declared.kinds.Dir.TheVariants as dirs
 
 -- twice the coherence place of an access, and one more of a read

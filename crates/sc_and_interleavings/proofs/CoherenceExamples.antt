@@ -1,8 +1,9 @@
 -- The law tried on small programs: a coherent execution, the shapes that coherence forbids, each with its cycle, and a program
 -- that writes outside its places, of which the law doesn't hold.
-use Rattle.sc_and_interleavings.proofs.Vocabulary.{is_candidate, ◌≡◌, ℕ, Bool, true, List, [], ◌∷◌, Some, None, refl, arith, ◌||◌, nat_lt, ltb-true, Micro, WriteAt, Access, read, write, is_read, Execution, Program, Thread, IsCandidate, IsCoherentIn, accesses_in, every, name, are_reads, are_distinct, every_name, candidate_means, coheres_means, IsPathOfSteps, IsScPerLocation, Po, Rf, Co, Fr, WritesWithin}
-use Rattle.micro_ops.specs.declared.operation.Micro.TheVariants as ops
+use Rattle.sc_and_interleavings.proofs.Vocabulary.{is_candidate, ◌≡◌, ℕ, Bool, true, List, [], ◌∷◌, Some, None, refl, arith, ◌||◌, nat_lt, ltb-true, Micro, WriteAt, Access, read, write, is_read, Execution, Program, Thread, IsCandidate, IsCoherentIn}
+use Rattle.sc_and_interleavings.proofs.Vocabulary.{accesses_in, every, name, are_reads, are_distinct, every_name, candidate_means, coheres_means, IsPathOfSteps, IsScPerLocation, Po, Rf, Co, Fr, WritesWithin}
 use Rattle.sc_and_interleavings.proofs.CoherenceLaws.{candidates_are_sc_per_location}
+use Rattle.micro_ops.specs.declared.operation.Micro.TheVariants as ops
 
 -- each write is to a place below a number, tried by computing
 abbrev writes_within : ℕ → List (List Access) → Bool

@@ -1,6 +1,5 @@
 -- The law of this crate, from its two directions.
-use Rattle.sc_and_interleavings.proofs.Vocabulary.{CoherenceIsScPerLocation, CandidatesAreScPerLocation, CycleTestsAreScPerLocation, accesses_in, resolves}
-use Rattle.sc_and_interleavings.proofs.{Places.held, Steps.no_cycle, Shapes.coherent, SequentialMade.writes_to_own}
+use Rattle.sc_and_interleavings.proofs.{Vocabulary.{CoherenceIsScPerLocation, CandidatesAreScPerLocation, CycleTestsAreScPerLocation, accesses_in, lays_out}, Places.held, Steps.no_cycle, Shapes.coherent, SequentialMade.writes_to_own}
 
 -- an execution of threads is coherent per location exactly where its four relations have no cycle
 pub coherence_is_sc_per_location : CoherenceIsScPerLocation
@@ -15,4 +14,4 @@ candidates_are_sc_per_location p x h within = coherence_is_sc_per_location (acce
 -- the same holds of each program that makes the accesses of a cycle's test
 pub cycle_tests_are_sc_per_location : CycleTestsAreScPerLocation
 cycle_tests_are_sc_per_location es mode number p x r n m h =
-    candidates_are_sc_per_location p x h (writes_to_own es mode number p x (resolves es r) n m h)
+    candidates_are_sc_per_location p x h (writes_to_own es mode number p x (lays_out es r) n m h)

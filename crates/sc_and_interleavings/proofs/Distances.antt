@@ -1,6 +1,7 @@
 -- How far round the cycle an event is from the target of an edge that leads to another location: along each arc, this distance
 -- rises, and so do values.
-use Rattle.sc_and_interleavings.proofs.Vocabulary.{◌≡◌, ℕ, ◌+◌, ◌-◌, ◌<◌, ◌≤◌, true, List, length, ◌∙◌, ap, arith, if◌then◌else◌, nat_lt, cond-true, cond-false, lt-ltb, le-ltb, Edge, is_diff, by_less, IsResolved, edge_at, event_after, location_of, moves_before, by_after, moves_on, moves_up, moves_most, values_up, values_grow, by_way, only_on_way, value_of, way_place, is_write}
+use Rattle.sc_and_interleavings.proofs.Vocabulary.{◌≡◌, ℕ, ◌+◌, ◌-◌, ◌<◌, ◌≤◌, true, List, length, ◌∙◌, ap, arith, if◌then◌else◌, nat_lt, cond-true, cond-false, lt-ltb, le-ltb, Edge, is_diff, by_less, IsLaidOut, edge_at, event_after, location_of}
+use Rattle.sc_and_interleavings.proofs.Vocabulary.{moves_before, by_after, moves_on, moves_up, moves_most, values_up, values_grow, by_way, only_on_way, value_of, way_place, is_write}
 
 -- how far event j is from the target of edge i
 abbrev pub distance : List Edge → ℕ → ℕ → ℕ
@@ -33,7 +34,7 @@ pub distance_below : (es : List Edge) (i j : ℕ) → i < length es → j < leng
 distance_below es i j b h = grind arith
 
 -- at one location, what comes later on the way is further from the target of an edge to another location
-pub further : (es : List Edge) (i j k : ℕ) → IsResolved es → i < length es → is_diff (edge_at es i) ≡ true → j < length es → k < length es
+pub further : (es : List Edge) (i j k : ℕ) → IsLaidOut es → i < length es → is_diff (edge_at es i) ≡ true → j < length es → k < length es
     → location_of es j ≡ location_of es k → way_place es j < way_place es k → distance es i j < distance es i k
 further es i j k r b t h l same w =
     let on = moves_on es i b t in
@@ -55,11 +56,11 @@ further es i j k r b t h l same w =
     (λ p q. omega (arith, up j i p (omega (arith, b)), up (i + 1) k (omega (arith, q)) (omega (arith, l)), on, same, bj, bk))))
 
 -- so is an event of a greater value
-pub further_by_value : (es : List Edge) (i j k : ℕ) → IsResolved es → i < length es → is_diff (edge_at es i) ≡ true → j < length es → k < length es
+pub further_by_value : (es : List Edge) (i j k : ℕ) → IsLaidOut es → i < length es → is_diff (edge_at es i) ≡ true → j < length es → k < length es
     → location_of es j ≡ location_of es k → value_of es j < value_of es k → distance es i j < distance es i k
 further_by_value es i j k r b t h l same v = grind (arith, further, values_up)
 
 -- and any other event of the value of a write
-pub further_than_write : (es : List Edge) (i j k : ℕ) → IsResolved es → i < length es → is_diff (edge_at es i) ≡ true → j < length es → k < length es
+pub further_than_write : (es : List Edge) (i j k : ℕ) → IsLaidOut es → i < length es → is_diff (edge_at es i) ≡ true → j < length es → k < length es
     → location_of es j ≡ location_of es k → value_of es j ≡ value_of es k → is_write es j ≡ true → (j ≡ k → ⊥) → distance es i j < distance es i k
 further_than_write es i j k r b t h l same v writes apart = grind (arith, further, only_on_way, values_grow)

@@ -1,7 +1,7 @@
 -- Along each step an interleaving goes on, so that the execution that it makes has no cycle.
-use Rattle.sc_and_interleavings.proofs.Vocabulary.{◌≡◌, ℕ, ◌≤◌, List, [], ◌∷◌, Option, Some, None, slice_get, take, refl, sym, ◌∙◌, ap, arith, count_by, by_same, WriteAt, Access, read, at_name, source_at, IsInterleaving, latest, IsWriteTo, ReadsFrom, CoherenceOrder, IsBefore, FromRead, Precedes, StepBy, ByPo, ByRf, ByCo, ByFr, IsPathBy, IsSequential, before, made_by}
-use Rattle.sc_and_interleavings.proofs.{Filtered.found, Filtered.count_rises, MadeReads.source_made}
-use Rattle.sc_and_interleavings.proofs.Lines.{to_place, passes, passed, before_is, latest_at, none_before, stands_after, Comes, order_got, not_one}
+use Rattle.sc_and_interleavings.proofs.Vocabulary.{◌≡◌, ℕ, ◌≤◌, List, [], ◌∷◌, Option, Some, None, slice_get, take, refl, sym, ◌∙◌, ap, arith, count_by, by_same, WriteAt, Access, read, at_name, source_at, IsInterleaving, latest, IsWriteTo, ReadsFrom}
+use Rattle.sc_and_interleavings.proofs.{Vocabulary.{CoherenceOrder, IsBefore, FromRead, Precedes, StepBy, ByPo, ByRf, ByCo, ByFr, IsPathBy, IsSequential, before, made_by}, Filtered.{found, count_rises}, MadeReads.source_made, Lines.{to_place, passes}}
+use Rattle.sc_and_interleavings.proofs.Lines.{passed, before_is, latest_at, none_before, stands_after, Comes, order_got, not_one}
 
 -- what a read of the interleaving reads
 pub source_is : (threads : List (List Access)) (places : ℕ) (line : List WriteAt) (place value k : ℕ) (r : WriteAt) → IsInterleaving threads line → at_name threads r ≡ Some (read place value) → slice_get line k ≡ Some r

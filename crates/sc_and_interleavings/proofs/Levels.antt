@@ -1,7 +1,11 @@
 -- Where all edges of a cycle stand in a coherent execution of a program that makes the accesses of the cycle's test, the coherence
 -- place of each event is its value.
-use Rattle.sc_and_interleavings.proofs.Vocabulary.{◌≡◌, ℕ, zero, suc, ◌+◌, ◌<◌, ◌≤◌, true, List, length, Option, Some, None, refl, sym, ◌∙◌, ap, subst, arith, slice_get_within, Dir, Sd, Same, Diff, Internal, External, Kind, Edge, kind_of, source_of, target_of, sd_of, is_diff, kind_source, kind_target, kind_reach, IsResolved, edge_at, event_after, event_before, thread_of, slot_of, location_of, move_count, leaving, after_below, after_before, before_below, value_at_end, value_of, write_count, WriteAt, Access, read, write, at_name, Execution, CanRead, IsNumbering, ordered_write, location_order, IsCoherent, MayFollow, order_place, order_at, source_at, placed_by, coherence_place, AreAt, CommunicatesBy, Reaches, Joins, event_name, gives_writes, place_of_value, length-filter_map-upto, FromBefore, from_before, Holds, order_by_steps, IsWrite, Resolves, written_by, moves, NthWrite, nth_write, ordered_write-is, rank_below, more_than, IsWriteTo}
-use Rattle.sc_and_interleavings.proofs.{Places.{Held, place_in, level, level_is, level_write}, Distances.{distance, distance_next, distance_below}}
+use Rattle.sc_and_interleavings.proofs.Vocabulary.{◌≡◌, ℕ, zero, suc, ◌+◌, ◌<◌, ◌≤◌, true, List, length, Option, Some, None, refl, sym, ◌∙◌, ap, subst, arith, slice_get_within, Dir, Sd, Same, Diff, Internal, External, Kind, Edge, kind_of, source_of}
+use Rattle.sc_and_interleavings.proofs.Vocabulary.{target_of, sd_of, is_diff, kind_source, kind_target, kind_reach, IsLaidOut, edge_at, event_after, event_before, thread_of, slot_of, location_of, move_count, leaving, after_below, after_before}
+use Rattle.sc_and_interleavings.proofs.Vocabulary.{before_below, value_at_end, value_of, write_count, WriteAt, Access, read, write, at_name, Execution, CanRead, IsNumbering, ordered_write, location_order, IsCoherent, MayFollow, order_place, order_at}
+use Rattle.sc_and_interleavings.proofs.Vocabulary.{source_at, placed_by, coherence_place, AreAt, CommunicatesBy, Reaches, Joins, event_name, gives_writes, place_of_value, length-filter_map-upto, FromBefore, from_before, Holds, order_by_steps, IsWrite}
+use Rattle.sc_and_interleavings.proofs.{Vocabulary.{LaysOut, written_by, moves, NthWrite, nth_write, ordered_write-is, rank_below, more_than, IsWriteTo}, Places.{Held, place_in, level, level_is, level_write}, Distances.{distance, distance_next}}
+use Rattle.sc_and_interleavings.proofs.Distances.{distance_below}
 use Rattle.relax_edges.specs.declared.kinds.Dir.TheVariants as dirs
 use Rattle.relax_edges.specs.declared.kinds.Com.TheVariants as coms
 use Rattle.relax_edges.specs.declared.kinds.Kind.TheVariants as kinds
@@ -16,8 +20,8 @@ pub record Made (es : List Edge) (number : ℕ → ℕ) (threads : List (List Ac
 
 -- what the lemmas suppose
 pub record Standing (es : List Edge) (number : ℕ → ℕ) (threads : List (List Access)) (x : Execution) : Type 0 where
-  pub resolved : IsResolved es
-  pub r : Resolves es
+  pub resolved : IsLaidOut es
+  pub r : LaysOut es
   pub numbering : IsNumbering es number
   pub held : Held threads x
   pub coherent : IsCoherent threads x
@@ -115,7 +119,7 @@ rises_along : (es : List Edge) (number : ℕ → ℕ) (threads : List (List Acce
 rises_along es number threads x i s h same = grind (arith, along es number threads x i s h same)
 
 -- writes of one location and one value are one
-same_write_event : (es : List Edge) (j w : ℕ) → Resolves es → j < length es → w < length es → source_of (edge_at es j) ≡ dirs.W
+same_write_event : (es : List Edge) (j w : ℕ) → LaysOut es → j < length es → w < length es → source_of (edge_at es j) ≡ dirs.W
     → source_of (edge_at es w) ≡ dirs.W → location_of es w ≡ location_of es j → value_of es w ≡ value_of es j → w ≡ j
 same_write_event es j w r h l d e same v =
     let k = more_than (value_of es j) (r.positive j h d) in
@@ -273,7 +277,7 @@ pub order_is : (es : List Edge) (number : ℕ → ℕ) (threads : List (List Acc
 unfolding location_order
 order_is es number threads x l s b = grind (arith, order_by_steps, holds es number threads x l s b, write_steps)
 
-order-count : (es : List Edge) (l : ℕ) → Resolves es → length (location_order es l) ≡ write_count es l
+order-count : (es : List Edge) (l : ℕ) → LaysOut es → length (location_order es l) ≡ write_count es l
 unfolding location_order
 order-count es l r = length-filter_map-upto (ordered_write es l) (write_count es l) (gives_writes es l r).some
 

@@ -1,8 +1,9 @@
 -- The interleaving along which a sequentially consistent execution goes.
-use Rattle.sc_and_interleavings.proofs.Vocabulary.{◌≡◌, ℕ, zero, suc, ◌+◌, ◌<◌, ◌≤◌, Bool, true, cond, List, [], ◌∷◌, length, Option, Some, None, slice_get, take, refl, sym, ◌∙◌, ap, arith, count_by, filter, filter_map, slice_get_within, length-filter, sum_by-cons, upto, by_less, by_option, WriteAt, Access, read, write, at_name, Execution, CanRead, order_place, order_at, source_at, IsInterleaving, GivesValues, writes_in, latest, same_below, got_below, rank_filter, length-filter_map-upto, slice_get-filter_map-upto, Holds, order_by_steps, order_place_at, IsSequential, IsAlong}
-use Rattle.sc_and_interleavings.proofs.{Places.{Held, place_in}, Filtered.{found, count_rises, count_one}, Listed.{all_names, listed, named}}
-use Rattle.sc_and_interleavings.proofs.{Lines.{to_place, passes, passed, latest_at, none_before}, AccessOrder.{Leads, comes, acyclic, earlier_comes, lesser_comes}}
-use Rattle.sc_and_interleavings.proofs.Sorting.{in_got, got_in, sorted, sorted_in, sorted_was_in, is_sorted, stands_before, stands_once}
+use Rattle.sc_and_interleavings.proofs.Vocabulary.{◌≡◌, ℕ, zero, suc, ◌+◌, ◌<◌, ◌≤◌, Bool, true, cond, List, [], ◌∷◌, length, Option, Some, None, slice_get, take, refl, sym, ◌∙◌, ap, arith, count_by, filter, filter_map, slice_get_within, length-filter}
+use Rattle.sc_and_interleavings.proofs.Vocabulary.{sum_by-cons, upto, by_less, by_option, WriteAt, Access, read, write, at_name, Execution, CanRead, order_place, order_at, source_at, IsInterleaving, GivesValues, writes_in, latest, same_below, got_below}
+use Rattle.sc_and_interleavings.proofs.{Vocabulary.{rank_filter, length-filter_map-upto, slice_get-filter_map-upto, Holds, order_by_steps, order_place_at, IsSequential, IsAlong}, Places.{Held, place_in}, Filtered.{found, count_rises, count_one}}
+use Rattle.sc_and_interleavings.proofs.{Listed.{all_names, listed, named}, Lines.{to_place, passes, passed, latest_at, none_before}, AccessOrder.{Leads, comes, acyclic, earlier_comes, lesser_comes}, Sorting.{in_got, got_in, sorted, sorted_in}}
+use Rattle.sc_and_interleavings.proofs.Sorting.{sorted_was_in, is_sorted, stands_before, stands_once}
 
 -- the accesses in an order that the relations allow
 abbrev pub line_of : List (List Access) → Execution → List WriteAt

@@ -1,6 +1,7 @@
 -- Where accesses stand in an interleaving, and the writes before them.
-use Rattle.sc_and_interleavings.proofs.Vocabulary.{◌≡◌, ℕ, ◌+◌, ◌-◌, ◌<◌, ◌≤◌, Bool, true, List, length, Some, None, slice_get, take, ◌∙◌, ap, arith, count_by, filter, slice_get_within, slice_get_past, length-filter, length-map-upto, slice_get-map-upto, WriteAt, Access, at_name, order_at, writes_there, writes_in, latest, writes_there_means, writes_to_from, got_below, found_at, IsWriteTo, IsReadOf, before, made_by}
-use Rattle.sc_and_interleavings.proofs.Filtered.{found, count_rises, count_one, got_of_take, take_fewer}
+use Rattle.sc_and_interleavings.proofs.Vocabulary.{◌≡◌, ℕ, ◌+◌, ◌-◌, ◌<◌, ◌≤◌, Bool, true, List, length, Some, None, slice_get, take, ◌∙◌, ap, arith, count_by, filter, slice_get_within, slice_get_past, length-filter, length-map-upto, slice_get-map-upto}
+use Rattle.sc_and_interleavings.proofs.{Vocabulary.{WriteAt, Access, at_name, order_at, writes_there, writes_in, latest, writes_there_means, writes_to_from, got_below, found_at, IsWriteTo, IsReadOf, before, made_by}, Filtered.{found, count_rises}}
+use Rattle.sc_and_interleavings.proofs.Filtered.{count_one, got_of_take, take_fewer}
 
 -- the accesses before one that stands at a number are as many
 pub before_is : (line : List WriteAt) (k : ℕ) (e : WriteAt) → slice_get line k ≡ Some e → ((i : ℕ) → slice_get line i ≡ Some e → i ≡ k) → before line e ≡ take k line

@@ -1,6 +1,5 @@
 -- All accesses of threads, by name.
-use Rattle.sc_and_interleavings.proofs.Vocabulary.{◌≡◌, ℕ, zero, suc, ◌+◌, List, [], ◌∷◌, ◌++◌, Some, slice_get, refl, ◌∙◌, ap, subst, arith, inl, inr, ◌⊎◌, WriteAt, Access, at_name, name, got_from_list, at_name_of}
-use Rattle.sc_and_interleavings.proofs.Sorting.{In}
+use Rattle.sc_and_interleavings.proofs.{Vocabulary.{◌≡◌, ℕ, zero, suc, ◌+◌, List, [], ◌∷◌, ◌++◌, Some, slice_get, refl, ◌∙◌, ap, subst, arith, inl, inr, ◌⊎◌, WriteAt, Access, at_name, name, got_from_list, at_name_of}, Sorting.In}
 
 -- the names of the accesses of a thread, of which the first of these has a number
 abbrev thread_names : ℕ → ℕ → List Access → List WriteAt

@@ -1,7 +1,8 @@
 -- The execution that an interleaving makes is one of its threads, and of its program where it is one of a program.
-use Rattle.sc_and_interleavings.proofs.Vocabulary.{◌≡◌, ℕ, ◌+◌, true, List, map, Option, Some, None, slice_get, take, refl, sym, ◌∙◌, ap, subst, arith, count_by, filter, option_and_then, slice_get_within, upto, length-map-upto, slice_get-map-upto, WriteAt, Access, read, write, is_read, at_name, CanRead, AreReadsOf, IsOrderOf, IsExecutionOf, value_of_access, name, IsInterleaving, GivesValues, writes_in, latest, accesses_on, at_name_of, rank_filter, before, reads_from, made_by, InterleavingsMakeExecutions}
-use Rattle.sc_and_interleavings.proofs.{Filtered.found, InterleavingSteps.made_sequential, Lines.{to_place, passes, passed, before_is, latest_at}}
-use Rattle.sc_and_interleavings.proofs.MadeReads.{are_reads_from, thread_reads, reads_counted, same_runs}
+use Rattle.sc_and_interleavings.proofs.Vocabulary.{◌≡◌, ℕ, ◌+◌, true, List, map, Option, Some, None, slice_get, take, refl, sym, ◌∙◌, ap, subst, arith, count_by, filter, option_and_then, slice_get_within, upto, length-map-upto, slice_get-map-upto}
+use Rattle.sc_and_interleavings.proofs.Vocabulary.{WriteAt, Access, read, write, is_read, at_name, CanRead, AreReadsOf, IsOrderOf, IsExecutionOf, value_of_access, name, IsInterleaving, GivesValues, writes_in, latest, accesses_on, at_name_of, rank_filter}
+use Rattle.sc_and_interleavings.proofs.{Vocabulary.{before, reads_from, made_by, InterleavingsMakeExecutions}, Filtered.found, InterleavingSteps.made_sequential, Lines.{to_place, passes, passed, before_is, latest_at}, MadeReads.are_reads_from}
+use Rattle.sc_and_interleavings.proofs.MadeReads.{thread_reads, reads_counted, same_runs}
 
 -- a read can read the last write before it
 can_read_latest : (threads : List (List Access)) (line : List WriteAt) (place value k : ℕ) (e : WriteAt) → GivesValues threads line → slice_get line k ≡ Some e → at_name threads e ≡ Some (read place value) → CanRead threads (read place value) (latest threads place (take k line))

@@ -1,6 +1,7 @@
 -- The reads of the execution that an interleaving makes.
-use Rattle.sc_and_interleavings.proofs.Vocabulary.{◌≡◌, ℕ, zero, suc, ◌+◌, true, false, cond, List, [], ◌∷◌, length, map, Option, Some, slice_get, take, refl, sym, ◌∙◌, ap, subst, arith, unwrap_or, count_by, filter, cond-true, cond-false, sum_by-cons, by_test, Outcome, runs, WriteAt, Access, is_read, visits_of, accesses_of, at_name, reads_among, reads_before, CanRead, AreReadsOf, named_by, source_at, runs_on, name, Thread, HasEnded, made_in, runs_of, got_from_list, reads_from, all_reads}
-use Rattle.sc_and_interleavings.proofs.RunReads.{ended_reads}
+use Rattle.sc_and_interleavings.proofs.Vocabulary.{◌≡◌, ℕ, zero, suc, ◌+◌, true, false, cond, List, [], ◌∷◌, length, map, Option, Some, slice_get, take, refl, sym, ◌∙◌, ap, subst, arith, unwrap_or, count_by, filter, cond-true, cond-false, sum_by-cons}
+use Rattle.sc_and_interleavings.proofs.Vocabulary.{by_test, Outcome, runs, WriteAt, Access, is_read, visits_of, accesses_of, at_name, reads_among, reads_before, CanRead, AreReadsOf, named_by, source_at, runs_on, name, Thread, HasEnded, made_in, runs_of}
+use Rattle.sc_and_interleavings.proofs.{Vocabulary.{got_from_list, reads_from, all_reads}, RunReads.ended_reads}
 
 -- a read of a thread, its value and what it reads, before the reads of the accesses after it
 reads_yes : (source : WriteAt → ℕ → Option WriteAt) (thread slot : ℕ) (a : Access) (accesses : List Access) → is_read a ≡ true → reads_from source thread slot (a ∷ accesses) ≡ (a.value, source (name thread slot) a.place) ∷ reads_from source thread (slot + 1) accesses

@@ -1,6 +1,6 @@
 -- An execution that goes along an interleaving has no cycle: each of its steps is one in the execution that the interleaving makes.
-use Rattle.sc_and_interleavings.proofs.Vocabulary.{◌≡◌, ℕ, List, [], ◌∷◌, length, Option, Some, slice_get, sym, ◌∙◌, arith, slice_get_past, slice_get-map-upto, WriteAt, Access, read, at_name, Execution, order_at, source_at, IsInterleaving, CoherenceOrder, IsBefore, made_by, IsAlong, Precedes, StepBy, ByPo, ByRf, ByCo, ByFr, IsPathBy, IsSequential}
-use Rattle.sc_and_interleavings.proofs.InterleavingSteps.{source_is, made_sequential}
+use Rattle.sc_and_interleavings.proofs.Vocabulary.{◌≡◌, ℕ, List, [], ◌∷◌, length, Option, Some, slice_get, sym, ◌∙◌, arith, slice_get_past, slice_get-map-upto, WriteAt, Access, read, at_name, Execution, order_at, source_at, IsInterleaving}
+use Rattle.sc_and_interleavings.proofs.{Vocabulary.{CoherenceOrder, IsBefore, made_by, IsAlong, Precedes, StepBy, ByPo, ByRf, ByCo, ByFr, IsPathBy, IsSequential}, InterleavingSteps.{source_is, made_sequential}}
 
 -- what is in the order of a place is there in the execution that the interleaving makes
 got_there : (threads : List (List Access)) (places : ℕ) (x : Execution) (line : List WriteAt) (place k : ℕ) (w : WriteAt) → IsAlong threads places x line

@@ -1,8 +1,10 @@
 -- In the intended execution, without the pairs across one link, each step leads further from the target of that link, where a read
 -- of an observer comes right after the write that it reads.
-use Rattle.sc_and_interleavings.proofs.Vocabulary.{◌≡◌, ℕ, ◌+◌, ◌<◌, ◌≤◌, true, List, [], ◌∷◌, length, Option, Some, None, slice_get, refl, sym, ◌∙◌, ap, arith, ObsMode, Edge, source_of, is_diff, by_same, unrank_upto, IsResolved, after_below, edge_at, event_access, event_after, event_at_name, kind_of, thread_of, slot_of, location_of, external_count, move_count, value_of, write_at, is_write, is_observed, WriteAt, Access, read, write, at_name, order_place, order_at, source_at, event_name, IsNumbering, cycle_accesses, intended, observed_locations, EventAt, LoadAt, by_origin, resolves, moves, intended_is_execution, place_is_value, Resolves, later_slot, write_event, WritesWithin, EachLinkCloses, OthersAreKept, PrecedesBut, IsWriteTo, ReadsFrom, CoherenceOrder, IsBefore, FromRead, StepBy, ByPo, ByRf, ByCo, ByFr, IsPathBy, thread_up}
-use Rattle.sc_and_interleavings.proofs.{Places.{Held, held, place_in}, Distances.{distance, distance_beside, further_by_value, further_than_write}}
-use Rattle.sc_and_interleavings.proofs.{RelationCycles.ordering_inside, Levels.WriteOf}
+use Rattle.sc_and_interleavings.proofs.Vocabulary.{◌≡◌, ℕ, ◌+◌, ◌<◌, ◌≤◌, true, List, [], ◌∷◌, length, Option, Some, None, slice_get, refl, sym, ◌∙◌, ap, arith, ObsMode, Edge, source_of, is_diff, by_same, unrank_upto, IsLaidOut, after_below, edge_at}
+use Rattle.sc_and_interleavings.proofs.Vocabulary.{event_access, event_after, event_at_name, kind_of, thread_of, slot_of, location_of, external_count, move_count, value_of, write_at, is_write, is_observed, WriteAt, Access, read, write, at_name}
+use Rattle.sc_and_interleavings.proofs.Vocabulary.{order_place, order_at, source_at, event_name, IsNumbering, cycle_accesses, intended, observed_locations, EventAt, LoadAt, by_origin, lays_out, moves, intended_is_execution, place_is_value, LaysOut}
+use Rattle.sc_and_interleavings.proofs.Vocabulary.{later_slot, write_event, WritesWithin, EachLinkCloses, OthersAreKept, PrecedesBut, IsWriteTo, ReadsFrom, CoherenceOrder, IsBefore, FromRead, StepBy, ByPo, ByRf, ByCo, ByFr, IsPathBy, thread_up}
+use Rattle.sc_and_interleavings.proofs.{Places.{Held, held, place_in}, Distances.{distance, distance_beside, further_by_value, further_than_write}, RelationCycles.ordering_inside, Levels.WriteOf}
 use Rattle.relax_edges.specs.declared.kinds.Dir.TheVariants as dirs
 
 -- the rank of an access: twice the distance of its event, or one more than that of the write that an observer's read reads
@@ -12,7 +14,7 @@ data Ranked (es : List Edge) (mode : ObsMode) (i : ℕ) (e : WriteAt) (rank : �
       → rank ≡ distance es i w + distance es i w + 1 → Ranked es mode i e rank
 
 -- an access has one rank
-one_rank : (es : List Edge) (mode : ObsMode) (i : ℕ) (e : WriteAt) (m n : ℕ) → Resolves es → Ranked es mode i e m → Ranked es mode i e n → m ≡ n
+one_rank : (es : List Edge) (mode : ObsMode) (i : ℕ) (e : WriteAt) (m n : ℕ) → LaysOut es → Ranked es mode i e m → Ranked es mode i e n → m ≡ n
 one_rank es mode i e m n r x1 x2 = grind arith
 
 -- two accesses, of which the second has the greater rank
@@ -32,20 +34,20 @@ name_of_event : (es : List Edge) (number : ℕ → ℕ) (e : WriteAt) (a : Acces
 name_of_event es number e a h = λ i. record { thread = h.thread i; access = h.slot i }
 
 -- an event is known by its thread and its slot
-one_event : (es : List Edge) (i j : ℕ) → Resolves es → i < length es → j < length es → thread_of es i ≡ thread_of es j → slot_of es i ≡ slot_of es j → i ≡ j
+one_event : (es : List Edge) (i j : ℕ) → LaysOut es → i < length es → j < length es → thread_of es i ≡ thread_of es j → slot_of es i ≡ slot_of es j → i ≡ j
 one_event es i j r l m t s = grind (arith, r.stands i l, r.stands j m)
 
 -- the facts that the steps need
 record Facts (es : List Edge) (mode : ObsMode) (number : ℕ → ℕ) (i : ℕ) : Type 0 where
-  resolved : IsResolved es
-  r : Resolves es
+  resolved : IsLaidOut es
+  r : LaysOut es
   numbering : IsNumbering es number
   below : i < length es
   moves : is_diff (edge_at es i) ≡ true
   held : Held (cycle_accesses es mode number) (intended es mode number)
 
 -- a write's event
-written : (es : List Edge) (mode : ObsMode) (number : ℕ → ℕ) (w : WriteAt) (place value : ℕ) → Resolves es
+written : (es : List Edge) (mode : ObsMode) (number : ℕ → ℕ) (w : WriteAt) (place value : ℕ) → LaysOut es
     → at_name (cycle_accesses es mode number) w ≡ Some (write place value) → WriteOf es number w place value
 written es mode number w place value r h = grind (arith, write_event es mode number w place value r h)
 
@@ -237,14 +239,14 @@ path_goes es mode number i e (g ∷ between) f facts h =
     }
 
 -- the writes of a cycle's test are to its places
-writes_within : (es : List Edge) (mode : ObsMode) (number : ℕ → ℕ) → Resolves es → IsNumbering es number
+writes_within : (es : List Edge) (mode : ObsMode) (number : ℕ → ℕ) → LaysOut es → IsNumbering es number
     → WritesWithin (cycle_accesses es mode number) (move_count es)
 writes_within es mode number r n place w h = grind (arith, written es mode number w place h.0 r h.1)
 
 -- without one link the intended execution has no cycle
 pub each_link_closes : EachLinkCloses
 each_link_closes es mode number i resolved numbering link e between path =
-    let r = resolves es resolved in
+    let r = lays_out es resolved in
     let facts : Facts es mode number i = record {
       resolved = resolved;
       r = r;
@@ -260,7 +262,7 @@ each_link_closes es mode number i resolved numbering link e between path =
 -- program order without the pairs across one link holds across each other edge that orders
 pub others_are_kept : OthersAreKept
 others_are_kept es mode number i resolved numbering link j other differs =
-    let r = resolves es resolved in
+    let r = lays_out es resolved in
     let s = r.stays j other.below (ordering_inside (kind_of (edge_at es j)) other.orders) in
     record {
       order = record {

@@ -1,6 +1,9 @@
 -- Where a cycle's test has no observers, a coherent candidate in which all edges stand reads and ends as the condition asks.
-use Rattle.sc_and_interleavings.proofs.Vocabulary.{◌≡◌, ℕ, zero, suc, ◌-◌, ◌<◌, ◌≤◌, List, [], ◌∷◌, length, map, Option, Some, slice_get, refl, sym, ◌∙◌, ap, subst, arith, filter, option_and_then, slice_get_within, slice_get_past, ObsMode, Edge, by_less, IsResolved, edge_at, event_after, events_in, external_count, thread_of, slot_of, after_below, write_count, WriteAt, Access, write, is_read, got_from, at_name, Execution, AreReadsOf, Joins, AllStand, event_name, last_write, order_at, value_of_access, final_value, Program, IsCandidate, IsCoherentIn, accesses_in, visits_in, IsNumbering, event_access, cycle_accesses, observed_locations, got_from_list, accesses-count, MakesAccesses, EndsAsAsked, ReadsAsAsked, accesses_filled, values_left, values_read, thread_accesses, observer_thread, access_of_visit, resolves, last_of_order, Resolves, nth_write, got_below, got_map, image_of, same_by_gets, StandingIsOutcome}
-use Rattle.sc_and_interleavings.proofs.{SequentialMade.{filled_from, writes_to_own}, Places.held, Levels.{Made, Standing, event_writes, order_is, value_made}}
+use Rattle.sc_and_interleavings.proofs.Vocabulary.{◌≡◌, ℕ, zero, suc, ◌-◌, ◌<◌, ◌≤◌, List, [], ◌∷◌, length, map, Option, Some, slice_get, refl, sym, ◌∙◌, ap, subst, arith, filter, option_and_then, slice_get_within, slice_get_past, ObsMode, Edge, by_less}
+use Rattle.sc_and_interleavings.proofs.Vocabulary.{IsLaidOut, edge_at, event_after, events_in, external_count, thread_of, slot_of, after_below, write_count, WriteAt, Access, write, is_read, got_from, at_name, Execution, AreReadsOf, Joins, AllStand}
+use Rattle.sc_and_interleavings.proofs.Vocabulary.{event_name, last_write, order_at, value_of_access, final_value, Program, IsCandidate, IsCoherentIn, accesses_in, visits_in, IsNumbering, event_access, cycle_accesses, observed_locations, got_from_list}
+use Rattle.sc_and_interleavings.proofs.Vocabulary.{accesses-count, MakesAccesses, EndsAsAsked, ReadsAsAsked, accesses_filled, values_left, values_read, thread_accesses, observer_thread, access_of_visit, lays_out, last_of_order, LaysOut, nth_write}
+use Rattle.sc_and_interleavings.proofs.{Vocabulary.{got_below, got_map, image_of, same_by_gets, StandingIsOutcome}, SequentialMade.{filled_from, writes_to_own}, Places.held, Levels.{Made, Standing, event_writes, order_is, value_made}}
 
 filled-count : (planned : List Access) (values : List ℕ) → length (accesses_filled planned values) ≡ length planned
 filled-count [] values = refl
@@ -14,8 +17,8 @@ values_are threads accesses reads h = grind arith
 
 -- what the law supposes
 record Given (es : List Edge) (mode : ObsMode) (number : ℕ → ℕ) (p : Program) (x : Execution) : Type 0 where
-  resolved : IsResolved es
-  r : Resolves es
+  resolved : IsLaidOut es
+  r : LaysOut es
   numbering : IsNumbering es number
   unobserved : observed_locations es mode ≡ []
   makes : MakesAccesses es mode number p x
@@ -159,4 +162,4 @@ ends_asked es mode number p x g l b u two = by_count (write_count es l) refl two
 
 -- where a test has no observers, a coherent candidate in which all edges stand is an outcome
 pub standing_is_outcome : StandingIsOutcome
-standing_is_outcome es mode number p x resolved numbering unobserved makes candidate coherent all = grind (arith, resolves, reads_asked, ends_asked)
+standing_is_outcome es mode number p x resolved numbering unobserved makes candidate coherent all = grind (arith, lays_out, reads_asked, ends_asked)

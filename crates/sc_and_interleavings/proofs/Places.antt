@@ -1,5 +1,6 @@
 -- Where the accesses of an execution are in the coherence orders.
-use Rattle.sc_and_interleavings.proofs.Vocabulary.{◌≡◌, ℕ, zero, suc, ◌+◌, List, [], ◌∷◌, Option, Some, None, slice_get, take, refl, sym, ◌∙◌, ap, subst, arith, unwrap_or, count_by, filter, slice_get_within, WriteAt, Access, read, write, is_read, at_name, Execution, CanRead, AreReadsOf, IsExecutionOf, order_place, order_at, source_at, coherence_place, got_from_list, got_below, rank_filter, order_place_at, IsWriteTo, IsReadOf, WritesWithin}
+use Rattle.sc_and_interleavings.proofs.Vocabulary.{◌≡◌, ℕ, zero, suc, ◌+◌, List, [], ◌∷◌, Option, Some, None, slice_get, take, refl, sym, ◌∙◌, ap, subst, arith, unwrap_or, count_by, filter, slice_get_within, WriteAt, Access, read, write, is_read}
+use Rattle.sc_and_interleavings.proofs.Vocabulary.{at_name, Execution, CanRead, AreReadsOf, IsExecutionOf, order_place, order_at, source_at, coherence_place, got_from_list, got_below, rank_filter, order_place_at, IsWriteTo, IsReadOf, WritesWithin}
 
 -- each order holds the writes to its place, each once, and each read reads what it can
 pub record Held (threads : List (List Access)) (x : Execution) : Type 0 where

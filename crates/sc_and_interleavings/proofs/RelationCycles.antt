@@ -1,10 +1,12 @@
 -- Where all edges of a cycle stand, its events are a cycle of an order that is kept across those that order, reads-from between threads,
 -- coherence order and from-read.
-use Rattle.sc_and_interleavings.proofs.Vocabulary.{◌≡◌, ℕ, zero, suc, ◌-◌, ◌<◌, true, List, [], ◌∷◌, ◌++◌, length, Some, refl, sym, ◌∙◌, ap, subst, arith, Internal, External, Kind, Edge, kind_of, kind_source, kind_target, kind_place, kind_reach, edge_at, event_after, by_after, after_below, WriteAt, Access, read, write, at_name, Execution, coherence_place, Program, accesses_in, visits_in, AccessAt, AreAt, CommunicatesBy, Reaches, Joins, access_at, event_name, AllStand, access_of_visit, FromRead, CoherenceOrder, Precedes, StepBy, ByPo, ByRf, ByCo, ByFr, IsPathBy, HasNoCycle, is_ordering, GlobalStep, Kept, Read, Cohere, Overwrite, IsPathOf, KeepsEach, Lives}
+use Rattle.sc_and_interleavings.proofs.Vocabulary.{◌≡◌, ℕ, zero, suc, ◌-◌, ◌<◌, true, List, [], ◌∷◌, ◌++◌, length, Some, refl, sym, ◌∙◌, ap, subst, arith, Internal, External, Kind, Edge, kind_of, kind_source, kind_target, kind_place, kind_reach, edge_at}
+use Rattle.sc_and_interleavings.proofs.Vocabulary.{event_after, by_after, after_below, WriteAt, Access, read, write, at_name, Execution, coherence_place, Program, accesses_in, visits_in, AccessAt, AreAt, CommunicatesBy, Reaches, Joins, access_at}
+use Rattle.sc_and_interleavings.proofs.Vocabulary.{event_name, AllStand, access_of_visit, FromRead, CoherenceOrder, Precedes, StepBy, ByPo, ByRf, ByCo, ByFr, IsPathBy, HasNoCycle, is_ordering, GlobalStep, Kept, Read, Cohere, Overwrite, IsPathOf}
+use Rattle.sc_and_interleavings.proofs.{Vocabulary.{KeepsEach, Lives}, Places.Held, Shapes.{writes_ordered, read_before}}
 use Rattle.relax_edges.specs.declared.kinds.Dir.TheVariants as dirs
 use Rattle.relax_edges.specs.declared.kinds.Com.TheVariants as coms
 use Rattle.relax_edges.specs.declared.kinds.Kind.TheVariants as kinds
-use Rattle.sc_and_interleavings.proofs.{Places.Held, Shapes.writes_ordered, Shapes.read_before}
 
 -- an access of a program's threads, with its name
 record Named (threads : List (List Access)) (e : AccessAt) : Type 0 where
@@ -75,9 +77,9 @@ path_then Step e [] f g p s = (p, s)
 path_then Step e (h ∷ between) f g p s = (p.0, path_then Step h between f g p.1 s)
 
 -- a path from the first event to another
-record PathTo (Step : WriteAt → WriteAt → Type 0) (es : List Edge) (i : ℕ) : Type 0 where
-  between : List WriteAt
-  path : IsPathOf Step (event_name es 0) between (event_name es i)
+pub record PathTo (Step : WriteAt → WriteAt → Type 0) (es : List Edge) (i : ℕ) : Type 0 where
+  pub between : List WriteAt
+  pub path : IsPathOf Step (event_name es 0) between (event_name es i)
 
 -- a step from each event to the next makes a cycle
 round_trip : (Step : WriteAt → WriteAt → Type 0) (es : List Edge) → 0 < length es
@@ -98,10 +100,8 @@ round_trip Step es some step =
 
 -- where all edges of a cycle stand, and a relation holds across each that orders, there is a cycle
 pub all_stand_cycle : (es : List Edge) (kept : WriteAt → WriteAt → Type 0) (p : Program) (x : Execution) → 0 < length es → Held (accesses_in p x) x
-    → KeepsEach es kept → AllStand es p x → Lives kept (accesses_in p x) x → ⊥
-all_stand_cycle es kept p x some held keeps all lives =
-    let round = round_trip (GlobalStep kept (accesses_in p x) x) es some step in
-    lives (event_name es 0) round.between round.path
+    → KeepsEach es kept → AllStand es p x → PathTo (GlobalStep kept (accesses_in p x) x) es 0
+all_stand_cycle es kept p x some held keeps all = round_trip (GlobalStep kept (accesses_in p x) x) es some step
   where
     step : (i : ℕ) → i < length es → GlobalStep kept (accesses_in p x) x (event_name es i) (event_name es (event_after es i))
     step i l =

@@ -1,5 +1,6 @@
 -- The reads that a run makes which has come to its end have the values that it was given.
-use Rattle.sc_and_interleavings.proofs.Vocabulary.{append-nil, ◌≡◌, ℕ, true, false, List, [], ◌∷◌, ◌++◌, map, Option, Some, None, refl, sym, ◌∙◌, ap, append_assoc, arith, filter, Value, Micro, Item, ThreadState, Effect, step, Run, Point, At, Past, Wants, Stuck, go, exec, led, is_load, beginning, add_item, outcome, run_ended, runs, OnRun, Barred, is_read, visits_from, visits_of, accesses_of, made_in, HasEnded}
+use Rattle.sc_and_interleavings.proofs.Vocabulary.{append-nil, ◌≡◌, ℕ, true, false, List, [], ◌∷◌, ◌++◌, map, Option, Some, None, refl, sym, ◌∙◌, ap, append_assoc, arith, filter, Value, Micro, Item, ThreadState, Effect, step, Run, Point, At, Past, Wants}
+use Rattle.sc_and_interleavings.proofs.Vocabulary.{Stuck, go, exec, led, is_load, beginning, add_item, outcome, run_ended, runs, OnRun, Barred, is_read, visits_from, visits_of, accesses_of, made_in, HasEnded}
 use Rattle.relax_edges.specs.declared.kinds.Dir.TheVariants as dirs
 use Rattle.micro_ops.specs.declared.operation.Item.TheVariants as items
 

@@ -1,6 +1,6 @@
 -- The laws of this crate, from its two directions.
-use Rattle.sc_and_interleavings.proofs.Vocabulary.{◌≡◌, ℕ, List, [], ◌∷◌, map, Option, refl, sym, ap, arith, Outcome, WriteAt, visits_of, accesses_of, Execution, runs_on, accesses_on, Program, Thread, made_in, runs_of, run_of, accesses_in, values_in, SequentialGoesAlong, AlongIsSequential}
-use Rattle.sc_and_interleavings.proofs.{Places.held, NoCycleOfInterleavings.along_sequential, Line.line_interleaves, Line.line_gives, Line.line_along}
+use Rattle.sc_and_interleavings.proofs.Vocabulary.{◌≡◌, ℕ, List, [], ◌∷◌, map, Option, refl, sym, ap, arith, Outcome, WriteAt, visits_of, accesses_of, Execution, runs_on, accesses_on, Program, Thread, made_in, runs_of, run_of, accesses_in, values_in}
+use Rattle.sc_and_interleavings.proofs.{Vocabulary.{SequentialGoesAlong, AlongIsSequential}, Places.held, NoCycleOfInterleavings.along_sequential, Line.{line_interleaves, line_gives, line_along}}
 
 -- the runs of threads in an execution are those on the values that are read
 runs_same : (threads : List Thread) (reads : List (List (ℕ × Option WriteAt)))

@@ -1,5 +1,7 @@
 -- Programs that make the accesses of a cycle's test write to their places alone.
-use Rattle.sc_and_interleavings.proofs.Vocabulary.{value_taken, Dir, ◌≡◌, ℕ, zero, suc, ◌<◌, List, [], ◌∷◌, length, Some, slice_get, refl, sym, ◌∙◌, ap, arith, slice_get_within, ObsMode, Edge, location_of, Access, write, got_from, at_name, Execution, Program, IsCandidate, accesses_in, IsNumbering, cycle_accesses, GotFrom, got_from_list, accesses-count, MakesAccesses, accesses_filled, values_left, values_read, Got, got_below, EventAt, LoadAt, by_origin, Resolves, WritesWithin}
+use Rattle.sc_and_interleavings.proofs.Vocabulary.{value_taken, Dir, ◌≡◌, ℕ, zero, suc, ◌<◌, List, [], ◌∷◌, length, Some, slice_get, refl, sym, ◌∙◌, ap, arith, slice_get_within, ObsMode, Edge, location_of, Access, write, got_from, at_name, Execution}
+use Rattle.sc_and_interleavings.proofs.Vocabulary.{Program, IsCandidate, accesses_in, IsNumbering, cycle_accesses, GotFrom, got_from_list, accesses-count, MakesAccesses, accesses_filled, values_left, values_read, Got, got_below, EventAt, LoadAt}
+use Rattle.sc_and_interleavings.proofs.Vocabulary.{by_origin, LaysOut, WritesWithin}
 use Rattle.relax_edges.specs.declared.kinds.Dir.TheVariants as dirs
 
 -- an access of a thread whose reads read given values, and the one that was planned
@@ -32,7 +34,7 @@ directions_differ : dirs.R ≡ dirs.W → ⊥
 directions_differ d = cc d
 
 -- a program that makes the accesses of a cycle's test writes to its places alone
-pub writes_to_own : (es : List Edge) (mode : ObsMode) (number : ℕ → ℕ) (p : Program) (x : Execution) → Resolves es → IsNumbering es number → MakesAccesses es mode number p x → IsCandidate p x → WritesWithin (accesses_in p x) p.places
+pub writes_to_own : (es : List Edge) (mode : ObsMode) (number : ℕ → ℕ) (p : Program) (x : Execution) → LaysOut es → IsNumbering es number → MakesAccesses es mode number p x → IsCandidate p x → WritesWithin (accesses_in p x) p.places
 writes_to_own es mode number p x resolved numbering makes candidate place w h =
     by_origin es mode number w plan.plan resolved named as_event as_load
   where

@@ -1,7 +1,7 @@
 -- Two accesses of a thread that don't follow each other in the coherence order make one of the five shapes, each a cycle.
-use Rattle.sc_and_interleavings.proofs.Vocabulary.{◌≡◌, ℕ, ◌<◌, ◌≤◌, List, [], ◌∷◌, Option, Some, None, refl, sym, ◌∙◌, ap, subst, arith, Dir, by_less, by_same, WriteAt, Access, read, at_name, Execution, CanRead, MayFollow, IsCoherent, order_place, order_at, source_at, coherence_place, IsWriteTo, IsReadOf, ProgramOrder, ReadsFrom, CoherenceOrder, IsBefore, Po, Rf, Co, Fr, IsScPerLocation}
+use Rattle.sc_and_interleavings.proofs.Vocabulary.{◌≡◌, ℕ, ◌<◌, ◌≤◌, List, [], ◌∷◌, Option, Some, None, refl, sym, ◌∙◌, ap, subst, arith, Dir, by_less, by_same, WriteAt, Access, read, at_name, Execution, CanRead, MayFollow, IsCoherent, order_place}
+use Rattle.sc_and_interleavings.proofs.{Vocabulary.{order_at, source_at, coherence_place, IsWriteTo, IsReadOf, ProgramOrder, ReadsFrom, CoherenceOrder, IsBefore, Po, Rf, Co, Fr, IsScPerLocation}, Places.{Held, place_in}}
 use Rattle.relax_edges.specs.declared.kinds.Dir.TheVariants as dirs
-use Rattle.sc_and_interleavings.proofs.Places.{Held, place_in}
 
 -- the coherence place of what can be read at a place
 abbrev spot : Execution → ℕ → Option WriteAt → ℕ

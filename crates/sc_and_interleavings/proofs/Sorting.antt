@@ -1,5 +1,6 @@
 -- Names in an order that a test without cycles allows: the first is one before which no other has to come, and so on.
-use Rattle.sc_and_interleavings.proofs.Vocabulary.{◌≡◌, ℕ, zero, suc, ◌<◌, ◌≤◌, Bool, true, false, not, List, [], ◌∷◌, length, Option, Some, None, slice_get, refl, sym, ◌∙◌, ap, subst, arith, inl, inr, ◌⊎◌, filter, find, list_all, cond-true, cond-false, and_parts, and_from, by_option, WriteAt, same_write, same_write-refl, same_write-true}
+use Rattle.sc_and_interleavings.proofs.Vocabulary.{◌≡◌, ℕ, zero, suc, ◌<◌, ◌≤◌, Bool, true, false, not, List, [], ◌∷◌, length, Option, Some, None, slice_get, refl, sym, ◌∙◌, ap, subst, arith, inl, inr, ◌⊎◌, filter, find, list_all, cond-true, cond-false}
+use Rattle.sc_and_interleavings.proofs.Vocabulary.{and_parts, and_from, by_option, WriteAt, same_write, same_write-refl, same_write-true}
 
 -- a name is in a list
 abbrev pub In : WriteAt → List WriteAt → Type 0

@@ -1,7 +1,8 @@
 -- Along each step the coherence place doesn't fall, and it rises into each write.
-use Rattle.sc_and_interleavings.proofs.Vocabulary.{◌≡◌, ℕ, ◌<◌, ◌≤◌, List, [], ◌∷◌, Option, Some, None, refl, sym, ◌∙◌, ap, subst, arith, inl, inr, ◌⊎◌, Dir, by_less, WriteAt, Access, read, at_name, Execution, MayFollow, IsCoherent, order_place, order_at, source_at, coherence_place, IsWriteTo, IsReadOf, IsAccessOf, ProgramOrder, ReadsFrom, CoherenceOrder, IsBefore, FromRead, Step, Po, Rf, Co, Fr, IsPathOfSteps, IsScPerLocation}
+use Rattle.sc_and_interleavings.proofs.Vocabulary.{◌≡◌, ℕ, ◌<◌, ◌≤◌, List, [], ◌∷◌, Option, Some, None, refl, sym, ◌∙◌, ap, subst, arith, inl, inr, ◌⊎◌, Dir, by_less, WriteAt, Access, read, at_name, Execution, MayFollow, IsCoherent, order_place}
+use Rattle.sc_and_interleavings.proofs.{Vocabulary.{order_at, source_at, coherence_place, IsWriteTo, IsReadOf, IsAccessOf, ProgramOrder, ReadsFrom, CoherenceOrder, IsBefore, FromRead, Step, Po, Rf, Co, Fr, IsPathOfSteps, IsScPerLocation}, Places.Held}
+use Rattle.sc_and_interleavings.proofs.Places.{place_in, level, level_is, level_write, level_read}
 use Rattle.relax_edges.specs.declared.kinds.Dir.TheVariants as dirs
-use Rattle.sc_and_interleavings.proofs.Places.{Held, place_in, level, level_is, level_write, level_read}
 
 -- e comes before f in a thread
 pub record Earlier (e f : WriteAt) : Type 0 where

@@ -1,8 +1,7 @@
 -- When an execution and an interleaving are the same thing.
 -- Source: own.
 use Rattle.std.specs.Prelude.{ℕ, ◌≡◌, ◌<◌, List, map, take, Some, slice_get}
-use Rattle.program_meaning.specs.{declared.WriteAt.WriteAt, Accesses.{Access, read, at_name}, Executions.Execution, Coherence.{order_at, source_at}}
-use Rattle.program_meaning.specs.Interleavings.{latest, writes_in}
+use Rattle.program_meaning.specs.{declared.WriteAt.WriteAt, Accesses.{Access, read, at_name}, Executions.Execution, Coherence.{order_at, source_at}, Interleavings.{latest, writes_in}}
 
 -- the values that the reads of each thread take in an execution
 abbrev pub values_in : Execution → List (List ℕ)

@@ -1,9 +1,8 @@
 -- Coherence per location is SC per location: the law for the accesses of threads, for programs and for the tests of cycles.
 use Rattle.std.specs.Prelude.{ℕ, ◌<◌, ◌↔◌, List}
-use Rattle.relax_edges.specs.{declared.kinds.ObsMode.ObsMode, declared.edge.Edge.Edge}
-use Rattle.cycle_events.specs.Resolution.{IsResolved}
-use Rattle.program_meaning.specs.{declared.WriteAt.WriteAt, Accesses.Access, Executions.{Execution, IsExecutionOf}, Coherence.IsCoherent, Intended.IsNumbering}
-use Rattle.program_meaning.specs.Programs.{Program, IsCandidate, IsCoherentIn, accesses_in}
+use Rattle.relax_edges.specs.declared.{kinds.ObsMode.ObsMode, edge.Edge.Edge}
+use Rattle.cycle_events.specs.Resolution.{IsLaidOut}
+use Rattle.program_meaning.specs.{declared.WriteAt.WriteAt, Accesses.Access, Executions.{Execution, IsExecutionOf}, Coherence.IsCoherent, Intended.IsNumbering, Programs.{Program, IsCandidate, IsCoherentIn, accesses_in}}
 use Rattle.accesses_force_cycles.specs.Joining.{MakesAccesses}
 use Rattle.sc_and_interleavings.specs.Relations.{IsWriteTo, IsScPerLocation}
 
@@ -28,5 +27,5 @@ CandidatesAreScPerLocation =
 -- program writes only to its locations
 abbrev pub CycleTestsAreScPerLocation : Type 0
 CycleTestsAreScPerLocation =
-    (es : List Edge) (mode : ObsMode) (number : ℕ → ℕ) (p : Program) (x : Execution) → IsResolved es → IsNumbering es number → MakesAccesses es mode number p x → IsCandidate p x →
+    (es : List Edge) (mode : ObsMode) (number : ℕ → ℕ) (p : Program) (x : Execution) → IsLaidOut es → IsNumbering es number → MakesAccesses es mode number p x → IsCandidate p x →
     IsCoherentIn p x ↔ IsScPerLocation (accesses_in p x) x

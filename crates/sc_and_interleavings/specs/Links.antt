@@ -3,7 +3,7 @@
 -- Source: own; the steps that all threads see are those of Alglave, Maranget and Tautschnig, 'Herding Cats', 2014, for machines on which
 -- a write reaches all other threads at once.
 use Rattle.std.specs.Prelude.{◌≡◌, ◌≢◌, ℕ, ◌<◌, ◌≤◌, Bool, true, false, List, [], ◌∷◌, length}
-use Rattle.relax_edges.specs.{declared.kinds.Kind.Kind, declared.kinds.Reach.TheVariants.Internal, declared.edge.Edge.Edge, EdgeTable.kind_of}
+use Rattle.relax_edges.specs.{declared.{kinds.{Kind.Kind, Reach.TheVariants.Internal}, edge.Edge.Edge}, EdgeTable.kind_of}
 use Rattle.relax_edges.specs.declared.kinds.Com.TheVariants as coms
 use Rattle.relax_edges.specs.declared.kinds.Kind.TheVariants as kinds
 use Rattle.cycle_events.specs.Resolution.{edge_at, event_after}

@@ -3,8 +3,8 @@
 -- Source: own.
 use Rattle.std.specs.{Prelude.{ℕ, ◌+◌, ◌≡◌, ◌<◌, cond, List, [], ◌∷◌, map, take, Option}, List.position_or_len}
 use Rattle.list_laws.specs.Numbers.{upto}
-use Rattle.program_meaning.specs.{declared.WriteAt.WriteAt, Accesses.{Access, is_read}, Executions.{Execution, same_write}, Coherence.final_value}
-use Rattle.program_meaning.specs.{Programs.{Program, IsCandidate, accesses_in, runs_of}, Interleavings.{writes_in, latest, value_after, runs_on, accesses_on}}
+use Rattle.program_meaning.specs.{declared.WriteAt.WriteAt, Accesses.{Access, is_read}, Executions.{Execution, same_write}, Coherence.final_value, Programs.{Program, IsCandidate, accesses_in, runs_of}, Interleavings.{writes_in, latest, value_after}}
+use Rattle.program_meaning.specs.Interleavings.{runs_on, accesses_on}
 use Rattle.sc_and_interleavings.specs.Sequential.{IsSequential}
 
 -- the accesses of an interleaving before this one

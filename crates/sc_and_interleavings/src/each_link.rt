@@ -14,7 +14,7 @@ pub fn others_are_kept()
     ensures { OthersAreKept }
 {}
 
-/// If all edges of a resolved cycle stand in a candidate execution, and a relation holds across each edge
+/// If all edges of a cycle that is laid out stand in a candidate execution, and a relation holds across each edge
 /// that orders (program order, a fence, a dependency, a read of the thread's own write), then this
 /// relation, reads-from between threads, coherence order and from-read have a cycle.
 pub fn kept_orders_forbid()

@@ -14,7 +14,7 @@ pub fn sequential_is_coherent()
     ensures { SequentialIsCoherent }
 {}
 
-/// If all edges of a resolved cycle stand in a candidate execution whose writes are to the program's
+/// If all edges of a cycle that is laid out stand in a candidate execution whose writes are to the program's
 /// locations, it isn't without such a cycle.
 pub fn standing_is_not_sequential()
     ensures { StandingIsNotSequential }

@@ -1,17 +1,7 @@
 -- What is rebuilt from a state, and when nothing is.
-use Rattle.std.proofs.Common.{◌≡◌, ℕ, List, Option, Some, None, length, map, sym, ap, subst, ◌∙◌}
-use Rattle.std.proofs.lemmas.{List.length-map, Option.same_Some}
-use Rattle.list_laws.proofs.Numbers.{length-map-upto}
-use Rattle.final_cond.specs.Conditions.{CondSeen}
-use Rattle.program_meaning.specs.{Accesses.{Access, is_read}, Executions.Execution, Interleavings.accesses_on}
-use Rattle.sc_and_interleavings.specs.CoherenceLaws.{WritesWithin}
-use Rattle.litmus_text.specs.{ReadPrograms.program_read, TestReading.TestRead}
-use Rattle.std.specs.List.{filter}
-use Rattle.states_fix_executions.specs.Rebuilt.{source_by_value}
-use Rattle.write_orders.specs.WriteOrders.{ordered_writes}
-use Rattle.rebuilt_executions.specs.Settled.{FixReads, end_at, rebuilt_from}
-use Rattle.state_verdicts.proofs.{LoadLists.accesses_count, StateLaws.{best_ending, ends_count}}
-use Rattle.state_verdicts.specs.{BestEnding.IsBestEnding, StateParts.{FixesExecution, FixesReads, end_given, ends_given, loads_from}}
+use Rattle.state_verdicts.proofs.Vocabulary.{◌≡◌, ℕ, List, Option, Some, None, length, map, sym, ap, subst, ◌∙◌, length-map, same_Some, filter, length-map-upto, CondSeen, Access, is_read, Execution, accesses_on, WritesWithin, program_read, TestRead}
+use Rattle.state_verdicts.{proofs.{Vocabulary.{source_by_value, ordered_writes}, LoadLists.accesses_count, StateLaws.{best_ending, ends_count}}, specs.{Settled.{FixReads, end_at, rebuilt_from}, BestEnding.IsBestEnding, StateParts.FixesExecution}}
+use Rattle.state_verdicts.specs.StateParts.{FixesReads, end_given, ends_given, loads_from}
 
 -- where not all loads are known, the state fixes nothing
 pub none_given : (register_number : List ℕ → Option ℕ) (test : TestRead) (state : CondSeen) → None ≡ loads_from register_number state.terms 0 test.threads

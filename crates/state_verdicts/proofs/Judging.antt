@@ -1,17 +1,7 @@
 -- The verdict by the one execution that can end in a state.
-use Rattle.std.proofs.Common.{◌≡◌, ℕ, Bool, true, false, List, Option, length, sym, ap, subst, ◌∙◌}
-use Rattle.std.specs.Prelude.{◌↔◌, IsTrue}
-use Rattle.relax_edges.specs.declared.kinds.Value.{Value}
-use Rattle.final_cond.specs.{Conditions.{LeftSeen, CondSeen}, States.Meets}
-use Rattle.program_meaning.specs.{Accesses.Access, Executions.Execution, Programs.{IsCandidate, IsCoherentIn, accesses_in}, declared.seen.SeenAccess.SeenAccess, SeenAccesses.seen_in}
-use Rattle.litmus_text.specs.{ReadPrograms.program_read, TestReading.TestRead}
-use Rattle.sc_and_interleavings.specs.{CoherenceLaws.WritesWithin, Sequential.IsSequential}
-use Rattle.states_fix_executions.specs.{Ordered.can_be_ordered, States.{SomeCoherent}}
-use Rattle.states_fix_executions.proofs.Ordering.{sequential_is_decided}
-use Rattle.sc_and_interleavings.proofs.InterleavingLaws.{sequential_is_coherent}
-use Rattle.write_orders.specs.WriteOrders.{have_an_order}
-use Rattle.rebuilt_executions.specs.Settled.{are_forced, end_at}
-use Rattle.state_verdicts.specs.{BestEnding.IsBestEnding, Verdicts.{EndsInState, IsVerdictOf}}
+use Rattle.state_verdicts.proofs.Vocabulary.{◌≡◌, ℕ, Bool, true, false, List, Option, length, sym, ap, subst, ◌∙◌, ◌↔◌, IsTrue, Value, LeftSeen, CondSeen, Meets, Access, Execution, IsCandidate, IsCoherentIn, accesses_in, SeenAccess, seen_in}
+use Rattle.state_verdicts.{proofs.Vocabulary.{program_read, TestRead, WritesWithin, IsSequential, sequential_is_coherent, can_be_ordered, SomeCoherent, have_an_order, sequential_is_decided}, specs.{Settled.{are_forced, end_at}, BestEnding.IsBestEnding}}
+use Rattle.state_verdicts.specs.Verdicts.{EndsInState, IsVerdictOf}
 use Rattle.state_verdicts.specs.declared.verdict.Verdict.TheVariants as verdicts
 
 -- a state that is judged in an equal final state has the same answer

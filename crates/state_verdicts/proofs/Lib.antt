@@ -1,5 +1,16 @@
+pub mod Vocabulary
 pub mod StateLaws
 pub mod LoadLists
 pub mod Judging
 pub mod Deciding
 pub mod Results
+pub mod RunAccesses
+pub mod Walks
+pub mod LoadsRead
+pub mod Fixing
+pub mod Growing
+pub mod LoadWalks
+pub mod NameWalks
+pub mod RebuiltSteps
+pub mod OrderWalks
+pub mod SortedWalks

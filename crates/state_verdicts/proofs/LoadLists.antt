@@ -1,15 +1,7 @@
 -- How the loops over threads list the values of loads, and the accesses that they lead to.
-use Rattle.std.proofs.Common.{◌≡◌, ℕ, zero, suc, ◌+◌, ◌≤◌, List, [], ◌∷◌, ◌++◌, length, map, take, drop, Option, Some, None, slice_get, refl, sym, ap, ◌∙◌, arith, add-one, append_assoc, append-nil}
-use Rattle.std.specs.Prelude.{option_map}
-use Rattle.std.proofs.lemmas.{List.drop_all, List.length-map, List.take_more, List.take_all, Option.same_Some, Option.slice_get_within, Option.get_or_from_slice_get}
-use Rattle.list_laws.proofs.Elements.{drop_given}
-use Rattle.accesses_force_cycles.proofs.Lists.{got_map}
-use Rattle.relax_edges.specs.declared.kinds.Value.{Value}
-use Rattle.micro_ops.specs.{declared.operation.Micro.Micro, Running.{runs}}
-use Rattle.final_cond.specs.Conditions.{TermSeen}
-use Rattle.program_meaning.specs.{Accesses.{Access, accesses_of, visits_of}, Interleavings.{accesses_on, runs_on}, Programs.{Thread, made_in}}
-use Rattle.litmus_text.specs.{ReadPrograms.{program_read, thread_read}, TestReading.{TestRead, ThreadRead}}
-use Rattle.state_verdicts.specs.StateParts.{thread_loads, with_loads, loads_from}
+use Rattle.std.proofs.{Common.{◌≡◌, ℕ, zero, suc, ◌+◌, ◌≤◌, List, [], ◌∷◌, ◌++◌, length, map, take, drop, Option, Some, None, slice_get, refl, sym, ap, ◌∙◌, arith, add-one, append_assoc, append-nil}, lemmas.List.{drop_all, length-map, take_more}}
+use Rattle.state_verdicts.proofs.Vocabulary.{take_all, same_Some, slice_get_within, get_or_from_slice_get, option_map, drop_given, got_map, Value, Micro, runs, TermSeen, Access, accesses_of, visits_of, accesses_on, runs_on, Thread, made_in, program_read}
+use Rattle.state_verdicts.{proofs.Vocabulary.{thread_read, TestRead, ThreadRead}, specs.StateParts.{thread_loads, with_loads, loads_from}}
 
 -- what is computed of the code of a thread
 pub thread_found : {Y : Type 0} (f : List Micro → Y) (o : Option ThreadRead) (code : List Micro) (y : Y) → option_map (λ (t : ThreadRead). t.code) o ≡ Some code → y ≡ f code

@@ -1,28 +1,11 @@
 -- A candidate that ends in a state reads what the state says, and what is rebuilt from the state is as good.
-use Rattle.std.proofs.Common.{◌≡◌, ℕ, suc, ◌+◌, ◌<◌, ◌==◌, true, false, cond, List, [], ◌∷◌, length, map, Option, Some, None, slice_get, ◌∙◌, refl, sym, ap, subst, arith, inl, inr}
-use Rattle.std.specs.{Prelude.{option_map, ◌⊎◌}, Option.option_and_then, List.AllByRecursion, Str.bytes_eq}
-use Rattle.std.proofs.lemmas.{Bool.eqb-true, Bool.eq-eqb, Option.same_Some, Option.slice_get_within, List.length-map}
-use Rattle.list_laws.specs.Numbers.{upto}
-use Rattle.list_laws.proofs.{Cases.by_test, Cases.by_option, Numbers.length-map-upto, Numbers.slice_get-map-upto}
-use Rattle.relax_edges.specs.{declared.kinds.Value.TheVariants.Num}
-use Rattle.micro_ops.specs.{Running.{Outcome, Ended, ReadsLeft, ReadsShort, NoRule}}
-use Rattle.final_cond.specs.Conditions.{AtPlace, CondSeen, InRegister, LeftSeen, TermSeen}
-use Rattle.arch_trait.specs.PlaceNames.{number_in}
-use Rattle.program_meaning.specs.{declared.WriteAt.WriteAt, Executions.Execution, Coherence.final_value, Coherence.order_at, Interleavings.accesses_on}
-use Rattle.program_meaning.specs.Programs.{Program, HasEnded, IsCandidate, accesses_in, held_at_end, held_at_last, register_in, run_of, runs_of}
-use Rattle.program_meaning.proofs.{ElementTests.every_from, ElementTests.every_means, Runs.accesses-count}
-use Rattle.accesses_force_cycles.proofs.Lists.{got_below}
-use Rattle.litmus_text.specs.{ReadPrograms.{program_read, thread_read}, TestReading.{TestRead, ThreadRead}}
-use Rattle.sc_and_interleavings.specs.{CoherenceLaws.WritesWithin}
-use Rattle.tests_force_cycles.specs.FinalStates.{final_state}
-use Rattle.states_fix_executions.specs.{States.{EndsIn, EndsWith, FinalState}, Rebuilt.Fixes}
-use Rattle.states_fix_executions.proofs.{Endings.accesses_same, Lists.position_means}
-use Rattle.write_orders.specs.{OrderLaws.FixesReads as Known, WriteOrders.{AreForced, is_forced, ordered_writes, sorted_execution}}
-use Rattle.write_orders.proofs.{Best.sorted_is_best, AlwaysBefore.none_is_sequential, Forced.forced_is_only, Forced.settled_is_forced}
-use Rattle.rebuilt_executions.specs.{LoadValues.{known_value, values_of_loads}, Settled.{AreSettled, FixReads, are_forced, end_at, given, rebuilt_from}}
-use Rattle.rebuilt_executions.proofs.LoadsRead.{loads_read}
-use Rattle.state_verdicts.specs.{BestEnding.IsBestEnding, Verdicts.EndsInState}
-use Rattle.state_verdicts.specs.StateParts.{FixesExecution, register_named, with_register, known_registers, thread_loads, with_loads, loads_from, is_number, place_named, end_given, ends_given}
+use Rattle.std.proofs.{Common.{◌≡◌, ℕ, suc, ◌+◌, ◌<◌, ◌==◌, true, false, cond, List, [], ◌∷◌, length, map, Option, Some, None, slice_get, ◌∙◌, refl, sym, ap, subst, arith, inl, inr}, lemmas.{Bool.{eqb-true, eq-eqb}, Option.{same_Some, slice_get_within}}}
+use Rattle.state_verdicts.proofs.Vocabulary.{length-map, option_map, ◌⊎◌, option_and_then, AllByRecursion, bytes_eq, upto, by_test, by_option, length-map-upto, slice_get-map-upto, Num, Outcome, Ended, ReadsLeft, ReadsShort, NoRule, AtPlace, CondSeen}
+use Rattle.state_verdicts.proofs.Vocabulary.{InRegister, LeftSeen, TermSeen, number_in, WriteAt, Execution, final_value, order_at, accesses_on, Program, HasEnded, IsCandidate, accesses_in, held_at_end, held_at_last, register_in, run_of, runs_of}
+use Rattle.state_verdicts.proofs.Vocabulary.{every_from, every_means, accesses-count, got_below, program_read, thread_read, TestRead, ThreadRead, WritesWithin, final_state, sorted_is_best, none_is_sequential, forced_is_only, settled_is_forced}
+use Rattle.state_verdicts.{proofs.LoadsRead.loads_read, specs.{LoadValues.{known_value, values_of_loads}, Settled.{AreSettled, FixReads, are_forced, end_at, given, rebuilt_from}, BestEnding.IsBestEnding, Verdicts.EndsInState, StateParts.FixesExecution}}
+use Rattle.state_verdicts.specs.StateParts.{register_named, with_register, known_registers, thread_loads, with_loads, loads_from, is_number, place_named, end_given, ends_given}
+use Rattle.states_fix_executions.{specs.{States.{EndsIn, EndsWith, FinalState}, Rebuilt.Fixes, OrderLaws.FixesReads as Known, WriteOrders.{AreForced, is_forced, ordered_writes, sorted_execution}}, proofs.{Endings.accesses_same, Lists.position_means}}
 
 -- each equality holds at the end of an execution
 abbrev AllHold : Program → List (List ℕ) → (List ℕ → Option ℕ) → Execution → List TermSeen → Type 0

@@ -5,10 +5,8 @@ use Rattle.final_cond.specs.Conditions.{CondSeen}
 use Rattle.program_meaning.specs.{Accesses.Access, Executions.Execution, Programs.{IsCandidate, IsCoherentIn, accesses_in}}
 use Rattle.litmus_text.specs.{ReadPrograms.program_read, TestReading.TestRead}
 use Rattle.sc_and_interleavings.specs.CoherenceLaws.{WritesWithin}
-use Rattle.states_fix_executions.specs.States.{SomeSequential}
-use Rattle.write_orders.specs.WriteOrders.{have_an_order}
-use Rattle.rebuilt_executions.specs.Settled.{are_forced, end_at}
-use Rattle.state_verdicts.specs.{StateParts.FixesExecution, Verdicts.EndsInState}
+use Rattle.states_fix_executions.specs.{States.SomeSequential, WriteOrders.have_an_order}
+use Rattle.state_verdicts.specs.{Settled.{are_forced, end_at}, StateParts.FixesExecution, Verdicts.EndsInState}
 
 -- it is a candidate that ends in the state, and coherent, where any is; where its orders are forced, it is the only coherent one; and forced
 -- they are where the state fixes one execution. And no candidate that ends so is sequentially consistent where the accesses have no order

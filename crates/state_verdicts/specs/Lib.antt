@@ -1,3 +1,9 @@
 pub mod Verdicts
 pub mod StateParts
 pub mod BestEnding
+pub mod LoadValues
+pub mod Settled
+pub mod RunAccesses
+pub mod Settling
+pub mod Growing
+pub mod LoadLaws

@@ -6,7 +6,7 @@ use Rattle.final_cond.specs.Conditions.{AtPlace, CondSeen, InRegister, LeftSeen,
 use Rattle.arch_trait.specs.PlaceNames.{number_in}
 use Rattle.program_meaning.specs.Interleavings.{accesses_on}
 use Rattle.litmus_text.specs.{ReadPrograms.program_read, TestReading.{TestRead, ThreadRead}}
-use Rattle.rebuilt_executions.specs.{LoadValues.values_of_loads, Settled.{AreSettled, FixReads}}
+use Rattle.state_verdicts.specs.{LoadValues.values_of_loads, Settled.{AreSettled, FixReads}}
 
 -- the register of a thread that a left side names, by its number
 abbrev pub register_named : (List ℕ → Option ℕ) → ℕ → LeftSeen → Option ℕ

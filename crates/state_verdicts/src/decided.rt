@@ -6,12 +6,12 @@ ghost use Rattle.state_verdicts.specs.{Verdicts.{CoherentEndsIn, IsVerdictOf}, S
 use crate::judged::judged;
 use crate::loads::{all_accesses, all_loads};
 use crate::places::ends_given;
+use crate::rebuilt_execution;
 use crate::verdict::Verdict;
 use arch_trait::Arch;
 use diy_io::NoMemory;
 use final_cond::Cond;
 use litmus_text::ReadTest;
-use rebuilt_executions::rebuilt_execution;
 use std::alloc::Global;
 
 /// The verdict of a state of a test: what is said of the candidate executions of the test at whose ends each

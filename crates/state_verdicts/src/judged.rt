@@ -7,12 +7,12 @@ ghost use Rattle.sc_and_interleavings.specs.{CoherenceLaws.{WritesWithin}, Seque
 ghost use Rattle.state_verdicts.specs.{Verdicts.{CoherentEndsIn, EndsInState, IsVerdictOf}, BestEnding.{IsBestEnding}, StateParts.{FixesExecution}};
 
 use crate::verdict::Verdict;
+use crate::{Accesses, are_forced, can_be_ordered, have_an_order};
 use arch_trait::Arch;
 use diy_io::NoMemory;
 use exec_meaning::{Execution, final_of, is_candidate, is_coherent, seen_accesses};
 use final_cond::{Cond, holds};
 use litmus_text::ReadTest;
-use rebuilt_executions::{Accesses, are_forced, can_be_ordered, have_an_order};
 use std::alloc::Global;
 
 /// Whether a candidate execution ends in a state.

@@ -4,14 +4,14 @@ ghost use Rattle.arch_trait.specs.PlaceNames.{number_in};
 ghost use Rattle.litmus_text.specs.ReadPrograms.{program_read};
 ghost use Rattle.program_meaning.specs.Interleavings.{accesses_on};
 ghost use Rattle.state_verdicts.specs.{StateParts.{known_registers, loads_from}};
-ghost use Rattle.rebuilt_executions.specs.LoadValues.{values_of_loads};
+ghost use Rattle.state_verdicts.specs.LoadValues.{values_of_loads};
 
 use crate::registers::known_registers;
+use crate::{Accesses, accesses_of_run, values_of_loads};
 use arch_trait::Arch;
 use diy_io::NoMemory;
 use final_cond::Cond;
 use litmus_text::ReadTest;
-use rebuilt_executions::{Accesses, accesses_of_run, values_of_loads};
 use std::alloc::{AllocError, Global};
 
 /// The values that the loads of a thread read, if the state gives them.

@@ -1,17 +1,14 @@
 -- States of the test of a cycle: that which its condition asks for is relaxed, and others are fixed.
-use Rattle.states_fix_executions.proofs.Vocabulary.{◌≡◌, ℕ, zero, suc, ◌<◌, ◌≤◌, Bool, true, false, cond, not, ◌&&◌, List, length, map, Option, Some, None, slice_get, slice_get_within, refl, sym, ◌∙◌, ap, subst, arith, inl, inr, ◌⊎◌, filter, by_less, by_test, and_parts, and_from, le-leb, leb-true, nat_le, same_below, Got, got_below, got_map, length-map, got_from, got_from_list, Access, at_name, is_read, write, Execution, accesses_in, accesses-count, IsCandidate, Program, final_value, values_in, WriteAt, IsWriteTo, sequential_is_coherent, HaveOwnValues, IsSettled, rebuilt, EndsIn, EndsWith, FinalState}
-use Rattle.relax_edges.specs.{declared.kinds.ObsMode.ObsMode, declared.edge.Edge.Edge}
-use Rattle.cycle_events.specs.{Resolution.{move_count}, Values.{is_observed, write_at, write_count}}
-use Rattle.program_meaning.specs.Intended.{IsNumbering, cycle_accesses, intended, location_numbered}
-use Rattle.program_meaning.specs.Standing.{event_name}
-use Rattle.program_meaning.proofs.Names.{GotFrom}
-use Rattle.accesses_force_cycles.specs.Joining.{EndsAsAsked, IsOutcome, MakesAccesses, ReadsAsAsked, accesses_filled, values_read}
-use Rattle.accesses_force_cycles.proofs.{ResolvedFacts.resolves, Laws.all_edges_stand_law, Laws.an_outcome_law, Resolves.{Resolves}}
-use Rattle.accesses_force_cycles.proofs.{Numbering.{Numbers, location_of_number, numbering_onto}, WriteEvents.{WriteEvent, write_event, rank_below}}
-use Rattle.sc_and_interleavings.specs.CoherenceLaws.{WritesWithin}
-use Rattle.sc_and_interleavings.proofs.{InterleavingLaws.standing_is_not_sequential, SequentialMade.{Filled, filled_from, writes_to_own}}
-use Rattle.states_fix_executions.specs.CycleStates.{CyclesAreDecided, CyclesAreRebuilt, SettlesCycle, StarredIsRelaxed, asked_end, starred}
-use Rattle.states_fix_executions.proofs.{Endings.accesses_same, Rebuilding.only_the_rebuilt, VerdictLaws.looking_decides}
+use Rattle.states_fix_executions.proofs.Vocabulary.{◌≡◌, ℕ, zero, suc, ◌<◌, ◌≤◌, Bool, true, false, cond, not, ◌&&◌, List, length, map, Option, Some, None, slice_get, slice_get_within, refl, sym, ◌∙◌, ap, subst, arith, inl, inr, ◌⊎◌, filter, by_less}
+use Rattle.states_fix_executions.proofs.Vocabulary.{by_test, and_parts, and_from, le-leb, leb-true, nat_le, same_below, Got, got_below, got_map, length-map, got_from, got_from_list, Access, at_name, is_read, write, Execution, accesses_in, accesses-count}
+use Rattle.states_fix_executions.proofs.{Vocabulary.{IsCandidate, Program, final_value, values_in, WriteAt, IsWriteTo, sequential_is_coherent, HaveOwnValues, IsSettled, rebuilt, EndsIn, EndsWith, FinalState}, Endings.accesses_same}
+use Rattle.states_fix_executions.{proofs.{Rebuilding.only_the_rebuilt, VerdictLaws.looking_decides}, specs.CycleStates.{CyclesAreDecided, CyclesAreRebuilt, SettlesCycle, StarredIsRelaxed, asked_end, starred}}
+use Rattle.relax_edges.specs.declared.{kinds.ObsMode.ObsMode, edge.Edge.Edge}
+use Rattle.cycle_events.{specs.{Resolution.move_count, Values.{is_observed, write_at, write_count}}, proofs.Locations.laid_out}
+use Rattle.program_meaning.{specs.{Intended.{IsNumbering, cycle_accesses, intended, location_numbered}, Standing.event_name}, proofs.Names.GotFrom}
+use Rattle.accesses_force_cycles.{specs.Joining.{EndsAsAsked, IsOutcome, MakesAccesses, ReadsAsAsked, accesses_filled, values_read}, proofs.{ResolvedFacts.resolves, Laws.{all_edges_stand_law, an_outcome_law}, Resolves.Resolves, Numbering.Numbers}}
+use Rattle.accesses_force_cycles.proofs.{Numbering.{location_of_number, numbering_onto}, WriteEvents.{WriteEvent, write_event, rank_below}}
+use Rattle.sc_and_interleavings.{specs.CoherenceLaws.WritesWithin, proofs.{InterleavingLaws.standing_is_not_sequential, SequentialMade.{Filled, filled_from, writes_to_own}}}
 
 -- the values of the loads of a thread that the condition asks for
 abbrev asked_loads : List Access → List ℕ
@@ -88,7 +85,7 @@ starred_is_relaxed es mode number p resolved served n test = (
   (λ some.
       let x = some.execution in
       let makes = test.makes x some.candidate in
-      let within = writes_to_own es mode number p x (resolves es resolved) n makes some.candidate in
+      let within = writes_to_own es mode number p x (resolves es resolved).laid n makes some.candidate in
       let coherent = sequential_is_coherent p x some.candidate within some.holds in
       let outcome : IsOutcome es mode number p x = record {
         candidate = some.candidate;
@@ -96,7 +93,7 @@ starred_is_relaxed es mode number p resolved served n test = (
         reads = reads_asked es mode number x some.ends.reads;
         ends = ends_asked es mode number p x n makes.places some.ends;
       } in
-      standing_is_not_sequential es p x resolved some.candidate within
+      standing_is_not_sequential es p x (laid_out resolved) some.candidate within
       (all_edges_stand_law es mode number p x resolved served n makes (test.ties x some.candidate) outcome) some.holds),
   record {
     execution = intended es mode number;
@@ -150,7 +147,7 @@ write_planned es mode number p x w place value makes lists h =
 event_of : (es : List Edge) (mode : ObsMode) (number : ℕ → ℕ) (p : Program) (x : Execution) (w : WriteAt) (place value : ℕ) → Resolves es
     → MakesAccesses es mode number p x → HasLists p x → at_name (accesses_in p x) w ≡ Some (write place value)
     → WriteEvent es number w place value
-event_of es mode number p x w place value r makes lists h = write_event es mode number w place value r (write_planned es mode number p x w place value makes lists h)
+event_of es mode number p x w place value r makes lists h = write_event es mode number w place value r.laid (write_planned es mode number p x w place value makes lists h)
 
 -- writes of one location with the same number are one
 same_event : (es : List Edge) (number : ℕ → ℕ) (w v : WriteAt) (place m n : ℕ) → Resolves es → IsNumbering es number
@@ -219,7 +216,7 @@ settled es mode number p s x place r n makes lists settles l =
     rank w a =
         let e = event w a in
         let s : e.spot ≡ m.spot = n.injective e.spot m.spot e.below m.below (e.place_is ∙ sym m.number_is) in
-        omega (arith, rank_below es e.spot e.rank e.event r e.is_write, ap (write_count es) s)
+        omega (arith, rank_below es e.spot e.rank e.event r.laid e.is_write, ap (write_count es) s)
 
     by_two : (u w v : WriteAt) (a : IsWriteTo (accesses_in p x) place u) (b : IsWriteTo (accesses_in p x) place w) (c : IsWriteTo (accesses_in p x) place v)
         → ((event u a).rank ≡ (event w b).rank) ⊎ (((event w b).rank ≡ (event v c).rank) ⊎ ((event u a).rank ≡ (event v c).rank))
@@ -243,4 +240,4 @@ cycles_are_rebuilt es mode number p s x resolved n test settles candidate ends =
 pub cycles_are_decided : CyclesAreDecided
 cycles_are_decided es mode number p s resolved n test settles =
     looking_decides p s (rebuilt p s) (λ x c e. cycles_are_rebuilt es mode number p s x resolved n test settles c e)
-    (λ x c e. writes_to_own es mode number p x (resolves es resolved) n (test x c) c)
+    (λ x c e. writes_to_own es mode number p x (resolves es resolved).laid n (test x c) c)

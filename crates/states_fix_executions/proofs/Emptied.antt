@@ -1,6 +1,6 @@
 -- What is emptied by taking free elements away: a list in which nothing leads back to itself, and no other.
-use Rattle.states_fix_executions.proofs.Vocabulary.{◌≡◌, ℕ, zero, suc, Bool, true, false, not, List, [], ◌∷◌, length, Some, None, slice_get, refl, sym, ◌∙◌, ap, subst, arith, inl, inr, ◌⊎◌, ◌==◌, eqb-true, eq-eqb, position_from, remove, by_option, same_Some, is_free, taken_away, empties}
-use Rattle.states_fix_executions.proofs.Lists.{IsIn, all_in, all_from_in, position_means, position_none}
+use Rattle.states_fix_executions.proofs.Vocabulary.{◌≡◌, ℕ, zero, suc, Bool, true, false, not, List, [], ◌∷◌, length, Some, None, slice_get, refl, sym, ◌∙◌, ap, subst, arith, inl, inr, ◌⊎◌, ◌==◌, eqb-true, eq-eqb, position_from, remove, by_option}
+use Rattle.states_fix_executions.proofs.{Vocabulary.{same_Some, is_free, taken_away, empties}, Lists.{IsIn, all_in, all_from_in, position_means, position_none}}
 
 remove_first : {X : Type 0} (y : X) (ys : List X) → remove (y ∷ ys) 0 ≡ ys
 remove_first y [] = refl

@@ -1,7 +1,10 @@
 -- All candidates that end in a state are listed, and nothing else.
-use Rattle.states_fix_executions.proofs.Vocabulary.{◌≡◌, ℕ, ◌<◌, ◌==◌, Bool, true, List, [], ◌∷◌, length, map, Option, Some, None, slice_get_within, refl, sym, ◌∙◌, ap, subst, arith, inl, inr, filter, list_all, and_parts, and_from, eqb-true, eq-eqb, image_of, upto, length-map, length-map-upto, slice_get-map-upto, slice_get-upto, length-upto, Outcome, Access, accesses_of, visits_of, at_name, is_read, write, can_read, writes_to, writes_value, writes_to_from, writes_there_means, AreReadsOf, CanRead, Execution, IsExecutionOf, accesses_on, runs_on, IsCandidate, Program, Thread, accesses_in, made_in, run_of, runs_of, candidate_from, candidate_means, is_candidate, final_value, WriteAt, values_in, are_equal, choices, endings, ends_in, ends_with, executions, is_ending, location_orders, names_of, sources, thread_reads, writes_in, EndsIn, EndsWith, FinalState}
-use Rattle.states_fix_executions.proofs.Lists.{IsIn, in_map, in_flat_map, in_filter, of_filter, in_choices, all_in, all_from_in, equal_means, equal_self, got_in, in_got}
-use Rattle.states_fix_executions.proofs.Names.{listed, in_writes, of_writes, order_apart, order_writes, writes_ordered, in_arrangements}
+use Rattle.states_fix_executions.proofs.Vocabulary.{◌≡◌, ℕ, ◌<◌, ◌==◌, Bool, true, List, [], ◌∷◌, length, map, Option, Some, None, slice_get_within, refl, sym, ◌∙◌, ap, subst, arith, inl, inr, filter, list_all, and_parts, and_from, eqb-true, eq-eqb}
+use Rattle.states_fix_executions.proofs.Vocabulary.{image_of, upto, length-map, length-map-upto, slice_get-map-upto, slice_get-upto, length-upto, Outcome, Access, accesses_of, visits_of, at_name, is_read, write, can_read, writes_to, writes_value}
+use Rattle.states_fix_executions.proofs.Vocabulary.{writes_to_from, writes_there_means, AreReadsOf, CanRead, Execution, IsExecutionOf, accesses_on, runs_on, IsCandidate, Program, Thread, accesses_in, made_in, run_of, runs_of, candidate_from}
+use Rattle.states_fix_executions.proofs.Vocabulary.{candidate_means, is_candidate, final_value, WriteAt, values_in, are_equal, choices, endings, ends_in, ends_with, executions, is_ending, location_orders, names_of, sources, thread_reads, writes_in}
+use Rattle.states_fix_executions.proofs.{Vocabulary.{EndsIn, EndsWith, FinalState}, Lists.{IsIn, in_map, in_flat_map, in_filter, of_filter, in_choices, all_in, all_from_in, equal_means, equal_self, got_in, in_got}, Names.{listed, in_writes, of_writes}}
+use Rattle.states_fix_executions.proofs.Names.{order_apart, order_writes, writes_ordered, in_arrangements}
 
 pub writes_value_from : (place value : ℕ) (o : Option Access) → o ≡ Some (write place value) → writes_value place value o ≡ true
 writes_value_from place value o h =

@@ -1,12 +1,10 @@
 -- A state is sequential exactly where an interleaving of the program ends in it.
-use Rattle.states_fix_executions.proofs.Vocabulary.{◌≡◌, ℕ, ◌+◌, suc, List, [], ◌∷◌, length, map, slice_get, Option, Some, refl, sym, ◌∙◌, ap, subst, arith, option_and_then, Outcome, Access, accesses_of, visits_of, at_name, accesses_in, accesses_on, runs_on, made_in, Program, Thread, last_write, value_of_access, WriteAt, EndsIn, EndsWith, FinalState, SomeSequential}
+use Rattle.states_fix_executions.proofs.Vocabulary.{◌≡◌, ℕ, ◌+◌, suc, List, [], ◌∷◌, length, map, slice_get, Option, Some, refl, sym, ◌∙◌, ap, subst, arith, option_and_then, Outcome, Access, accesses_of, visits_of, at_name, accesses_in, accesses_on}
+use Rattle.states_fix_executions.{proofs.{Vocabulary.{runs_on, made_in, Program, Thread, last_write, value_of_access, WriteAt, EndsIn, EndsWith, FinalState, SomeSequential}, Endings.accesses_same}, specs.VerdictLaws.InterleavingEnds}
+use Rattle.states_fix_executions.specs.VerdictLaws.{SequentialIsInterleaved}
 use Rattle.micro_ops.specs.Running.{runs}
-use Rattle.program_meaning.specs.{Programs.HasEnded, Interleavings.{IsInterleavingOf, value_after}}
-use Rattle.program_meaning.specs.Interleavings.{latest}
-use Rattle.sc_and_interleavings.specs.Made.{all_reads, before, made_by}
-use Rattle.sc_and_interleavings.proofs.{Made.interleavings_make_executions, MadeReads.reads_values, RunReads.ended_reads, SequentialLaws.sequential_goes_along}
-use Rattle.states_fix_executions.specs.VerdictLaws.{InterleavingEnds, SequentialIsInterleaved}
-use Rattle.states_fix_executions.proofs.Endings.{accesses_same}
+use Rattle.program_meaning.specs.{Programs.HasEnded, Interleavings.{IsInterleavingOf, value_after, latest}}
+use Rattle.sc_and_interleavings.{specs.Made.{all_reads, before, made_by}, proofs.{Made.interleavings_make_executions, MadeReads.reads_values, RunReads.ended_reads, SequentialLaws.sequential_goes_along}}
 
 -- the execution that an interleaving makes reads the values of the interleaving
 values_made : (source : WriteAt → ℕ → Option WriteAt) (n : ℕ) (threads : List Thread) (values : List (List ℕ))

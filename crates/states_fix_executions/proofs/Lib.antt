@@ -9,3 +9,9 @@ pub mod Rebuilding
 pub mod Cycles
 pub mod Interleaved
 mod Examples
+pub mod Sorted
+pub mod Locations
+pub mod Agreeing
+pub mod Best
+pub mod Forced
+pub mod AlwaysBefore

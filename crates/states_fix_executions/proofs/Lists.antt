@@ -1,5 +1,6 @@
 -- What is in a list, and in the lists that are made of it.
-use Rattle.states_fix_executions.proofs.Vocabulary.{◌≡◌, ℕ, zero, suc, ◌+◌, Bool, true, false, List, [], ◌∷◌, ◌++◌, length, map, Some, None, slice_get, refl, sym, ◌∙◌, ap, subst, arith, inl, inr, ◌⊎◌, filter, find, flat_map, enumerate_from, list_all, list_any, position_from, and_parts, and_from, by_test, same_Some, choices, are_equal}
+use Rattle.states_fix_executions.proofs.Vocabulary.{◌≡◌, ℕ, zero, suc, ◌+◌, Bool, true, false, List, [], ◌∷◌, ◌++◌, length, map, Some, None, slice_get, refl, sym, ◌∙◌, ap, subst, arith, inl, inr, ◌⊎◌, filter, find, flat_map, enumerate_from, list_all}
+use Rattle.states_fix_executions.proofs.Vocabulary.{list_any, position_from, and_parts, and_from, by_test, same_Some, choices, are_equal}
 
 -- an element is in a list
 abbrev pub IsIn : {X : Type 0} → X → List X → Type 0

@@ -1,7 +1,7 @@
 -- The names of accesses: each is listed, once. And the arrangements of names.
-use Rattle.states_fix_executions.proofs.Vocabulary.{◌≡◌, ℕ, zero, suc, ◌+◌, ◌<◌, ◌≤◌, Bool, true, false, not, List, [], ◌∷◌, ◌++◌, length, map, Some, slice_get, refl, sym, ◌∙◌, ap, subst, arith, inl, inr, ◌⊎◌, filter, flat_map, by_test, same_Some, got_from_list, Access, at_name, name, write, writes_there, writes_in, writes_there_means, writes_to_from, same_write, same_write-refl, same_write-true, WriteAt, IsWriteTo, IsOrderOf, arrangements, names_from, names_of, thread_names, without}
-use Rattle.states_fix_executions.proofs.Lists.{IsIn, in_first, in_second, in_either, in_map, in_flat_map, in_filter, of_filter, in_got, got_in}
-use Rattle.states_fix_executions.proofs.Emptied.{not_both, not_from}
+use Rattle.states_fix_executions.proofs.Vocabulary.{◌≡◌, ℕ, zero, suc, ◌+◌, ◌<◌, ◌≤◌, Bool, true, false, not, List, [], ◌∷◌, ◌++◌, length, map, Some, slice_get, refl, sym, ◌∙◌, ap, subst, arith, inl, inr, ◌⊎◌, filter, flat_map, by_test, same_Some}
+use Rattle.states_fix_executions.proofs.Vocabulary.{got_from_list, Access, at_name, name, write, writes_there, writes_in, writes_there_means, writes_to_from, same_write, same_write-refl, same_write-true, WriteAt, IsWriteTo, IsOrderOf, arrangements}
+use Rattle.states_fix_executions.proofs.{Vocabulary.{names_from, names_of, thread_names, without}, Lists.{IsIn, in_first, in_second, in_either, in_map, in_flat_map, in_filter, of_filter, in_got, got_in}, Emptied.{not_both, not_from}}
 
 thread_in : (thread slot i : ℕ) (accesses : List Access) (a : Access) → slice_get accesses i ≡ Some a
     → IsIn (name thread (slot + i)) (thread_names thread slot accesses)

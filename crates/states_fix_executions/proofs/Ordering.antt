@@ -1,8 +1,8 @@
 -- Whether the accesses of an execution, as they are seen, can be put into order decides whether it is sequentially consistent.
-use Rattle.states_fix_executions.proofs.Vocabulary.{◌≡◌, ℕ, ◌+◌, true, List, [], ◌∷◌, length, map, Option, Some, None, slice_get, refl, sym, ◌∙◌, ap, subst, arith, inl, inr, ◌⊎◌, got_map, image_of, at_name_of, got_from_list, enumerate_from, Access, Visit, accesses_of, at_name, name, read, write, coherence_place, order_at, order_place, source_at, Execution, CanRead, accesses_in, visits_in, seen_access, seen_accesses, seen_in_thread, WriteAt, SeenAccess, Leads, acyclic, comes, comes_by, earlier_comes, lesser_comes, Held, held, place_in, IsBefore, ByCo, ByFr, ByPo, ByRf, IsPathBy, IsSequential, Precedes, StepBy, can_be_ordered, has_to_come}
-use Rattle.states_fix_executions.proofs.Lists.{IsIn, in_flat_map, of_flat_map, in_map, of_map, in_enumerate, of_enumerate}
-use Rattle.states_fix_executions.proofs.Emptied.{never_empties, empties_all}
-use Rattle.states_fix_executions.specs.VerdictLaws.{SequentialIsDecided}
+use Rattle.states_fix_executions.proofs.Vocabulary.{◌≡◌, ℕ, ◌+◌, true, List, [], ◌∷◌, length, map, Option, Some, None, slice_get, refl, sym, ◌∙◌, ap, subst, arith, inl, inr, ◌⊎◌, got_map, image_of, at_name_of, got_from_list, enumerate_from, Access}
+use Rattle.states_fix_executions.proofs.Vocabulary.{Visit, accesses_of, at_name, name, read, write, coherence_place, order_at, order_place, source_at, Execution, CanRead, accesses_in, visits_in, seen_access, seen_accesses, seen_in_thread, WriteAt}
+use Rattle.states_fix_executions.proofs.Vocabulary.{SeenAccess, Leads, acyclic, comes, comes_by, earlier_comes, lesser_comes, Held, held, place_in, IsBefore, ByCo, ByFr, ByPo, ByRf, IsPathBy, IsSequential, Precedes, StepBy, can_be_ordered, has_to_come}
+use Rattle.states_fix_executions.{proofs.{Lists.{IsIn, in_flat_map, of_flat_map, in_map, of_map, in_enumerate, of_enumerate}, Emptied.{never_empties, empties_all}}, specs.VerdictLaws.SequentialIsDecided}
 use Rattle.sc_and_interleavings.proofs.Sorting.{IsAcyclic}
 
 -- the name of an access that is seen

@@ -1,10 +1,10 @@
 -- A state fixes the reads of a candidate where writes have their own values, and the order of a location's writes where it is settled.
-use Rattle.states_fix_executions.proofs.Vocabulary.{◌≡◌, ℕ, suc, ◌-◌, true, not, List, [], ◌∷◌, ◌++◌, length, map, Option, Some, None, slice_get, slice_get_within, refl, sym, ◌∙◌, ap, subst, arith, inl, inr, ◌⊎◌, filter, find, by_option, by_test, same_below, got_below, got_map, upto, length-map, length-map-upto, slice_get-map-upto, option_and_then, unwrap_or, Access, at_name, is_read, write, writes_value, AreReadsOf, CanRead, Execution, IsExecutionOf, IsOrderOf, accesses_on, IsCandidate, Program, last_write, value_of_access, WriteAt, writes_in, IsWriteTo, names_of, Fixes, HaveOwnValues, IsSettled, is_last, order_by_end, rebuilt, source_by_value, EndsIn, EndsWith, FinalState}
-use Rattle.states_fix_executions.proofs.Lists.{IsIn, in_first, in_second, in_either, in_filter, of_filter, in_got, got_in, find_means, find_none}
-use Rattle.states_fix_executions.proofs.Names.{AreApart, apart_append, apart_filter, listed, in_writes, of_writes, writes_apart, order_apart, order_writes, writes_ordered}
-use Rattle.states_fix_executions.proofs.Endings.{writes_value_from, writes_value_means, accesses_same, state_execution}
-use Rattle.states_fix_executions.proofs.{Emptied.not_both, VerdictLaws.looking_decides}
-use Rattle.states_fix_executions.specs.FixedLaws.{ExecutionIsFixed, OnlyTheRebuilt, ReadsAreFixed, RebuiltDecides}
+use Rattle.states_fix_executions.proofs.Vocabulary.{◌≡◌, ℕ, suc, ◌-◌, true, not, List, [], ◌∷◌, ◌++◌, length, map, Option, Some, None, slice_get, slice_get_within, refl, sym, ◌∙◌, ap, subst, arith, inl, inr, ◌⊎◌, filter, find, by_option, by_test}
+use Rattle.states_fix_executions.proofs.Vocabulary.{same_below, got_below, got_map, upto, length-map, length-map-upto, slice_get-map-upto, option_and_then, unwrap_or, Access, at_name, is_read, write, writes_value, AreReadsOf, CanRead, Execution}
+use Rattle.states_fix_executions.proofs.Vocabulary.{IsExecutionOf, IsOrderOf, accesses_on, IsCandidate, Program, last_write, value_of_access, WriteAt, writes_in, IsWriteTo, names_of, Fixes, HaveOwnValues, IsSettled, is_last, order_by_end, rebuilt}
+use Rattle.states_fix_executions.proofs.{Vocabulary.{source_by_value, EndsIn, EndsWith, FinalState}, Lists.{IsIn, in_first, in_second, in_either, in_filter, of_filter, in_got, got_in, find_means, find_none}, Names.{AreApart, apart_append, apart_filter}}
+use Rattle.states_fix_executions.proofs.{Names.{listed, in_writes, of_writes, writes_apart, order_apart, order_writes, writes_ordered}, Endings.{writes_value_from, writes_value_means, accesses_same, state_execution}, Emptied.not_both}
+use Rattle.states_fix_executions.{proofs.VerdictLaws.looking_decides, specs.FixedLaws.{ExecutionIsFixed, OnlyTheRebuilt, ReadsAreFixed, RebuiltDecides}}
 
 -- what an access reads is found by its value
 source_found : (threads : List (List Access)) (a : Access) (o : Option WriteAt) → HaveOwnValues threads → CanRead threads a o

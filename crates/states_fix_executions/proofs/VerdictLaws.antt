@@ -1,8 +1,7 @@
 -- The laws of verdicts.
-use Rattle.states_fix_executions.proofs.Vocabulary.{◌≡◌, Bool, true, false, List, [], ◌∷◌, refl, subst, inl, if◌then◌else◌, list_any, filter, coheres, coheres_from, coheres_means, Execution, Program, accesses_in, sequential_is_coherent, endings, is_ending, is_sequential, verdict_by, verdict_of, Any, EndsIn, FinalState, HasVerdict, Impossible, Incoherent, Relaxed, Sequential, SomeCoherent, SomeEnding, SomeSequential, Verdict, WriteWithin}
-use Rattle.states_fix_executions.proofs.Lists.{any_in, any_from_in, in_filter, of_filter}
-use Rattle.states_fix_executions.proofs.{Ordering.sequential_is_decided, Endings.{ListsEndings, lists_endings, is_ending_from, is_ending_means}}
-use Rattle.states_fix_executions.specs.VerdictLaws.{OneVerdict, VerdictIsExact}
+use Rattle.states_fix_executions.proofs.Vocabulary.{◌≡◌, Bool, true, false, List, [], ◌∷◌, refl, subst, inl, if◌then◌else◌, list_any, filter, coheres, coheres_from, coheres_means, Execution, Program, accesses_in, sequential_is_coherent, endings}
+use Rattle.states_fix_executions.proofs.Vocabulary.{is_ending, is_sequential, verdict_by, verdict_of, Any, EndsIn, FinalState, HasVerdict, Impossible, Incoherent, Relaxed, Sequential, SomeCoherent, SomeEnding, SomeSequential, Verdict, WriteWithin}
+use Rattle.states_fix_executions.{proofs.{Lists.{any_in, any_from_in, in_filter, of_filter}, Ordering.sequential_is_decided, Endings.{ListsEndings, lists_endings, is_ending_from, is_ending_means}}, specs.VerdictLaws.{OneVerdict, VerdictIsExact}}
 use Rattle.states_fix_executions.specs.FixedLaws.{LookingDecides}
 
 -- a sequentially consistent ending is coherent

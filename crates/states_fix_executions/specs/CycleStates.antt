@@ -1,12 +1,10 @@
 -- The state that the condition of a cycle's test asks for, and states of such a test. `es` is the list of edges in which threads,
 -- locations and values are counted, and `number` numbers the locations. Source: own.
-use Rattle.std.specs.Prelude.{ℕ, ◌≡◌, ◌≤◌, ◌&&◌, not, cond, nat_le, List, map, filter, Option, Some, None}
-use Rattle.relax_edges.specs.{declared.kinds.ObsMode.ObsMode, declared.edge.Edge.Edge}
+use Rattle.std.specs.Prelude.{ℕ, ◌≡◌, ◌≤◌, ◌&&◌, not, cond, nat_le, List, map, filter, Option, Some, None, ◌<◌, slice_get}
+use Rattle.relax_edges.specs.declared.{kinds.ObsMode.ObsMode, edge.Edge.Edge}
 use Rattle.micro_ops.specs.Running.{Outcome}
 use Rattle.cycle_events.specs.{Resolution.{IsResolved, move_count}, Values.{is_observed, write_count}}
-use Rattle.program_meaning.specs.{Accesses.is_read, Executions.Execution, Programs.{Program, HasEnded, IsCandidate, runs_of}}
-use Rattle.program_meaning.specs.Intended.{IsNumbering, cycle_accesses, intended, location_numbered}
-use Rattle.std.specs.Prelude.{◌<◌, slice_get}
+use Rattle.program_meaning.specs.{Accesses.is_read, Executions.Execution, Programs.{Program, HasEnded, IsCandidate, runs_of}, Intended.{IsNumbering, cycle_accesses, intended, location_numbered}}
 use Rattle.accesses_force_cycles.specs.{Premises.IsServed, Joining.{IsTiedUp, MakesAccesses}}
 use Rattle.states_fix_executions.specs.{States.{FinalState, EndsIn, HasVerdict, Relaxed}, Rebuilt.{rebuilt, verdict_looked}}
 

@@ -5,3 +5,5 @@ pub mod Rebuilt
 pub mod VerdictLaws
 pub mod FixedLaws
 pub mod CycleStates
+pub mod WriteOrders
+pub mod OrderLaws

@@ -1,11 +1,9 @@
 -- All executions of the accesses that the loads of a state lead to, those among them that end in the state, and the verdict that they give.
 -- Source: own.
-use Rattle.std.specs.Prelude.{ℕ, zero, suc, ◌==◌, ◌&&◌, Bool, true, false, not, if◌then◌else◌, List, [], ◌∷◌, length, map, filter, Option, Some, None}
-use Rattle.std.specs.List.{list_all, list_any, flat_map}
+use Rattle.std.specs.{Prelude.{ℕ, zero, suc, ◌==◌, ◌&&◌, Bool, true, false, not, if◌then◌else◌, List, [], ◌∷◌, length, map, filter, Option, Some, None}, List.{list_all, list_any, flat_map}}
 use Rattle.list_laws.specs.Numbers.{upto}
-use Rattle.program_meaning.specs.{declared.WriteAt.WriteAt, Accesses.{Access, is_read}, Executions.{Execution, same_write}, Coherence.final_value}
-use Rattle.program_meaning.specs.{Deciding.{name, can_read, coheres, is_candidate}, Programs.{Program, accesses_in}, Interleavings.{accesses_on, writes_in}}
-use Rattle.program_meaning.specs.SeenAccesses.{seen_in}
+use Rattle.program_meaning.specs.{declared.WriteAt.WriteAt, Accesses.{Access, is_read}, Executions.{Execution, same_write}, Coherence.final_value, Deciding.{name, can_read, coheres, is_candidate}, Programs.{Program, accesses_in}}
+use Rattle.program_meaning.specs.{Interleavings.{accesses_on, writes_in}, SeenAccesses.seen_in}
 use Rattle.sc_and_interleavings.specs.Along.{values_in}
 use Rattle.states_fix_executions.specs.{States.{FinalState, Verdict, Sequential, Relaxed, Incoherent, Impossible}, Ordered.can_be_ordered}
 

@@ -1,9 +1,7 @@
 -- Where a final state fixes the execution: each read by its value, and the order of a location's writes by its final value. Source: own.
-use Rattle.std.specs.Prelude.{ℕ, ◌≡◌, ◌<◌, ◌⊎◌, ◌++◌, Bool, false, not, List, map, filter, Option, Some, None}
-use Rattle.std.specs.{List.find, Prelude.[], Prelude.◌∷◌}
+use Rattle.std.specs.{Prelude.{ℕ, ◌≡◌, ◌<◌, ◌⊎◌, ◌++◌, Bool, false, not, List, map, filter, Option, Some, None, [], ◌∷◌}, List.find}
 use Rattle.list_laws.specs.Numbers.{upto}
-use Rattle.program_meaning.specs.{declared.WriteAt.WriteAt, Accesses.{Access, write, is_read, at_name}, Executions.Execution}
-use Rattle.program_meaning.specs.{Deciding.writes_value, Programs.Program, Interleavings.{accesses_on, writes_in}}
+use Rattle.program_meaning.specs.{declared.WriteAt.WriteAt, Accesses.{Access, write, is_read, at_name}, Executions.Execution, Deciding.writes_value, Programs.Program, Interleavings.{accesses_on, writes_in}}
 use Rattle.sc_and_interleavings.specs.Relations.{IsWriteTo}
 use Rattle.states_fix_executions.specs.{States.{FinalState, Verdict}, Listed.{names_of, is_ending, verdict_by}}
 

@@ -1,7 +1,6 @@
 -- The laws of verdicts, for any program that writes to its own locations.
 use Rattle.std.specs.Prelude.{ℕ, ◌≡◌, ◌<◌, ◌↔◌, true, List, length}
-use Rattle.program_meaning.specs.{declared.WriteAt.WriteAt, Executions.Execution, Programs.{Program, IsCandidate, accesses_in}, SeenAccesses.seen_in}
-use Rattle.program_meaning.specs.Interleavings.{IsInterleavingOf, accesses_on, value_after}
+use Rattle.program_meaning.specs.{declared.WriteAt.WriteAt, Executions.Execution, Programs.{Program, IsCandidate, accesses_in}, SeenAccesses.seen_in, Interleavings.{IsInterleavingOf, accesses_on, value_after}}
 use Rattle.sc_and_interleavings.specs.{CoherenceLaws.WritesWithin, Sequential.IsSequential}
 use Rattle.states_fix_executions.specs.{States.{FinalState, EndsIn, EndsWith, Verdict, Sequential, HasVerdict, WriteWithin}, Ordered.can_be_ordered, Listed.verdict_of}
 

@@ -1,17 +1,9 @@
 -- How the judging of states ends, once the test was read.
-use Rattle.std.proofs.Common.{◌≡◌, ℕ, List, [], ◌∷◌, Some, None, inr, refl}
-use Rattle.diy_io.specs.{Taken.SourceSeen, Shelf.ShelfSeen, Wrote.{SinkSeen, WroteAll, WrotePart}, Opened.name_at}
-use Rattle.relax_edges.specs.declared.kinds.ArchName.{ArchName}
-use Rattle.arch_trait.specs.{PlaceNames.number_in, Writing.Writing}
-use Rattle.litmus_text.specs.TestReading.{TestRead}
-use Rattle.log_sum.specs.Representing.{Kept, Represents}
-use Rattle.tests_from_files.specs.{FilesRead.FileIs, TestSaid.test_said}
-use Rattle.msum7_files.specs.{declared.faults.LogsFault.LogsFault, LogsRead.{LogFilesRead, LogFilesUnread, LogRead}, declared.wrong_blocks.WrongBlocks.TheVariants.End}
-use Rattle.states_of_logs.specs.{declared.states_end.StatesEnd.StatesEnd, JudgingSteps.{StatesTo, log_end}}
-use Rattle.states_of_logs.specs.{StatesEnds.{AfterTest, FilesJudged, InputJudged, StatesSeen}}
+use Rattle.states_of_logs.proofs.Vocabulary.{◌≡◌, ℕ, List, [], ◌∷◌, Some, None, inr, refl, SourceSeen, ShelfSeen, SinkSeen, WroteAll, WrotePart, name_at, ArchName, number_in, Writing, TestRead, Kept, Represents, FileIs, test_said, LogsFault, End}
+use Rattle.states_of_logs.{proofs.{Vocabulary.{LogFilesRead, LogFilesUnread, LogRead}, StatesLaws.{none_are, states_said}}, specs.{declared.states_end.StatesEnd.StatesEnd, JudgingSteps.{StatesTo, log_end}, StatesEnds.{AfterTest, FilesJudged}}}
+use Rattle.states_of_logs.specs.StatesEnds.{InputJudged, StatesSeen}
 use Rattle.msum7_files.specs.declared.faults.LogsFault.TheVariants as logs
 use Rattle.states_of_logs.specs.declared.states_end.StatesEnd.TheVariants as ends
-use Rattle.states_of_logs.proofs.StatesLaws.{none_are, states_said}
 
 -- what holds of logs that were read
 files_hold : (old new : ShelfSeen) (words : List (List ℕ)) (first : ℕ) (P Q : List (List ℕ) → Type 0) → LogFilesRead old new words first P

@@ -1,12 +1,7 @@
 -- The states that a summer keeps are those of the logs that it was fed.
-use Rattle.std.proofs.Common.{◌≡◌, ℕ, List, [], ◌++◌, None, Ok, sym, ap, ◌∙◌, append-nil}
-use Rattle.std.specs.Prelude.{Option, Result, option_map}
-use Rattle.text_parts.specs.{Lines.whole_lines, ReadingSteps.◌>>=◌}
-use Rattle.litmus_text.specs.TestReading.{TestRead}
-use Rattle.log_sum.specs.{declared.errors.LogError.LogError, Facts.Entry, KeptStates.{states_kept, test_named}}
-use Rattle.log_sum.specs.{Summed.{StateSummed, Summed}}
-use Rattle.log_sum.specs.Representing.{Kept, Represents, facts_so_far, sum_table}
-use Rattle.states_of_logs.specs.{JudgingSteps.KeptSaid, StatesSummed.{StatesSaid, states_among, states_in_logs}}
+use Rattle.std.{proofs.Common.{◌≡◌, ℕ, List, [], ◌++◌, None, Ok, sym, ap, ◌∙◌, append-nil}, specs.Prelude.{Option, Result, option_map}}
+use Rattle.states_of_logs.{proofs.Vocabulary.{whole_lines, ◌>>=◌, TestRead, LogError, Entry, states_kept, test_named, StateSummed, Summed, Kept, Represents, facts_so_far, sum_table}, specs.{JudgingSteps.KeptSaid, StatesSummed.{StatesSaid, states_among}}}
+use Rattle.states_of_logs.specs.StatesSummed.{states_in_logs}
 
 -- where no bytes have come, no facts have
 nothing_said : (entries : List Entry) → entries ++ facts_so_far [] ≡ entries

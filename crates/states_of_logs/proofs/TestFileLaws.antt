@@ -1,13 +1,7 @@
 -- What the file of a test gives, by what was read of it.
-use Rattle.std.proofs.{Common.{◌≡◌, ℕ, List, refl}, lemmas.Bool.false≢true}
-use Rattle.std.specs.Prelude.{Result, Ok, Err}
-use Rattle.diy_io.specs.{Shelf.ShelfSeen, declared.errors.Failed.Failed}
-use Rattle.relax_edges.specs.declared.kinds.ArchName.{ArchName}
-use Rattle.arch_trait.specs.Writing.{Writing}
-use Rattle.litmus_text.specs.TestReading.{TestRead}
-use Rattle.tests_from_files.specs.{FilesRead.FileRead, TestSaid.test_said}
-use Rattle.tests_from_files.specs.{FirstBytes.{file_is, file_unclosed, file_faulty, tests_by_first_bytes}}
-use Rattle.states_of_logs.specs.{declared.test_file.TestFault.TestFault, JudgingSteps.{TestFileTo, TestClosedTo}}
+use Rattle.std.{proofs.{Common.{◌≡◌, ℕ, List, refl}, lemmas.Bool.false≢true}, specs.Prelude.{Result, Ok, Err}}
+use Rattle.states_of_logs.{proofs.Vocabulary.{ShelfSeen, Failed, ArchName, Writing, TestRead, FileRead, test_said, file_is, file_unclosed, file_faulty, tests_by_first_bytes}, specs.{declared.test_file.TestFault.TestFault, JudgingSteps.TestFileTo}}
+use Rattle.states_of_logs.specs.JudgingSteps.{TestClosedTo}
 use Rattle.states_of_logs.specs.declared.test_file.TestFault.TheVariants as faults
 
 -- the file of a test was read, and this is the answer to its text and to its closing

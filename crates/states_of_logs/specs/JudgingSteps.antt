@@ -6,12 +6,9 @@ use Rattle.relax_edges.specs.declared.kinds.ArchName.{ArchName}
 use Rattle.arch_trait.specs.Writing.{Writing}
 use Rattle.litmus_text.specs.TestReading.{TestRead}
 use Rattle.log_sum.specs.{KeptStates.states_kept, Representing.Kept, Summed.StateSummed}
-use Rattle.tests_from_files.specs.{declared.errors.FileFault.FileFault, declared.errors.NoTest.NoTest}
-use Rattle.tests_from_files.specs.{declared.errors.TestFileKind.TestFileKind}
-use Rattle.tests_from_files.specs.{FilesRead.{FileFailed, FileIs, FileFaulty}, TestSaid.test_said}
+use Rattle.tests_from_files.specs.{declared.errors.{FileFault.FileFault, NoTest.NoTest, TestFileKind.TestFileKind}, FilesRead.{FileFailed, FileIs, FileFaulty}, TestSaid.test_said}
 use Rattle.msum7_files.specs.declared.faults.LogsFault.{LogsFault}
-use Rattle.judged_states.specs.{JudgedStates.{AreJudged, StateJudged}, JudgedText.judged_text}
-use Rattle.states_of_logs.specs.declared.{states_end.StatesEnd.StatesEnd, states_end.StatesKind.StatesKind, test_file.TestFault.TestFault}
+use Rattle.states_of_logs.specs.{JudgedStates.{AreJudged, StateJudged}, JudgedText.judged_text, declared.{states_end.{StatesEnd.StatesEnd, StatesKind.StatesKind}, test_file.TestFault.TestFault}}
 use Rattle.tests_from_files.specs.declared.errors.FileFault.TheVariants as reads
 use Rattle.tests_from_files.specs.declared.errors.NoTest.TheVariants as no_tests
 use Rattle.tests_from_files.specs.declared.errors.TestFileKind.TheVariants as tests

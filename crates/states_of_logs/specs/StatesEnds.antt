@@ -5,10 +5,8 @@ use Rattle.diy_io.specs.{Shelf.ShelfSeen, Taken.SourceSeen, Wrote.{SinkSeen, Wro
 use Rattle.relax_edges.specs.declared.kinds.ArchName.{ArchName}
 use Rattle.arch_trait.specs.{PlaceNames.number_in, Writing.Writing}
 use Rattle.litmus_text.specs.TestReading.{TestRead}
-use Rattle.tests_from_files.specs.{declared.errors.TestFileError.TestFileError, declared.errors.TestFileKind.TestFileKind}
-use Rattle.tests_from_files.specs.{FilesRead.{FileFailed, FileFaulty, FileIs}, TestSaid.test_said}
-use Rattle.msum7_files.specs.LogsRead.{LogFilesRead, LogFilesUnread, LogInputUnread, LogRead}
-use Rattle.msum7_files.specs.declared.wrong_blocks.WrongBlocks.TheVariants.{End}
+use Rattle.tests_from_files.specs.{declared.errors.{TestFileError.TestFileError, TestFileKind.TestFileKind}, FilesRead.{FileFailed, FileFaulty, FileIs}, TestSaid.test_said}
+use Rattle.msum7_files.specs.{LogsRead.{LogFilesRead, LogFilesUnread, LogInputUnread, LogRead}, declared.wrong_blocks.WrongBlocks.TheVariants.End}
 use Rattle.msum7_files.specs.declared.faults.LogsFault.TheVariants as logs
 use Rattle.states_of_logs.specs.{declared.states_end.StatesEnd.StatesEnd, StatesSummed.{StatesSaid, states_in_logs}}
 use Rattle.tests_from_files.specs.declared.errors.TestFileKind.TheVariants as tests

@@ -2,10 +2,9 @@
 -- Source: own; the states are those of the sum of msum7.
 use Rattle.std.specs.Prelude.{◌≡◌, ℕ, List, Option, Some, Ok, Result, option_map}
 use Rattle.litmus_text.specs.TestReading.{TestRead}
-use Rattle.log_sum.specs.{declared.errors.LogError.LogError, Facts.Entry, KeptStates.test_named, LogGrammar.all_judged}
-use Rattle.log_sum.specs.{Representing.sum_table, Summed.StateSummed}
+use Rattle.log_sum.specs.{declared.errors.LogError.LogError, Facts.Entry, KeptStates.test_named, LogGrammar.all_judged, Representing.sum_table, Summed.StateSummed}
 use Rattle.text_parts.specs.ReadingSteps.{◌>>=◌}
-use Rattle.judged_states.specs.{JudgedStates.{AreJudged, StateJudged}, JudgedText.judged_text}
+use Rattle.states_of_logs.specs.{JudgedStates.{AreJudged, StateJudged}, JudgedText.judged_text}
 
 -- the states of the test with this name in the sum of some facts, in the order of the sum, each with its mark and count; none if no fact
 -- is of this test

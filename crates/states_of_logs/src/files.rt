@@ -21,7 +21,7 @@ pub struct StatesWords {
 
 /// Reads the file that the argument at position `files.test` names, as a test of an architecture, and then those that the
 /// arguments from `files.first_log` on name, as logs, and writes the states that the sum of the logs has of the test's
-/// name, each with its verdict, as `judged_states::write_judged` does. At least one argument must name a log.
+/// name, each with its verdict, as `crate::write_judged` does. At least one argument must name a log.
 ///
 /// A state is judged by its own equalities; the condition in the logs isn't compared with that of the test. Each file is
 /// opened once, and read to its end, up to its first error, or up to its limit. If one is wrong or doesn't exist, or the

@@ -1,13 +1,13 @@
 ghost use Rattle.std.specs.Prelude.{◌≡◌, IfOk, map, option_map};
 ghost use Rattle.arch_trait.specs.PlaceNames.{number_in};
 ghost use Rattle.log_sum.specs.KeptStates.{states_kept};
-ghost use Rattle.judged_states.specs.JudgedStates.{judged_view};
+ghost use Rattle.states_of_logs.specs.JudgedStates.{judged_view};
 ghost use Rattle.states_of_logs.specs.JudgingSteps.{AreOfTest, StatesTo};
 
 use crate::states_end::StatesEnd;
+use crate::{JudgedState, judged_states, write_judged};
 use arch_trait::Arch;
 use diy_io::{Failed, NoMemory, Sink};
-use judged_states::{JudgedState, judged_states, write_judged};
 use litmus_text::ReadTest;
 use log_sum::Summer;
 use std::alloc::Global;

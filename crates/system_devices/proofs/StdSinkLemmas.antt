@@ -1,7 +1,6 @@
 -- What the writer below a sink has taken of a text.
-use Rattle.std.proofs.Common.{◌≡◌, ℕ, List, [], ◌++◌, take, drop, length, sym, ap, ◌∙◌, append_assoc, append-nil, arith, length-drop, ◌-◌}
-use Rattle.std.specs.{Prelude.Option, Io.KnownBytes.Appends, Io.KnownBytes.Keeps}
-use Rattle.std.proofs.{lemmas.List.take_all, lemmas.List.take-append-drop, KnownBytes.Appends-trans}
+use Rattle.std.{proofs.{Common.{◌≡◌, ℕ, List, [], ◌++◌, take, drop, length, sym, ap, ◌∙◌, append_assoc, append-nil, arith, length-drop, ◌-◌}, lemmas.List.{take_all, take-append-drop}, KnownBytes.Appends-trans}, specs.Prelude.Option}
+use Rattle.std.specs.Io.KnownBytes.{Appends, Keeps}
 use Rattle.system_devices.specs.StdSink.{AppendsPrefix}
 
 -- the bytes that a writer holds, where it shows them, grew by what comes in a text before its rest

@@ -1,15 +1,7 @@
 -- How the accesses of a thread are found in the events of a cycle.
-use Rattle.std.proofs.Common.{◌≡◌, ℕ, zero, suc, ◌+◌, ◌-◌, ◌<◌, ◌≤◌, ◌==◌, Bool, true, false, List, [], ◌∷◌, ◌++◌, length, map, Some, sym, ap, ◌∙◌, arith, slice_get}
-use Rattle.std.proofs.{lemmas.List.map-append, lemmas.Bool.Decides.nat_tests}
-use Rattle.std.specs.List.{filter, count_by}
-use Rattle.relax_edges.specs.{declared.TheConstants.MAX_EDGES, declared.edge.Edge.Edge, declared.kinds.ObsMode.ObsMode}
-use Rattle.list_laws.specs.Numbers.{upto}
-use Rattle.list_laws.proofs.{Numbers.length-map-upto, Ranks.{length-filter-upto, rank_upto, filter_upto_yes, filter_upto_no}}
-use Rattle.cycle_events.specs.{Resolution.{IsResolved, edge_at, external_count, move_count, slot_of}, Values.{is_observed, write_count}}
-use Rattle.cycle_events.proofs.{Threads.slot-zero, ValuesAlongEdges.write_count_most, ValueLaws.threads_and_observers}
-use Rattle.program_meaning.specs.Intended.{observed_locations}
-use Rattle.arch_trait.specs.Links.{edge_link}
-use Rattle.tests_force_cycles.specs.CycleSteps.{event_link}
+use Rattle.test_maker.proofs.Vocabulary.{◌≡◌, ℕ, zero, suc, ◌+◌, ◌-◌, ◌<◌, ◌≤◌, ◌==◌, Bool, true, false, List, [], ◌∷◌, ◌++◌, length, map, Some, sym, ap, ◌∙◌, arith, slice_get, map-append, nat_tests, filter, count_by, MAX_EDGES, Edge, ObsMode, upto}
+use Rattle.test_maker.proofs.Vocabulary.{length-map-upto, length-filter-upto, rank_upto, filter_upto_yes, filter_upto_no, IsResolved, edge_at, external_count, move_count, slot_of, is_observed, write_count, slot-zero, write_count_most}
+use Rattle.test_maker.proofs.Vocabulary.{threads_and_observers, observed_locations, edge_link, event_link}
 
 -- the edge at a place
 pub edge_got : (es : List Edge) (k : ℕ) (e : Edge) → slice_get es k ≡ Some e → e ≡ edge_at es k

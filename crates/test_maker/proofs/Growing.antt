@@ -1,13 +1,6 @@
 -- How a test grows thread by thread, whatever the steps of its threads are.
-use Rattle.std.proofs.Common.{◌≡◌, ℕ, ◌+◌, ◌<◌, ◌≤◌, cond, true, false, List, [], ◌∷◌, ◌++◌, length, take, drop, map, Some, None, refl, sym, ◌∙◌, ap, slice_get, append_assoc, append-nil}
-use Rattle.std.proofs.{lemmas.Option.{get_or_from_slice_get, slice_get_within}, lemmas.List.{drop_all, map-append, take_all, take_more}}
-use Rattle.std.specs.List.{position_from}
-use Rattle.list_laws.proofs.Elements.{drop_given}
-use Rattle.final_cond.specs.Conditions.{TermSeen}
-use Rattle.arch_trait.specs.{declared.step.Step.Step, Threads.{Puts, ThreadCode, compiled}}
-use Rattle.tests_force_cycles.specs.TestOf.{load_terms, thread_terms}
-use Rattle.tests_force_cycles.proofs.Terms.{load_terms_more}
-use Rattle.test_maker.specs.Refusals.{is_crowded}
+use Rattle.test_maker.proofs.Vocabulary.{◌≡◌, ℕ, ◌+◌, ◌<◌, ◌≤◌, cond, true, false, List, [], ◌∷◌, ◌++◌, length, take, drop, map, Some, None, refl, sym, ◌∙◌, ap, slice_get, append_assoc, append-nil, get_or_from_slice_get, slice_get_within, drop_all}
+use Rattle.test_maker.{proofs.Vocabulary.{map-append, take_all, take_more, position_from, drop_given, TermSeen, Step, Puts, ThreadCode, compiled, load_terms, thread_terms, load_terms_more}, specs.Refusals.is_crowded}
 
 -- no thread before number k needs too many registers
 abbrev pub Fitting : Puts → List (List Step) → ℕ → Type 0

@@ -1,22 +1,10 @@
 -- A cycle that isn't refused has a test.
-use Rattle.std.proofs.Common.{◌≡◌, ℕ, not, List, Option, Some, None, Result, Ok, Err, refl, sym, subst, arith}
-use Rattle.std.specs.{Prelude.OnOk, List.position_from, Option.{option_map, option_or}}
-use Rattle.edge_algebra_laws.specs.Composable.{IsCycle}
-use Rattle.relax_edges.specs.{declared.kinds.ObsMode.ObsMode, declared.edge.Edge.Edge, EdgeTable.is_of_arch}
+use Rattle.std.{proofs.Common.{◌≡◌, ℕ, not, List, Option, Some, None, Result, Ok, Err, refl, sym, subst, arith}, specs.{Prelude.OnOk, List.position_from, Option.{option_map, option_or}}}
+use Rattle.test_maker.proofs.Vocabulary.{IsCycle, ObsMode, Edge, is_of_arch, ResolveError, IsResolved, resolution_of, turned, observer_need, valuation_of, resolution_resolved, avoid_allowed, laid_out, ArrayVec, Cond, Code, Puts, TestSeen, HasCode}
+use Rattle.test_maker.{proofs.{Vocabulary.{HasTest, cycle_steps, plain, room_left, none_foreign}, OfArch.{resolved_turned, turned_of_arch}, Printing.uncrowded}, specs.declared.refusal.{Refusal.Refusal, MakeRefusal.MakeRefusal}}
+use Rattle.test_maker.specs.{declared.refusal.CrowdedThread.CrowdedThread, Made.{AreOfArch, MakesSeenTest}, ConditionTerms.PutsThreads, Refusals.{foreign_edge, need_refusal, unobserved_need, crowded_thread, resolved_refusal, refusal_of}}
 use Rattle.relax_edges.specs.declared.kinds.ObsMode.TheVariants as modes
-use Rattle.cycle_events.specs.{declared.errors.ResolveError.ResolveError, Resolution.{IsResolved, resolution_of, turned}, Values.{observer_need, valuation_of}}
-use Rattle.cycle_events.proofs.{Turning.resolution_resolved, Entries.avoid_allowed}
-use Rattle.arrayvec.specs.ArrayVec.{ArrayVec}
-use Rattle.final_cond.specs.declared.cond.Cond.{Cond}
-use Rattle.arch_trait.specs.{declared.code.Code.Code, Threads.Puts, SeenTests.TestSeen}
-use Rattle.tests_force_cycles.specs.{TestHeadline.{HasCode, HasTest}, CycleSteps.cycle_steps, TestOf.plain}
-use Rattle.tests_force_cycles.proofs.Headline.{room_left}
-use Rattle.test_maker.specs.declared.refusal.{Refusal.Refusal, MakeRefusal.MakeRefusal, CrowdedThread.CrowdedThread}
-use Rattle.test_maker.specs.{Made.{AreOfArch, MakesSeenTest}, ConditionTerms.PutsThreads}
-use Rattle.test_maker.specs.Refusals.{foreign_edge, need_refusal, unobserved_need, crowded_thread, resolved_refusal, refusal_of}
 use Rattle.test_maker.specs.declared.refusal.Refusal.TheVariants as refusals
-use Rattle.test_maker.proofs.{OfArch.{resolved_turned, turned_of_arch}, Printing.uncrowded}
-use Rattle.list_laws.proofs.Places.{none_foreign}
 
 -- where neither of two reasons holds
 pub neither : (a b : Option Refusal) → option_or a b ≡ None → (a ≡ None) × (b ≡ None)
@@ -41,8 +29,11 @@ served es modes.Avoid h = avoid_allowed es (none_found need_refusal (observer_ne
 pub uncrowded_has_code : (a : Puts) (es : List Edge) (mode : ObsMode) → IsResolved es → AreOfArch a es → crowded_thread a es mode ≡ None → HasCode a es mode
 uncrowded_has_code a es mode resolved of_arch none = record {
   resolved = resolved;
-  of_arch = of_arch;
-  room = λ thread steps got. room_left a (cycle_steps es mode plain) thread steps (uncrowded a es mode none) got;
+  coded = record {
+    laid = laid_out resolved;
+    of_arch = of_arch;
+    room = λ thread steps got. room_left a (cycle_steps es mode plain) thread steps (uncrowded a es mode none) got;
+  };
 }
 
 -- a cycle whose threads a call made

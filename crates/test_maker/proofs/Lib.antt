@@ -1,3 +1,4 @@
+pub mod Vocabulary
 pub mod HavingTests
 pub mod Filling
 pub mod Ranges

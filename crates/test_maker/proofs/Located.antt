@@ -1,12 +1,6 @@
 -- A write that needs an observer is at a location of its cycle.
-use Rattle.std.proofs.Common.{◌≡◌, ℕ, zero, suc, ◌<◌, ◌≤◌, List, [], ◌∷◌, ◌++◌, length, Option, Some, None, Err, arith, subst, refl, sym, ap, ◌∙◌}
-use Rattle.std.specs.{Prelude.Result, List.AllByRecursion, Option.{option_map, option_or}}
-use Rattle.relax_edges.specs.{declared.TheConstants.MAX_EDGES, declared.edge.Edge.Edge, declared.kinds.ObsMode.ObsMode}
-use Rattle.relax_edges.specs.declared.kinds.ObsMode.TheVariants.{Accept, Avoid, Force}
-use Rattle.list_laws.specs.Numbers.{upto}
-use Rattle.cycle_events.specs.{Resolution.move_count, declared.needs.NeedsObserver.NeedsObserver}
-use Rattle.cycle_events.specs.Values.{Valuation, valuation_of, observer_need, first_need, first_inner_entry}
-use Rattle.cycle_events.proofs.{Sizes.external_and_moves, Entries.{avoid_refused, avoid_allowed}}
+use Rattle.std.{proofs.Common.{◌≡◌, ℕ, zero, suc, ◌<◌, ◌≤◌, List, [], ◌∷◌, ◌++◌, length, Option, Some, None, Err, arith, subst, refl, sym, ap, ◌∙◌}, specs.{Prelude.Result, List.AllByRecursion, Option.{option_map, option_or}}}
+use Rattle.test_maker.proofs.Vocabulary.{MAX_EDGES, Edge, ObsMode, Accept, Avoid, Force, upto, move_count, NeedsObserver, Valuation, valuation_of, observer_need, first_need, first_inner_entry, external_and_moves, avoid_refused, avoid_allowed}
 
 all_with : (b n : ℕ) (xs : List ℕ) → AllByRecursion (λ l. l < b) xs → n < b → AllByRecursion (λ l. l < b) (xs ++ n ∷ [])
 all_with b n [] h below = (below, tt)

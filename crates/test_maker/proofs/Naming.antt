@@ -1,16 +1,6 @@
 -- The terms of the locations whose last value is named.
-use Rattle.std.proofs.{Common.{◌≡◌, true, ℕ, ◌+◌, ◌<◌, List, [], ◌∷◌, ◌++◌, length, map, sym, ap, ◌∙◌, arith, slice_index_or}, lemmas.List.length-map}
-use Rattle.std.proofs.lemmas.List.FromFn.{get_or-map-range_with_len}
-use Rattle.std.specs.List.{filter}
-use Rattle.relax_edges.specs.{declared.kinds.ObsMode.ObsMode, declared.edge.Edge.Edge}
-use Rattle.list_laws.specs.Numbers.{upto}
-use Rattle.list_laws.proofs.{Counts.count_upto-le, Ranks.length-filter-upto}
-use Rattle.cycle_events.specs.{Resolution.{IsResolved, move_count}, Values.write_count}
-use Rattle.cycle_events.proofs.Sizes.{external_and_moves}
-use Rattle.final_cond.specs.{declared.cond.Term.Term, Conditions.{AtPlace, term_view}}
-use Rattle.arch_trait.specs.PlaceNames.{letters, location_name}
-use Rattle.tests_force_cycles.specs.TestOf.{is_named_location, last_term}
-use Rattle.test_maker.proofs.Filling.{found_more}
+use Rattle.test_maker.proofs.Vocabulary.{◌≡◌, true, ℕ, ◌+◌, ◌<◌, List, [], ◌∷◌, ◌++◌, length, map, sym, ap, ◌∙◌, arith, slice_index_or, length-map, get_or-map-range_with_len, filter, ObsMode, Edge, upto, count_upto-le, length-filter-upto, IsResolved}
+use Rattle.test_maker.proofs.{Vocabulary.{move_count, write_count, external_and_moves, Term, AtPlace, term_view, letters, location_name, is_named_location, last_term}, Filling.found_more}
 
 -- there is room for one more term
 pub last_room : (es : List Edge) (mode : ObsMode) (location : ℕ) (terms : List Term) → IsResolved es →

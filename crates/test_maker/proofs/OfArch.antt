@@ -1,14 +1,6 @@
 -- The edges of a cycle that are of an architecture stay so where it is turned.
-use Rattle.std.proofs.Common.{◌≡◌, ℕ, ◌<◌, Bool, true, false, List, ◌++◌, take, drop, Result, Ok, Err, sym, ap, ◌∙◌, arith, nat_lt, subst}
-use Rattle.std.proofs.{lemmas.List.take-append-drop, lemmas.List.Folds.list_all-append, lemmas.Bool.Decides.nat_tests, Math.Bool.and_comm}
-use Rattle.std.specs.{List.list_all, Prelude.if◌then◌else◌}
-use Rattle.cycle_events.specs.{declared.errors.ResolveError.TheVariants.{TooFewThreads, CoherenceOnly}, declared.errors.ResolveError.ResolveError}
-use Rattle.cycle_events.specs.Resolution.{external_count, is_coherence_only, resolution_of, turned}
-use Rattle.cycle_events.proofs.Turning.{turn_of}
-use Rattle.relax_edges.specs.{declared.edge.Edge.Edge, EdgeTable.is_of_arch}
-use Rattle.list_laws.proofs.Cases.{by_test}
-use Rattle.arch_trait.specs.Threads.{Puts}
-use Rattle.test_maker.specs.Made.{AreOfArch}
+use Rattle.std.proofs.{Common.{◌≡◌, ℕ, ◌<◌, Bool, true, false, List, ◌++◌, take, drop, Result, Ok, Err, sym, ap, ◌∙◌, arith, nat_lt, subst}, lemmas.{List.{take-append-drop, Folds.list_all-append}, Bool.Decides.nat_tests}, Math.Bool.and_comm}
+use Rattle.test_maker.{proofs.Vocabulary.{list_all, if◌then◌else◌, TooFewThreads, CoherenceOnly, ResolveError, external_count, is_coherence_only, resolution_of, turned, turn_of, Edge, is_of_arch, by_test, Puts}, specs.Made.AreOfArch}
 
 list_all_both : {X : Type 0} (p : X → Bool) (xs ys : List X) → list_all p (xs ++ ys) ≡ list_all p (ys ++ xs)
 list_all_both p xs ys = list_all-append p xs ys ∙ and_comm (list_all p xs) (list_all p ys) ∙ sym (list_all-append p ys xs)

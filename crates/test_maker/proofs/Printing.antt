@@ -1,22 +1,10 @@
 -- The code of the threads of a test can be printed.
-use Rattle.std.proofs.Common.{◌≡◌, ℕ, zero, suc, ◌+◌, ◌<◌, ◌≤◌, ◌==◌, Bool, true, false, cond, ◌||◌, List, [], ◌∷◌, length, get_or, map, Option, Some, None, Result, Ok, Err, refl, sym, ap, ◌∙◌, arith, nat_lt, slice_get, subst}
-use Rattle.std.proofs.{lemmas.Bool.{and_parts, and_from, lt-ltb, eqb-true}, lemmas.Bool.Decides.nat_tests, lemmas.List.{length-map, get_or-map}}
-use Rattle.std.proofs.{lemmas.List.Sums.count_by-le-length, lemmas.Option.slice_get-get_or}
-use Rattle.std.specs.{List.{All, list_all, position_from, range_with_len}, Prelude.OnOk, Option.option_map}
-use Rattle.list_laws.proofs.Cases.{by_test}
-use Rattle.relax_edges.specs.{declared.kinds.ObsMode.ObsMode, declared.edge.Edge.Edge}
-use Rattle.cycle_events.specs.Resolution.{IsResolved, move_count}
-use Rattle.micro_ops.specs.{declared.operation.Micro.Micro, Running.{labels_of, lands, occurs}}
+use Rattle.std.proofs.{Common.{◌≡◌, ℕ, zero, suc, ◌+◌, ◌<◌, ◌≤◌, ◌==◌, Bool, true, false, cond, ◌||◌, List, [], ◌∷◌, length, get_or, map, Option, Some, None, Result, Ok, Err, refl, sym, ap, ◌∙◌, arith, nat_lt, slice_get, subst}, lemmas.Bool.and_parts}
+use Rattle.test_maker.proofs.Vocabulary.{and_from, lt-ltb, eqb-true, nat_tests, length-map, get_or-map, count_by-le-length, slice_get-get_or, All, list_all, position_from, range_with_len, OnOk, option_map, by_test, ObsMode, Edge, IsResolved, move_count}
+use Rattle.test_maker.proofs.Vocabulary.{laid_out, Micro, labels_of, lands, occurs, Code, Step, IsFormedCode, is_within, thread_code_of, InOrder, IsArch, branches, label_below, place_below, letters, Puts, branches_in, compiled, shape_of, visits}
+use Rattle.test_maker.{proofs.Vocabulary.{is_formed, in_order_le, length-letters, IsPrintable, Test, cycle_steps, plain, steps_fit, steps_placed, Cond}, specs.declared.refusal.{Refusal.TheVariants.TooManyRegisters, CrowdedThread.CrowdedThread}}
+use Rattle.test_maker.specs.{Refusals.{crowded_thread, is_crowded}, Made.{AreOfArch, CanPrint}, ConditionTerms.PutsThreads}
 use Rattle.micro_ops.specs.declared.operation.Micro.TheVariants as ops
-use Rattle.arch_trait.specs.{declared.code.Code.Code, declared.step.Step.Step, Codes.{IsFormedCode, is_within, thread_code_of}, Laws.{InOrder, IsArch}}
-use Rattle.arch_trait.specs.{Links.branches, Writing.{label_below, place_below}, PlaceNames.letters, Threads.{Puts, branches_in, compiled, shape_of, visits}}
-use Rattle.arch_trait.proofs.{WholeRuns.is_formed, Taking.in_order_le, Tables.length-letters}
-use Rattle.litmus_text.specs.{Tests.IsPrintable, declared.test.Test.Test}
-use Rattle.tests_force_cycles.specs.{CycleSteps.cycle_steps, TestOf.plain}
-use Rattle.tests_force_cycles.proofs.StepsFit.{steps_fit, steps_placed}
-use Rattle.test_maker.specs.{declared.refusal.Refusal.TheVariants.TooManyRegisters, declared.refusal.CrowdedThread.CrowdedThread, Refusals.{crowded_thread, is_crowded}}
-use Rattle.test_maker.specs.{Made.{AreOfArch, CanPrint}, ConditionTerms.PutsThreads}
-use Rattle.final_cond.specs.declared.cond.Cond.{Cond}
 
 -- the accesses are at places below a number
 abbrev pub ArePlaced : ℕ → List Step → Type 0
@@ -120,14 +108,14 @@ uncrowded a es mode e = none_of (position_from (is_crowded a) 0 (cycle_steps es 
 -- a thread of the test of a cycle can be printed
 thread_printable : (a : Puts) → IsArch a → (es : List Edge) (mode : ObsMode) (k : ℕ) (ss : List Step) (code : Code) → IsResolved es → AreOfArch a es → crowded_thread a es mode ≡ None → slice_get (cycle_steps es mode plain) k ≡ Some ss → thread_code_of code ≡ compiled a ss → IsPrintable a.has a.registers (move_count es) code
 thread_printable a laws es mode k ss code resolved of_arch free got same =
-    let thread = steps_fit es mode plain a.name k ss resolved of_arch got in
+    let thread = steps_fit es mode plain a.name k ss (laid_out resolved) of_arch got in
     let enough = none_crowded a 0 k (cycle_steps es mode plain) ss (uncrowded a es mode free) got in
     let fits : a.need (shape_of ss) ≤ a.registers = grind (arith, nat_tests, enough) in
     let whole = is_formed a laws ss thread.fit fits in
     let formed : IsFormedCode a ss (thread_code_of code) = subst (IsFormedCode a ss) (sym same) whole in
     let most = count_by-le-length (λ (s : Step). branches s.link) ss in
     formed_printable a (move_count es) ss code formed (omega (arith, most, thread.few)) (λ j s g.
-    let p = steps_placed es mode plain k j ss s resolved got g in
+    let p = steps_placed es mode plain k j ss s (laid_out resolved) got g in
     let q : s.place ≡ p.spot = p.place_is in
     omega (arith, q, p.below))
 

@@ -1,13 +1,6 @@
 -- The events of a thread are side by side.
-use Rattle.std.proofs.Common.{◌≡◌, ℕ, zero, suc, ◌+◌, ◌-◌, ◌<◌, ◌≤◌, ◌==◌, Bool, true, false, List, [], ◌∷◌, ◌++◌, length, take, drop, map, refl, sym, ap, ◌∙◌, arith, eq-eqb, ne_eqb}
-use Rattle.std.proofs.lemmas.List.{drop_all, drop-take, drop-map, take-map, drop-append-le}
-use Rattle.std.specs.List.{filter}
-use Rattle.relax_edges.specs.declared.edge.Edge.{Edge}
-use Rattle.list_laws.specs.Numbers.{upto}
-use Rattle.list_laws.proofs.{Cases.by_less, Numbers.length-upto, Numbers.take-upto, Ranks.filter_upto_yes, Ranks.filter_upto_no}
-use Rattle.cycle_events.specs.Resolution.{events_in, thread_of}
-use Rattle.cycle_events.proofs.Threads.{thread_up}
-use Rattle.test_maker.specs.ThreadStarts.{IsThreadStart}
+use Rattle.test_maker.proofs.Vocabulary.{◌≡◌, ℕ, zero, suc, ◌+◌, ◌-◌, ◌<◌, ◌≤◌, ◌==◌, Bool, true, false, List, [], ◌∷◌, ◌++◌, length, take, drop, map, refl, sym, ap, ◌∙◌, arith, eq-eqb, ne_eqb, drop_all, drop-take, drop-map, take-map, drop-append-le}
+use Rattle.test_maker.{proofs.Vocabulary.{filter, Edge, upto, by_less, length-upto, take-upto, filter_upto_yes, filter_upto_no, events_in, thread_of, thread_up}, specs.ThreadStarts.IsThreadStart}
 
 -- no number below k passes
 pub filter_none : (p : ℕ → Bool) (k : ℕ) → ((j : ℕ) → j < k → p j ≡ false) → filter p (upto k) ≡ []

@@ -1,16 +1,8 @@
 -- A cycle that resolves and has values is refused for nothing but registers.
-use Rattle.std.proofs.Common.{◌≡◌, ℕ, List, Option, Some, None, Result, Ok, Err, refl, sym, ap, ◌∙◌, subst}
-use Rattle.std.specs.Option.{option_map, option_or}
-use Rattle.relax_edges.specs.{declared.kinds.ObsMode.ObsMode, declared.edge.Edge.Edge}
+use Rattle.std.{proofs.Common.{◌≡◌, ℕ, List, Option, Some, None, Result, Ok, Err, refl, sym, ap, ◌∙◌, subst}, specs.Option.{option_map, option_or}}
+use Rattle.test_maker.proofs.{Vocabulary.{ObsMode, Edge, ResolveError, NeedsObserver, resolution_of, turned, Valuation, observer_need, valuation_of, avoid_allowed, avoid_refused, TestSeen, Puts, test_of}, HavingTests.not_foreign, OfArch.resolved_turned}
+use Rattle.test_maker.{proofs.OfArch.turned_of_arch, specs.{Made.{AreOfArch, MakesSeenTest, MakesValued}, Refusals.{crowded_thread, foreign_edge, need_refusal, refusal_of, resolved_refusal, unobserved_need}}}
 use Rattle.relax_edges.specs.declared.kinds.ObsMode.TheVariants as modes
-use Rattle.cycle_events.specs.{declared.errors.ResolveError.ResolveError, declared.needs.NeedsObserver.NeedsObserver, Resolution.{resolution_of, turned}}
-use Rattle.cycle_events.specs.Values.{Valuation, observer_need, valuation_of}
-use Rattle.cycle_events.proofs.Entries.{avoid_allowed, avoid_refused}
-use Rattle.arch_trait.specs.{SeenTests.TestSeen, Threads.Puts}
-use Rattle.tests_force_cycles.specs.TestOf.{test_of}
-use Rattle.test_maker.specs.Made.{AreOfArch, MakesSeenTest, MakesValued}
-use Rattle.test_maker.specs.Refusals.{crowded_thread, foreign_edge, need_refusal, refusal_of, resolved_refusal, unobserved_need}
-use Rattle.test_maker.proofs.{HavingTests.not_foreign, OfArch.{resolved_turned, turned_of_arch}}
 
 -- a valuation holds what it was made of, and no write needs an observer that the mode avoids
 valued_is : (es : List Edge) (mode : ObsMode) (v : Valuation) → valuation_of es mode ≡ Ok v

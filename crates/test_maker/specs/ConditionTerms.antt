@@ -1,10 +1,9 @@
 -- How a test grows thread by thread: for clauses of private functions.
 use Rattle.std.specs.{Prelude.{ℕ, ◌≡◌, true, false, List, [], ◌∷◌, ◌++◌, map, slice_index_or, Some, None, Result, Ok, Err}, List.zip}
 use Rattle.arrayvec.specs.ArrayVec.{ArrayVec}
-use Rattle.relax_edges.specs.{declared.kinds.ObsMode.ObsMode, declared.edge.Edge.Edge}
+use Rattle.relax_edges.specs.declared.{kinds.ObsMode.ObsMode, edge.Edge.Edge}
 use Rattle.final_cond.specs.{declared.cond.Cond.Cond, Conditions.{TermSeen, AtPlace, term_view}}
-use Rattle.arch_trait.specs.{declared.code.Code.Code, declared.step.Step.Step, Codes.thread_code_of, Threads.{Puts, compiled}}
-use Rattle.arch_trait.specs.declared.code.TooManyRegisters.{TooManyRegisters}
+use Rattle.arch_trait.specs.{declared.{code.{Code.Code, TooManyRegisters.TooManyRegisters}, step.Step.Step}, Codes.thread_code_of, Threads.{Puts, compiled}}
 use Rattle.tests_force_cycles.specs.{CycleSteps.{cycle_steps, numbers_read}, TestOf.{plain, load_term, load_terms, thread_terms}}
 use Rattle.test_maker.specs.{declared.refusal.CrowdedThread.CrowdedThread, Refusals.{crowded_refusal, crowded_thread, is_crowded}}
 

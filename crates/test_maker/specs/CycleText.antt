@@ -3,7 +3,7 @@
 use Rattle.std.specs.Prelude.{ℕ, List}
 use Rattle.relax_edges.specs.declared.{kinds.ObsMode.ObsMode, edge.Edge.Edge}
 use Rattle.cycle_events.specs.Resolution.{turned}
-use Rattle.arch_trait.specs.{Threads.Puts, Writing.Writing, Writing.name_in, SeenTests.TestSeen}
+use Rattle.arch_trait.specs.{Threads.Puts, Writing.{Writing, name_in}, SeenTests.TestSeen}
 use Rattle.litmus_text.specs.TestText.{test_text}
 use Rattle.tests_force_cycles.specs.TestOf.{test_of}
 

@@ -1,6 +1,6 @@
 -- Laws of the printed text of the test of a cycle.
 use Rattle.std.proofs.Common.{◌≡◌, ℕ, List, sym, ◌∙◌, ap}
-use Rattle.relax_edges.specs.{declared.kinds.ArchName.ArchName, declared.kinds.ObsMode.ObsMode, declared.edge.Edge.Edge}
+use Rattle.relax_edges.specs.declared.{kinds.{ArchName.ArchName, ObsMode.ObsMode}, edge.Edge.Edge}
 use Rattle.cycle_events.specs.Resolution.{turned}
 use Rattle.arch_trait.specs.{Threads.Puts, Writing.{Writing, name_in}}
 use Rattle.litmus_text.specs.{declared.test.Test.Test, Tests.test_seen, TestText.test_text}

@@ -1,13 +1,12 @@
 -- What the calls of the test maker return.
 -- Source: own.
 use Rattle.std.specs.{Prelude.{Option, ℕ, ◌≡◌, ◌<◌, true, List, length, Some, None, Result, Ok, Err}, List.{All, list_all}}
-use Rattle.relax_edges.specs.{declared.TheConstants.MAX_EDGES, declared.kinds.ObsMode.ObsMode, declared.edge.Edge.Edge, EdgeTable.is_of_arch}
+use Rattle.relax_edges.specs.{declared.{TheConstants.MAX_EDGES, kinds.ObsMode.ObsMode, edge.Edge.Edge}, EdgeTable.is_of_arch}
 use Rattle.cycle_events.specs.Resolution.{turned}
 use Rattle.arch_trait.specs.{Threads.Puts, SeenTests.TestSeen}
 use Rattle.litmus_text.specs.{declared.test.Test.Test, Tests.{IsPrintable, test_seen}}
 use Rattle.tests_force_cycles.specs.TestOf.{test_of}
-use Rattle.test_maker.specs.declared.refusal.{Refusal.Refusal, Refusal.TheVariants.NeedsObserver, MakeRefusal.MakeRefusal, CrowdedThread.CrowdedThread}
-use Rattle.test_maker.specs.Refusals.{crowded_refusal, crowded_thread, make_refusal, refusal_of}
+use Rattle.test_maker.specs.{declared.refusal.{Refusal.{Refusal, TheVariants.NeedsObserver}, MakeRefusal.MakeRefusal, CrowdedThread.CrowdedThread}, Refusals.{crowded_refusal, crowded_thread, make_refusal, refusal_of}}
 
 -- all edges are of the architecture
 abbrev pub AreOfArch : Puts → List Edge → Type 0

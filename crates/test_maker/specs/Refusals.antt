@@ -1,12 +1,10 @@
 -- Why a cycle has no test: the first reason that holds.
 -- Source: own, after the refusals of diy.
 use Rattle.std.specs.{Prelude.{Bool, not, nat_lt, List, Option, Some, None, Result, Ok, Err}, List.position_from, Option.{option_map, option_or}}
-use Rattle.relax_edges.specs.{declared.kinds.ArchName.ArchName, declared.kinds.ObsMode.ObsMode, declared.kinds.ObsMode.TheVariants.{Accept, Avoid, Force}}
-use Rattle.relax_edges.specs.{declared.edge.Edge.Edge, EdgeTable.is_of_arch}
+use Rattle.relax_edges.specs.{declared.{kinds.{ArchName.ArchName, ObsMode.{ObsMode, TheVariants.{Accept, Avoid, Force}}}, edge.Edge.Edge}, EdgeTable.is_of_arch}
 use Rattle.edge_algebra.specs.declared.errors.CycleError.{CycleError}
 use Rattle.edge_algebra.specs.declared.errors.CycleError.TheVariants as composing
-use Rattle.cycle_events.specs.{declared.errors.ResolveError.ResolveError, declared.needs.NeedsObserver.NeedsObserver, Resolution.resolution_of}
-use Rattle.cycle_events.specs.Values.{observer_need}
+use Rattle.cycle_events.specs.{declared.{errors.ResolveError.ResolveError, needs.NeedsObserver.NeedsObserver}, Resolution.resolution_of, Values.observer_need}
 use Rattle.cycle_events.specs.declared.errors.ResolveError.TheVariants as resolving
 use Rattle.arch_trait.specs.{declared.step.Step.Step, Threads.{Puts, shape_of}}
 use Rattle.test_maker.specs.declared.refusal.{Refusal.Refusal, MakeRefusal.MakeRefusal, ForeignEdge.ForeignEdge, CrowdedThread.CrowdedThread}

@@ -1,17 +1,8 @@
 -- The program of a cycle's test makes the accesses of the test, in each execution in which its runs come to their ends.
-use Rattle.std.proofs.{Common.{◌≡◌, ℕ, ◌<◌, List, [], ◌∷◌, length, map, Some, slice_get, refl, sym, ◌∙◌, ap, arith}, lemmas.List.{length-map, map-append}}
-use Rattle.std.proofs.lemmas.Option.{slice_get_within}
-use Rattle.std.specs.List.{filter}
-use Rattle.relax_edges.specs.{declared.kinds.ObsMode.ObsMode, declared.edge.Edge.Edge}
-use Rattle.cycle_events.specs.Resolution.{IsResolved, move_count}
-use Rattle.arch_trait.specs.{declared.step.Step.Step, Threads.ThreadCode}
-use Rattle.program_meaning.specs.{Accesses.{Access, is_read}, Executions.Execution, Programs.IsCandidate, Intended.{IsNumbering, cycle_accesses, intended}}
-use Rattle.program_meaning.proofs.Runs.{accesses-count}
-use Rattle.accesses_force_cycles.specs.Joining.{accesses_filled, values_read, MakesAccesses, ReadsAsAsked}
-use Rattle.accesses_force_cycles.proofs.{Lists.{got_below, got_map, map_same, map-map}, ResolvedFacts.resolves, IntendedReads.reads-count, Programs.intended_asked}
-use Rattle.tests_force_cycles.specs.{CycleSteps.{cycle_steps, numbers_read}, TestPrograms.{thread_from, program_of}}
-use Rattle.tests_force_cycles.proofs.{Terms.reads-count as numbers-count, Visits.step_access}
-use Rattle.tests_force_cycles.proofs.ThreadRuns.{AreCodesOf, AreEnough, AllEnd, did_thread, enough, all_end}
+use Rattle.tests_force_cycles.proofs.Vocabulary.{◌≡◌, ℕ, ◌<◌, List, [], ◌∷◌, length, map, Some, slice_get, refl, sym, ◌∙◌, ap, arith, length-map, map-append, slice_get_within, filter, ObsMode, Edge, IsLaidOut, move_count, Step, ThreadCode, Access}
+use Rattle.tests_force_cycles.proofs.{Vocabulary.{is_read, Execution, IsCandidate, IsNumbering, cycle_accesses, intended, accesses-count}, Terms.reads-count as numbers-count, Visits.step_access, ThreadRuns.{AreCodesOf, AreEnough, AllEnd, did_thread}}
+use Rattle.tests_force_cycles.{proofs.ThreadRuns.{enough, all_end}, specs.{CycleSteps.{cycle_steps, numbers_read}, TestPrograms.{thread_from, program_of}}}
+use Rattle.accesses_force_cycles.{specs.Joining.{accesses_filled, values_read, MakesAccesses, ReadsAsAsked}, proofs.{Lists.{got_below, got_map, map_same, map-map}, ResolvedFacts.lays_out, IntendedReads.reads-count, Programs.intended_asked}}
 
 -- the accesses of the test are those of its steps
 pub accesses_planned : (es : List Edge) (mode : ObsMode) (number : ℕ → ℕ) → cycle_accesses es mode number ≡ map (map step_access) (cycle_steps es mode number)
@@ -64,11 +55,11 @@ pub asked_enough : (es : List Edge) (mode : ObsMode) (number : ℕ → ℕ) (x :
 asked_enough es mode number x h k steps reads g q = grind (arith, planned_at es mode number k steps g, planned_reads steps, numbers-count steps)
 
 -- the intended execution has
-pub intended_enough : (es : List Edge) (mode : ObsMode) (number : ℕ → ℕ) → IsResolved es → IsNumbering es number → AreEnough (cycle_steps es mode number) (intended es mode number)
-intended_enough es mode number r n = asked_enough es mode number (intended es mode number) (intended_asked es mode number (resolves es r) n)
+pub intended_enough : (es : List Edge) (mode : ObsMode) (number : ℕ → ℕ) → IsLaidOut es → IsNumbering es number → AreEnough (cycle_steps es mode number) (intended es mode number)
+intended_enough es mode number r n = asked_enough es mode number (intended es mode number) (intended_asked es mode number (lays_out es r) n)
 
 -- so the runs of the test's program on the intended reads come to their ends
-pub intended_ends : (codes : List ThreadCode) (es : List Edge) (mode : ObsMode) (number : ℕ → ℕ) → AreCodesOf codes (cycle_steps es mode number) → IsResolved es → IsNumbering es number → AllEnd (program_of codes (move_count es)) (intended es mode number)
+pub intended_ends : (codes : List ThreadCode) (es : List Edge) (mode : ObsMode) (number : ℕ → ℕ) → AreCodesOf codes (cycle_steps es mode number) → IsLaidOut es → IsNumbering es number → AllEnd (program_of codes (move_count es)) (intended es mode number)
 intended_ends codes es mode number m r n =
     all_end codes (cycle_steps es mode number) (move_count es) (intended es mode number) m
     (reads-count es mode number ∙ planned-count es mode number) (intended_enough es mode number r n)

@@ -1,13 +1,7 @@
 -- An execution meets the condition of a cycle's test exactly where the values read are those asked for, and the locations
 -- that aren't observed end with their last values.
-use Rattle.std.proofs.Common.{◌≡◌, ℕ, zero, suc, ◌+◌, ◌<◌, List, [], ◌∷◌, length, map, Option, Some, slice_get, refl, ◌∙◌, ap, subst, arith}
-use Rattle.std.specs.List.{AllByRecursion, zip}
-use Rattle.list_laws.proofs.Elements.{all_append, all_parts}
-use Rattle.relax_edges.specs.{declared.kinds.Value.Value, declared.kinds.Value.TheVariants.Num}
-use Rattle.final_cond.specs.Conditions.{LeftSeen, TermSeen, InRegister}
-use Rattle.arch_trait.specs.{declared.step.Step.Step, Threads.{Puts, compiled, HoldNumbers}, Codes.AllBelow}
-use Rattle.tests_force_cycles.specs.{CycleSteps.numbers_read, TestOf.{load_term, thread_terms, load_terms}}
-use Rattle.tests_force_cycles.proofs.Terms.{loads-count}
+use Rattle.tests_force_cycles.proofs.Vocabulary.{◌≡◌, ℕ, zero, suc, ◌+◌, ◌<◌, List, [], ◌∷◌, length, map, Option, Some, slice_get, refl, ◌∙◌, ap, subst, arith, AllByRecursion, zip, all_append, all_parts, Value, Num, LeftSeen, TermSeen, InRegister, Step}
+use Rattle.tests_force_cycles.{proofs.{Vocabulary.{Puts, compiled, HoldNumbers, AllBelow}, Terms.loads-count}, specs.{CycleSteps.numbers_read, TestOf.{load_term, thread_terms, load_terms}}}
 
 -- a term is met in a final state
 abbrev pub IsMet : (LeftSeen → Option Value) → TermSeen → Type 0

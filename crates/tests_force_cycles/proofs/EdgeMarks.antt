@@ -1,7 +1,5 @@
 -- An architecture that has an edge has the edge's link and its marks.
-use Rattle.std.proofs.Common.{◌≡◌, true, arith}
-use Rattle.relax_edges.specs.{declared.kinds.ArchName.ArchName, declared.edge.Edge.Edge, EdgeTable.{source_mark, target_mark, mark_is_of, is_of_arch}}
-use Rattle.arch_trait.specs.Links.{edge_link, link_is_of}
+use Rattle.tests_force_cycles.proofs.Vocabulary.{◌≡◌, true, arith, ArchName, Edge, source_mark, target_mark, mark_is_of, is_of_arch, edge_link, link_is_of}
 
 -- what an architecture with an edge has: the marks of the accesses that the edge leaves and
 -- enters, and its link

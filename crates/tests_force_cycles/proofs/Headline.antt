@@ -1,23 +1,10 @@
 -- The test of a cycle forces the cycle.
-use Rattle.std.proofs.{Common.{◌≡◌, ℕ, ◌<◌, ◌≤◌, List, [], ◌∷◌, map, Option, Some, None, slice_get, refl, sym, ◌∙◌, ap, subst, arith}, lemmas.Bool.ltb-false}
-use Rattle.std.proofs.{lemmas.Option.slice_get_within, lemmas.Slice.Eq.bytes_eq-Decides}
-use Rattle.std.specs.{Prelude.{◌↔◌, nat_lt}, List.position_from}
-use Rattle.list_laws.proofs.Elements.{all_append, all_parts}
-use Rattle.relax_edges.specs.{declared.TheConstants.MAX_EDGES, declared.kinds.ObsMode.ObsMode, declared.edge.Edge.Edge}
-use Rattle.cycle_events.specs.Resolution.{move_count}
-use Rattle.final_cond.specs.{Conditions.CondSeen, States.Meets}
-use Rattle.arch_trait.specs.{declared.step.Step.Step, Threads.{Puts, ThreadCode, shape_of}, PlaceRenumbering.renumbered, Laws.IsArch, PlaceNames.location_name}
-use Rattle.arch_trait.specs.SeenTests.{TestSeen}
-use Rattle.arch_trait.proofs.{Tables.length-letters, Renumbered.renumbered_same}
-use Rattle.program_meaning.specs.{Executions.Execution, Programs.{Program, IsCandidate, IsCoherentIn}, Standing.AllStand, Intended.{IsNumbering, intended}}
-use Rattle.accesses_force_cycles.specs.Joining.{IsOutcome}
-use Rattle.accesses_force_cycles.proofs.{Needs.served_if_valued, Laws.{all_edges_stand_law, one_outcome_law, an_outcome_law}}
-use Rattle.tests_force_cycles.specs.{CycleSteps.cycle_steps, TestPrograms.test_program, FinalStates.{final_state, IsAskedFor}}
-use Rattle.tests_force_cycles.specs.TestOf.{plain, last_terms, load_terms, test_of}
-use Rattle.tests_force_cycles.specs.TestHeadline.{HasCode, HasTest, FindsRegisters, IsRenumbered, TestsForce, RenumberedForce, TestsAsk}
-use Rattle.tests_force_cycles.proofs.{ListElements.position_none, TestCodes.{cycle_codes, cycle_program, are_codes}, MarksAndLinks.tied_up, ConditionMet.IsMet}
-use Rattle.tests_force_cycles.proofs.PlaceNames.{AreNamed, letter_at, names_differ, locations_few}
-use Rattle.tests_force_cycles.proofs.{AccessesMade.{makes, makes_enough, intended_enough, intended_ends}, TestOutcomes.{reads_asked, asked_met, ends_asked, asked_ends}}
+use Rattle.tests_force_cycles.proofs.Vocabulary.{◌≡◌, ℕ, ◌<◌, ◌≤◌, List, [], ◌∷◌, map, Option, Some, None, slice_get, refl, sym, ◌∙◌, ap, subst, arith, ltb-false, slice_get_within, bytes_eq-Decides, ◌↔◌, nat_lt, position_from, all_append, all_parts}
+use Rattle.tests_force_cycles.proofs.Vocabulary.{MAX_EDGES, ObsMode, Edge, move_count, CondSeen, Meets, Step, Puts, ThreadCode, shape_of, renumbered, IsArch, location_name, TestSeen, length-letters, renumbered_same, Execution, Program, IsCandidate}
+use Rattle.tests_force_cycles.proofs.{Vocabulary.{IsCoherentIn, AllStand, IsNumbering, intended, IsOutcome, served_if_valued, all_edges_stand_law, one_outcome_law, an_outcome_law}, ListElements.position_none, TestCodes.{cycle_codes, cycle_program}}
+use Rattle.tests_force_cycles.proofs.{TestCodes.are_codes, MarksAndLinks.tied_up, ConditionMet.IsMet, PlaceNames.{AreNamed, letter_at, names_differ, locations_few}, AccessesMade.{makes, makes_enough, intended_enough, intended_ends}}
+use Rattle.tests_force_cycles.{proofs.TestOutcomes.{reads_asked, asked_met, ends_asked, asked_ends}, specs.{CycleSteps.cycle_steps, TestPrograms.test_program, FinalStates.{final_state, IsAskedFor}, TestOf.{plain, last_terms, load_terms, test_of}}}
+use Rattle.tests_force_cycles.specs.TestHeadline.{HasCode, HasLaidCode, HasTest, FindsRegisters, IsRenumbered, TestsForce, RenumberedForce, TestsAsk}
 
 -- an execution of the program of a cycle's test that the test asks for
 pub record IsAsked (a : Puts) (register_name : ℕ → List ℕ) (es : List Edge) (mode : ObsMode) (number : ℕ → ℕ) (names : List (List ℕ)) (register_number : List ℕ → Option ℕ) (x : Execution) : Type 0 where
@@ -26,7 +13,7 @@ pub record IsAsked (a : Puts) (register_name : ℕ → List ℕ) (es : List Edge
   pub meets : Meets (final_state (cycle_program a es mode number) names register_number x) (test_of a register_name es mode).cond
 
 -- is an outcome of it
-pub asked_outcome : (a : Puts) (register_name : ℕ → List ℕ) (es : List Edge) (mode : ObsMode) (number : ℕ → ℕ) (names : List (List ℕ)) (register_number : List ℕ → Option ℕ) (x : Execution) → IsArch a → FindsRegisters a register_name register_number → HasCode a es mode → IsNumbering es number → AreNamed es number names → IsAsked a register_name es mode number names register_number x → IsOutcome es mode number (cycle_program a es mode number) x
+pub asked_outcome : (a : Puts) (register_name : ℕ → List ℕ) (es : List Edge) (mode : ObsMode) (number : ℕ → ℕ) (names : List (List ℕ)) (register_number : List ℕ → Option ℕ) (x : Execution) → IsArch a → FindsRegisters a register_name register_number → HasLaidCode a es mode → IsNumbering es number → AreNamed es number names → IsAsked a register_name es mode number names register_number x → IsOutcome es mode number (cycle_program a es mode number) x
 asked_outcome a register_name es mode number names register_number x laws finds t n named w =
     grind (
       arith,
@@ -36,7 +23,7 @@ asked_outcome a register_name es mode number names register_number x laws finds 
     )
 
 -- and back
-pub outcome_asked : (a : Puts) (register_name : ℕ → List ℕ) (es : List Edge) (mode : ObsMode) (number : ℕ → ℕ) (names : List (List ℕ)) (register_number : List ℕ → Option ℕ) (x : Execution) → IsArch a → FindsRegisters a register_name register_number → HasCode a es mode → IsNumbering es number → AreNamed es number names → IsOutcome es mode number (cycle_program a es mode number) x → IsAsked a register_name es mode number names register_number x
+pub outcome_asked : (a : Puts) (register_name : ℕ → List ℕ) (es : List Edge) (mode : ObsMode) (number : ℕ → ℕ) (names : List (List ℕ)) (register_number : List ℕ → Option ℕ) (x : Execution) → IsArch a → FindsRegisters a register_name register_number → HasLaidCode a es mode → IsNumbering es number → AreNamed es number names → IsOutcome es mode number (cycle_program a es mode number) x → IsAsked a register_name es mode number names register_number x
 outcome_asked a register_name es mode number names register_number x laws finds t n named o = record {
   candidate = o.candidate;
   coherent = o.coherent;
@@ -49,29 +36,29 @@ outcome_asked a register_name es mode number names register_number x laws finds 
 pub edges_stand : (a : Puts) (register_name : ℕ → List ℕ) (es : List Edge) (mode : ObsMode) (number : ℕ → ℕ) (names : List (List ℕ)) (register_number : List ℕ → Option ℕ) (x : Execution) → IsArch a → FindsRegisters a register_name register_number → HasTest a es mode → IsNumbering es number → AreNamed es number names → IsAsked a register_name es mode number names register_number x → AllStand es (cycle_program a es mode number) x
 edges_stand a register_name es mode number names register_number x laws finds t n named w =
     all_edges_stand_law es mode number (cycle_program a es mode number) x t.code.resolved (served_if_valued es mode (record { edges = es; mode = mode }) t.valued) n
-    (makes (cycle_codes a es mode number) es mode number x (are_codes a es mode number laws t.code.resolved t.code.of_arch) w.candidate)
-    (tied_up a.name (cycle_codes a es mode number) es mode number x t.code.resolved t.code.of_arch (are_codes a es mode number laws t.code.resolved t.code.of_arch) w.candidate)
-    (asked_outcome a register_name es mode number names register_number x laws finds t.code n named w)
+    (makes (cycle_codes a es mode number) es mode number x (are_codes a es mode number laws t.code.coded.laid t.code.coded.of_arch) w.candidate)
+    (tied_up a.name (cycle_codes a es mode number) es mode number x t.code.coded.laid t.code.coded.of_arch (are_codes a es mode number laws t.code.coded.laid t.code.coded.of_arch) w.candidate)
+    (asked_outcome a register_name es mode number names register_number x laws finds t.code.coded n named w)
 
 pub one_asked : (a : Puts) (register_name : ℕ → List ℕ) (es : List Edge) (mode : ObsMode) (number : ℕ → ℕ) (names : List (List ℕ)) (register_number : List ℕ → Option ℕ) (x : Execution) → IsArch a → FindsRegisters a register_name register_number → HasTest a es mode → IsNumbering es number → AreNamed es number names → IsAsked a register_name es mode number names register_number x → x ≡ intended es mode number
 one_asked a register_name es mode number names register_number x laws finds t n named w =
     one_outcome_law es mode number (cycle_program a es mode number) x t.code.resolved (served_if_valued es mode (record { edges = es; mode = mode }) t.valued) n
-    (makes (cycle_codes a es mode number) es mode number x (are_codes a es mode number laws t.code.resolved t.code.of_arch) w.candidate)
-    (asked_outcome a register_name es mode number names register_number x laws finds t.code n named w)
+    (makes (cycle_codes a es mode number) es mode number x (are_codes a es mode number laws t.code.coded.laid t.code.coded.of_arch) w.candidate)
+    (asked_outcome a register_name es mode number names register_number x laws finds t.code.coded n named w)
 
 pub intended_asked : (a : Puts) (register_name : ℕ → List ℕ) (es : List Edge) (mode : ObsMode) (number : ℕ → ℕ) (names : List (List ℕ)) (register_number : List ℕ → Option ℕ) → IsArch a → FindsRegisters a register_name register_number → HasCode a es mode → IsNumbering es number → AreNamed es number names → IsAsked a register_name es mode number names register_number (intended es mode number)
 intended_asked a register_name es mode number names register_number laws finds t n named =
-    outcome_asked a register_name es mode number names register_number (intended es mode number) laws finds t n named
+    outcome_asked a register_name es mode number names register_number (intended es mode number) laws finds t.coded n named
     (an_outcome_law es mode number (cycle_program a es mode number) t.resolved n
-    (makes_enough (cycle_codes a es mode number) es mode number (intended es mode number) (are_codes a es mode number laws t.resolved t.of_arch) (intended_enough es mode number t.resolved n))
-    (intended_ends (cycle_codes a es mode number) es mode number (are_codes a es mode number laws t.resolved t.of_arch) t.resolved n))
+    (makes_enough (cycle_codes a es mode number) es mode number (intended es mode number) (are_codes a es mode number laws t.coded.laid t.coded.of_arch) (intended_enough es mode number t.coded.laid n))
+    (intended_ends (cycle_codes a es mode number) es mode number (are_codes a es mode number laws t.coded.laid t.coded.of_arch) t.coded.laid n))
 
 -- the names of a test that is the same as a cycle's but for the numbers of places
 pub renumbered_names : (a : Puts) (register_name : ℕ → List ℕ) (es : List Edge) (mode : ObsMode) (test : TestSeen) (number : ℕ → ℕ) → IsRenumbered (test_of a register_name es mode) test number → AreNamed es number test.places
 renumbered_names a register_name es mode test number e l h = e.names l (location_name l) (letter_at (move_count es) l h)
 
 -- its numbers are a numbering
-pub renumbered_numbers : (a : Puts) (register_name : ℕ → List ℕ) (es : List Edge) (mode : ObsMode) (test : TestSeen) (number : ℕ → ℕ) → HasCode a es mode → IsRenumbered (test_of a register_name es mode) test number → IsNumbering es number
+pub renumbered_numbers : (a : Puts) (register_name : ℕ → List ℕ) (es : List Edge) (mode : ObsMode) (test : TestSeen) (number : ℕ → ℕ) → HasLaidCode a es mode → IsRenumbered (test_of a register_name es mode) test number → IsNumbering es number
 renumbered_numbers a register_name es mode test number t e = record {
   below = λ l h. omega (arith, slice_get_within test.places (number l) (location_name l) (named l h), e.count, length-letters (move_count es));
   injective = λ l m h k same.
@@ -84,7 +71,7 @@ renumbered_numbers a register_name es mode test number t e = record {
     named = renumbered_names a register_name es mode test number e
 
     few : move_count es < MAX_EDGES
-    few = locations_few es t.resolved
+    few = locations_few es t.laid
 
 -- its program is that of the cycle's test, under these numbers
 pub renumbered_program : (a : Puts) (register_name : ℕ → List ℕ) (es : List Edge) (mode : ObsMode) (test : TestSeen) (number : ℕ → ℕ) → IsRenumbered (test_of a register_name es mode) test number → cycle_program a es mode number ≡ test_program test
@@ -122,20 +109,20 @@ renumbered_force_law a register_name register_number es mode test number laws fi
     named = renumbered_names a register_name es mode test number e
 
     n : IsNumbering es number
-    n = renumbered_numbers a register_name es mode test number t.code e
+    n = renumbered_numbers a register_name es mode test number t.code.coded e
 
 -- the executions that such a test asks for are the outcomes of its program
 pub tests_ask_law : TestsAsk
 tests_ask_law a register_name register_number es mode test number x laws finds t e = (
-  λ w. subst (λ (p : Program). IsOutcome es mode number p x) p (asked_outcome a register_name es mode number test.places register_number x laws finds t.code n named ((renumbered_asks a register_name register_number es mode test number x e).0 w)),
-  λ o. (renumbered_asks a register_name register_number es mode test number x e).1 (outcome_asked a register_name es mode number test.places register_number x laws finds t.code n named (subst (λ (p : Program). IsOutcome es mode number p x) (sym p) o)),
+  λ w. subst (λ (p : Program). IsOutcome es mode number p x) p (asked_outcome a register_name es mode number test.places register_number x laws finds t.code.coded n named ((renumbered_asks a register_name register_number es mode test number x e).0 w)),
+  λ o. (renumbered_asks a register_name register_number es mode test number x e).1 (outcome_asked a register_name es mode number test.places register_number x laws finds t.code.coded n named (subst (λ (p : Program). IsOutcome es mode number p x) (sym p) o)),
 )
   where
     named : AreNamed es number test.places
     named = renumbered_names a register_name es mode test number e
 
     n : IsNumbering es number
-    n = renumbered_numbers a register_name es mode test number t.code e
+    n = renumbered_numbers a register_name es mode test number t.code.coded e
 
     p : cycle_program a es mode number ≡ test_program test
     p = renumbered_program a register_name es mode test number e

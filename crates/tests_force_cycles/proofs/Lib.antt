@@ -1,3 +1,4 @@
+pub mod Vocabulary
 pub mod StepsAt
 pub mod StepsFit
 pub mod Terms

@@ -1,14 +1,8 @@
 -- An access that follows another in its thread, by the link between them.
-use Rattle.std.proofs.Common.{◌≡◌, ℕ, suc, ◌+◌, ◌-◌, ◌<◌, ◌^◌, true, false, List, take, Some, slice_get, sym, ◌∙◌, ap, subst, arith, zero-add}
-use Rattle.std.proofs.{lemmas.Bool.cond-true, lemmas.Option.slice_get_within}
-use Rattle.std.specs.List.{count_by}
-use Rattle.relax_edges.specs.{declared.kinds.Dir.Dir, declared.kinds.ArchName.ArchName, declared.kinds.Kind.Kind, EdgeTable.kind_source}
+use Rattle.tests_force_cycles.proofs.Vocabulary.{◌≡◌, ℕ, suc, ◌+◌, ◌-◌, ◌<◌, ◌^◌, true, false, List, take, Some, slice_get, sym, ◌∙◌, ap, subst, arith, zero-add, cond-true, slice_get_within, count_by, Dir, ArchName, Kind, kind_source, Step, kind_link}
+use Rattle.tests_force_cycles.proofs.{Vocabulary.{is_addr, is_data, mask_if, link_control, FitSteps, is_load_dir, loads_in, control_after, Access, Visit, accesses_of, is_read, reads_by, reads_before, NamedAccess}, Visits.{link_barred, data_met}}
+use Rattle.tests_force_cycles.proofs.{Visits.thread_visits, LinksMade.Follows, VisitsAt.{IsVisit, visit_at, reads_same, reads_taken, loads_more, control_later}}
 use Rattle.relax_edges.specs.declared.kinds.Dir.TheVariants as dirs
-use Rattle.arch_trait.specs.{declared.step.Step.Step, Links.{kind_link, is_addr, is_data, mask_if, link_control}}
-use Rattle.arch_trait.specs.Threads.{FitSteps, is_load_dir, loads_in, control_after}
-use Rattle.program_meaning.specs.{Accesses.{Access, Visit, accesses_of, is_read, reads_by, reads_before}, Standing.NamedAccess}
-use Rattle.tests_force_cycles.proofs.{Visits.{link_barred, data_met, thread_visits}, LinksMade.Follows}
-use Rattle.tests_force_cycles.proofs.VisitsAt.{IsVisit, visit_at, reads_same, reads_taken, loads_more, control_later}
 
 -- the data mask of an access is that of its link, whatever it does
 data_met_is : (s : Step) (d : Dir) (k : ℕ) → (is_data s.link ≡ true → d ≡ dirs.W) → data_met s d k ≡ mask_if (is_data s.link) k

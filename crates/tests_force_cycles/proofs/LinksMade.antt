@@ -1,11 +1,7 @@
 -- What an edge asks for between two accesses is what its link makes.
-use Rattle.std.proofs.{Common.{◌≡◌, ℕ, ◌<◌, ◌^◌, Bool, true, false, ◌&&◌, List, map, sym, ◌∙◌, ap, arith}, Math.Bool.and-false}
+use Rattle.tests_force_cycles.proofs.Vocabulary.{◌≡◌, ℕ, ◌<◌, ◌^◌, Bool, true, false, ◌&&◌, List, map, sym, ◌∙◌, ap, arith, and-false, Kind, kind_source, Link, kind_link, branches, is_addr, is_data, mask_if, link_control, control_row, Access, is_read}
+use Rattle.tests_force_cycles.proofs.{Vocabulary.{reads_by, reads_before, NamedAccess, IsTied, TiesBy, is_in_mask, mask_of}, Visits.link_barred}
 use Rattle.relax_edges.specs.declared.kinds.Dir.TheVariants as dirs
-use Rattle.relax_edges.specs.{declared.kinds.Kind.Kind, EdgeTable.kind_source}
-use Rattle.arch_trait.specs.{declared.link.Link.Link, Links.{kind_link, branches, is_addr, is_data, mask_if, link_control}}
-use Rattle.arch_trait.proofs.Items.{control_row}
-use Rattle.program_meaning.specs.{Accesses.{Access, is_read, reads_by, reads_before}, Standing.{NamedAccess, IsTied, TiesBy, is_in_mask, mask_of}}
-use Rattle.tests_force_cycles.proofs.Visits.{link_barred}
 
 -- an access follows another in its thread, by the link of an edge of a kind: load number k is the other access, if that
 -- reads, and branches before the link depended on the loads of c, which come before load number k

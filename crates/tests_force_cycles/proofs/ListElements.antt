@@ -1,6 +1,5 @@
 -- What holds of each element of a list, and the first element that passes a test.
-use Rattle.std.proofs.Common.{◌≡◌, ℕ, zero, suc, ◌+◌, ◌<◌, Bool, true, false, cond, List, [], ◌∷◌, Some, None, slice_get, refl, ◌∙◌, ap, subst, arith}
-use Rattle.std.specs.List.{AllByRecursion, position_from}
+use Rattle.tests_force_cycles.proofs.Vocabulary.{◌≡◌, ℕ, zero, suc, ◌+◌, ◌<◌, Bool, true, false, cond, List, [], ◌∷◌, Some, None, slice_get, refl, ◌∙◌, ap, subst, arith, AllByRecursion, position_from}
 
 -- what holds of all elements holds of the one at a place
 pub all_gets : {X : Type 0} (P : X → Type 0) (xs : List X) (k : ℕ) (x : X) → AllByRecursion P xs → slice_get xs k ≡ Some x → P x

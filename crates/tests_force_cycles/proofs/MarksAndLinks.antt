@@ -1,27 +1,12 @@
 -- The marks of the accesses of the program of a cycle's test, and what comes between them, are what the edges of the
 -- cycle say.
-use Rattle.std.proofs.Common.{◌≡◌, ℕ, suc, ◌+◌, ◌-◌, ◌<◌, true, false, List, [], length, take, Some, slice_get, refl, sym, ◌∙◌, ap, subst, arith, add-one}
-use Rattle.std.proofs.lemmas.Option.{slice_get_within}
-use Rattle.std.specs.List.{list_all}
-use Rattle.list_laws.specs.Numbers.{upto}
-use Rattle.list_laws.proofs.Cases.{by_test}
-use Rattle.relax_edges.specs.{declared.kinds.ArchName.ArchName, declared.kinds.ObsMode.ObsMode, declared.kinds.Kind.Kind, declared.edge.Edge.Edge}
-use Rattle.relax_edges.specs.EdgeTable.{kind_of, source_mark, is_of_arch, is_external}
-use Rattle.cycle_events.specs.Resolution.{IsResolved, edge_at, move_count, thread_of as event_thread, slot_of, events_in, event_after}
-use Rattle.cycle_events.proofs.{Threads.{event_in_slot, slot_of_event}, Arcs.thread_below, CycleRound.{after_below, before_after, internal_follows}}
-use Rattle.cycle_events.specs.Values.{write_count}
-use Rattle.arch_trait.specs.{declared.step.Step.Step, declared.link.Link.TheVariants.Plain, Links.edge_link}
-use Rattle.arch_trait.specs.Threads.{ThreadCode, loads_in, control_after, thread_items}
-use Rattle.program_meaning.specs.{Accesses.{Access, Visit, accesses_of, barriers_after, reads_among, reads_before}, Executions.Execution}
-use Rattle.program_meaning.specs.{Programs.{IsCandidate, visits_in, accesses_in}, Standing.{NamedAccess, IsEvent, StartsFree, TiesBy}}
-use Rattle.accesses_force_cycles.specs.Joining.{AreFree, IsTiedUp, values_read}
-use Rattle.accesses_force_cycles.proofs.Lists.{got_map, image_of}
+use Rattle.tests_force_cycles.proofs.Vocabulary.{◌≡◌, ℕ, suc, ◌+◌, ◌-◌, ◌<◌, true, false, List, [], length, take, Some, slice_get, refl, sym, ◌∙◌, ap, subst, arith, add-one, slice_get_within, list_all, upto, by_test, ArchName, ObsMode, Kind, Edge}
+use Rattle.tests_force_cycles.proofs.Vocabulary.{kind_of, source_mark, is_of_arch, is_external, before_after, internal_follows, Step, Plain, edge_link, ThreadCode, loads_in, control_after, thread_items, Access, Visit, accesses_of, barriers_after}
+use Rattle.tests_force_cycles.proofs.{Vocabulary.{reads_among, reads_before, Execution, IsCandidate, visits_in, accesses_in, NamedAccess, IsEvent, StartsFree, TiesBy, AreFree, IsTiedUp, values_read, got_map, image_of}, StepsAt.thread_steps_at}
+use Rattle.tests_force_cycles.proofs.{StepsAt.by_steps, Visits.{thread_visits, ends_free}, LinksMade.{Follows, ties}, LinkedAccesses.next_follows, AccessesMade.{candidate_enough, candidate_lists}, StepsFit.{Before, inner_before, link_between}}
+use Rattle.tests_force_cycles.proofs.{StepsFit.{link_first, thread_fits, event_fits}, VisitsAt.{IsPlain, visit_at, starts_free, all_free}, ThreadRuns.{AreCodesOf, DidThread, did_thread, ThreadOf, thread_of, items_below, visits_below}}
 use Rattle.tests_force_cycles.specs.{CycleSteps.{event_link, event_step, thread_steps, observing, observer_steps, cycle_steps}, TestPrograms.program_of}
-use Rattle.tests_force_cycles.proofs.{StepsAt.{thread_steps_at, by_steps}, Visits.{thread_visits, ends_free}, LinksMade.{Follows, ties}, LinkedAccesses.next_follows}
-use Rattle.tests_force_cycles.proofs.AccessesMade.{candidate_enough, candidate_lists}
-use Rattle.tests_force_cycles.proofs.StepsFit.{Before, inner_before, link_between, link_first, thread_fits, event_fits}
-use Rattle.tests_force_cycles.proofs.VisitsAt.{IsPlain, visit_at, starts_free, all_free}
-use Rattle.tests_force_cycles.proofs.ThreadRuns.{AreCodesOf, DidThread, did_thread, ThreadOf, thread_of, items_below, visits_below}
+use Rattle.cycle_events.{specs.{Resolution.{IsLaidOut, edge_at, move_count, thread_of as event_thread, slot_of, events_in, event_after}, Values.write_count}, proofs.{Threads.{event_in_slot, slot_of_event}, Arcs.thread_below, CycleRound.after_below}}
 
 -- an edge to another thread ties nothing
 pub external_ties : (kind : Kind) (edge : Edge) (threads : List (List Access)) (e f : NamedAccess) → kind_of edge ≡ kind → is_external edge ≡ true → TiesBy kind threads e f
@@ -49,7 +34,7 @@ record IsNext (es : List Edge) (number : ℕ → ℕ) (i : ℕ) : Type 0 where
   slot : slot_of es (event_after es i) ≡ suc (slot_of es i)
   step : slice_get (thread_steps es number (event_thread es i)) (suc (slot_of es i)) ≡ Some (event_step es number (event_after es i))
 
-is_next : (es : List Edge) (number : ℕ → ℕ) (i : ℕ) → IsResolved es → i < length es → is_external (edge_at es i) ≡ false → IsNext es number i
+is_next : (es : List Edge) (number : ℕ → ℕ) (i : ℕ) → IsLaidOut es → i < length es → is_external (edge_at es i) ≡ false → IsNext es number i
 is_next es number i r h inside =
     let w = internal_follows es i r h inside in
     let slot : slot_of es (event_after es i) ≡ suc (slot_of es i) = ap (slot_of es) w.next ∙ w.slot ∙ add-one (slot_of es i) in
@@ -65,7 +50,7 @@ is_next es number i r h inside =
       step = got_map (event_step es number) (events_in es (event_thread es i)) (suc (slot_of es i)) (event_after es i) stands;
     }
 
-is_after : (arch : ArchName) (codes : List ThreadCode) (es : List Edge) (mode : ObsMode) (number : ℕ → ℕ) (x : Execution) (i : ℕ) (e f : NamedAccess) → IsResolved es → list_all (λ e. is_of_arch e arch) es ≡ true → AreCodesOf codes (cycle_steps es mode number) → IsCandidate (program_of codes (move_count es)) x → i < length es → is_external (edge_at es i) ≡ false → IsEvent es (visits_in (program_of codes (move_count es)) x) i e → IsEvent es (visits_in (program_of codes (move_count es)) x) (event_after es i) f → IsAfter codes es mode number x i e f
+is_after : (arch : ArchName) (codes : List ThreadCode) (es : List Edge) (mode : ObsMode) (number : ℕ → ℕ) (x : Execution) (i : ℕ) (e f : NamedAccess) → IsLaidOut es → list_all (λ e. is_of_arch e arch) es ≡ true → AreCodesOf codes (cycle_steps es mode number) → IsCandidate (program_of codes (move_count es)) x → i < length es → is_external (edge_at es i) ≡ false → IsEvent es (visits_in (program_of codes (move_count es)) x) i e → IsEvent es (visits_in (program_of codes (move_count es)) x) (event_after es i) f → IsAfter codes es mode number x i e f
 is_after arch codes es mode number x i e f r o m c h inside u v =
     of_thread (thread_of (cycle_steps es mode number) x (event_thread es i) (candidate_lists codes es mode number x m c) (slice_get_within (cycle_steps es mode number) (event_thread es i) (thread_steps es number (event_thread es i)) stands))
   where
@@ -113,7 +98,7 @@ first_plain es mode number k steps s g h =
     (λ b. (observer_plain es number b.spot 0 s (ap (λ y. slice_get y 0) b.steps_are ∙ h)).link)
 
 -- an event has the mark of what its edge leaves
-event_mark : (codes : List ThreadCode) (es : List Edge) (mode : ObsMode) (number : ℕ → ℕ) (x : Execution) (i : ℕ) (e : NamedAccess) → IsResolved es → AreCodesOf codes (cycle_steps es mode number) → IsCandidate (program_of codes (move_count es)) x → i < length es → IsEvent es (visits_in (program_of codes (move_count es)) x) i e → e.visit.mark ≡ source_mark (edge_at es i)
+event_mark : (codes : List ThreadCode) (es : List Edge) (mode : ObsMode) (number : ℕ → ℕ) (x : Execution) (i : ℕ) (e : NamedAccess) → IsLaidOut es → AreCodesOf codes (cycle_steps es mode number) → IsCandidate (program_of codes (move_count es)) x → i < length es → IsEvent es (visits_in (program_of codes (move_count es)) x) i e → e.visit.mark ≡ source_mark (edge_at es i)
 event_mark codes es mode number x i e r m c h u =
     of_thread (thread_of (cycle_steps es mode number) x (event_thread es i) (candidate_lists codes es mode number x m c) (slice_get_within (cycle_steps es mode number) (event_thread es i) (thread_steps es number (event_thread es i)) stands))
   where
@@ -130,7 +115,7 @@ event_mark codes es mode number x i e r m c h u =
 
 -- the marks of the accesses of the program of a cycle's test, and what comes between them, are what the edges say, and
 -- else there is nothing
-pub tied_up : (arch : ArchName) (codes : List ThreadCode) (es : List Edge) (mode : ObsMode) (number : ℕ → ℕ) (x : Execution) → IsResolved es → list_all (λ e. is_of_arch e arch) es ≡ true → AreCodesOf codes (cycle_steps es mode number) → IsCandidate (program_of codes (move_count es)) x → IsTiedUp es (program_of codes (move_count es)) x
+pub tied_up : (arch : ArchName) (codes : List ThreadCode) (es : List Edge) (mode : ObsMode) (number : ℕ → ℕ) (x : Execution) → IsLaidOut es → list_all (λ e. is_of_arch e arch) es ≡ true → AreCodesOf codes (cycle_steps es mode number) → IsCandidate (program_of codes (move_count es)) x → IsTiedUp es (program_of codes (move_count es)) x
 tied_up arch codes es mode number x r o m c = record {
   marks = λ i e h u. event_mark codes es mode number x i e r m c h u;
   ties = λ i e f h u v.

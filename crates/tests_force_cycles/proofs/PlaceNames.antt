@@ -1,16 +1,6 @@
 -- The names of locations differ, so the place of a location is found by its name.
-use Rattle.std.proofs.{Common.{◌≡◌, ℕ, ◌<◌, true, false, List, [], Some, slice_get, refl, sym, ◌∙◌, ap, arith}, lemmas.Slice.Eq.bytes_eq-Decides}
-use Rattle.std.proofs.{lemmas.Option.slice_get-get_or, lemmas.List.FromFn.{get_or-map-range_with_len, length-map-range_with_len}}
-use Rattle.std.specs.Str.{bytes_eq}
-use Rattle.relax_edges.specs.{declared.TheConstants.MAX_EDGES, declared.edge.Edge.Edge}
-use Rattle.list_laws.proofs.Cases.{by_test}
-use Rattle.cycle_events.specs.Resolution.{IsResolved, move_count}
-use Rattle.cycle_events.proofs.Sizes.{external_and_moves}
-use Rattle.arch_trait.specs.PlaceNames.{location_name, letters, number_in}
-use Rattle.arch_trait.proofs.Tables.{location_new}
-use Rattle.program_meaning.specs.Intended.{IsNumbering}
-use Rattle.accesses_force_cycles.proofs.Numbering.{numbering_onto}
-use Rattle.tests_force_cycles.proofs.ListElements.{position_none, position_first}
+use Rattle.tests_force_cycles.proofs.Vocabulary.{◌≡◌, ℕ, ◌<◌, true, false, List, [], Some, slice_get, refl, sym, ◌∙◌, ap, arith, bytes_eq-Decides, slice_get-get_or, get_or-map-range_with_len, length-map-range_with_len, bytes_eq, MAX_EDGES, Edge, by_test}
+use Rattle.tests_force_cycles.proofs.{Vocabulary.{IsLaidOut, move_count, external_and_moves, location_name, letters, number_in, location_new, IsNumbering, numbering_onto}, ListElements.{position_none, position_first}}
 
 -- place l of the names of locations is that of location l
 pub letter_at : (n l : ℕ) → l < n → slice_get (letters n) l ≡ Some (location_name l)
@@ -31,11 +21,11 @@ abbrev pub AreNamed : List Edge → (ℕ → ℕ) → List (List ℕ) → Type 0
 AreNamed es number names = (location : ℕ) → location < move_count es → slice_get names (number location) ≡ Some (location_name location)
 
 -- a cycle has fewer locations than a cycle may have edges
-pub locations_few : (es : List Edge) → IsResolved es → move_count es < MAX_EDGES
+pub locations_few : (es : List Edge) → IsLaidOut es → move_count es < MAX_EDGES
 locations_few es r = omega (arith, external_and_moves es, r.composes.few, r.threads)
 
 -- the place of a location is found by its name
-pub place_found : (es : List Edge) (number : ℕ → ℕ) (names : List (List ℕ)) (l : ℕ) → IsResolved es → IsNumbering es number → AreNamed es number names → l < move_count es → number_in names (location_name l) ≡ Some (number l)
+pub place_found : (es : List Edge) (number : ℕ → ℕ) (names : List (List ℕ)) (l : ℕ) → IsLaidOut es → IsNumbering es number → AreNamed es number names → l < move_count es → number_in names (location_name l) ≡ Some (number l)
 place_found es number names l r n named h =
     position_first (λ name. bytes_eq name (location_name l)) 0 names (number l) (location_name l) (named l h)
     ((bytes_eq-Decides (location_name l) (location_name l)).1 refl)

@@ -1,8 +1,6 @@
 -- Each register is found by its name.
-use Rattle.std.proofs.{Common.{◌≡◌, ℕ, zero, suc, ◌+◌, ◌<◌, false, cond, List, [], ◌∷◌, length, get_or, Some, ap, ◌∙◌, arith}, lemmas.Slice.Eq.bytes_eq-Decides}
-use Rattle.std.specs.{List.{position_from, IsDistinct, AllByRecursion}, Str.bytes_eq}
-use Rattle.arch_trait.specs.{PlaceNames.number_in, Threads.Puts, Writing.{Writing, WritesBack, name_in}}
-use Rattle.tests_force_cycles.specs.TestHeadline.{FindsRegisters}
+use Rattle.tests_force_cycles.proofs.Vocabulary.{◌≡◌, ℕ, zero, suc, ◌+◌, ◌<◌, false, cond, List, [], ◌∷◌, length, get_or, Some, ap, ◌∙◌, arith, bytes_eq-Decides, position_from, IsDistinct, AllByRecursion, bytes_eq, number_in, Puts, Writing, WritesBack}
+use Rattle.tests_force_cycles.{proofs.Vocabulary.name_in, specs.TestHeadline.FindsRegisters}
 
 each_at : (P : List ℕ → Type 0) (names : List (List ℕ)) (i : ℕ) → AllByRecursion P names → i < length names → P (get_or names i [])
 each_at P [] i all h = absurd (omega (arith, h))

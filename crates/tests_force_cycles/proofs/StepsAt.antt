@@ -1,15 +1,7 @@
 -- Where the accesses of each thread of a cycle and of each observer are among those of the cycle's test, and that
 -- there is nothing else.
-use Rattle.std.proofs.{Common.{◌≡◌, ℕ, ◌+◌, ◌-◌, ◌<◌, ◌≤◌, true, List, length, map, Some, slice_get, sym, ◌∙◌, arith, length-append}, lemmas.List.length-map}
-use Rattle.std.specs.List.{count_by}
-use Rattle.relax_edges.specs.{declared.kinds.ObsMode.ObsMode, declared.edge.Edge.Edge}
-use Rattle.list_laws.specs.Numbers.{upto}
-use Rattle.list_laws.proofs.{Cases.by_less, Numbers.{length-map-upto, slice_get-map-upto}, Ranks.{length-filter-upto, unrank_upto}}
-use Rattle.cycle_events.specs.{Resolution.{external_count, move_count}, Values.is_observed}
-use Rattle.cycle_events.proofs.ValueLaws.{threads_and_observers}
-use Rattle.arch_trait.specs.declared.step.Step.{Step}
-use Rattle.program_meaning.specs.Intended.{observed_locations}
-use Rattle.accesses_force_cycles.proofs.Lists.{slice_get-append_left, slice_get-append_right, image_of, got_map}
+use Rattle.tests_force_cycles.proofs.Vocabulary.{◌≡◌, ℕ, ◌+◌, ◌-◌, ◌<◌, ◌≤◌, true, List, length, map, Some, slice_get, sym, ◌∙◌, arith, length-append, length-map, count_by, ObsMode, Edge, upto, by_less, length-map-upto, slice_get-map-upto}
+use Rattle.tests_force_cycles.proofs.Vocabulary.{length-filter-upto, unrank_upto, external_count, move_count, is_observed, threads_and_observers, Step, observed_locations, slice_get-append_left, slice_get-append_right, image_of, got_map}
 use Rattle.tests_force_cycles.specs.CycleSteps.{thread_steps, observer_steps, cycle_steps}
 
 -- a thread of the cycle has its events' accesses

@@ -1,24 +1,12 @@
 -- The accesses of each thread of a cycle's test are some and not too many, can follow one another on the architecture,
 -- with their marks, and are at the places of locations.
-use Rattle.std.proofs.Common.{◌≡◌, ℕ, zero, suc, ◌+◌, ◌<◌, ◌≤◌, Bool, true, false, ◌==◌, List, [], ◌∷◌, length, get_or, Some, slice_get, refl, sym, ◌∙◌, ap, subst, arith, add-one, eq-eqb}
-use Rattle.std.proofs.{lemmas.Bool.{cond-true, and_parts}, lemmas.List.length-map, lemmas.Option.slice_get_within}
-use Rattle.std.specs.List.{list_all}
-use Rattle.relax_edges.specs.{declared.kinds.Dir.Dir, declared.kinds.ArchName.ArchName, declared.kinds.ObsMode.ObsMode, declared.kinds.Kind.Kind}
-use Rattle.relax_edges.specs.{declared.edge.Edge.Edge, declared.TheConstants.MAX_EDGES}
-use Rattle.relax_edges.specs.EdgeTable.{kind_of, kind_source, kind_target, source_of, mark_fits, mark_is_of, is_of_arch, is_external}
+use Rattle.tests_force_cycles.proofs.Vocabulary.{◌≡◌, ℕ, zero, suc, ◌+◌, ◌<◌, ◌≤◌, Bool, true, false, ◌==◌, List, [], ◌∷◌, length, get_or, Some, slice_get, refl, sym, ◌∙◌, ap, subst, arith, add-one, eq-eqb, cond-true, and_parts, length-map}
+use Rattle.tests_force_cycles.proofs.Vocabulary.{slice_get_within, list_all, Dir, ArchName, ObsMode, Kind, Edge, MAX_EDGES, kind_of, kind_source, kind_target, source_of, mark_fits, mark_is_of, is_of_arch, is_external, source_mark_fits, upto, length-upto}
+use Rattle.tests_force_cycles.proofs.Vocabulary.{length-map-upto, slice_get-upto, after_below, source_after, internal_follows, location_below, only_in_slot, thread_has_events, thread_size_most, value_most, write_count_most, observed_writes, Step, Link}
+use Rattle.tests_force_cycles.{proofs.{Vocabulary.{Plain, kind_link, edge_link, depends_on_load, is_data, FitStep, FitSteps, is_load_dir, image_of}, EdgeMarks.has_edge, StepsAt.by_steps}, specs.CycleSteps.{event_link, event_step, thread_steps}}
+use Rattle.tests_force_cycles.specs.CycleSteps.{observing, observer_steps, cycle_steps}
 use Rattle.relax_edges.specs.declared.kinds.Dir.TheVariants as dirs
-use Rattle.edge_algebra_laws.proofs.Marks.{source_mark_fits}
-use Rattle.list_laws.specs.Numbers.{upto}
-use Rattle.list_laws.proofs.Numbers.{length-upto, length-map-upto, slice_get-upto}
-use Rattle.cycle_events.specs.Resolution.{IsResolved, edge_at, move_count, event_before, event_after, events_in, thread_of, slot_of, location_of}
-use Rattle.cycle_events.specs.Values.{value_of, write_count}
-use Rattle.cycle_events.proofs.{Threads.{slot-zero, slot_out, slot_of_event}, CycleRound.{after_below, source_after, internal_follows}, Arcs.location_below}
-use Rattle.cycle_events.proofs.{Sizes.{only_in_slot, thread_has_events, thread_size_most}, ValuesAlongEdges.{value_most, write_count_most}, ValueLaws.observed_writes}
-use Rattle.arch_trait.specs.{declared.step.Step.Step, declared.link.Link.Link, declared.link.Link.TheVariants.Plain}
-use Rattle.arch_trait.specs.{Links.{kind_link, edge_link, depends_on_load, is_data}, Threads.{FitStep, FitSteps, is_load_dir}}
-use Rattle.tests_force_cycles.proofs.{EdgeMarks.has_edge, StepsAt.by_steps}
-use Rattle.accesses_force_cycles.proofs.Lists.{image_of}
-use Rattle.tests_force_cycles.specs.CycleSteps.{event_link, event_step, thread_steps, observing, observer_steps, cycle_steps}
+use Rattle.cycle_events.{specs.{Resolution.{IsLaidOut, edge_at, move_count, event_before, event_after, events_in, thread_of, slot_of, location_of}, Values.{value_of, write_count}}, proofs.Threads.{slot-zero, slot_out, slot_of_event}}
 
 -- an element of a list whose elements all pass
 pub all_at : {X : Type 0} (p : X → Bool) (xs : List X) (i : ℕ) (d : X) → list_all p xs ≡ true → i < length xs → p (get_or xs i d) ≡ true
@@ -53,7 +41,7 @@ event_marked : (es : List Edge) (arch : ArchName) (number : ℕ → ℕ) (i : �
 event_marked es arch number i a l = grind (arith, source_mark_fits, has_edge, all_at)
 
 -- values are small
-pub value_small : (es : List Edge) (i : ℕ) → IsResolved es → value_of es i ≤ MAX_EDGES
+pub value_small : (es : List Edge) (i : ℕ) → IsLaidOut es → value_of es i ≤ MAX_EDGES
 value_small es i r = omega (arith, value_most es i, write_count_most es (location_of es i), r.composes.few)
 
 -- the event before one that isn't the first of its thread: the edge between them is internal
@@ -67,7 +55,7 @@ pub record Before (es : List Edge) (i : ℕ) : Type 0 where
   pub slot : slot_of es i ≡ slot_of es event + 1
 
 -- an event that isn't the first of its thread has an event before it, to which an internal edge joins it
-pub inner_before : (es : List Edge) (i : ℕ) → IsResolved es → i < length es → 0 < slot_of es i → Before es i
+pub inner_before : (es : List Edge) (i : ℕ) → IsLaidOut es → i < length es → 0 < slot_of es i → Before es i
 inner_before es zero r h l = absurd (omega (arith, slot-zero es))
 inner_before es (suc j) r h l = grind (arith, add-one j, slot_out es j (omega arith), internal_follows es j r (omega arith))
 
@@ -80,7 +68,7 @@ pub link_first : (es : List Edge) (i : ℕ) → slot_of es i ≡ 0 → event_lin
 link_first es i h = cond-true {A = Link} (slot_of es i == 0) Plain (edge_link (edge_at es (event_before es i))) (eq-eqb (slot_of es i) 0 h)
 
 -- an access after another in its thread fits
-pub event_fits : (es : List Edge) (arch : ArchName) (number : ℕ → ℕ) (i : ℕ) → IsResolved es → list_all (λ e. is_of_arch e arch) es ≡ true → (b : Before es i) → FitStep arch (is_load_dir (source_of (edge_at es b.event))) (event_step es number i)
+pub event_fits : (es : List Edge) (arch : ArchName) (number : ℕ → ℕ) (i : ℕ) → IsLaidOut es → list_all (λ e. is_of_arch e arch) es ≡ true → (b : Before es i) → FitStep arch (is_load_dir (source_of (edge_at es b.event))) (event_step es number i)
 event_fits es arch number i r a b =
     grind (
       arith,
@@ -96,7 +84,7 @@ event_fits es arch number i r a b =
     )
 
 -- the accesses of a thread of the cycle
-pub thread_fits : (es : List Edge) (arch : ArchName) (number : ℕ → ℕ) (thread : ℕ) → IsResolved es → list_all (λ e. is_of_arch e arch) es ≡ true → FitSteps arch false (thread_steps es number thread)
+pub thread_fits : (es : List Edge) (arch : ArchName) (number : ℕ → ℕ) (thread : ℕ) → IsLaidOut es → list_all (λ e. is_of_arch e arch) es ≡ true → FitSteps arch false (thread_steps es number thread)
 thread_fits es arch number thread r a = fit_from arch false (thread_steps es number thread) first next
   where
     first : (s : Step) → slice_get (thread_steps es number thread) 0 ≡ Some s → FitStep arch false s
@@ -119,7 +107,7 @@ thread_fits es arch number thread r a = fit_from arch false (thread_steps es num
         (event_fits es arch number j.element r a b)
 
 -- the accesses of an observer
-pub observer_fits : (es : List Edge) (arch : ArchName) (number : ℕ → ℕ) (location : ℕ) → IsResolved es → FitSteps arch false (observer_steps es number location)
+pub observer_fits : (es : List Edge) (arch : ArchName) (number : ℕ → ℕ) (location : ℕ) → IsLaidOut es → FitSteps arch false (observer_steps es number location)
 observer_fits es arch number location r =
     fit_from arch false (observer_steps es number location) (λ s g. fits 0 false s g) (λ k s t g h. fits (suc k) (is_load_dir s.dir) t h)
   where
@@ -139,7 +127,7 @@ pub record IsThread (arch : ArchName) (steps : List Step) : Type 0 where
   pub few : length steps ≤ MAX_EDGES
 
 -- each thread of a cycle's test is one of the architecture
-pub steps_fit : (es : List Edge) (mode : ObsMode) (number : ℕ → ℕ) (arch : ArchName) (k : ℕ) (steps : List Step) → IsResolved es → list_all (λ e. is_of_arch e arch) es ≡ true → slice_get (cycle_steps es mode number) k ≡ Some steps → IsThread arch steps
+pub steps_fit : (es : List Edge) (mode : ObsMode) (number : ℕ → ℕ) (arch : ArchName) (k : ℕ) (steps : List Step) → IsLaidOut es → list_all (λ e. is_of_arch e arch) es ≡ true → slice_get (cycle_steps es mode number) k ≡ Some steps → IsThread arch steps
 steps_fit es mode number arch k steps r a g =
     by_steps es mode number k steps g
     (λ l e. subst (λ (x : List Step). IsThread arch x) e (record {
@@ -160,7 +148,7 @@ pub record IsPlaced (es : List Edge) (number : ℕ → ℕ) (s : Step) : Type 0 
   pub place_is : s.place ≡ number spot
 
 -- each access of a cycle's test is at the place of a location
-pub steps_placed : (es : List Edge) (mode : ObsMode) (number : ℕ → ℕ) (k j : ℕ) (steps : List Step) (s : Step) → IsResolved es → slice_get (cycle_steps es mode number) k ≡ Some steps → slice_get steps j ≡ Some s → IsPlaced es number s
+pub steps_placed : (es : List Edge) (mode : ObsMode) (number : ℕ → ℕ) (k j : ℕ) (steps : List Step) (s : Step) → IsLaidOut es → slice_get (cycle_steps es mode number) k ≡ Some steps → slice_get steps j ≡ Some s → IsPlaced es number s
 steps_placed es mode number k j steps s r g h =
     by_steps es mode number k steps g
     (λ l e. let i = image_of (event_step es number) (events_in es k) j s (ap (λ x. slice_get x j) e ∙ h) in

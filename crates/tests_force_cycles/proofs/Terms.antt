@@ -1,20 +1,9 @@
 -- The terms of a test's condition: those of some threads and then of others, and how many there are.
-use Rattle.std.proofs.Common.{◌≡◌, ℕ, zero, suc, ◌+◌, ◌<◌, ◌≤◌, Bool, true, false, not, ◌==◌, ◌&&◌, cond, List, [], ◌∷◌, ◌++◌, length, get_or, take, drop, map, refl, sym, ◌∙◌, ap, arith, length-append, append_assoc, append-nil, length-take}
-use Rattle.std.proofs.{lemmas.List.{length-map, take-append-drop, take_more}, lemmas.Slice.Zip.length-zip, Math.Bool.and_comm}
-use Rattle.std.proofs.lemmas.List.Sums.{sum_by-cons, sum_by-append, count_by-le-length, length-filter}
-use Rattle.std.specs.List.{count_by, filter, sum_by}
-use Rattle.relax_edges.specs.{declared.kinds.ObsMode.ObsMode, declared.edge.Edge.Edge, EdgeTable.source_of}
-use Rattle.list_laws.specs.Numbers.{upto}
-use Rattle.list_laws.proofs.{Numbers.length-map-upto, Counts.{count_upto-suc, count_upto_none, count_upto_same}}
-use Rattle.list_laws.proofs.Totals.{count_upto_single, sum_upto_same, sum_upto-add}
-use Rattle.cycle_events.specs.Resolution.{IsResolved, edge_at, external_count, move_count, events_in, location_of, thread_of}
-use Rattle.cycle_events.specs.Values.{is_observed, is_write, write_count}
-use Rattle.cycle_events.proofs.{Arcs.{location_below, thread_below}, Lists.count_filter}
-use Rattle.arch_trait.specs.{declared.step.Step.Step, Threads.{Puts, is_load_dir, loads_in, setting_out, compiled}}
-use Rattle.arch_trait.proofs.Codes.{thread_loads_length}
-use Rattle.program_meaning.specs.Intended.{observed_locations}
-use Rattle.tests_force_cycles.specs.CycleSteps.{thread_steps, observer_steps, cycle_steps, numbers_read}
-use Rattle.tests_force_cycles.specs.TestOf.{is_named_location, last_term, last_terms, thread_terms, load_terms}
+use Rattle.tests_force_cycles.proofs.Vocabulary.{◌≡◌, ℕ, zero, suc, ◌+◌, ◌<◌, ◌≤◌, Bool, true, false, not, ◌==◌, ◌&&◌, cond, List, [], ◌∷◌, ◌++◌, length, get_or, take, drop, map, refl, sym, ◌∙◌, ap, arith, length-append, append_assoc, append-nil}
+use Rattle.tests_force_cycles.proofs.Vocabulary.{length-take, length-map, take-append-drop, take_more, sum_by-cons, sum_by-append, count_by-le-length, length-filter, length-zip, and_comm, count_by, filter, sum_by, ObsMode, Edge, source_of, upto}
+use Rattle.tests_force_cycles.proofs.Vocabulary.{length-map-upto, count_upto-suc, count_upto_none, count_upto_same, count_upto_single, sum_upto_same, sum_upto-add, Step, Puts, is_load_dir, loads_in, setting_out, compiled, thread_loads_length}
+use Rattle.tests_force_cycles.{proofs.Vocabulary.observed_locations, specs.{CycleSteps.{thread_steps, observer_steps, cycle_steps, numbers_read}, TestOf.{is_named_location, last_term, last_terms, thread_terms, load_terms}}}
+use Rattle.cycle_events.{specs.{Resolution.{IsLaidOut, edge_at, external_count, move_count, events_in, location_of, thread_of}, Values.{is_observed, is_write, write_count}}, proofs.{Arcs.{location_below, thread_below}, Lists.count_filter}}
 
 -- a thread has as many terms as loads
 pub reads-count : (steps : List Step) → length (numbers_read steps) ≡ loads_in steps
@@ -99,12 +88,12 @@ unfolding events_in
 thread_loads es number k = grind (arith, sum_map, count_filter (is_load es), count_upto_same, and_comm)
 
 -- and so all threads of the cycle have as many loads as it has reads
-cycle_loads : (es : List Edge) (number : ℕ → ℕ) → IsResolved es → sum_by (λ k. loads_in (thread_steps es number k)) (upto (external_count es)) ≡ count_by (is_load es) (upto (length es))
+cycle_loads : (es : List Edge) (number : ℕ → ℕ) → IsLaidOut es → sum_by (λ k. loads_in (thread_steps es number k)) (upto (external_count es)) ≡ count_by (is_load es) (upto (length es))
 cycle_loads es number r =
     grind (arith, sum_upto_same, thread_loads es number, classes_passing (is_load es) (thread_of es) (external_count es) (length es), thread_below es)
 
 -- the writes of all locations are those of the cycle
-writes_total : (es : List Edge) → IsResolved es → sum_by (write_count es) (upto (move_count es)) ≡ count_by (is_write es) (upto (length es))
+writes_total : (es : List Edge) → IsLaidOut es → sum_by (write_count es) (upto (move_count es)) ≡ count_by (is_write es) (upto (length es))
 unfolding write_count
 writes_total es r = classes_passing (is_write es) (location_of es) (move_count es) (length es) (λ i l. location_below es i r l)
 
@@ -127,7 +116,7 @@ observer_loads : (es : List Edge) (mode : ObsMode) (number : ℕ → ℕ) → su
 observer_loads es mode number = grind (arith, sum_fewer, count_by-le-length, length-map-upto)
 
 -- the loads of all threads of the test are those of the cycle's threads and those of the observers
-loads_total : (es : List Edge) (mode : ObsMode) (number : ℕ → ℕ) → IsResolved es
+loads_total : (es : List Edge) (mode : ObsMode) (number : ℕ → ℕ) → IsLaidOut es
     → sum_by loads_in (cycle_steps es mode number) ≤ count_by (is_load es) (upto (length es)) + sum_by (write_count es) (observed_locations es mode)
 unfolding cycle_steps
 loads_total es mode number r =
@@ -141,7 +130,7 @@ loads_total es mode number r =
     )
 
 -- a condition has at most one term for each event of the cycle
-pub terms_few : (a : Puts) (name : ℕ → List ℕ) (es : List Edge) (mode : ObsMode) (number : ℕ → ℕ) → IsResolved es → length (last_terms es mode ++ load_terms a name 0 (cycle_steps es mode number)) ≤ length es
+pub terms_few : (a : Puts) (name : ℕ → List ℕ) (es : List Edge) (mode : ObsMode) (number : ℕ → ℕ) → IsLaidOut es → length (last_terms es mode ++ load_terms a name 0 (cycle_steps es mode number)) ≤ length es
 terms_few a name es mode number r =
     omega (
       arith,
@@ -156,7 +145,7 @@ terms_few a name es mode number r =
     )
 
 -- so there is room for the terms of a thread after those of the threads before it
-pub terms_room : (a : Puts) (name : ℕ → List ℕ) (es : List Edge) (mode : ObsMode) (number : ℕ → ℕ) (k : ℕ) (d : List Step) → IsResolved es → k < length (cycle_steps es mode number) → length (last_terms es mode ++ load_terms a name 0 (take k (cycle_steps es mode number))) + length (thread_terms a name k (get_or (cycle_steps es mode number) k d)) ≤ length es
+pub terms_room : (a : Puts) (name : ℕ → List ℕ) (es : List Edge) (mode : ObsMode) (number : ℕ → ℕ) (k : ℕ) (d : List Step) → IsLaidOut es → k < length (cycle_steps es mode number) → length (last_terms es mode ++ load_terms a name 0 (take k (cycle_steps es mode number))) + length (thread_terms a name k (get_or (cycle_steps es mode number) k d)) ≤ length es
 terms_room a name es mode number k d r h =
     let threads = cycle_steps es mode number in
     let prefix = load_terms a name 0 (take k threads) in

@@ -1,16 +1,7 @@
 -- The code of a cycle's test, with any numbers for the places, makes the accesses of the test at these places.
-use Rattle.std.proofs.Common.{◌≡◌, ℕ, true, List, [], ◌∷◌, length, map, Some, slice_get, refl, sym, ◌∙◌, ap, subst, arith}
-use Rattle.std.proofs.lemmas.List.{length-map, map-append}
-use Rattle.std.specs.List.{list_all}
-use Rattle.relax_edges.specs.{declared.kinds.ObsMode.ObsMode, declared.edge.Edge.Edge, EdgeTable.is_of_arch}
-use Rattle.cycle_events.specs.Resolution.{IsResolved, move_count}
-use Rattle.arch_trait.specs.{declared.step.Step.Step, Codes.{AllBelow, MakesSteps}, Threads.{Puts, ThreadCode, compiled}, Laws.IsArch}
-use Rattle.arch_trait.specs.PlaceRenumbering.{step_at, renumbered}
-use Rattle.arch_trait.proofs.{WholeRuns.{makes_steps, is_formed}, Renumbered.renumbered_makes}
-use Rattle.program_meaning.specs.Programs.{Program}
-use Rattle.accesses_force_cycles.proofs.Lists.{got_map, image_of, map_same, map-map}
-use Rattle.tests_force_cycles.specs.{CycleSteps.{cycle_steps, numbers_read}, TestOf.plain, TestPrograms.program_of, TestHeadline.HasCode}
-use Rattle.tests_force_cycles.proofs.{StepsFit.steps_fit, ThreadRuns.AreCodesOf}
+use Rattle.tests_force_cycles.proofs.Vocabulary.{◌≡◌, ℕ, true, List, [], ◌∷◌, length, map, Some, slice_get, refl, sym, ◌∙◌, ap, subst, arith, length-map, map-append, list_all, ObsMode, Edge, is_of_arch, IsLaidOut, move_count, Step, AllBelow, MakesSteps}
+use Rattle.tests_force_cycles.proofs.{Vocabulary.{Puts, ThreadCode, compiled, IsArch, step_at, renumbered, makes_steps, is_formed, renumbered_makes, Program, got_map, image_of, map_same, map-map}, StepsFit.steps_fit, ThreadRuns.AreCodesOf}
+use Rattle.tests_force_cycles.specs.{CycleSteps.{cycle_steps, numbers_read}, TestOf.plain, TestPrograms.program_of, TestHeadline.HasLaidCode}
 
 -- the code of the threads of a cycle's test, where each location's place has the number that `number` gives it
 abbrev pub cycle_codes : Puts → List Edge → ObsMode → (ℕ → ℕ) → List ThreadCode
@@ -44,7 +35,7 @@ origin_of a es mode number k steps g =
     }
 
 -- the code makes the accesses
-pub are_codes : (a : Puts) (es : List Edge) (mode : ObsMode) (number : ℕ → ℕ) → IsArch a → IsResolved es → list_all (λ e. is_of_arch e a.name) es ≡ true → AreCodesOf (cycle_codes a es mode number) (cycle_steps es mode number)
+pub are_codes : (a : Puts) (es : List Edge) (mode : ObsMode) (number : ℕ → ℕ) → IsArch a → IsLaidOut es → list_all (λ e. is_of_arch e a.name) es ≡ true → AreCodesOf (cycle_codes a es mode number) (cycle_steps es mode number)
 are_codes a es mode number laws r o = record {
   count =
       length-map (map (compiled a) (cycle_steps es mode plain)) (renumbered number)
@@ -62,9 +53,9 @@ are_codes a es mode number laws r o = record {
 }
 
 -- the registers of a thread's loads are the architecture's
-pub loads_below : (a : Puts) (es : List Edge) (mode : ObsMode) (k : ℕ) (steps : List Step) → IsArch a → HasCode a es mode → slice_get (cycle_steps es mode plain) k ≡ Some steps → AllBelow a.registers (compiled a steps).loads
+pub loads_below : (a : Puts) (es : List Edge) (mode : ObsMode) (k : ℕ) (steps : List Step) → IsArch a → HasLaidCode a es mode → slice_get (cycle_steps es mode plain) k ≡ Some steps → AllBelow a.registers (compiled a steps).loads
 loads_below a es mode k steps laws t g =
-    (is_formed a laws steps (steps_fit es mode plain a.name k steps t.resolved t.of_arch g).fit (t.room k steps g)).loads
+    (is_formed a laws steps (steps_fit es mode plain a.name k steps t.laid t.of_arch g).fit (t.room k steps g)).loads
 
 -- the numbers that accesses read are the same at other places
 pub numbers_kept : (f : ℕ → ℕ) (steps : List Step) → numbers_read (map (step_at f) steps) ≡ numbers_read steps

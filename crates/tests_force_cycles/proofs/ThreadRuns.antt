@@ -1,18 +1,8 @@
 -- The runs of a program's threads in an execution: with a number for each load they end, and make the accesses of their
 -- steps; with fewer or more they don't end.
-use Rattle.std.proofs.{Common.{◌≡◌, ℕ, suc, ◌<◌, List, ◌∷◌, length, map, Option, Some, slice_get, sym, ◌∙◌, ap, subst, arith}, lemmas.List.length-map}
-use Rattle.std.proofs.lemmas.Option.{slice_get_within}
-use Rattle.list_laws.proofs.Cases.{by_less}
-use Rattle.relax_edges.specs.declared.kinds.Value.{Value}
-use Rattle.micro_ops.specs.{declared.operation.Item.Item, Running.{Outcome, Ended, ReadsLeft, ReadsShort}}
-use Rattle.arch_trait.specs.{declared.step.Step.Step, Codes.MakesSteps, Threads.{ThreadCode, loads_in, thread_items, HoldNumbers}}
-use Rattle.program_meaning.specs.{declared.WriteAt.WriteAt, Accesses.{Visit, visits_of, accesses_of}, Executions.Execution}
-use Rattle.program_meaning.specs.Programs.{Program, Thread, run_of, runs_of, made_in, HasEnded, items_in, visits_in, accesses_in}
-use Rattle.program_meaning.proofs.Runs.{accesses-count}
-use Rattle.accesses_force_cycles.specs.Joining.{accesses_filled, values_read}
-use Rattle.accesses_force_cycles.proofs.Lists.{got_below, got_map}
-use Rattle.tests_force_cycles.specs.TestPrograms.{thread_from, program_of}
-use Rattle.tests_force_cycles.proofs.Visits.{step_access, thread_visits, visits_are, accesses_are}
+use Rattle.tests_force_cycles.proofs.Vocabulary.{◌≡◌, ℕ, suc, ◌<◌, List, ◌∷◌, length, map, Option, Some, slice_get, sym, ◌∙◌, ap, subst, arith, length-map, slice_get_within, by_less, Value, Item, Outcome, Ended, ReadsLeft, ReadsShort, Step, MakesSteps}
+use Rattle.tests_force_cycles.proofs.Vocabulary.{ThreadCode, loads_in, thread_items, HoldNumbers, WriteAt, Visit, visits_of, accesses_of, Execution, Program, Thread, run_of, runs_of, made_in, HasEnded, items_in, visits_in, accesses_in, accesses-count}
+use Rattle.tests_force_cycles.{proofs.{Vocabulary.{accesses_filled, values_read, got_below, got_map}, Visits.{step_access, thread_visits, visits_are, accesses_are}}, specs.TestPrograms.{thread_from, program_of}}
 
 -- the code of each thread makes its accesses
 pub record IsCodeOf (codes : List ThreadCode) (k : ℕ) (steps : List Step) : Type 0 where

@@ -1,14 +1,10 @@
 -- The accesses of a thread's run as visits: each with its mark, with the barriers of its link before it and with its masks.
-use Rattle.std.proofs.{Common.{◌≡◌, ℕ, ◌+◌, ◌-◌, cond, List, [], ◌∷◌, length, map, refl, ◌∙◌, ap, arith}, lemmas.List.Sums.sum_by-cons}
-use Rattle.relax_edges.specs.declared.kinds.Dir.{Dir}
+use Rattle.tests_force_cycles.proofs.Vocabulary.{◌≡◌, ℕ, ◌+◌, ◌-◌, cond, List, [], ◌∷◌, length, map, refl, ◌∙◌, ap, arith, sum_by-cons, Dir, Step, Link, is_addr, is_data, mask_if, link_control, is_load_dir, loads_in, loads_after, first_number}
+use Rattle.tests_force_cycles.proofs.Vocabulary.{left_after, thread_items, Access, Barred, Visit, visits_of, barriers_after, accesses_of, value_taken, values_left, accesses_filled}
 use Rattle.relax_edges.specs.declared.kinds.Dir.TheVariants as dirs
 use Rattle.relax_edges.specs.declared.kinds.FenceKind.TheVariants as fences
 use Rattle.micro_ops.specs.declared.operation.Barrier.TheVariants as kinds
-use Rattle.arch_trait.specs.{declared.step.Step.Step, declared.link.Link.Link, Links.{is_addr, is_data, mask_if, link_control}}
-use Rattle.arch_trait.specs.Threads.{is_load_dir, loads_in, loads_after, first_number, left_after, thread_items}
 use Rattle.arch_trait.specs.declared.link.Link.TheVariants as links
-use Rattle.program_meaning.specs.Accesses.{Access, Barred, Visit, visits_of, barriers_after, accesses_of}
-use Rattle.accesses_force_cycles.specs.Joining.{value_taken, values_left, accesses_filled}
 
 -- the barriers of a link
 abbrev pub link_barred : Link → ℕ → ℕ → List Barred

@@ -1,16 +1,9 @@
 -- What comes before an access of a thread and what its masks name, by the place of the access in its thread.
-use Rattle.std.proofs.Common.{◌≡◌, ℕ, zero, suc, ◌+◌, ◌-◌, ◌<◌, ◌≤◌, ◌^◌, Bool, true, cond, List, [], ◌∷◌, length, take, Some, slice_get, refl, sym, ◌∙◌, ap, subst, lt_of_lt_of_le, arith}
-use Rattle.std.proofs.{lemmas.List.Sums.sum_by-cons, Math.Pow.pow_mono}
-use Rattle.std.specs.List.{count_by}
-use Rattle.relax_edges.specs.{declared.kinds.Dir.Dir, declared.kinds.ArchName.ArchName}
+use Rattle.tests_force_cycles.proofs.Vocabulary.{◌≡◌, ℕ, zero, suc, ◌+◌, ◌-◌, ◌<◌, ◌≤◌, ◌^◌, Bool, true, cond, List, [], ◌∷◌, length, take, Some, slice_get, refl, sym, ◌∙◌, ap, subst, lt_of_lt_of_le, arith, sum_by-cons, pow_mono, count_by, Dir, ArchName}
+use Rattle.tests_force_cycles.proofs.Vocabulary.{Step, Plain, link_control, FitSteps, is_load_dir, loads_in, loads_after, first_number, left_after, control_after, branch_depends, link_below, Visit, accesses_of, reads_by, is_read, IsFree, StartsFree}
+use Rattle.tests_force_cycles.proofs.{Vocabulary.AreFree, Visits.{link_barred, step_visit, thread_visits}}
 use Rattle.relax_edges.specs.declared.kinds.Dir.TheVariants as dirs
 use Rattle.relax_edges.specs.declared.kinds.Mark.TheVariants as marks
-use Rattle.arch_trait.specs.{declared.step.Step.Step, declared.link.Link.TheVariants.Plain, Links.link_control}
-use Rattle.arch_trait.specs.Threads.{FitSteps, is_load_dir, loads_in, loads_after, first_number, left_after, control_after}
-use Rattle.arch_trait.proofs.{Accesses.branch_depends, Items.link_below}
-use Rattle.program_meaning.specs.{Accesses.{Visit, accesses_of, reads_by, is_read}, Standing.{IsFree, StartsFree}}
-use Rattle.accesses_force_cycles.specs.Joining.{AreFree}
-use Rattle.tests_force_cycles.proofs.Visits.{link_barred, step_visit, thread_visits}
 
 -- the visit at a place is that of the access there, after the loads and the branches before it
 pub record IsVisit (s : Step) (k c : ℕ) (visit : Visit) : Type 0 where

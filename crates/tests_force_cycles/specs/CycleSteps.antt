@@ -4,10 +4,10 @@
 use Rattle.std.specs.{Prelude.{ℕ, ◌+◌, ◌==◌, if◌then◌else◌, List, ◌++◌, map}, List.filter}
 use Rattle.relax_edges.specs.declared.kinds.Dir.TheVariants as dirs
 use Rattle.relax_edges.specs.declared.kinds.Mark.TheVariants as marks
-use Rattle.relax_edges.specs.{declared.kinds.ObsMode.ObsMode, declared.edge.Edge.Edge, EdgeTable.{source_of, source_mark}}
+use Rattle.relax_edges.specs.{declared.{kinds.ObsMode.ObsMode, edge.Edge.Edge}, EdgeTable.{source_of, source_mark}}
 use Rattle.list_laws.specs.Numbers.{upto}
 use Rattle.cycle_events.specs.{Resolution.{edge_at, event_before, events_in, external_count, location_of, slot_of}, Values.{value_of, write_count}}
-use Rattle.arch_trait.specs.{declared.link.Link.Link, declared.link.Link.TheVariants.Plain, declared.step.Step.Step, Links.edge_link, Threads.is_load_dir}
+use Rattle.arch_trait.specs.{declared.{link.Link.{Link, TheVariants.Plain}, step.Step.Step}, Links.edge_link, Threads.is_load_dir}
 use Rattle.program_meaning.specs.Intended.{observed_locations}
 
 -- how event i is tied to the event before it in its thread: by the edge between them, or by nothing if it is the first

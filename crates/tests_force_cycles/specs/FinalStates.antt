@@ -1,7 +1,7 @@
 -- The final state of an execution of a test, and the executions that a test asks for.
 -- Source: own, as the litmus format reads the terms of a condition.
 use Rattle.std.specs.{Prelude.{ℕ, List, Option}, Option.{option_map, option_and_then}}
-use Rattle.relax_edges.specs.{declared.kinds.Value.Value, declared.kinds.Value.TheVariants.Num}
+use Rattle.relax_edges.specs.declared.kinds.Value.{Value, TheVariants.Num}
 use Rattle.final_cond.specs.{Conditions.{LeftSeen, InRegister, AtPlace}, States.Meets}
 use Rattle.arch_trait.specs.{PlaceNames.number_in, SeenTests.TestSeen}
 use Rattle.program_meaning.specs.{Executions.Execution, Coherence.final_value, Programs.{Program, IsCandidate, IsCoherentIn, accesses_in, register_in}}

@@ -1,19 +1,24 @@
 -- What a test says of its cycle: the edges stand in every execution that it asks for, and there is exactly one.
 -- Source: own.
 use Rattle.std.specs.{Prelude.{◌≡◌, ◌↔◌, ℕ, ◌<◌, ◌≤◌, true, List, length, map, Option, Some, slice_get, Ok}, List.list_all}
-use Rattle.relax_edges.specs.{declared.kinds.ObsMode.ObsMode, declared.edge.Edge.Edge, EdgeTable.is_of_arch}
-use Rattle.cycle_events.specs.{Resolution.IsResolved, Values.valuation_of}
+use Rattle.relax_edges.specs.{declared.{kinds.ObsMode.ObsMode, edge.Edge.Edge}, EdgeTable.is_of_arch}
+use Rattle.cycle_events.specs.{Resolution.{IsLaidOut, IsResolved}, Values.valuation_of}
 use Rattle.program_meaning.specs.{Executions.Execution, Standing.AllStand, Intended.intended}
 use Rattle.accesses_force_cycles.specs.Joining.{IsOutcome}
 use Rattle.arch_trait.specs.{declared.step.Step.Step, Threads.{Puts, shape_of}, Laws.IsArch, PlaceRenumbering.renumbered, SeenTests.TestSeen}
 use Rattle.tests_force_cycles.specs.{CycleSteps.cycle_steps, TestOf.{plain, test_of}, TestPrograms.test_program, FinalStates.IsAskedFor}
 
--- the test of a resolved cycle has code on an architecture: the cycle's edges are the architecture's, and no thread needs
--- more registers than there are
-pub record HasCode (a : Puts) (es : List Edge) (mode : ObsMode) : Type 0 where
-  pub resolved : IsResolved es
+-- the test of a cycle that is laid out has code on an architecture: the cycle's edges are the architecture's, and no thread
+-- needs more registers than there are
+pub record HasLaidCode (a : Puts) (es : List Edge) (mode : ObsMode) : Type 0 where
+  pub laid : IsLaidOut es
   pub of_arch : list_all (λ e. is_of_arch e a.name) es ≡ true
   pub room : (thread : ℕ) (steps : List Step) → slice_get (cycle_steps es mode plain) thread ≡ Some steps → a.need (shape_of steps) ≤ a.registers
+
+-- the same of a resolved cycle
+pub record HasCode (a : Puts) (es : List Edge) (mode : ObsMode) : Type 0 where
+  pub resolved : IsResolved es
+  pub coded : HasLaidCode a es mode
 
 -- a cycle has a test on an architecture: it has code there, and the mode gives it values and the observers that it needs
 pub record HasTest (a : Puts) (es : List Edge) (mode : ObsMode) : Type 0 where

@@ -1,7 +1,7 @@
 -- The test of a cycle: its locations, the code of its threads, and its condition.
 -- Source: own, after the way diy takes from a cycle to a test.
 use Rattle.std.specs.{Prelude.{ℕ, ◌+◌, Bool, ◌&&◌, nat_le, not, List, [], ◌∷◌, ◌++◌, map}, List.{filter, zip}}
-use Rattle.relax_edges.specs.{declared.kinds.ObsMode.ObsMode, declared.edge.Edge.Edge}
+use Rattle.relax_edges.specs.declared.{kinds.ObsMode.ObsMode, edge.Edge.Edge}
 use Rattle.list_laws.specs.Numbers.{upto}
 use Rattle.cycle_events.specs.{Resolution.move_count, Values.{is_observed, write_count}}
 use Rattle.final_cond.specs.{declared.cond.Quantifier.TheVariants.Exists, Conditions.{TermSeen, InRegister, AtPlace}}

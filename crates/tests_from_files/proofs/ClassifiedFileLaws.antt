@@ -1,14 +1,9 @@
 -- What one file gives, by what was read of it.
-use Rattle.std.proofs.{Common.{◌≡◌, ℕ, List, refl, sym, subst}, lemmas.Bool.false≢true}
-use Rattle.std.specs.Prelude.{Result, Ok, Err, IsErr, IsErrAnd}
-use Rattle.diy_io.specs.{Shelf.ShelfSeen, declared.errors.Failed.Failed}
+use Rattle.std.{proofs.{Common.{◌≡◌, ℕ, List, refl, sym, subst}, lemmas.Bool.false≢true}, specs.Prelude.{Result, Ok, Err, IsErr, IsErrAnd}}
+use Rattle.diy_io.{specs.{Shelf.ShelfSeen, declared.errors.Failed.Failed}, proofs.FileFaultLaws.is_fault}
 use Rattle.relax_edges.specs.declared.edge.Edge.{Edge}
-use Rattle.tests_from_files.specs.{FilesRead.FileRead, FirstBytes.{file_is, file_unclosed, file_faulty}, FilesEnds.{Asked, said_on}}
-use Rattle.tests_from_files.specs.{Read.{SaysCycleInMemory, ClosedTo, CycleTo}, declared.classified_errors.CycleFault.CycleFault}
-use Rattle.tests_from_files.specs.{declared.classified_errors.CycleFault.TheVariants.{Missing, Device, Text}, declared.classified_errors.TextFault.TextFault}
-use Rattle.tests_from_files.specs.declared.classified_errors.TextFault.TheVariants.{Wrong, NoMemory}
-use Rattle.diy_io.proofs.FileFaultLaws.{is_fault}
-use Rattle.tests_from_files.proofs.QuotedCycleLaws.{said_by_first}
+use Rattle.tests_from_files.specs.{FilesRead.FileRead, FirstBytes.{file_is, file_unclosed, file_faulty}, FilesEnds.{Asked, said_on}, Read.{SaysCycleInMemory, ClosedTo, CycleTo}, declared.classified_errors.CycleFault.{CycleFault, TheVariants.Missing}}
+use Rattle.tests_from_files.{specs.declared.classified_errors.{CycleFault.TheVariants.{Device, Text}, TextFault.{TextFault, TheVariants.{Wrong, NoMemory}}}, proofs.QuotedCycleLaws.said_by_first}
 
 -- a file was read, and this is the answer to its text and to its closing
 pub file_closed : (asked : Asked) (old new : ShelfSeen) (name text judged : List ℕ) (closed : Result (Unit {0}) Failed) (answer : Result (List Edge) CycleFault)

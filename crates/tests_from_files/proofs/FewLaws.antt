@@ -1,13 +1,11 @@
 -- How many bytes are taken of the file that was opened last.
-use Rattle.std.proofs.Common.{◌≡◌, ◌≤◌, ◌<◌, ◌+◌, ℕ, List, [], ◌∷◌, ◌++◌, take, refl, arith, inl, inr}
-use Rattle.std.specs.Prelude.{◌⊎◌, map, Ok}
+use Rattle.std.{proofs.Common.{◌≡◌, ◌≤◌, ◌<◌, ◌+◌, ℕ, List, [], ◌∷◌, ◌++◌, take, refl, arith, inl, inr}, specs.Prelude.{◌⊎◌, map, Ok}}
 use Rattle.diy_io.specs.{Count.count_of, Shelf.ShelfSeen, Wrote.SinkSeen, Opened.{TookFiles, name_at}}
 use Rattle.relax_edges.specs.declared.edge.Edge.{Edge}
 use Rattle.litmus_text.specs.declared.limits.TheConstants.{MAX_TEST_TEXT}
-use Rattle.tests_from_files.specs.{FewBytes.{AreFew, none_few, one_few, both_few, prefix_few, begun_few, few_taken}, FilesRead.Begins}
-use Rattle.tests_from_files.specs.{declared.classified_errors.FilesEnd.FilesEnd, FilesEnds.{Asked, said_on, SayCycles, FilesClassified}}
-use Rattle.tests_from_files.specs.declared.classified_errors.FilesEnd.TheVariants as ends
+use Rattle.tests_from_files.specs.{FewBytes.{AreFew, none_few, one_few, both_few, prefix_few, begun_few, few_taken}, FilesRead.Begins, declared.classified_errors.FilesEnd.FilesEnd, FilesEnds.{Asked, said_on, SayCycles, FilesClassified}}
 use Rattle.tests_from_files.proofs.QuotedCycleLaws.{said_short}
+use Rattle.tests_from_files.specs.declared.classified_errors.FilesEnd.TheVariants as ends
 
 -- texts that say cycles aren't too long
 said_few : (asked : Asked) (texts : List (List ℕ)) (cycles : List (List Edge)) → SayCycles asked texts cycles → AreFew texts

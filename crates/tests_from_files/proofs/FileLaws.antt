@@ -1,10 +1,7 @@
 -- A file that is opened, read and closed.
-use Rattle.std.proofs.Common.{◌≡◌, ℕ, List, [], ◌∷◌, ap, ◌∙◌, subst, arith, inl, inr}
-use Rattle.std.specs.Prelude.{OnOk, OnErr, Result, Ok, Err}
-use Rattle.diy_io.specs.{Count.{count_of, Rose}, Opened.TookFiles, Shelf.{ShelfSeen, CountsStay, Finished, Opened, Stopped}, declared.errors.Failed.Failed}
-use Rattle.diy_io.proofs.{OpenedLaws.{opened_text, opened_took}, EndLaws.{ends_of_opened, no_ends}}
-use Rattle.tests_from_files.specs.{declared.errors.FileFault.FileFault, declared.errors.FileFault.TheVariants.{Missing, NoMemory}, FilesRead.{ends_in, FileTo}}
-use Rattle.tests_from_files.specs.OpenFiles.{TookBytes, FileReadWhole, OpenTo}
+use Rattle.std.{proofs.Common.{◌≡◌, ℕ, List, [], ◌∷◌, ap, ◌∙◌, subst, arith, inl, inr}, specs.Prelude.{OnOk, OnErr, Result, Ok, Err}}
+use Rattle.diy_io.{specs.{Count.{count_of, Rose}, Opened.TookFiles, Shelf.{ShelfSeen, CountsStay, Finished, Opened, Stopped}, declared.errors.Failed.Failed}, proofs.{OpenedLaws.{opened_text, opened_took}, EndLaws.{ends_of_opened, no_ends}}}
+use Rattle.tests_from_files.specs.{declared.errors.FileFault.{FileFault, TheVariants.{Missing, NoMemory}}, FilesRead.{ends_in, FileTo}, OpenFiles.{TookBytes, FileReadWhole, OpenTo}}
 use Rattle.tests_from_files.specs.declared.errors.FileFault.TheVariants as faults
 
 -- what was taken before the file was closed

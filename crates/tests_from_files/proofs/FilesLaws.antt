@@ -1,15 +1,11 @@
 -- Files that are read, one after another.
-use Rattle.std.proofs.Common.{◌≡◌, ◌≤◌, ◌<◌, ◌+◌, ℕ, zero, suc, List, [], ◌∷◌, ◌++◌, length, take, drop, get_or, refl, sym, ap, ◌∙◌, subst, arith, length-append}
-use Rattle.std.proofs.lemmas.List.{take_all, map_push}
-use Rattle.std.specs.Prelude.{Option, Ok, Err}
-use Rattle.diy_io.specs.{Count.Rose, Shelf.{Files, ShelfSeen}, Wrote.SinkSeen, Opened.{EndsSeen, IsFile, TookFiles, name_at}}
-use Rattle.diy_io.proofs.{FileNameLaws.{absent_before, quiet_before, file_before}, OpenedLaws.{took_no_more, took_one_more}, EndLaws.{ends_both, ends_or_more}}
+use Rattle.std.{proofs.{Common.{◌≡◌, ◌≤◌, ◌<◌, ◌+◌, ℕ, zero, suc, List, [], ◌∷◌, ◌++◌, length, take, drop, get_or, refl, sym, ap, ◌∙◌, subst, arith, length-append}, lemmas.List.{take_all, map_push}}, specs.Prelude.{Option, Ok, Err}}
+use Rattle.diy_io.{specs.{Count.Rose, Shelf.{Files, ShelfSeen}, Wrote.SinkSeen, Opened.{EndsSeen, IsFile, TookFiles, name_at}}, proofs.{FileNameLaws.{absent_before, quiet_before, file_before}, OpenedLaws.{took_no_more, took_one_more}, EndLaws.ends_both}}
+use Rattle.diy_io.proofs.EndLaws.{ends_or_more}
 use Rattle.relax_edges.specs.declared.edge.Edge.{Edge}
 use Rattle.litmus_text.specs.declared.limits.TheConstants.{MAX_TEST_TEXT}
 use Rattle.cycles_from_lines.specs.{Classified.families_text, FamilyTables.{FamilyEntry, HoldsCycles}}
-use Rattle.tests_from_files.specs.{FilesRead.{ends_in, FileIs}, FailedFiles.failed_after, Read.{CycleTo, file_end}, declared.classified_errors.CycleFault.CycleFault}
-use Rattle.tests_from_files.specs.declared.classified_errors.CycleFault.TheVariants.{Missing, Device, Text}
-use Rattle.tests_from_files.specs.declared.classified_errors.TextFault.TheVariants.{Wrong, NoMemory}
+use Rattle.tests_from_files.specs.{FilesRead.{ends_in, FileIs}, FailedFiles.failed_after, Read.{CycleTo, file_end}, declared.classified_errors.{CycleFault.{CycleFault, TheVariants.{Missing, Device, Text}}, TextFault.TheVariants.{Wrong, NoMemory}}}
 use Rattle.tests_from_files.specs.FilesEnds.{Asked, said_on, AreNamed, SayCycles, ReadFiles, AllRead, FilesSaid, IsAtPlace, FilesClassified}
 
 -- the files of the first places were read, and the names of their cycles are kept

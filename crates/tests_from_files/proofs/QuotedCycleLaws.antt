@@ -1,10 +1,8 @@
 -- What a text says by what was taken of it.
-use Rattle.std.proofs.Common.{◌≡◌, ◌≤◌, ℕ, List, length}
-use Rattle.std.specs.Prelude.{Ok}
+use Rattle.std.{proofs.Common.{◌≡◌, ◌≤◌, ℕ, List, length}, specs.Prelude.Ok}
 use Rattle.relax_edges.specs.declared.edge.Edge.{Edge}
 use Rattle.litmus_text.specs.declared.limits.TheConstants.{MAX_TEST_TEXT}
-use Rattle.tests_from_files.specs.{FirstBytes.JudgesFirstBytes, FirstBytes.judges_further, FirstBytes.tests_by_first_bytes, TestSaid.test_said}
-use Rattle.tests_from_files.specs.{FilesEnds.Asked, FilesEnds.said_on, QuotedCycle.cycle_of_test, QuotedCycle.text_said}
+use Rattle.tests_from_files.specs.{FirstBytes.{JudgesFirstBytes, judges_further, tests_by_first_bytes}, TestSaid.test_said, FilesEnds.{Asked, said_on}, QuotedCycle.{cycle_of_test, text_said}}
 
 -- what a text says depends on its first bytes alone, and one that says a cycle isn't too long
 pub said_by_first : (asked : Asked) → JudgesFirstBytes (said_on asked)

@@ -1,12 +1,9 @@
 -- A file that is open and read.
-use Rattle.std.proofs.Common.{◌≡◌, ◌≤◌, ◌<◌, ◌+◌, ℕ, List, [], ◌++◌, length, take, refl, sym, ap, ◌∙◌, subst, arith, length-append, append-nil}
-use Rattle.std.proofs.{KnownBytes.{Consumes-trans, Consumes-whole}, lemmas.List.{take_all, take_at, length-take-le}}
+use Rattle.std.proofs.{Common.{◌≡◌, ◌≤◌, ◌<◌, ◌+◌, ℕ, List, [], ◌++◌, length, take, refl, sym, ap, ◌∙◌, subst, arith, length-append, append-nil}, KnownBytes.{Consumes-trans, Consumes-whole}, lemmas.List.{take_all, take_at, length-take-le}}
 use Rattle.std.specs.Io.KnownBytes.{Consumes}
-use Rattle.diy_io.specs.{Count.{count_of, next_count, Rose}, Opened.EndsSeen, Shelf.{ShelfSeen, Gave, IsReading, Stopped, left_to_read}}
+use Rattle.diy_io.{specs.{Count.{count_of, next_count, Rose}, Opened.EndsSeen, Shelf.{ShelfSeen, Gave, IsReading, Stopped, left_to_read}}, proofs.{ConsumedLaws.prefix_of, EndLaws.{end_counted, no_end_counted, no_ends, one_end}}}
 use Rattle.litmus_text.specs.declared.limits.TheConstants.{MAX_TEST_TEXT}
-use Rattle.tests_from_files.specs.OpenFiles.{TookBytes, FileReadSoFar, FileReadWhole, FileReadPart}
-use Rattle.tests_from_files.specs.FirstBytes.{short_ends, long_ends}
-use Rattle.diy_io.proofs.{ConsumedLaws.prefix_of, EndLaws.{end_counted, no_end_counted, no_ends, one_end}}
+use Rattle.tests_from_files.specs.{OpenFiles.{TookBytes, FileReadSoFar, FileReadWhole, FileReadPart}, FirstBytes.{short_ends, long_ends}}
 
 took_more : (old mid new : ShelfSeen) (bytes more : List ℕ) (room : ℕ) → FileReadSoFar old mid bytes → Gave mid new more room → TookBytes old new (bytes ++ more)
 took_more old mid new bytes more room r gave =

@@ -1,8 +1,6 @@
 -- A law of a file at which the shelf failed, after others.
-use Rattle.std.proofs.Common.{◌≡◌, List, [], ◌∷◌, ◌++◌, subst, inl, inr, ℕ}
-use Rattle.std.specs.Prelude.{◌⊎◌}
-use Rattle.diy_io.specs.{Shelf.ShelfSeen, Opened.TookFiles}
-use Rattle.diy_io.proofs.OpenedLaws.{took_one_more, took_no_more}
+use Rattle.std.{proofs.Common.{◌≡◌, List, [], ◌∷◌, ◌++◌, subst, inl, inr, ℕ}, specs.Prelude.◌⊎◌}
+use Rattle.diy_io.{specs.{Shelf.ShelfSeen, Opened.TookFiles}, proofs.OpenedLaws.{took_one_more, took_no_more}}
 use Rattle.tests_from_files.specs.FilesRead.{Begins, FileFailed}
 
 -- what was taken if the shelf failed at a file after others, and these changed no file

@@ -1,11 +1,8 @@
 -- Laws for callers: how many bytes are taken from the file that was opened last, if at most one more than a test may have is taken
 -- from each.
 -- Source: own.
-use Rattle.std.proofs.Common.{◌≡◌, ◌≤◌, ◌<◌, ◌+◌, ℕ, List, [], ◌∷◌, ◌++◌, length, take, get_or, sym, subst, arith}
-use Rattle.std.specs.Prelude.{All, Option}
-use Rattle.std.proofs.lemmas.{List.length-take, List.Elements.All-append}
-use Rattle.diy_io.specs.{Count.count_of, Shelf.Files, Shelf.ShelfSeen, Opened.TookFiles}
-use Rattle.diy_io.proofs.OpenedLaws.{took_within}
+use Rattle.std.{proofs.{Common.{◌≡◌, ◌≤◌, ◌<◌, ◌+◌, ℕ, List, [], ◌∷◌, ◌++◌, length, take, get_or, sym, subst, arith}, lemmas.List.{length-take, Elements.All-append}}, specs.Prelude.{All, Option}}
+use Rattle.diy_io.{specs.{Count.count_of, Shelf.{Files, ShelfSeen}, Opened.TookFiles}, proofs.OpenedLaws.took_within}
 use Rattle.litmus_text.specs.declared.limits.TheConstants.{MAX_TEST_TEXT}
 use Rattle.tests_from_files.specs.FilesRead.{Begins}
 

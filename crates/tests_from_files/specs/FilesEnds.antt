@@ -2,12 +2,11 @@
 -- Source: own.
 use Rattle.std.specs.Prelude.{◌≡◌, ◌⊎◌, ◌+◌, ⊤, ℕ, List, [], ◌∷◌, ◌++◌, length, take, map, Option, None, IfSome, MatchOption, Result, Ok, Err}
 use Rattle.diy_io.specs.{Count.Rose, Shelf.{Files, ShelfSeen}, Wrote.{SinkSeen, WroteAll, WrotePart}, Opened.{EndsSeen, EndsSeenOrOneMore, IsFile, TookFiles, name_at}}
-use Rattle.relax_edges.specs.{declared.edge.Edge.Edge, declared.kinds.ArchName.ArchName}
+use Rattle.relax_edges.specs.declared.{edge.Edge.Edge, kinds.ArchName.ArchName}
 use Rattle.arch_trait.specs.Writing.{Writing}
 use Rattle.litmus_text.specs.declared.limits.TheConstants.{MAX_TEST_TEXT}
 use Rattle.cycles_from_lines.specs.Classified.{families_text}
-use Rattle.tests_from_files.specs.{FilesRead.{Begins, ends_in}, QuotedCycle.text_said, declared.classified_errors.FileKind.FileKind}
-use Rattle.tests_from_files.specs.{declared.classified_errors.FileError.FileError, declared.classified_errors.FilesEnd.FilesEnd}
+use Rattle.tests_from_files.specs.{FilesRead.{Begins, ends_in}, QuotedCycle.text_said, declared.classified_errors.{FileKind.FileKind, FileError.FileError, FilesEnd.FilesEnd}}
 use Rattle.tests_from_files.specs.declared.classified_errors.FilesEnd.TheVariants as ends
 
 -- an architecture: its name, and how its code is written

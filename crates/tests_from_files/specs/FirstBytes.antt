@@ -1,14 +1,12 @@
 -- Laws for callers: a text is judged by its first bytes, one more than a test may have, and what a file is if so much of it was read.
 -- Source: own.
-use Rattle.std.proofs.Common.{◌≡◌, ◌≤◌, ◌<◌, ◌+◌, ⊎_elim, ℕ, Bool, true, false, List, [], ◌∷◌, length, take, refl, sym, ap, ◌∙◌, subst, arith, inr, nat_lt, append-nil}
-use Rattle.std.proofs.{lemmas.Bool.cases_lt, lemmas.Bool.Decides.nat_tests, lemmas.List.{take_all, length-take-le}}
+use Rattle.std.proofs.{Common.{◌≡◌, ◌≤◌, ◌<◌, ◌+◌, ⊎_elim, ℕ, Bool, true, false, List, [], ◌∷◌, length, take, refl, sym, ap, ◌∙◌, subst, arith, inr, nat_lt, append-nil}, lemmas.{Bool.{cases_lt, Decides.nat_tests}, List.{take_all, length-take-le}}}
 use Rattle.std.specs.Prelude.{cond, OnOk, OnErr, Result, Ok, Err}
 use Rattle.diy_io.specs.{Count.Rose, Shelf.ShelfSeen, Opened.{EndsSeen, IsFile, TookFiles}, declared.errors.Failed.Failed}
 use Rattle.relax_edges.specs.declared.kinds.ArchName.{ArchName}
 use Rattle.arch_trait.specs.Writing.{Writing}
-use Rattle.litmus_text.specs.{declared.errors.TestKind.TheVariants.TooLarge, declared.limits.TheConstants.MAX_TEST_TEXT, TestReading.arch_in_text}
-use Rattle.tests_from_files.specs.{declared.errors.TestFileError.TestFileError, declared.errors.TestFileKind.TheVariants.Test}
-use Rattle.tests_from_files.specs.{FilesRead.{ends_in, FileRead, FileFailed, FileIs, FileFaulty}, TestSaid.{test_said, headed_said}}
+use Rattle.litmus_text.specs.{declared.{errors.TestKind.TheVariants.TooLarge, limits.TheConstants.MAX_TEST_TEXT}, TestReading.arch_in_text}
+use Rattle.tests_from_files.specs.{declared.errors.{TestFileError.TestFileError, TestFileKind.TheVariants.Test}, FilesRead.{ends_in, FileRead, FileFailed, FileIs, FileFaulty}, TestSaid.{test_said, headed_said}}
 
 -- a judgement of texts depends only on their first bytes, one more than a test may have, and a text that it accepts has no more than
 -- a test may have

@@ -2,7 +2,7 @@
 use Rattle.std.specs.{Prelude.{◌≡◌, ◌≤◌, ◌+◌, ⊤, ℕ, List, ◌++◌, length, take, IfSome, OnOk, OnErr, Result, Ok, Err}, Io.KnownBytes.Consumes}
 use Rattle.diy_io.specs.{Count.{count_of, Rose}, Shelf.{Idle, IsReading, ShelfSeen, left_to_read}, Opened.EndsSeen, declared.errors.Failed.Failed}
 use Rattle.litmus_text.specs.declared.limits.TheConstants.{MAX_TEST_TEXT}
-use Rattle.tests_from_files.specs.{declared.errors.FileFault.FileFault, declared.errors.ReadFault.ReadFault, FilesRead.ends_in}
+use Rattle.tests_from_files.specs.{declared.errors.{FileFault.FileFault, ReadFault.ReadFault}, FilesRead.ends_in}
 use Rattle.tests_from_files.specs.declared.errors.FileFault.TheVariants as faults
 use Rattle.tests_from_files.specs.declared.errors.ReadFault.TheVariants as reads
 

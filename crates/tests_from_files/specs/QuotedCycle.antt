@@ -1,13 +1,11 @@
 -- What the text of a file says: the cycle that a test of an architecture quotes, or its first error.
 -- Source: own.
 use Rattle.std.specs.Prelude.{ℕ, List, Option, None, Some, Result, Ok, Err}
-use Rattle.relax_edges.specs.{declared.edge.Edge.Edge, declared.kinds.ArchName.ArchName}
+use Rattle.relax_edges.specs.declared.{edge.Edge.Edge, kinds.ArchName.ArchName}
 use Rattle.arch_trait.specs.Writing.{Writing}
 use Rattle.litmus_text.specs.TestReading.{TestRead}
 use Rattle.cycles_from_lines.specs.Cycles.{quoted_cycle}
-use Rattle.tests_from_files.specs.{declared.errors.TestFileError.TestFileError, declared.errors.TestFileKind.TestFileKind}
-use Rattle.tests_from_files.specs.{declared.classified_errors.FileKind.FileKind, declared.classified_errors.FileKind.TheVariants.{Test, WrongArch, NoCycle}}
-use Rattle.tests_from_files.specs.{declared.classified_errors.FileError.FileError, TestSaid.test_said}
+use Rattle.tests_from_files.specs.{declared.{errors.{TestFileError.TestFileError, TestFileKind.TestFileKind}, classified_errors.{FileKind.{FileKind, TheVariants.{Test, WrongArch, NoCycle}}, FileError.FileError}}, TestSaid.test_said}
 use Rattle.tests_from_files.specs.declared.errors.TestFileKind.TheVariants as tests
 
 -- the kind of an error of a text, as that of a file

@@ -2,10 +2,8 @@
 use Rattle.std.specs.Prelude.{◌≡◌, ⊤, ℕ, List, Result, Ok, Err, IsErr}
 use Rattle.diy_io.specs.{declared.errors.Failed.Failed, Shelf.ShelfSeen, Opened.FileAbsent}
 use Rattle.relax_edges.specs.declared.edge.Edge.{Edge}
-use Rattle.tests_from_files.specs.{declared.errors.FileFault.FileFault, declared.classified_errors.FileError.FileError}
-use Rattle.tests_from_files.specs.{declared.classified_errors.CycleFault.CycleFault, declared.classified_errors.CycleFault.TheVariants.{Missing, Device, Text}}
-use Rattle.tests_from_files.specs.{declared.classified_errors.TextFault.TextFault, declared.classified_errors.TextFault.TheVariants.{Wrong, NoMemory}}
-use Rattle.tests_from_files.specs.{declared.classified_errors.FilesEnd.FilesEnd, FilesRead.{FileFailed, FileIs, FileFaulty}, FilesEnds.{Asked, said_on}}
+use Rattle.tests_from_files.specs.declared.{errors.FileFault.FileFault, classified_errors.{FileError.FileError, CycleFault.{CycleFault, TheVariants.{Missing, Device, Text}}, TextFault.{TextFault, TheVariants.{Wrong, NoMemory}}, FilesEnd.FilesEnd}}
+use Rattle.tests_from_files.specs.{FilesRead.{FileFailed, FileIs, FileFaulty}, FilesEnds.{Asked, said_on}}
 use Rattle.tests_from_files.specs.declared.errors.FileFault.TheVariants as reads
 use Rattle.tests_from_files.specs.declared.classified_errors.FilesEnd.TheVariants as ends
 

@@ -4,10 +4,8 @@ use Rattle.std.specs.Prelude.{◌≡◌, ⊤, ℕ, Bool, true, false, cond, nat_
 use Rattle.relax_edges.specs.declared.kinds.ArchName.{ArchName}
 use Rattle.relax_edges.specs.declared.kinds.ArchName.TheVariants as archs
 use Rattle.arch_trait.specs.Writing.{Writing}
-use Rattle.litmus_text.specs.declared.{errors.TestKind.TheVariants.TooLarge, errors.TextError.TextError, limits.TheConstants.MAX_TEST_TEXT}
-use Rattle.litmus_text.specs.TestReading.{TestRead, test_read, arch_in_text}
-use Rattle.tests_from_files.specs.declared.errors.{NoTest.NoTest, NoTest.TheVariants.Wrong, NoTest.TheVariants.NoMemory, TestFileError.TestFileError}
-use Rattle.tests_from_files.specs.declared.errors.{TestFileKind.TestFileKind, TestFileKind.TheVariants.Test, TestFileKind.TheVariants.WrongArch}
+use Rattle.litmus_text.specs.{declared.{errors.{TestKind.TheVariants.TooLarge, TextError.TextError}, limits.TheConstants.MAX_TEST_TEXT}, TestReading.{TestRead, test_read, arch_in_text}}
+use Rattle.tests_from_files.specs.declared.errors.{NoTest.{NoTest, TheVariants.{Wrong, NoMemory}}, TestFileError.TestFileError, TestFileKind.{TestFileKind, TheVariants.{Test, WrongArch}}}
 
 -- the error of this kind at a line
 abbrev pub wrong : TestFileKind → ℕ → Result TestRead TestFileError

@@ -1,9 +1,6 @@
 -- Laws of the files of tests and of the lines that name them.
-use Rattle.std.proofs.Common.{◌≡◌, ◌<◌, ◌^◌, ℕ, suc, ◌+◌, List, [], ◌∷◌, ◌++◌, length, Option, refl, sym, ◌∙◌, ap, arith, append-nil, append_assoc, length-append, add-zero, map}
-use Rattle.std.proofs.lemmas.{List.map-append, List.Concat.flat_map-append}
-use Rattle.std.specs.{Prelude.codes, Fmt.decimal, List.enumerate_from, List.flat_map}
-use Rattle.relax_edges.specs.declared.edge.Edge.{Edge}
-use Rattle.tests_to_files.specs.ListedFiles.{file_number, file_named, stem_named, file_of, path_of, file_lines, test_files, count_line}
+use Rattle.std.{proofs.{Common.{◌≡◌, ◌<◌, ◌^◌, ℕ, suc, ◌+◌, List, [], ◌∷◌, ◌++◌, length, Option, refl, sym, ◌∙◌, ap, arith, append-nil, append_assoc, length-append, add-zero, map}, lemmas.List.{map-append, Concat.flat_map-append}}, specs.Prelude.codes}
+use Rattle.tests_to_files.{proofs.Vocabulary.{decimal, enumerate_from, flat_map, Edge}, specs.ListedFiles.{file_number, file_named, stem_named, file_of, path_of, file_lines, test_files, count_line}}
 
 -- a list with one more cycle is longer by one
 pub length_more : (us : List (List Edge)) (u : List Edge) → length (us ++ u ∷ []) ≡ length us + 1

@@ -1,18 +1,9 @@
 -- The steps of writing the files of listed cycles, and what they come to.
-use Rattle.std.proofs.Common.{◌≡◌, ℕ, ◌+◌, List, [], ◌∷◌, ◌++◌, length, Option, Some, None, refl, sym, ◌∙◌, ap, subst, arith}
-use Rattle.std.specs.{Prelude.{codes, MatchOption}, Fmt.decimal}
-use Rattle.relax_edges.specs.declared.edge.Edge.{Edge}
-use Rattle.edge_algebra_laws.specs.CycleOrder.{IsNormal}
-use Rattle.cycle_enum_laws.specs.Listing.{IsNext, IsAnswer, AreListedTo}
-use Rattle.cycle_enum_laws.proofs.Listings.{listed_first, listed_next, listed_none, listed_once}
-use Rattle.diy_io.specs.Shelf.{ShelfSeen, Idle, NotCreated}
-use Rattle.tests_to_files.specs.{declared.names.Closed.Closed, ListedFiles.{file_number, file_of, path_of, all_path, file_lines, test_files, count_line}}
-use Rattle.tests_to_files.specs.Putting.{PutFiles, PutPart, Filling}
-use Rattle.tests_to_files.specs.Keeping.{KeepsLines, KeepsLine, Goes, HasGone, NamesAfter, StopsAfter, NamesAll, StopsNaming, Naming}
-use Rattle.tests_to_files.specs.ListingEnds.{WritesAll, StopsAtTest, StopsAtAll}
-use Rattle.tests_to_files.proofs.FileLines.{length_more, file_lines-append, file_lines_none, test_files_none, test_files_more, counted_next, counted_once, file_counted, lines_counted, lines_so_far}
-use Rattle.tests_to_files.proofs.Shelves.{put_nothing, put_both, put_then_part, part_more, part_not_begun}
-use Rattle.tests_to_files.proofs.{FilledLines.{fills_first, fills_written, fills_more}, FurtherCycles.{GoesOn, begins_all, all_after, listed_after}}
+use Rattle.std.{proofs.Common.{◌≡◌, ℕ, ◌+◌, List, [], ◌∷◌, ◌++◌, length, Option, Some, None, refl, sym, ◌∙◌, ap, subst, arith}, specs.{Prelude.{codes, MatchOption}, Fmt.decimal}}
+use Rattle.tests_to_files.proofs.{Vocabulary.{Edge, IsNormal, IsNext, IsAnswer, AreListedTo, listed_first, listed_next, listed_none, listed_once, ShelfSeen, Idle, NotCreated}, FileLines.{length_more, file_lines-append, file_lines_none, test_files_none}}
+use Rattle.tests_to_files.proofs.{FileLines.{test_files_more, counted_next, counted_once, file_counted, lines_counted, lines_so_far}, Shelves.{put_nothing, put_both, put_then_part, part_more, part_not_begun}, FilledLines.{fills_first, fills_written}}
+use Rattle.tests_to_files.{proofs.{FilledLines.fills_more, FurtherCycles.{GoesOn, begins_all, all_after, listed_after}}, specs.{declared.names.Closed.Closed, ListedFiles.{file_number, file_of, path_of, all_path, file_lines, test_files, count_line}}}
+use Rattle.tests_to_files.specs.{Putting.{PutFiles, PutPart, Filling}, Keeping.{KeepsLines, KeepsLine, Goes, HasGone, NamesAfter, StopsAfter, NamesAll, StopsNaming, Naming}, ListingEnds.{WritesAll, StopsAtTest, StopsAtAll}}
 
 module _ (listed : List Edge → Type 0) (folder : Option (List ℕ)) (text : List Edge → List ℕ) (given : Option (List Edge)) where
   -- before the first cycle

@@ -1,9 +1,6 @@
 -- The steps of writing files on a shelf one after another, and what they come to.
-use Rattle.std.proofs.Common.{◌≡◌, ◌<◌, ℕ, ◌+◌, get_or, drop, map, List, [], ◌∷◌, ◌++◌, length, refl, sym, ◌∙◌, ap, subst, append_assoc}
-use Rattle.std.proofs.lemmas.List.{drop_more, map-append}
-use Rattle.diy_io.specs.Shelf.{ShelfSeen, Idle}
-use Rattle.tests_to_files.specs.{declared.putting.File.File, GivenCycles.PutUpTo, Putting.{PutFiles, PutPart, file_put}}
-use Rattle.tests_to_files.proofs.Shelves.{put_nothing, put_both, put_then_part}
+use Rattle.std.proofs.{Common.{◌≡◌, ◌<◌, ℕ, ◌+◌, get_or, drop, map, List, [], ◌∷◌, ◌++◌, length, refl, sym, ◌∙◌, ap, subst, append_assoc}, lemmas.List.{drop_more, map-append}}
+use Rattle.tests_to_files.{proofs.{Vocabulary.{ShelfSeen, Idle}, Shelves.{put_nothing, put_both, put_then_part}}, specs.{declared.putting.File.File, GivenCycles.PutUpTo, Putting.{PutFiles, PutPart, file_put}}}
 
 -- the first files are there, and these are left
 pub record FilesPut (files rest : List File) (old new : ShelfSeen) : Type 0 where

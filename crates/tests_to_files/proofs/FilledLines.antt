@@ -1,10 +1,6 @@
 -- How a file is filled with the lines that name files.
-use Rattle.std.proofs.Common.{◌≡◌, ℕ, ◌+◌, List, [], ◌∷◌, ◌++◌, length, sym, ◌∙◌, ap, arith, append-nil, append_assoc, add-zero}
-use Rattle.std.specs.Prelude.{codes}
-use Rattle.relax_edges.specs.declared.edge.Edge.{Edge}
-use Rattle.diy_io.specs.Shelf.{ShelfSeen}
-use Rattle.tests_to_files.specs.{ListedFiles.file_number, ListedFiles.file_of, ListedFiles.file_lines, Putting.Filling, Keeping.FillsLines}
-use Rattle.tests_to_files.proofs.FileLines.{length_more, file_lines_none, counted_next, counted_once, lines_more, waits_more}
+use Rattle.std.{proofs.Common.{◌≡◌, ℕ, ◌+◌, List, [], ◌∷◌, ◌++◌, length, sym, ◌∙◌, ap, arith, append-nil, append_assoc, add-zero}, specs.Prelude.codes}
+use Rattle.tests_to_files.{proofs.{Vocabulary.{Edge, ShelfSeen}, FileLines.{length_more, file_lines_none, counted_next, counted_once, lines_more, waits_more}}, specs.{ListedFiles.{file_number, file_of, file_lines}, Putting.Filling, Keeping.FillsLines}}
 
 module _ (path kept : List ℕ) (first : ℕ) where
   -- the file is begun, and the lines that were kept wait

@@ -1,9 +1,6 @@
 -- Listed cycles after others that are listed.
 use Rattle.std.proofs.Common.{◌≡◌, ◌⊎◌, inl, inr, Option, Some, List, [], ◌∷◌, ◌++◌, refl, sym, ◌∙◌, ap, subst}
-use Rattle.relax_edges.specs.declared.edge.Edge.{Edge}
-use Rattle.edge_algebra_laws.specs.CycleOrder.{Follows}
-use Rattle.edge_algebra_laws.proofs.Ordering.{follows_irreflexive, follows_transitive}
-use Rattle.cycle_enum_laws.specs.Listing.{IsOneOf, IsNext, AreRising, AreAllListed, AreListedTo}
+use Rattle.tests_to_files.proofs.Vocabulary.{Edge, Follows, follows_irreflexive, follows_transitive, IsOneOf, IsNext, AreRising, AreAllListed, AreListedTo}
 
 one_of_parts : (us vs : List (List Edge)) (w : List Edge) → IsOneOf (us ++ vs) w → (IsOneOf us w) ⊎ (IsOneOf vs w)
 one_of_parts [] vs w h = inr h

@@ -1,13 +1,8 @@
 -- The steps of writing the files of cycles that are given, and what they come to.
-use Rattle.std.proofs.Common.{◌≡◌, ◌<◌, ℕ, ◌+◌, get_or, drop, List, [], ◌∷◌, ◌++◌, length, Option, refl, sym, ◌∙◌, ap, subst, append-nil, append_assoc}
-use Rattle.std.proofs.lemmas.List.{drop_more}
-use Rattle.std.specs.Prelude.{codes}
-use Rattle.relax_edges.specs.declared.edge.Edge.{Edge}
-use Rattle.diy_io.specs.Shelf.{ShelfSeen, Idle, Appended, name_written}
-use Rattle.tests_to_files.specs.{ListedFiles.{file_number, file_of, path_of, all_path, file_lines, test_files}, GivenCycles.{PutUpTo, given_files}}
-use Rattle.tests_to_files.specs.{Putting.{PutFiles, PutPart, Filling}, Keeping.FillsLines}
-use Rattle.tests_to_files.proofs.FileLines.{length_more, file_lines-append, test_files_none, test_files_more, files_from, files_parts, counted_next, counted_once, file_counted}
-use Rattle.tests_to_files.proofs.{FilledLines.{fills_first, fills_written, fills_more}, Shelves.{put_nothing, put_both, put_then_part, part_more, filling_more}}
+use Rattle.std.{proofs.{Common.{◌≡◌, ◌<◌, ℕ, ◌+◌, get_or, drop, List, [], ◌∷◌, ◌++◌, length, Option, refl, sym, ◌∙◌, ap, subst, append-nil, append_assoc}, lemmas.List.drop_more}, specs.Prelude.codes}
+use Rattle.tests_to_files.proofs.{Vocabulary.{Edge, ShelfSeen, Idle, Appended, name_written}, FileLines.{length_more, file_lines-append, test_files_none, test_files_more, files_from, files_parts, counted_next, counted_once, file_counted}}
+use Rattle.tests_to_files.{proofs.{FilledLines.{fills_first, fills_written, fills_more}, Shelves.{put_nothing, put_both, put_then_part, part_more, filling_more}}, specs.ListedFiles.{file_number, file_of, path_of, all_path, file_lines, test_files}}
+use Rattle.tests_to_files.specs.{GivenCycles.{PutUpTo, given_files}, Putting.{PutFiles, PutPart, Filling}, Keeping.FillsLines}
 
 -- the cycle at a place is the first of those that are left there
 pub left_at : (cycles : List (List Edge)) (i : ℕ) (u : List Edge) → i < length cycles → u ≡ get_or cycles i u → drop i cycles ≡ u ∷ drop (i + 1) cycles

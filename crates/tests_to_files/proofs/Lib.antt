@@ -1,3 +1,4 @@
+pub mod Vocabulary
 pub mod Shelves
 pub mod FilesPut
 pub mod FileLines
@@ -13,3 +14,6 @@ pub mod Texts
 pub mod SpreadThreads
 pub mod WantedCycles
 pub mod RunLaws
+pub mod Stems
+pub mod Written
+pub mod OwnFiles

@@ -1,13 +1,6 @@
 -- The steps of writing the lines of listed cycles, and what they come to.
-use Rattle.std.proofs.Common.{◌≡◌, ℕ, List, [], ◌∷◌, ◌++◌, Option, Some, None, Ok, Err, sym, subst}
-use Rattle.std.specs.Prelude.{Result, OnOk, OnErr}
-use Rattle.relax_edges.specs.declared.edge.Edge.{Edge}
-use Rattle.cycle_enum_laws.specs.Listing.{AreListedTo, IsNext, IsAnswer}
-use Rattle.cycle_enum_laws.proofs.Listings.{listed_first, listed_next, listed_none}
-use Rattle.diy_io.specs.{declared.errors.Failed.Failed, Page.SentAll, Wrote.{SinkSeen, WrotePart, Wrote}}
-use Rattle.diy_io.specs.PageLaws.{sent_nothing, sent_both, sent_part, sent_wrote}
-use Rattle.cycles_from_lines.specs.Normed.{name_line, name_lines}
-use Rattle.cycles_from_lines.proofs.NormLaws.{name_lines_more}
+use Rattle.std.{proofs.Common.{◌≡◌, ℕ, List, [], ◌∷◌, ◌++◌, Option, Some, None, Ok, Err, sym, subst}, specs.Prelude.{Result, OnOk, OnErr}}
+use Rattle.tests_to_files.proofs.Vocabulary.{Edge, AreListedTo, IsNext, IsAnswer, listed_first, listed_next, listed_none, Failed, SentAll, SinkSeen, WrotePart, Wrote, sent_nothing, sent_both, sent_part, sent_wrote, name_line, name_lines, name_lines_more}
 use Rattle.tests_to_files.specs.ListedLines.{WritesLines, StopsAtLine}
 
 module _ (listed : List Edge → Type 0) (given : Option (List Edge)) where

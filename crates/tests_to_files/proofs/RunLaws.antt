@@ -1,17 +1,9 @@
 -- Runs of internal edges, and how many accesses the threads of a cycle have.
 use Rattle.std.proofs.Common.{◌≡◌, ℕ, zero, suc, ◌+◌, ◌-◌, ◌<◌, ◌≤◌, Bool, true, false, Option, Some, None, List, [], ◌∷◌, ◌++◌, length, take, drop, nat_lt, nat_le, refl, sym, ◌∙◌, ap, arith, add-one, append_assoc, length-append, length-take-le}
-use Rattle.std.proofs.lemmas.Bool.{and_parts, and_from, ltb-true, ltb-false, lt-ltb, leb-true, le-leb}
-use Rattle.std.proofs.{lemmas.List.{append-nil, take_all, take_more, take-append-drop}, lemmas.List.Folds.list_all-append}
-use Rattle.std.specs.{Prelude.{◌↔◌, IsFalse}, Cmp.both_ways, List.{AllByRecursion, list_all}}
-use Rattle.cycle_events.proofs.{Rotations.outside_after, Locations.ends_with, Sizes.{in_slot, slot_below}, Turning.{external_count-rotated, turn_of}}
-use Rattle.cycle_events.proofs.Threads.{slot-zero, slot_in, slot_out, thread_end, thread_out, thread_up}
-use Rattle.relax_edges.specs.{declared.kinds.Reach.TheVariants.Internal, declared.kinds.Com.TheVariants.Rf, declared.edge.Edge.Edge, EdgeTable.is_external}
+use Rattle.std.{proofs.lemmas.{Bool.{and_parts, and_from, ltb-true, ltb-false, lt-ltb, leb-true, le-leb}, List.{append-nil, take_all, take_more, take-append-drop, Folds.list_all-append}}, specs.{Prelude.{◌↔◌, IsFalse}, Cmp.both_ways}}
+use Rattle.tests_to_files.proofs.Vocabulary.{AllByRecursion, list_all, outside_after, ends_with, in_slot, slot_below, external_count-rotated, turn_of, slot-zero, slot_in, slot_out, thread_end, thread_out, thread_up, external_count, edge_at, ends_outside}
+use Rattle.tests_to_files.{proofs.Vocabulary.{turned, thread_of, slot_of, events_in, Internal, Rf, Edge, is_external, upto, by_test, by_less, rotated}, specs.{Plans.has_few_accesses, InternalRuns.{HasRun, HasLongRun, next_run, run_after, stays_below}}}
 use Rattle.relax_edges.specs.declared.edge.Edge.TheVariants as edges
-use Rattle.list_laws.specs.Numbers.{upto}
-use Rattle.list_laws.proofs.Cases.{by_test, by_less}
-use Rattle.edge_algebra_laws.specs.Rotation.{rotated}
-use Rattle.cycle_events.specs.Resolution.{external_count, edge_at, ends_outside, turned, thread_of, slot_of, events_in}
-use Rattle.tests_to_files.specs.{Plans.has_few_accesses, InternalRuns.{HasRun, HasLongRun, next_run, run_after, stays_below}}
 
 -- one edge of the count
 below_first : (m c : ℕ) (u : List Edge) → stays_below m c u ≡ true → c < m

@@ -1,9 +1,7 @@
 -- Laws of writing files on a shelf.
-use Rattle.std.proofs.Common.{◌≡◌, inl, inr, ◌≤◌, ℕ, Bool, true, false, cond, List, [], ◌∷◌, ◌++◌, Option, Some, None, refl, sym, ◌∙◌, ap, subst, append_assoc, append-nil}
-use Rattle.std.proofs.{Math.Path.fun_ext, lemmas.Slice.Eq.bytes_eq-Decides}
-use Rattle.std.specs.{Prelude.{unwrap_or, Result, Ok, Err, OnOk, OnErr}, Option.option_map, Str.bytes_eq}
-use Rattle.diy_io.specs.{declared.errors.Failed.Failed, Count.Rose}
-use Rattle.diy_io.specs.Shelf.{Files, ShelfSeen, Idle, Writing, name_written, with_file, with_more, bytes_in, CountsStay, Faulted, Created, NotCreated, Appended, AppendedPart, Finished, Stopped}
+use Rattle.std.{proofs.{Common.{◌≡◌, inl, inr, ◌≤◌, ℕ, Bool, true, false, cond, List, [], ◌∷◌, ◌++◌, Option, Some, None, refl, sym, ◌∙◌, ap, subst, append_assoc, append-nil}, Math.Path.fun_ext, lemmas.Slice.Eq.bytes_eq-Decides}, specs.Prelude.unwrap_or}
+use Rattle.std.specs.{Prelude.{Result, Ok, Err, OnOk, OnErr}, Option.option_map, Str.bytes_eq}
+use Rattle.diy_io.specs.{declared.errors.Failed.Failed, Count.Rose, Shelf.{Files, ShelfSeen, Idle, Writing, name_written, with_file, with_more, bytes_in, CountsStay, Faulted, Created, NotCreated, Appended, AppendedPart, Finished, Stopped}}
 use Rattle.tests_to_files.specs.Putting.{with_files, PutFiles, PutPart, Filling}
 
 -- a file that is written again

@@ -1,17 +1,9 @@
 -- A cycle that isn't coherence only has edges of two threads to another location, as a walk reads it from its first edge on.
-use Rattle.std.proofs.Common.{◌≡◌, ℕ, zero, suc, ◌+◌, ◌<◌, ◌≤◌, ◌==◌, ◌&&◌, true, false, cond, List, [], ◌∷◌, ◌++◌, length, take, refl, sym, ◌∙◌, ap, arith, add-one, append_assoc, length-append, eq-eqb}
-use Rattle.std.specs.Prelude.{⊤}
-use Rattle.std.proofs.{lemmas.List.{take_more}, lemmas.List.Sums.sum_by-cons, Math.Seq.{take-append_seam, get_or-append_seam}}
-use Rattle.relax_edges.specs.{declared.kinds.Reach.TheVariants.Internal, declared.kinds.Com.TheVariants.Rf, declared.edge.Edge.Edge, EdgeTable.{is_diff, is_external}}
+use Rattle.std.proofs.{Common.{◌≡◌, ℕ, zero, suc, ◌+◌, ◌<◌, ◌≤◌, ◌==◌, ◌&&◌, true, false, cond, List, [], ◌∷◌, ◌++◌, length, take, refl, sym, ◌∙◌, ap, arith, add-one, append_assoc, length-append, eq-eqb}, lemmas.List.{take_more, Sums.sum_by-cons}}
+use Rattle.tests_to_files.proofs.Vocabulary.{take-append_seam, get_or-append_seam, ⊤, Internal, Rf, Edge, is_diff, is_external, IsRotation, same_cycle_is_equivalence, rotations_are_places, by_test, by_less, count_upto_same, any_upto, count_all}
+use Rattle.tests_to_files.proofs.Vocabulary.{external_count, move_count, edge_at, turned, thread_of, moves_in, is_coherence_only, external_keeps, coherence_alike, thread_end, thread_in, thread_out, outside_at_end, turn_of, Spread, Bare, Moved, Neither}
+use Rattle.tests_to_files.proofs.Vocabulary.{Running, First, Ends, Between, Two, is_spread, is_two, spread_after, spread_kept, spread_left, spread_moved, spread_next, spread_both, spread_turned}
 use Rattle.relax_edges.specs.declared.edge.Edge.TheVariants as edges
-use Rattle.edge_algebra_laws.specs.{Rotation.IsRotation}
-use Rattle.edge_algebra_laws.proofs.Laws.{same_cycle_is_equivalence, rotations_are_places}
-use Rattle.list_laws.proofs.{Cases.{by_test, by_less}, Counts.count_upto_same, Finds.any_upto, Prefixes.count_all}
-use Rattle.cycle_events.specs.Resolution.{external_count, move_count, edge_at, turned, thread_of, moves_in, is_coherence_only}
-use Rattle.cycle_events.proofs.{Locations.external_keeps, Rotations.coherence_alike, Threads.{thread_end, thread_in, thread_out}, Turning.{outside_at_end, turn_of}}
-use Rattle.cycle_enum.specs.{declared.spread.Spread.Spread, Spreads.{is_spread, is_two, spread_after, spread_kept, spread_left, spread_moved, spread_next}}
-use Rattle.cycle_enum.specs.declared.spread.Spread.TheVariants.{Bare, Moved, Neither, Running, First, Ends, Between, Two}
-use Rattle.cycle_enum.proofs.SpreadLaws.{spread_both, spread_turned}
 
 module _ (es : List Edge) where
   -- the edges before edge n that lead to another location are all in thread k
@@ -177,3 +169,21 @@ spread_of_threads u some spread =
     let only : is_coherence_only (turned u) ≡ true = only_alike u o.before o.after o.edge o.parts o.out some ∙ not_spread_only u o.before o.after o.edge o.parts o.out f in
     let apart : true ≡ false = sym only ∙ spread in
     cc)
+
+-- edges of two threads that lead to another location have one between them that leads to another thread
+moved_leaves : (u : List Edge) → is_two (spread_after Moved u) ≡ true → 0 < external_count u
+moved_leaves [] h = cc
+moved_leaves (e ∷ u) h =
+    let more = sum_by-cons (λ x. cond (is_external x) 1 0) e u in
+    by_test (is_external e) (λ y. let one : ◌≡◌ {A = ℕ} (cond (is_external e) 1 0) 1 = rw y refl in omega (arith, one, more))
+    (λ f. let later = moved_leaves u (by_test (is_diff e) (λ y. rw (f, y) at h) (λ n. rw (f, n) at h)) in omega (arith, later, more))
+
+-- so a cycle that is spread has such an edge
+pub spread_leaves : (u : List Edge) → is_spread u ≡ true → 0 < external_count u
+spread_leaves [] h = cc
+spread_leaves (e ∷ u) h =
+    let more = sum_by-cons (λ x. cond (is_external x) 1 0) e u in
+    by_test (is_external e) (λ y. let one : ◌≡◌ {A = ℕ} (cond (is_external e) 1 0) 1 = rw y refl in omega (arith, one, more))
+    (λ f.
+    let later = by_test (is_diff e) (λ y. moved_leaves u (rw (f, y) at h)) (λ n. spread_leaves u (rw (f, n) at h)) in
+    omega (arith, later, more))

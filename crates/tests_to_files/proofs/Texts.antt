@@ -1,12 +1,8 @@
 -- The text of a test that is written to its file part by part.
-use Rattle.std.proofs.Common.{◌≡◌, ◌≤◌, ◌<◌, ℕ, List, [], ◌++◌, length, sym, ap, ◌∙◌, subst, arith, append_assoc, append-nil}
-use Rattle.std.specs.Prelude.{Option, Some, None}
-use Rattle.diy_io.specs.{declared.page.TheConstants.{SPILL, LINE_ROOM}, Page.page_after, PageLaws.page_fits}
-use Rattle.diy_io.specs.Shelf.{ShelfSeen, name_written, Appended, AppendedPart}
+use Rattle.std.{proofs.Common.{◌≡◌, ◌≤◌, ◌<◌, ℕ, List, [], ◌++◌, length, sym, ap, ◌∙◌, subst, arith, append_assoc, append-nil}, specs.Prelude.{Option, Some, None}}
+use Rattle.tests_to_files.{proofs.{Vocabulary.{SPILL, LINE_ROOM, page_after, page_fits, ShelfSeen, name_written, Appended, AppendedPart, TextPart, Edges, text_from, PutsPart}, Shelves.{filling_more, filling_part, part_more}}, specs.Putting.Filling}
+use Rattle.tests_to_files.specs.Putting.{PutPart}
 use Rattle.arch_trait.specs.{Writing.Writing, SeenTests.TestSeen}
-use Rattle.litmus_text.specs.{declared.parts.TextPart.TextPart, declared.parts.TextPart.TheVariants.Edges, TextParts.{text_from, PutsPart}}
-use Rattle.tests_to_files.specs.Putting.{Filling, PutPart}
-use Rattle.tests_to_files.proofs.Shelves.{filling_more, filling_part, part_more}
 
 -- a file has a text so far, but for what the page holds and what comes from a part on
 pub record FilledTo (w : Writing) (test : TestSeen) (old : ShelfSeen) (path whole : List ℕ) (new : ShelfSeen) (page : List ℕ) (next : Option TextPart) : Type 0 where

@@ -1,13 +1,8 @@
 -- A walk that is taken on over cycles that have no test, up to one that has, or to its end.
 use Rattle.std.proofs.Common.{◌≡◌, ◌≤◌, ◌<◌, Bool, List, Some, None, refl, sym, ◌∙◌, ap, arith}
 use denote.Ref.{Bor}
-use Rattle.relax_edges.specs.{declared.edge.Edge.Edge, declared.kinds.ObsMode.ObsMode}
-use Rattle.cycle_enum_laws.specs.{Counting.later, Listing.IsAnswer}
-use Rattle.arch_trait.specs.Threads.{Puts}
-use Rattle.test_maker.specs.Refusals.{refusal_of}
-use Rattle.cycle_enum.specs.Walking.{Walking, Lists}
+use Rattle.tests_to_files.proofs.{Vocabulary.{Edge, ObsMode, later, IsAnswer, Walking, Lists, Puts, refusal_of}, WalkWithoutTests.{Passes, passes_first, passes_more, passed_to, passed_all}, Walks.{answers_as, went_on, went_to}}
 use Rattle.tests_to_files.specs.{Arrives.ArrivesOrEnds, Plans.HaveTests}
-use Rattle.tests_to_files.proofs.{WalkWithoutTests.{Passes, passes_first, passes_more, passed_to, passed_all}, Walks.{answers_as, went_on, went_to}}
 
 module _ {K J P : Type 0} (post : P → (Bor (List Edge) × Unit {0}) → Bool → Type 0) (puts : Puts) (mode : ObsMode) (v : Walking K J P) where
   -- the walk was taken on from where it began, over cycles that have no test, and fewer are left

@@ -1,9 +1,6 @@
 -- A walk that passes over cycles that have no test.
 use Rattle.std.proofs.Common.{Option, Some, None, List, inl, inr}
-use Rattle.relax_edges.specs.declared.edge.Edge.{Edge}
-use Rattle.edge_algebra_laws.proofs.Ordering.{follows_or_same}
-use Rattle.cycle_enum_laws.specs.Listing.{ComesAfter, IsNext, IsAnswer}
-use Rattle.cycle_enum_laws.proofs.Listings.{after_more}
+use Rattle.tests_to_files.proofs.Vocabulary.{Edge, follows_or_same, ComesAfter, IsNext, IsAnswer, after_more}
 
 -- no listed cycle that comes after the one that was given is passed over up to the last one
 pub record Passes (listed : List Edge → Type 0) (given last : Option (List Edge)) : Type 0 where

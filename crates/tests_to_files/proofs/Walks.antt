@@ -1,17 +1,10 @@
 -- A walk, what its answers are where it only went on, and what it leaves.
-use Rattle.std.proofs.Common.{◌≡◌, ℕ, Bool, true, List, Option, Some, None, sym, ◌∙◌, ap, subst}
-use Rattle.std.specs.Prelude.{◌↔◌, MatchOption}
+use Rattle.std.{proofs.Common.{◌≡◌, ℕ, Bool, true, List, Option, Some, None, sym, ◌∙◌, ap, subst}, specs.Prelude.{◌↔◌, MatchOption}}
 use denote.Ref.{Bor}
-use Rattle.relax_edges.specs.{declared.edge.Edge.Edge, declared.kinds.ObsMode.ObsMode}
-use Rattle.edge_algebra_laws.specs.{Composable.IsCycle, CycleOrder.{IsNormal, IsLeast}}
-use Rattle.edge_algebra_laws.proofs.Laws.{same_cycle_is_equivalence, normal_forms_decide}
-use Rattle.cycle_enum_laws.specs.Listing.{IsAnswer}
-use Rattle.cycle_enum.specs.Walking.{Walking, Lists, Says}
+use Rattle.tests_to_files.proofs.{Vocabulary.{Edge, ObsMode, IsCycle, IsNormal, IsLeast, same_cycle_is_equivalence, normal_forms_decide, IsAnswer, Walking, Lists, Says, ShelfSeen}, FileSteps.{names_put, names_stop}, WantedCycles.answers_too}
+use Rattle.tests_to_files.{proofs.WantedCycles.{listed_alike, writes_too, stops_all_too}, specs.{declared.{names.Closed.Closed, wanted.Wanted.Wanted}, ListingEnds.{WritesAll, StopsAtAll}, ListedFiles.{all_path, count_line}, Keeping.{HasGone, NamesAll}}}
+use Rattle.tests_to_files.specs.{Keeping.StopsNaming, Plans.{HaveTests, plan_of, is_sought, IsPlanned}}
 use Rattle.arch_trait.specs.{Threads.Puts, Writing.Writing}
-use Rattle.diy_io.specs.Shelf.{ShelfSeen}
-use Rattle.tests_to_files.specs.{declared.names.Closed.Closed, declared.wanted.Wanted.Wanted, ListingEnds.{WritesAll, StopsAtAll}}
-use Rattle.tests_to_files.specs.{ListedFiles.{all_path, count_line}, Keeping.{HasGone, NamesAll, StopsNaming}, Plans.{HaveTests, plan_of, is_sought, IsPlanned}}
-use Rattle.tests_to_files.proofs.{FileSteps.{names_put, names_stop}, WantedCycles.{answers_too, listed_alike, writes_too, stops_all_too}}
 
 -- the normal form of a normal form is itself
 pub least_again : (u : List Edge) (last : Option (List Edge)) → IsNormal u → MatchOption last ⊥ (λ v. IsLeast u v) → last ≡ Some u

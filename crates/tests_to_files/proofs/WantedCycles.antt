@@ -1,20 +1,9 @@
 -- Which cycles a listing wants, and what its walk knows of that.
-use Rattle.std.proofs.Common.{◌≡◌, ◌<◌, ◌≤◌, ◌+◌, ◌&&◌, ◌||◌, nat_lt, nat_le, ℕ, ◌-◌, suc, Bool, true, false, cond, List, [], ◌∷◌, ◌++◌, length, get_or, Option, Some, None, refl, sym, ◌∙◌, ap, arith}
-use Rattle.std.proofs.{lemmas.Bool.{and_parts, and_from, or_right, leb-true, le-leb, le-ltb, lt-ltb}, lemmas.List.Sums.sum_by-append, lemmas.List.Folds.list_all-append}
-use Rattle.std.specs.{Prelude.{◌↔◌, is_none}, List.list_all}
-use Rattle.relax_edges.specs.{declared.edge.Edge.Edge, declared.kinds.ArchName.ArchName, declared.kinds.ObsMode.ObsMode, EdgeTable.{is_of_arch, is_external}}
-use Rattle.edge_algebra_laws.specs.Composable.{IsCycle}
-use Rattle.list_laws.proofs.Cases.{by_less, by_test}
-use Rattle.cycle_enum.specs.Spreads.{is_spread, IsSpreadOver}
-use Rattle.cycle_enum_laws.specs.Listing.{IsAnswer, IsListed}
-use Rattle.cycle_events.specs.Resolution.{external_count, is_coherence_only, resolution_of, turned}
-use Rattle.arch_trait.specs.Threads.{Puts}
-use Rattle.test_maker.specs.{declared.refusal.Refusal.TheVariants.{CoherenceOnly, TooFewThreads}, Refusals.{foreign_edge, resolved_refusal, refusal_of}}
-use Rattle.test_maker.proofs.HavingTests.{neither, not_foreign}
-use Rattle.diy_io.specs.Shelf.{ShelfSeen}
-use Rattle.tests_to_files.specs.Plans.{HaveTests, ends_in, ends_inside, ends_of_arch, has_few_threads, has_few_accesses, is_sought, is_wanted, may_lead}
-use Rattle.tests_to_files.specs.{InternalRuns.HasLongRun, WantedLaws.wanted_has_test, ListingEnds.{WritesAll, StopsAtTest, StopsAtAll}}
-use Rattle.tests_to_files.proofs.{SpreadThreads.spread_of_threads, RunLaws.long_run_crowds, FurtherCycles.{next_too, listed_too, all_too}}
+use Rattle.std.proofs.{Common.{◌≡◌, ◌<◌, ◌≤◌, ◌&&◌, nat_lt, nat_le, ℕ, ◌-◌, suc, Bool, true, false, List, [], ◌∷◌, ◌++◌, length, get_or, Option, Some, None, refl, sym, ◌∙◌, ap, arith}, lemmas.Bool.{and_parts, and_from, leb-true, le-leb, le-ltb, lt-ltb}}
+use Rattle.tests_to_files.proofs.Vocabulary.{list_all-append, ◌↔◌, is_none, list_all, Edge, ArchName, ObsMode, is_of_arch, IsCycle, by_less, by_test, is_spread, IsSpreadOver, IsAnswer, IsListed, external_count, is_coherence_only, resolution_of, turned}
+use Rattle.tests_to_files.proofs.{Vocabulary.{Puts, CoherenceOnly, TooFewThreads, foreign_edge, resolved_refusal, refusal_of, neither, not_foreign, ShelfSeen}, SpreadThreads.{spread_leaves, spread_of_threads}, RunLaws.long_run_crowds}
+use Rattle.tests_to_files.{proofs.FurtherCycles.{next_too, listed_too, all_too}, specs.{Plans.{HaveTests, ends_of_arch, has_few_threads, has_few_accesses, is_sought, is_wanted}, InternalRuns.HasLongRun, WantedLaws.wanted_has_test, ListingEnds.WritesAll}}
+use Rattle.tests_to_files.specs.ListingEnds.{StopsAtTest, StopsAtAll}
 
 -- a cycle that is wanted has at most so many threads, and accesses in each
 wanted_few : (puts : Puts) (mode : ObsMode) (threads : ℕ) (accesses : Option ℕ) (cycle : List Edge) → is_wanted puts mode threads accesses cycle ≡ true
@@ -23,10 +12,6 @@ unfolding is_wanted
 wanted_few puts mode threads accesses cycle h =
     and_parts (has_few_threads threads cycle) (has_few_accesses accesses cycle)
     (and_parts (is_none (refusal_of puts cycle mode)) (has_few_threads threads cycle && has_few_accesses accesses cycle) h).1
-
--- two are more than none
-pub two_are_some : (n : ℕ) → nat_le 2 n ≡ true → 0 < n
-two_are_some n h = let two : 2 ≤ n = leb-true 2 n h in omega (arith, two)
 
 -- a cycle that has a test has two threads
 tested_two : (puts : Puts) (mode : ObsMode) (cycle : List Edge) → refusal_of puts cycle mode ≡ None → nat_le 2 (external_count cycle) ≡ true
@@ -58,12 +43,12 @@ tested_spread puts mode cycle h =
     (λ spread. spread_of_threads cycle (omega (arith, two)) spread)
 
 -- the last edge is one of all
-pub ends_at : (is_such : Edge → Bool) (u : List Edge) (d : Edge) → 0 < length u → ends_in is_such u ≡ is_such (get_or u (length u - 1) d)
-ends_at is_such [] d some = absurd (omega arith)
-ends_at is_such (x ∷ []) d some = refl
-ends_at is_such (x ∷ y ∷ u) d some =
+pub ends_at : (arch : ArchName) (u : List Edge) (d : Edge) → 0 < length u → ends_of_arch arch u ≡ is_of_arch (get_or u (length u - 1) d) arch
+ends_at arch [] d some = absurd (omega arith)
+ends_at arch (x ∷ []) d some = refl
+ends_at arch (x ∷ y ∷ u) d some =
     let n : length (x ∷ y ∷ u) - 1 ≡ suc (length (y ∷ u) - 1) = omega arith in
-    rw n (ends_at is_such (y ∷ u) d (omega arith))
+    rw n (ends_at arch (y ∷ u) d (omega arith))
 
 ends_if_all : (arch : ArchName) (u : List Edge) → list_all (λ e. is_of_arch e arch) u ≡ true → ends_of_arch arch u ≡ true
 ends_if_all arch [] all = refl
@@ -73,7 +58,6 @@ ends_if_all arch (x ∷ y ∷ u) all = ends_if_all arch (y ∷ u) (and_parts (is
 -- what is known of a cycle that is wanted if it has a test
 record Sought (arch : ArchName) (threads : ℕ) (accesses : Option ℕ) (u : List Edge) : Type 0 where
   spread : is_spread u ≡ true
-  two : nat_le 2 (external_count u) ≡ true
   of_arch : list_all (λ e. is_of_arch e arch) u ≡ true
   few_threads : has_few_threads threads u ≡ true
   few_accesses : has_few_accesses accesses u ≡ true
@@ -81,26 +65,16 @@ record Sought (arch : ArchName) (threads : ℕ) (accesses : Option ℕ) (u : Lis
 sought_parts : (arch : ArchName) (threads : ℕ) (accesses : Option ℕ) (u : List Edge) → is_sought arch threads accesses u ≡ true → Sought arch threads accesses u
 unfolding is_sought
 sought_parts arch threads accesses u h =
-    let p = and_parts (is_spread u && nat_le 2 (external_count u)) ((list_all (λ e. is_of_arch e arch) u && has_few_threads threads u) && has_few_accesses accesses u) h in
-    let s = and_parts (is_spread u) (nat_le 2 (external_count u)) p.0 in
+    let p = and_parts (is_spread u) ((list_all (λ e. is_of_arch e arch) u && has_few_threads threads u) && has_few_accesses accesses u) h in
     let q = and_parts (list_all (λ e. is_of_arch e arch) u && has_few_threads threads u) (has_few_accesses accesses u) p.1 in
     let r = and_parts (list_all (λ e. is_of_arch e arch) u) (has_few_threads threads u) q.0 in
-    record { spread = s.0; two = s.1; of_arch = r.0; few_threads = r.1; few_accesses = q.1 }
+    record { spread = p.0; of_arch = r.0; few_threads = r.1; few_accesses = q.1 }
 
--- such a cycle may begin with each of its prefixes
-prefix_leads : (arch : ArchName) (threads : ℕ) (accesses : Option ℕ) (u r : List Edge) → Sought arch threads accesses (u ++ r) → may_lead arch threads u ≡ true
-unfolding may_lead
-prefix_leads arch threads accesses u r s =
-    let few : external_count (u ++ r) ≤ threads = leb-true (external_count (u ++ r)) threads s.few_threads in
-    let both : external_count (u ++ r) ≡ external_count u + external_count r = sum_by-append (λ e. cond (is_external e) 1 0) u r in
-    and_from (ends_of_arch arch u) (ends_inside u || has_few_threads threads u)
-    (ends_if_all arch u (and_parts (list_all (λ e. is_of_arch e arch) u) (list_all (λ e. is_of_arch e arch) r) (sym (list_all-append (λ e. is_of_arch e arch) u r) ∙ s.of_arch)).0)
-    (or_right (ends_inside u) (has_few_threads threads u) (le-leb (external_count u) threads (omega (arith, few, both))))
-
--- no such cycle begins with edges with which none may
-pub refused_leads_none : (arch : ArchName) (threads : ℕ) (accesses : Option ℕ) (u r : List Edge) → may_lead arch threads u ≡ false → is_sought arch threads accesses (u ++ r) ≡ true → ⊥
+-- no such cycle begins with edges of which the last isn't of the architecture
+pub refused_leads_none : (arch : ArchName) (threads : ℕ) (accesses : Option ℕ) (u r : List Edge) → ends_of_arch arch u ≡ false → is_sought arch threads accesses (u ++ r) ≡ true → ⊥
 refused_leads_none arch threads accesses u r none h =
-    let yes : may_lead arch threads u ≡ true = prefix_leads arch threads accesses u r (sought_parts arch threads accesses (u ++ r) h) in cc
+    let all = sym (list_all-append (λ e. is_of_arch e arch) u r) ∙ (sought_parts arch threads accesses (u ++ r) h).of_arch in
+    let yes : ends_of_arch arch u ≡ true = ends_if_all arch u (and_parts (list_all (λ e. is_of_arch e arch) u) (list_all (λ e. is_of_arch e arch) r) all).0 in cc
 
 -- each such cycle has edges of two threads to another location, and no more edges to another thread than are allowed
 pub sought_over : (arch : ArchName) (threads : ℕ) (accesses : Option ℕ) (u : List Edge) → is_sought arch threads accesses u ≡ true → IsSpreadOver threads u
@@ -112,7 +86,7 @@ sought_over arch threads accesses u h =
 pub long_run_leads_none : (arch : ArchName) (threads : ℕ) (accesses : Option ℕ) (u r : List Edge) → HasLongRun accesses u → is_sought arch threads accesses (u ++ r) ≡ true → ⊥
 long_run_leads_none arch threads accesses u r run h =
     let p = sought_parts arch threads accesses (u ++ r) h in
-    long_run_crowds accesses u r (two_are_some (external_count (u ++ r)) p.two) run p.few_accesses
+    long_run_crowds accesses u r (spread_leaves (u ++ r) p.spread) run p.few_accesses
 
 -- what makes the pruners of a listing and what its walk relies on right
 pub ruleset pruning = (refused_leads_none, long_run_leads_none, sought_over)
@@ -123,8 +97,7 @@ unfolding is_sought
 sought_if_wanted puts mode threads accesses u h =
     let few = wanted_few puts mode threads accesses u h in
     let none = wanted_has_test puts mode threads accesses u h in
-    and_from (is_spread u && nat_le 2 (external_count u)) ((list_all (λ e. is_of_arch e puts.name) u && has_few_threads threads u) && has_few_accesses accesses u)
-    (and_from (is_spread u) (nat_le 2 (external_count u)) (tested_spread puts mode u none) (tested_two puts mode u none))
+    and_from (is_spread u) ((list_all (λ e. is_of_arch e puts.name) u && has_few_threads threads u) && has_few_accesses accesses u) (tested_spread puts mode u none)
     (and_from (list_all (λ e. is_of_arch e puts.name) u && has_few_threads threads u) (has_few_accesses accesses u)
     (and_from (list_all (λ e. is_of_arch e puts.name) u) (has_few_threads threads u) (tested_of_arch puts mode u none) few.0) few.1)
 

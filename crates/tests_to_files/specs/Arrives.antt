@@ -2,8 +2,7 @@
 -- Source: own.
 use Rattle.std.specs.Prelude.{◌≡◌, ◌<◌, Option, Some, None, List}
 use Rattle.relax_edges.specs.declared.edge.Edge.{Edge}
-use Rattle.cycle_enum_laws.specs.{Counting.later, Listing.IsNext, Listing.IsAnswer}
-use Rattle.cycle_enum.specs.Walking.{Walking}
+use Rattle.cycle_enum.specs.{Counting.later, Listing.{IsNext, IsAnswer}, Walking.Walking}
 
 -- a walk moved on to the next of some cycles, and fewer are left
 pub record Arrives {K J P : Type 0} (listed : List Edge → Type 0) (before after : Walking K J P) (cycle : List Edge) : Type 0 where

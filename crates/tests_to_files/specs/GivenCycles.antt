@@ -1,12 +1,11 @@
 -- What writing the tests of given cycles leaves on the shelf and on the sink.
 -- Source: own.
 use Rattle.std.specs.{Prelude.{◌≡◌, ℕ, List, [], ◌∷◌, ◌++◌, length, Option}, Borrow.Bor}
-use Rattle.relax_edges.specs.{declared.edge.Edge.Edge, declared.kinds.ObsMode.ObsMode}
+use Rattle.relax_edges.specs.declared.{edge.Edge.Edge, kinds.ObsMode.ObsMode}
 use Rattle.arch_trait.specs.{Threads.Puts, Writing.Writing}
 use Rattle.diy_io.specs.{Shelf.ShelfSeen, Wrote.{SinkSeen, WroteAll, WrotePart}}
-use Rattle.tests_to_files.specs.{declared.ending.ListingEnd.ListingEnd, declared.ending.ListingEnd.TheVariants.{Done, ShelfFault, OutFault}}
-use Rattle.tests_to_files.specs.{declared.wanted.Wanted.Wanted, ListedFiles.{all_path, file_lines, test_files, count_line}}
-use Rattle.tests_to_files.specs.{Plans.{folder_in, folder_of, named_text}, Putting.{PutFiles, PutPart}}
+use Rattle.tests_to_files.specs.{declared.{ending.ListingEnd.{ListingEnd, TheVariants.{Done, ShelfFault, OutFault}}, wanted.Wanted.Wanted}, ListedFiles.{all_path, file_lines, test_files, count_line}, Plans.{folder_in, folder_of, named_text}}
+use Rattle.tests_to_files.specs.Putting.{PutFiles, PutPart}
 
 -- the files of cycles: that of the test of each, in order, and then the file that names them
 abbrev pub given_files : Option (List ℕ) → (List Edge → List ℕ) → List (List Edge) → List (List ℕ × List ℕ)

@@ -1,14 +1,13 @@
 -- What is kept of the names of a listing's files while these are written. It is used only by private functions.
 -- Source: own.
 use Rattle.std.specs.{Prelude.{◌≡◌, ◌≤◌, ℕ, ◌+◌, List, [], ◌∷◌, ◌++◌, length, codes, Option, Some, None, MatchOption}, Borrow.Bor}
-use Rattle.relax_edges.specs.{declared.edge.Edge.Edge, declared.kinds.ObsMode.ObsMode}
-use Rattle.edge_algebra_laws.specs.CycleOrder.{IsNormal}
-use Rattle.cycle_enum_laws.specs.Listing.{AreAllListed, AreListedTo}
+use Rattle.relax_edges.specs.declared.{edge.Edge.Edge, kinds.ObsMode.ObsMode}
+use Rattle.edge_algebra.specs.CycleOrder.{IsNormal}
+use Rattle.cycle_enum.specs.Listing.{AreAllListed, AreListedTo}
 use Rattle.arch_trait.specs.{Threads.Puts, Writing.Writing}
 use Rattle.diy_io.specs.Shelf.{ShelfSeen}
-use Rattle.tests_to_files.specs.{declared.names.TheConstants.{MAX_LISTED_LINE, MAX_LINES}, declared.names.Closed.Closed, declared.names.Names.Names}
-use Rattle.tests_to_files.specs.{declared.wanted.Wanted.Wanted, ListingEnds.StopsAtTest, Putting.{PutFiles, PutPart, Filling}}
-use Rattle.tests_to_files.specs.{ListedFiles.{file_number, all_path, file_lines, test_files}, Plans.{HaveTests, folder_in, folder_of, named_text}}
+use Rattle.tests_to_files.specs.{declared.{names.{TheConstants.{MAX_LISTED_LINE, MAX_LINES}, Closed.Closed, Names.Names}, wanted.Wanted.Wanted}, ListingEnds.StopsAtTest, Putting.{PutFiles, PutPart, Filling}, ListedFiles.{file_number, all_path}}
+use Rattle.tests_to_files.specs.{ListedFiles.{file_lines, test_files}, Plans.{HaveTests, folder_in, folder_of, named_text}}
 
 -- the kept lines are those of the listed cycles up to this one, and this is the number of the next one
 pub record KeptTo (listed : List Edge → Type 0) (given : Option (List Edge)) (lines : List ℕ) (cycle : List Edge) (number : ℕ) : Type 0 where

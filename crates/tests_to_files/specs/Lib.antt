@@ -9,3 +9,4 @@ pub mod ListedLines
 pub mod GivenCycles
 pub mod Keeping
 pub mod Arrives
+pub mod OwnFiles

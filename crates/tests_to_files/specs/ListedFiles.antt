@@ -1,7 +1,6 @@
 -- The files of a listing by their names, and the lines that name them.
 -- Source: own.
-use Rattle.std.specs.Prelude.{ℕ, ◌-◌, ◌^◌, min, nat_le, if◌then◌else◌, List, ◌++◌, length, map, codes, Option, Some, None}
-use Rattle.std.specs.{Fmt.decimal, List.enumerate_from, List.flat_map}
+use Rattle.std.specs.{Prelude.{ℕ, ◌-◌, ◌^◌, min, nat_le, if◌then◌else◌, List, ◌++◌, length, map, codes, Option, Some, None}, Fmt.decimal, List.{enumerate_from, flat_map}}
 use Rattle.relax_edges.specs.declared.edge.Edge.{Edge}
 use Rattle.cycle_names.specs.CycleNames.{name_of}
 

@@ -2,7 +2,7 @@
 -- Source: own; the lines are those of norm7 of the herdtools suite.
 use Rattle.std.specs.Prelude.{List, Option, Result, OnOk, OnErr}
 use Rattle.relax_edges.specs.declared.edge.Edge.{Edge}
-use Rattle.cycle_enum_laws.specs.Listing.{AreAllListed, AreListedTo}
+use Rattle.cycle_enum.specs.Listing.{AreAllListed, AreListedTo}
 use Rattle.diy_io.specs.{declared.errors.Failed.Failed, Wrote.{SinkSeen, WroteAll, WrotePart}}
 use Rattle.cycles_from_lines.specs.Normed.{name_lines}
 use Rattle.tests_to_files.specs.{Plans.{Plan, IsPlanned}, ListingEnds.BeginsAfter}

@@ -2,12 +2,11 @@
 -- Source: own.
 use Rattle.std.specs.Prelude.{◌≡◌, ◌⊎◌, ⊤, ℕ, List, [], ◌∷◌, ◌++◌, length, Option, Some, None}
 use Rattle.relax_edges.specs.declared.edge.Edge.{Edge}
-use Rattle.edge_algebra_laws.specs.CycleOrder.{IsLeast}
-use Rattle.cycle_enum_laws.specs.Listing.{AreAllListed, AreListedTo, IsNext}
+use Rattle.edge_algebra.specs.CycleOrder.{IsLeast}
+use Rattle.cycle_enum.specs.Listing.{AreAllListed, AreListedTo, IsNext}
 use Rattle.diy_io.specs.{Shelf.ShelfSeen, Wrote.{SinkSeen, WroteAll, WrotePart}}
-use Rattle.tests_to_files.specs.{declared.ending.ListingEnd.ListingEnd, declared.ending.ListingEnd.TheVariants.{Done, ShelfFault, OutFault}}
-use Rattle.tests_to_files.specs.{ListedFiles.{file_of, path_of, all_path, file_lines, test_files, count_line}, Plans.{Plan, IsPlanned, planned_text}}
-use Rattle.tests_to_files.specs.Putting.{PutFiles, PutPart}
+use Rattle.tests_to_files.specs.{declared.ending.ListingEnd.{ListingEnd, TheVariants.{Done, ShelfFault, OutFault}}, ListedFiles.{file_of, path_of, all_path, file_lines, test_files, count_line}, Plans.{Plan, IsPlanned, planned_text}, Putting.PutFiles}
+use Rattle.tests_to_files.specs.Putting.{PutPart}
 
 -- a listing goes on after the normal form of a cycle, if one is given, and otherwise begins with the first
 abbrev pub BeginsAfter : Option (List Edge) → Option (List Edge) → Type 0

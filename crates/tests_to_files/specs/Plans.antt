@@ -1,16 +1,14 @@
 -- What a listing requests: which cycles have a test in it, and what their tests are.
 -- Source: own, after diy.
-use Rattle.std.specs.{Prelude.{◌≡◌, ℕ, Bool, true, ◌&&◌, ◌||◌, not, nat_le, is_none, List, [], ◌∷◌, length, Option, Some, None}, List.list_all, Borrow.Bor}
-use Rattle.std.specs.Option.{option_map}
-use Rattle.relax_edges.specs.{declared.edge.Edge.Edge, declared.kinds.ArchName.ArchName, declared.kinds.ObsMode.ObsMode, EdgeTable.{is_external, is_of_arch}}
+use Rattle.std.specs.{Prelude.{◌≡◌, ℕ, Bool, true, ◌&&◌, nat_le, is_none, List, [], ◌∷◌, length, Option, Some, None}, List.list_all, Borrow.Bor, Option.option_map}
+use Rattle.relax_edges.specs.{declared.{edge.Edge.Edge, kinds.{ArchName.ArchName, ObsMode.ObsMode}}, EdgeTable.is_of_arch}
 use Rattle.list_laws.specs.Numbers.{upto}
-use Rattle.cycle_enum_laws.specs.Listing.{IsListed}
+use Rattle.cycle_enum.specs.{Listing.IsListed, declared.{limits.Limits.Limits, taken.Taken.TheVariants.SpreadOver}, Spreads.is_spread, Walking.Walking}
 use Rattle.cycle_names.specs.CycleNames.{name_of}
 use Rattle.cycle_events.specs.Resolution.{external_count, turned, events_in}
 use Rattle.arch_trait.specs.{Threads.Puts, Writing.Writing}
 use Rattle.test_maker.specs.{Refusals.refusal_of, CycleText.cycle_text}
-use Rattle.cycle_enum.specs.{declared.limits.Limits.Limits, declared.taken.Taken.TheVariants.SpreadOver, Spreads.is_spread, Walking.Walking}
-use Rattle.tests_to_files.specs.{ListedFiles.{path_of, file_of, test_files}, declared.listing.Listing.Listing, declared.wanted.Wanted.Wanted}
+use Rattle.tests_to_files.specs.{ListedFiles.{path_of, file_of, test_files}, declared.{listing.Listing.Listing, wanted.Wanted.Wanted}}
 
 -- a cycle has at most this many threads, observers not counted: at most this many of its edges lead to another thread
 abbrev pub has_few_threads : ℕ → List Edge → Bool
@@ -27,32 +25,17 @@ unfoldable pub is_wanted : Puts → ObsMode → ℕ → Option ℕ → List Edge
 is_wanted puts mode threads accesses cycle =
     is_none (refusal_of puts cycle mode) && (has_few_threads threads cycle && has_few_accesses accesses cycle)
 
--- the last of some edges, if there is one, passes a test
-abbrev pub ends_in : (Edge → Bool) → List Edge → Bool
-ends_in is_such [] = true
-ends_in is_such (edge ∷ []) = is_such edge
-ends_in is_such (_ ∷ edge ∷ edges) = ends_in is_such (edge ∷ edges)
-
--- the last of some edges is of the architecture
+-- the last of some edges, if there is one, is of the architecture
 abbrev pub ends_of_arch : ArchName → List Edge → Bool
-ends_of_arch arch = ends_in (λ edge. is_of_arch edge arch)
+ends_of_arch arch [] = true
+ends_of_arch arch (edge ∷ []) = is_of_arch edge arch
+ends_of_arch arch (_ ∷ edge ∷ edges) = ends_of_arch arch (edge ∷ edges)
 
--- the last of some edges stays in its thread
-abbrev pub ends_inside : List Edge → Bool
-ends_inside = ends_in (λ edge. not (is_external edge))
-
--- a required cycle may begin with these edges, if it may with those before the last: the last is of the architecture, and either it stays
--- in its thread or the edges lead to no more threads than are allowed
-unfoldable pub may_lead : ArchName → ℕ → List Edge → Bool
-may_lead arch threads edges = ends_of_arch arch edges && (ends_inside edges || has_few_threads threads edges)
-
--- a cycle with a test is a required one: it has two threads or more, but no more than are allowed, two of them have edges to another
--- location, all its edges are of the architecture, and each of its threads has few enough accesses
+-- a cycle with a test is a required one: two of its threads have edges to another location, all its edges are of the architecture, and it
+-- has few enough threads, and accesses in each
 unfoldable pub is_sought : ArchName → ℕ → Option ℕ → List Edge → Bool
 is_sought arch threads accesses cycle =
-    is_spread cycle
-    && nat_le 2 (external_count cycle)
-    && ((list_all (λ edge. is_of_arch edge arch) cycle && has_few_threads threads cycle) && has_few_accesses accesses cycle)
+    is_spread cycle && ((list_all (λ edge. is_of_arch edge arch) cycle && has_few_threads threads cycle) && has_few_accesses accesses cycle)
 
 -- those of some cycles that have a test
 abbrev pub HaveTests : Puts → ObsMode → (List Edge → Type 0) → List Edge → Type 0

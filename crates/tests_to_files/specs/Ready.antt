@@ -1,7 +1,7 @@
 -- A test that is made and ready to be printed. It is used only by private functions.
 -- Source: own.
 use Rattle.std.specs.{Prelude.{◌≡◌, ℕ, List, length}, List.All}
-use Rattle.relax_edges.specs.{declared.edge.Edge.Edge, declared.kinds.ArchName.ArchName, declared.kinds.ObsMode.ObsMode}
+use Rattle.relax_edges.specs.declared.{edge.Edge.Edge, kinds.{ArchName.ArchName, ObsMode.ObsMode}}
 use Rattle.arch_trait.specs.{Threads.Puts, Writing.Writing}
 use Rattle.litmus_text.specs.{declared.test.Test.Test, KeptCells.{TableSeen, HoldsTable}, Tests.{IsPrintable, test_seen}, TestText.test_text}
 use Rattle.test_maker.specs.CycleText.{cycle_text}

@@ -1,7 +1,6 @@
 -- A law of required cycles, for the crates above; it holds no definition.
-use Rattle.std.proofs.{Common.{◌≡◌, ℕ, true, ◌&&◌, List, Option, Some, None, refl}, lemmas.Bool.and_parts}
-use Rattle.std.specs.Prelude.{is_none}
-use Rattle.relax_edges.specs.{declared.edge.Edge.Edge, declared.kinds.ObsMode.ObsMode}
+use Rattle.std.{proofs.{Common.{◌≡◌, ℕ, true, ◌&&◌, List, Option, Some, None, refl}, lemmas.Bool.and_parts}, specs.Prelude.is_none}
+use Rattle.relax_edges.specs.declared.{edge.Edge.Edge, kinds.ObsMode.ObsMode}
 use Rattle.arch_trait.specs.Threads.{Puts}
 use Rattle.test_maker.specs.Refusals.{refusal_of}
 use Rattle.tests_to_files.specs.Plans.{has_few_threads, has_few_accesses, is_wanted}

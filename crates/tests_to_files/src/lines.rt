@@ -1,12 +1,12 @@
 ghost use Rattle.std.specs.Prelude.{◌≡◌, ◌≤◌, ◌↔◌, true, List, OnOk, OnErr};
 ghost use Rattle.relax_edges.specs.{declared.TheConstants.{MAX_EDGES}, declared.edge.Edge.{Edge as EdgeValue}};
-ghost use Rattle.edge_algebra_laws.specs.Composable.{IsCycle};
+ghost use Rattle.edge_algebra.specs.Composable.{IsCycle};
 ghost use Rattle.cycle_enum.specs.Walking.{KnowsOf, Says};
 ghost use Rattle.tests_to_files.specs.{ListedLines.{EndsLines, StopsAtLine, WritesLines}, Plans.{IsPlanned, Seeks, is_sought, plan_in, walk_plan}};
 
 use crate::listing::Listing;
 use crate::names::next_accepted;
-use crate::wanted::Wanted;
+use crate::wanted::{Wanted, may_lead};
 use arch_trait::Arch;
 use arrayvec::ArrayString;
 use cycle_enum::Walk;
@@ -27,7 +27,7 @@ pub fn write_listed<A: Arch, O: Sink>(listing: Listing, out: &mut O) -> Result<(
     ensures { EndsLines (plan_in A.puts A.writing listing.entry) listing.entry.after (O.seen out.old) (O.seen out.new) result }
 {
     let wanted = listing.wanted();
-    let keep = |edges: &[Edge]| wanted.may_lead::<A>(edges);
+    let keep = |edges: &[Edge]| may_lead::<A>(edges);
     let fit = |edges: &[Edge]| wanted.may_fit(edges);
     let take = |cycle: &Cycle| -> bool
         ensures { result ≡ is_sought A.puts.name wanted.entry.threads wanted.entry.accesses cycle.now }

@@ -1,6 +1,6 @@
 ghost use Rattle.std.specs.{Prelude.{◌≡◌, ◌≤◌, ◌↔◌, true, Some, None, length, List, [], ◌∷◌, OnOk, OnErr, IfOk, IfSome}, Option.{ForSome}};
 ghost use Rattle.relax_edges.specs.{declared.TheConstants.{MAX_EDGES}, declared.edge.Edge.{Edge as EdgeValue}};
-ghost use Rattle.edge_algebra_laws.specs.Composable.{IsCycle};
+ghost use Rattle.edge_algebra.specs.Composable.{IsCycle};
 ghost use Rattle.cycle_enum.specs.{declared.taken.Taken.TheVariants.{SpreadOver}, Walking.{KnowsOf, Lists, Says}};
 ghost use Rattle.diy_io.specs.{Shelf.{Idle}, Wrote.{Wrote}};
 ghost use Rattle.test_maker.specs.Refusals.{refusal_of};
@@ -13,7 +13,7 @@ use crate::files::{FileName, Path, file_named, set_path};
 use crate::making::{Desk, make_test};
 use crate::names::{Names, put_names};
 use crate::putting::put_text;
-use crate::wanted::Wanted;
+use crate::wanted::{Wanted, may_lead};
 use arch_trait::{Arch, Places, ThreadCodes};
 use arrayvec::{ArrayString, ArrayVec};
 use cycle_enum::{Limits, Taken, Walk};
@@ -130,7 +130,7 @@ fn list_with<A: Arch, H: Shelf, O: Sink>(
     ensures { EndsListing O.seen (plan_in A.puts A.writing listing.entry) listing.entry.after result (H.seen shelf.old) (H.seen shelf.new) out.old out.new }
 {
     let wanted = listing.wanted();
-    let keep = |edges: &[Edge]| wanted.may_lead::<A>(edges);
+    let keep = |edges: &[Edge]| may_lead::<A>(edges);
     let fit = |edges: &[Edge]| wanted.may_fit(edges);
     let take = |cycle: &Cycle| -> bool
         ensures { result ≡ is_sought A.puts.name wanted.entry.threads wanted.entry.accesses cycle.now }

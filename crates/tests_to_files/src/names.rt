@@ -1,5 +1,5 @@
 ghost use Rattle.std.specs.{Prelude.{◌≡◌, ◌≤◌, ◌+◌, ◌++◌, [], Some, None, length, codes, IsTrue, IsFalse, OnOk, OnErr}, Option.{ForSome, ForNone}};
-ghost use Rattle.edge_algebra_laws.specs.CycleOrder.{IsNormal};
+ghost use Rattle.edge_algebra.specs.CycleOrder.{IsNormal};
 ghost use Rattle.cycle_enum.specs.Walking.{KnowsOf, Lists};
 ghost use Rattle.diy_io.specs.Shelf.{Idle};
 ghost use Rattle.tests_to_files.specs.{ListedFiles.{file_of}, Arrives.{ArrivesOrEnds}, Keeping.{KeepsFile, NamesKept, NamesRest, StopsNames, StopsRest}};

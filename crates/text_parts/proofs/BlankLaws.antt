@@ -1,9 +1,6 @@
 -- Blanks at the ends of a text: how a walk from its end finds the text without them, and what is known of that text.
-use Rattle.std.proofs.Common.{◌≡◌, ℕ, zero, suc, ◌-◌, ◌<◌, ◌≤◌, List, [], ◌∷◌, ◌++◌, true, false, length, get_or, take, refl, ap, ◌∙◌, arith}
-use Rattle.std.proofs.{Math.ListN.replicate, lemmas.Bool.and_from}
-use Rattle.std.specs.{Prelude.Bool, List.list_all}
-use Rattle.text_parts.specs.{Blanks.{is_blank, is_inked, kept_before, before_blanks, unblanked, trim_blanks}, LeadingRuns.after_run}
-use Rattle.text_parts.proofs.RunLaws.{after_class}
+use Rattle.std.{proofs.{Common.{◌≡◌, ℕ, zero, suc, ◌-◌, ◌<◌, ◌≤◌, List, [], ◌∷◌, ◌++◌, true, false, length, get_or, take, refl, ap, ◌∙◌, arith}, Math.ListN.replicate, lemmas.Bool.and_from}, specs.{Prelude.Bool, List.list_all}}
+use Rattle.text_parts.{specs.{Blanks.{is_blank, is_inked, kept_before, before_blanks, unblanked, trim_blanks}, LeadingRuns.after_run}, proofs.RunLaws.after_class}
 
 -- a blank at the end falls away
 last_blank : (text : List ℕ) (byte : ℕ) → is_blank byte ≡ true → before_blanks (text ++ byte ∷ []) ≡ before_blanks text

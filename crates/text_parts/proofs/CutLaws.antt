@@ -1,9 +1,6 @@
 -- A cut at the first place of a byte.
-use Rattle.std.proofs.Common.{◌≡◌, ◌==◌, ◌+◌, ◌-◌, ◌<◌, ◌≤◌, ℕ, zero, suc, List, [], ◌∷◌, ◌++◌, Some, None, true, get_or, take, drop, length, length-append, refl, sym, ap, ◌∙◌, arith, false}
-use Rattle.std.proofs.{lemmas.Bool.{eq-eqb, and_from}, lemmas.List.take-append-drop, Math.Seq.{drop-cons, take-length}, lemmas.List.Folds.list_all-append}
-use Rattle.std.specs.{Prelude.{Bool, Option}, List.list_all}
-use Rattle.list_laws.proofs.{Cases.by_test, Elements.rest_from}
-use Rattle.text_parts.specs.Cuts.{before_cut, cut_at, is_without, CutParts}
+use Rattle.std.proofs.{Common.{◌≡◌, ◌==◌, ◌+◌, ◌-◌, ◌<◌, ◌≤◌, ℕ, zero, suc, List, [], ◌∷◌, ◌++◌, Some, None, true, get_or, take, drop, length, length-append, refl, sym, ap, ◌∙◌, arith, false}, lemmas.{Bool.{eq-eqb, and_from}, List.take-append-drop}}
+use Rattle.text_parts.{proofs.Vocabulary.{list_all-append, drop-cons, take-length, Bool, Option, list_all, by_test, rest_from}, specs.Cuts.{before_cut, cut_at, is_without, CutParts}}
 
 -- the text before a sign and the text after it
 pub cut_back : (sign : ℕ) (prefix remainder : List ℕ) → is_without sign prefix ≡ true → cut_at sign (prefix ++ sign ∷ remainder) ≡ Some (prefix, remainder)

@@ -1,3 +1,4 @@
+pub mod Vocabulary
 pub mod RunLaws
 pub mod NameLaws
 pub mod NumberLaws

@@ -1,9 +1,6 @@
 -- The carriage return at the end of a line, and the first line of a text.
-use Rattle.std.proofs.Common.{◌≡◌, ◌==◌, ℕ, ◌-◌, ◌<◌, ◌≤◌, List, [], ◌∷◌, ◌++◌, true, false, length, get_or, take, refl, sym, ap, ◌∙◌, arith}
-use Rattle.std.specs.{Prelude.Bool, Prelude.cond, List.list_all, List.All}
-use Rattle.text_parts.specs.Lines.{without_return, is_line_feed, whole_lines, ended_lines, unended, lines_of}
-use Rattle.text_parts.proofs.{BlankLaws.split_at_last, PieceLaws.first_piece}
-use Rattle.std.proofs.lemmas.List.Splits.{slice_split_at}
+use Rattle.std.{proofs.{Common.{◌≡◌, ◌==◌, ℕ, ◌-◌, ◌<◌, ◌≤◌, List, [], ◌∷◌, ◌++◌, true, false, length, get_or, take, refl, sym, ap, ◌∙◌, arith}, lemmas.List.Splits.slice_split_at}, specs.{Prelude.{Bool, cond}, List.{list_all, All}}}
+use Rattle.text_parts.{specs.Lines.{without_return, is_line_feed, whole_lines, ended_lines, unended, lines_of}, proofs.{BlankLaws.split_at_last, PieceLaws.first_piece}}
 
 last_return : (text : List ℕ) (byte : ℕ) → without_return (text ++ byte ∷ []) ≡ cond (byte == 13) text (text ++ byte ∷ [])
 unfolding without_return

@@ -1,11 +1,7 @@
 -- Names of places and registers: how code tests their form, which bytes they have, and that they are short and ASCII. What each letter, digit
 -- and `_` passes, names and numbers pass.
-use Rattle.std.proofs.{Common.{◌≡◌, ℕ, ◌-◌, ◌≤◌, ◌<◌, ◌^◌, List, [], ◌∷◌, length, get_or, take, drop, refl, arith}, lemmas.Bool.and_from}
-use Rattle.std.proofs.{lemmas.Str.IsUtf8-from_ascii, lemmas.Str.Ascii.IsAscii-nil}
-use Rattle.std.specs.{Prelude.{Bool, true, ◌&&◌, nat_le}, Char.{is_ascii, is_ascii_alphabetic, is_ascii_alphanumeric, is_ascii_digit}, Fmt.decimal}
-use Rattle.std.specs.{List.list_all, Str.{IsAscii, IsUtf8}}
-use Rattle.list_laws.proofs.{Digits.digits_of, Elements.{list_all-weaker, rest-cons}}
-use Rattle.text_parts.specs.Names.{begins_place, is_place_byte, is_place_name, is_register_name}
+use Rattle.std.{proofs.{Common.{◌≡◌, ℕ, ◌-◌, ◌≤◌, ◌<◌, ◌^◌, List, [], ◌∷◌, length, get_or, take, drop, refl, arith}, lemmas.{Bool.and_from, Str.{IsUtf8-from_ascii, Ascii.IsAscii-nil}}}, specs.{Prelude.{Bool, true, ◌&&◌, nat_le}, Char.is_ascii}}
+use Rattle.text_parts.{proofs.Vocabulary.{is_ascii_alphabetic, is_ascii_alphanumeric, is_ascii_digit, decimal, list_all, IsAscii, IsUtf8, digits_of, list_all-weaker, rest-cons}, specs.Names.{begins_place, is_place_byte, is_place_name, is_register_name}}
 
 -- whether a text names a place is seen from its first byte and the others
 pub is_place_name_parts : (name : List ℕ) → 1 ≤ length name → is_place_name name

@@ -1,12 +1,7 @@
 -- Numbers and the digits that write them.
-use Rattle.std.proofs.{Common.{◌≡◌, ℕ, ◌^◌, ◌<◌, ◌≤◌, List, length, get_or, sym, ap, subst, ◌∙◌, arith}, lemmas.Bool.both_ways}
-use Rattle.std.proofs.lemmas.Slice.Eq.{bytes_eq-Decides}
-use Rattle.std.proofs.lemmas.Fmt.{digits_decimal, digits_value-decimal, decimal-digits_value, first_decimal, decimal_digit, decimal_nonempty, length-decimal-le}
-use Rattle.std.specs.{Prelude.{true, false, Option, Some, None, Result}, Char.{is_ascii, is_ascii_digit}, Fmt.decimal, List.list_all, Result.result_ok}
-use Rattle.std.specs.{Str.{IsUtf8}, Str.Parse.{digits_value, ParsesUnsigned}}
-use Rattle.list_laws.proofs.{Digits.digits_model, Elements.list_all-weaker}
-use Rattle.text_parts.specs.NumberTexts.{number_of}
-use Rattle.text_parts.proofs.NameLaws.{utf8_from_ascii}
+use Rattle.text_parts.proofs.Vocabulary.{◌≡◌, ℕ, ◌^◌, ◌<◌, ◌≤◌, List, length, get_or, sym, ap, subst, ◌∙◌, arith, both_ways, bytes_eq-Decides, digits_decimal, digits_value-decimal, decimal-digits_value, first_decimal, decimal_digit, ParsesUnsigned}
+use Rattle.text_parts.{proofs.{Vocabulary.{digits_model, list_all-weaker}, NameLaws.utf8_from_ascii}, specs.NumberTexts.number_of}
+use Rattle.std.{proofs.lemmas.Fmt.{decimal_nonempty, length-decimal-le}, specs.{Prelude.{true, false, Option, Some, None, Result}, Char.{is_ascii, is_ascii_digit}, Fmt.decimal, List.list_all, Result.result_ok, Str.{IsUtf8, Parse.digits_value}}}
 
 -- a number is read from its decimal
 pub number_of-decimal : (n : ℕ) → n < 2 ^ 32 → number_of (decimal n) ≡ Some n

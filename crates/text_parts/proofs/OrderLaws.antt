@@ -1,9 +1,6 @@
 -- Texts in byte order, and texts that are put in order one after another.
-use Rattle.std.specs.{Ordering.{nat_cmp, is_eq, ordering_reverse}, Cmp.{IsTotalOrder, nat_cmp_total}, Cmp.Lexicographic.{slice_cmp, lists_total}}
-use Rattle.std.specs.{List.{AllByRecursion, list_any}, BTreeSet.insert_key, Prelude.{fold, Bool, ◌||◌}, Str.bytes_eq}
-use Rattle.std.specs.{declared.cmp.Ordering.TheVariants.{Equal, Less, Greater}, declared.cmp.Ordering.Ordering}
-use Rattle.std.proofs.{Common.{◌≡◌, ℕ, List, sym, ap, ◌∙◌, [], ◌∷◌, refl, false, true, arith}, lemmas.Map.Text.is_eq-slice_cmp}
-use Rattle.std.proofs.{lemmas.Slice.Eq.bytes_eq-Decides, Math.Bool.or-false}
+use Rattle.text_parts.proofs.Vocabulary.{nat_cmp, is_eq, ordering_reverse, IsTotalOrder, nat_cmp_total, slice_cmp, lists_total, AllByRecursion, list_any, insert_key, fold, Bool, ◌||◌, bytes_eq}
+use Rattle.std.{specs.declared.cmp.Ordering.{TheVariants.{Equal, Less, Greater}, Ordering}, proofs.{Common.{◌≡◌, ℕ, List, sym, ap, ◌∙◌, [], ◌∷◌, refl, false, true, arith}, lemmas.{Map.Text.is_eq-slice_cmp, Slice.Eq.bytes_eq-Decides}, Math.Bool.or-false}}
 
 -- byte order is a total order of texts
 pub order : IsTotalOrder (slice_cmp nat_cmp)

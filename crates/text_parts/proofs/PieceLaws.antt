@@ -1,8 +1,6 @@
 -- The pieces between bytes of a class.
-use Rattle.std.proofs.Common.{◌≡◌, ℕ, suc, List, [], ◌∷◌, ◌++◌, length, true, refl, ap, ◌∙◌, arith}
-use Rattle.std.specs.{Prelude.Bool, Prelude.not, List.slice_split, List.onto_first, List.list_all}
-use Rattle.list_laws.proofs.Cases.{by_test}
-use Rattle.text_parts.specs.Lines.{but_last, last_of}
+use Rattle.std.{proofs.Common.{◌≡◌, ℕ, suc, List, [], ◌∷◌, ◌++◌, length, true, refl, ap, ◌∙◌, arith}, specs.{Prelude.{Bool, not}, List.{slice_split, onto_first, list_all}}}
+use Rattle.text_parts.{proofs.Vocabulary.by_test, specs.Lines.{but_last, last_of}}
 
 -- a split has a first piece
 pub record FirstPiece (p : ℕ → Bool) (text : List ℕ) : Type 0 where

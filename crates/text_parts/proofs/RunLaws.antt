@@ -1,9 +1,7 @@
 -- The longest beginning of a text whose bytes all pass a test: how a walk finds it, and what it is for a text that is known.
-use Rattle.std.proofs.Common.{◌≡◌, ℕ, ◌+◌, ◌<◌, ◌≤◌, List, [], ◌∷◌, ◌++◌, length, get_or, take, drop, refl, ap, arith, add-one, append_assoc, append-nil, length-append}
-use Rattle.std.proofs.{lemmas.Bool.and_parts, Math.Seq.{drop-cons, drop-length, take-length}, lemmas.List.take_more}
-use Rattle.std.specs.{Prelude.{Bool, true, false, not}, List.list_all}
-use Rattle.list_laws.proofs.Cases.{by_test}
+use Rattle.text_parts.proofs.Vocabulary.{◌≡◌, ℕ, ◌+◌, ◌<◌, ◌≤◌, List, [], ◌∷◌, ◌++◌, length, get_or, take, drop, refl, ap, arith, add-one, append_assoc, append-nil, length-append, and_parts, take_more, drop-cons, drop-length, by_test}
 use Rattle.text_parts.specs.LeadingRuns.{leading_run, after_run}
+use Rattle.std.{proofs.Math.Seq.take-length, specs.{Prelude.{Bool, true, false, not}, List.list_all}}
 
 run_goes : (passes : ℕ → Bool) (byte : ℕ) (text : List ℕ) → passes byte ≡ true → leading_run passes (byte ∷ text) ≡ byte ∷ leading_run passes text
 unfolding leading_run

@@ -1,9 +1,6 @@
 -- The first word of a text, by a walk over blanks and then over a word, and the words of two texts with a blank between.
-use Rattle.std.proofs.{Common.{◌≡◌, ◌==◌, ℕ, ◌<◌, List, [], ◌∷◌, ◌++◌, true, false, length, refl, sym, ap, ◌∙◌, arith}, lemmas.List.Elements.filter-append}
-use Rattle.std.specs.{Prelude.not, List.{slice_split, filter, list_all}}
-use Rattle.list_laws.proofs.Cases.{by_test}
-use Rattle.text_parts.specs.{LeadingRuns.{leading_run, after_run}, Blanks.{is_blank, is_inked, unblanked}, Words.{is_nil, words}}
-use Rattle.text_parts.proofs.PieceLaws.{split_both, split_whole}
+use Rattle.std.{proofs.{Common.{◌≡◌, ◌==◌, ℕ, ◌<◌, List, [], ◌∷◌, ◌++◌, true, false, length, refl, sym, ap, ◌∙◌, arith}, lemmas.List.Elements.filter-append}, specs.{Prelude.not, List.{slice_split, filter, list_all}}}
+use Rattle.text_parts.{proofs.{Vocabulary.by_test, PieceLaws.{split_both, split_whole}}, specs.{LeadingRuns.{leading_run, after_run}, Blanks.{is_blank, is_inked, unblanked}, Words.{is_nil, words}}}
 
 -- the pieces between blanks, by the first of them
 abbrev further : List ℕ → List (List ℕ)

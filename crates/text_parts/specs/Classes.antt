@@ -1,7 +1,6 @@
 -- Which bytes each class has.
-use Rattle.std.specs.{Prelude.ℕ, Prelude.Bool, Char.is_ascii_digit, Char.is_ascii_alphabetic, Char.is_ascii_alphanumeric}
-use Rattle.text_parts.specs.{Names.is_place_byte, Blanks.is_blank, Blanks.is_inked, Words.is_argument_byte}
-use Rattle.text_parts.specs.declared.classes.Class.{Class}
+use Rattle.std.specs.{Prelude.{ℕ, Bool}, Char.{is_ascii_digit, is_ascii_alphabetic, is_ascii_alphanumeric}}
+use Rattle.text_parts.specs.{Names.is_place_byte, Blanks.{is_blank, is_inked}, Words.is_argument_byte, declared.classes.Class.Class}
 use Rattle.text_parts.specs.declared.classes.Class.TheVariants as classes
 
 -- whether a byte is in a class

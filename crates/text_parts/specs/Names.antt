@@ -1,7 +1,6 @@
 -- The forms of the names of locations, of registers and of tests.
 -- Source: own, within the names that the litmus format allows.
-use Rattle.std.specs.Prelude.{ℕ, Bool, false, ◌&&◌, ◌||◌, ◌==◌, List, [], ◌∷◌, nat_le, length}
-use Rattle.std.specs.{Char.is_ascii_alphabetic, Char.is_ascii_alphanumeric, List.list_all}
+use Rattle.std.specs.{Prelude.{ℕ, Bool, false, ◌&&◌, ◌||◌, ◌==◌, List, [], ◌∷◌, nat_le, length}, Char.{is_ascii_alphabetic, is_ascii_alphanumeric}, List.list_all}
 
 -- a byte of the name of a test: an ASCII letter or digit, or one of `+`, `-`, `.` and `_`
 abbrev pub is_name_byte : ℕ → Bool

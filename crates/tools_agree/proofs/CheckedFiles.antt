@@ -1,17 +1,10 @@
 -- mcheck7 writes the lines of the verdict on two files.
-use Rattle.std.proofs.Common.{◌≡◌, ℕ, List, Option, Some, None, Result, Ok, Err, sym, ◌∙◌, ap, subst, inl, inr}
-use Rattle.std.specs.{Prelude.{MatchOption}}
-use Rattle.diy_io.specs.{Count.Rose, Shelf.{Files, ShelfSeen}, Opened.{IsFile, name_at}, Wrote.{WroteAll, WrotePart}}
-use Rattle.arch_trait.specs.{PlaceNames.number_in, Threads.Puts, Writing.{Writing}}
-use Rattle.litmus_text.specs.{TestReading.{TestRead}}
-use Rattle.program_meaning.specs.{Executions.Execution}
-use Rattle.exec_text.specs.declared.errors.ExecFault.{ExecFault}
+use Rattle.std.{proofs.Common.{◌≡◌, ℕ, List, Option, Some, None, Result, Ok, Err, sym, ◌∙◌, ap, subst, inl, inr}, specs.Prelude.MatchOption}
+use Rattle.tools_agree.proofs.Vocabulary.{Rose, Files, ShelfSeen, IsFile, name_at, WroteAll, WrotePart, number_in, Puts, Writing, TestRead, Execution, ExecFault, IsVerdict, ExecutionShown, ExecWrong, IsAbsent, IsTest, TestWrong, exec_said, test_said}
+use Rattle.tools_agree.{proofs.Vocabulary.TestFileError, specs.YesVerdicts.{CheckedAs, CheckedAreWritten}}
 use Rattle.exec_check.specs.declared.checked_errors.CheckEnd.TheVariants as ends
 use Rattle.exec_check.specs.declared.checked_errors.CheckedKind.TheVariants as kinds
 use Rattle.exec_check.specs.declared.shown.Shown.TheVariants as shows
-use Rattle.exec_check.specs.{Verdicts.{IsVerdict}, FilesChecked.{ExecutionShown, ExecWrong, IsAbsent, IsTest, TestWrong, exec_said}}
-use Rattle.tests_from_files.specs.{TestSaid.test_said, declared.errors.TestFileError.TestFileError}
-use Rattle.tools_agree.specs.YesVerdicts.{CheckedAs, CheckedAreWritten}
 
 -- a file that is shown has one text
 one_text : (seen : Option Files) (files : Files) (name a b : List ℕ) → seen ≡ Some files → files name ≡ Some a → IsFile seen name b → a ≡ b

@@ -1,18 +1,8 @@
 -- classify7 writes the families of cycles from files with the texts of their tests.
-use Rattle.std.proofs.Common.{◌≡◌, ℕ, List, [], ◌∷◌, ◌++◌, map, Option, Some, None, Result, Ok, Err, refl, sym, ◌∙◌, ap, subst}
-use Rattle.std.specs.{Prelude.{MatchOption}, List.{AllByRecursion}}
-use Rattle.diy_io.specs.{Count.Rose, Shelf.{Files, ShelfSeen}, Opened.{IsFile, name_at}, Wrote.{WroteAll, WrotePart}}
-use Rattle.relax_edges.specs.{declared.kinds.ObsMode.ObsMode, declared.edge.Edge.Edge}
-use Rattle.edge_algebra_laws.specs.{Composable.IsCycle}
-use Rattle.cycle_events.specs.Resolution.{turned}
-use Rattle.arch_trait.specs.{Threads.Puts, Writing.{Writing}}
-use Rattle.cycles_from_lines.specs.Classified.{families_text}
-use Rattle.tests_from_files.specs.{FilesEnds.{Asked, AllRead, AreNamed, IsAtPlace, SayCycles, said_on}}
-use Rattle.tests_from_files.specs.declared.classified_errors.FileError.{FileError}
+use Rattle.std.{proofs.Common.{◌≡◌, ℕ, List, [], ◌∷◌, ◌++◌, map, Option, Some, None, Result, Ok, Err, refl, sym, ◌∙◌, ap, subst}, specs.{Prelude.MatchOption, List.AllByRecursion}}
+use Rattle.tools_agree.proofs.Vocabulary.{Rose, Files, ShelfSeen, IsFile, name_at, WroteAll, WrotePart, ObsMode, Edge, IsCycle, turned, Puts, Writing, families_text, Asked, AllRead, AreNamed, IsAtPlace, SayCycles, said_on, FileError, named_text}
+use Rattle.tools_agree.{proofs.SaidCycles.{texts_say_cycles, turned_have_families}, specs.SaidCycles.{TestsSayCycles, AreAccepted, FilesAreClassified, asked_on}}
 use Rattle.tests_from_files.specs.declared.classified_errors.FilesEnd.TheVariants as ends
-use Rattle.tests_to_files.specs.Plans.{named_text}
-use Rattle.tools_agree.specs.SaidCycles.{TestsSayCycles, AreAccepted, FilesAreClassified, asked_on}
-use Rattle.tools_agree.proofs.SaidCycles.{texts_say_cycles, turned_have_families}
 
 -- a file that is shown has one text
 one_text : (files : Files) (name x y : List ℕ) → IsFile (Some files) name x → IsFile (Some files) name y → x ≡ y

@@ -1,24 +1,10 @@
 -- What lines give are cycles of the architecture, and so are the cycles of a listing.
-use Rattle.std.proofs.Common.{◌≡◌, ℕ, Bool, true, false, List, [], ◌∷◌, ◌++◌, length, Option, Some, None, Result, Ok, Err, refl, sym, ◌∙◌, ap, subst, inl, inr, cond, nat_lt}
-use Rattle.std.specs.{Prelude.{is_none}, List.{AllByRecursion, list_all}}
-use Rattle.std.proofs.lemmas.Bool.{and_parts}
-use Rattle.relax_edges.specs.{declared.edge.Edge.Edge, declared.TheConstants.MAX_EDGES, declared.kinds.ArchName.ArchName}
-use Rattle.edge_algebra_laws.specs.Composable.{IsCycle}
-use Rattle.edge_algebra.specs.{declared.errors.CycleError.CycleError, Compose.composed, ComposingLaws.composes_exactly}
-use Rattle.edges_from_text.specs.{declared.read.Separators.TheVariants.Blanks, Spelled.{separates, text_edges}}
-use Rattle.text_parts.specs.Words.{words}
-use Rattle.cycle_names.specs.Laws.{are_of_arch}
-use Rattle.cycle_names.proofs.CycleOf.{made_of}
-use Rattle.cycle_events.specs.Resolution.{resolution_of}
-use Rattle.cycle_enum_laws.specs.Listing.{IsOneOf}
-use Rattle.cycles_from_lines.specs.{Cycles.{line_said, form_said, is_long_line, without_label, spelled_made, cycle_made, composed_or, first_named, named_made, cycle_said, cycles_of}, NamedCycles.cycle_named}
-use Rattle.cycles_from_lines.specs.declared.{line.LineForm.LineForm, line.LineForm.TheVariants.{Edges, Names}, errors.LineKind.LineKind}
-use Rattle.cycles_from_lines.specs.declared.errors.LineKind.TheVariants.{LineTooLong, TooLong, NotOfArch}
-use Rattle.cycles_from_lines.proofs.NamedCycles.{found_named}
-use Rattle.test_maker.proofs.HavingTests.{neither, not_foreign}
-use Rattle.test_maker.specs.Refusals.{refusal_of, foreign_edge, resolved_refusal}
-use Rattle.tests_to_files.specs.Plans.{Plan, IsPlanned, is_wanted}
+use Rattle.std.{proofs.{Common.{◌≡◌, ℕ, Bool, true, false, List, [], ◌∷◌, ◌++◌, length, Option, Some, None, Result, Ok, Err, refl, sym, ◌∙◌, ap, subst, inl, inr, cond, nat_lt}, lemmas.Bool.and_parts}, specs.{Prelude.is_none, List.AllByRecursion}}
+use Rattle.tools_agree.proofs.Vocabulary.{list_all, Edge, MAX_EDGES, ArchName, IsCycle, CycleError, composed, composes_exactly, Blanks, separates, text_edges, words, resolution_of, IsOneOf, line_said, form_said, is_long_line, without_label, spelled_made}
+use Rattle.tools_agree.proofs.Vocabulary.{cycle_made, composed_or, first_named, named_made, cycle_said, cycles_of, cycle_named, LineForm, neither, not_foreign, refusal_of, foreign_edge, resolved_refusal, Plan, IsPlanned, is_wanted}
 use Rattle.tools_agree.specs.OwnLines.{AreCycles, arch_in, SaidAreCycles, ListedAreCycles}
+use Rattle.cycle_names.{specs.Laws.are_of_arch, proofs.CycleOf.made_of}
+use Rattle.cycles_from_lines.{specs.declared.{line.LineForm.TheVariants.{Edges, Names}, errors.LineKind.{LineKind, TheVariants.{LineTooLong, TooLong, NotOfArch}}}, proofs.NamedCycles.found_named}
 
 -- a cycle of an architecture
 abbrev IsCycleOf : ArchName → List Edge → Type 0

@@ -1,3 +1,4 @@
+pub mod Vocabulary
 pub mod SpelledWords
 pub mod OwnLines
 pub mod CyclesOfLines
@@ -9,3 +10,31 @@ pub mod Unresolved
 pub mod YesVerdicts
 pub mod ShownExecutions
 pub mod CheckedFiles
+pub mod PrintedLines
+pub mod Parting
+mod NameExamples
+pub mod SameSums
+pub mod Names
+pub mod Judged
+pub mod SameFacts
+pub mod Reordered
+pub mod Observed
+mod SumExamples
+pub mod NoCycles
+pub mod ItemTexts
+pub mod DistinctPaths
+pub mod ItemRelaxations
+pub mod Words
+pub mod Written
+pub mod Beginnings
+pub mod Printed
+pub mod SeenErrors
+pub mod ReadLines
+pub mod ReadFiles
+pub mod LineTests
+pub mod Checked
+pub mod LongLogs
+pub mod SummedInput
+pub mod SummedFiles
+pub mod StatesAlike
+pub mod OneAnswer

@@ -1,17 +1,10 @@
 -- norm7 writes the lines of cycles again, and classify7 the families of the cycles.
-use Rattle.std.proofs.Common.{◌≡◌, ℕ, Bool, true, List, [], ◌∷◌, ◌++◌, length, take, Option, Some, None, Result, Ok, Err, refl, sym, ◌∙◌, ap, subst, arith, append-nil, length-append}
-use Rattle.std.specs.{Prelude.{is_ok, unwrap_or}, Result.result_err, List.{list_all, prefix_len, take_while}, Io.KnownBytes.IsAtEnd}
-use Rattle.std.proofs.{Math.Seq.take-length, lemmas.Bool.and_parts, lemmas.List.Folds.list_all-append}
-use Rattle.diy_io.specs.{Taken.{SourceSeen}, Wrote.{WroteAll, WrotePart}}
-use Rattle.relax_edges.specs.{declared.edge.Edge.Edge, declared.kinds.ArchName.ArchName}
-use Rattle.text_parts.specs.Lines.{lines_of}
-use Rattle.cycles_from_lines.specs.declared.{line.LineForm.LineForm, line.LineForm.TheVariants.Edges, errors.LineKind.LineKind, errors.LinesError.LinesError}
+use Rattle.std.proofs.{Common.{◌≡◌, ℕ, Bool, true, List, [], ◌∷◌, ◌++◌, length, take, Option, Some, None, Result, Ok, Err, refl, sym, ◌∙◌, ap, subst, arith, append-nil, length-append}, Math.Seq.take-length, lemmas.Bool.and_parts}
+use Rattle.tools_agree.proofs.Vocabulary.{list_all-append, is_ok, unwrap_or, result_err, list_all, prefix_len, take_while, IsAtEnd, SourceSeen, WroteAll, WrotePart, Edge, ArchName, lines_of, cycles_before, ReadAll, ReadUpTo, name_lines, families_text}
+use Rattle.tools_agree.{proofs.{Vocabulary.whole_is, OwnLines.lines_read_as_themselves}, specs.OwnLines.{AreCycles, StopsEarly, NormsAgain, LinesAreClassified}}
+use Rattle.cycles_from_lines.specs.{declared.{line.LineForm.{LineForm, TheVariants.Edges}, errors.{LineKind.LineKind, LinesError.{LinesError, TheVariants.{Wrong, TooMuch, InputFault}}}}, Cycles.{FirstFault, are_sound, is_sound, cycles_of, line_said}}
 use Rattle.cycles_from_lines.specs.declared.errors.NormError.TheVariants as norms
 use Rattle.cycles_from_lines.specs.declared.errors.ClassifyError.TheVariants as classes
-use Rattle.cycles_from_lines.specs.declared.errors.LinesError.TheVariants.{Wrong, TooMuch, InputFault}
-use Rattle.cycles_from_lines.specs.{Cycles.{FirstFault, are_sound, is_sound, cycles_of, line_said}, LineReading.{cycles_before, ReadAll, ReadUpTo}, Normed.name_lines, Classified.families_text, ReadingLaws.whole_is}
-use Rattle.tools_agree.specs.OwnLines.{AreCycles, StopsEarly, NormsAgain, LinesAreClassified}
-use Rattle.tools_agree.proofs.OwnLines.{lines_read_as_themselves}
 
 -- at its end a source has nothing left
 ended : (left : Option (List ℕ)) → IsAtEnd left → unwrap_or left [] ≡ []

@@ -1,18 +1,10 @@
 -- The lines of cycles are read as these cycles, and their lines are the same.
-use Rattle.std.proofs.Common.{◌≡◌, ℕ, true, List, [], ◌∷◌, ◌++◌, map, refl, sym, ◌∙◌, ap, append_assoc}
-use Rattle.std.specs.{Prelude.{fold, not, ◌==◌, is_ok, unwrap_or, filter}, List.{AllByRecursion, flat_map}}
-use Rattle.list_laws.proofs.{Cases.by_test, Elements.list_all-weaker}
-use Rattle.relax_edges.specs.{declared.edge.Edge.Edge, declared.kinds.ArchName.ArchName}
-use Rattle.edge_algebra_laws.specs.{Composable.IsCycle, Rotation.IsRotation}
-use Rattle.text_parts.specs.Lines.{lines_of, last_line, unended}
+use Rattle.std.{proofs.Common.{◌≡◌, ℕ, true, List, [], ◌∷◌, ◌++◌, map, refl, sym, ◌∙◌, ap, append_assoc}, specs.{Prelude.{fold, not, ◌==◌, is_ok, unwrap_or, filter}, List.{AllByRecursion, flat_map}}}
+use Rattle.tools_agree.proofs.Vocabulary.{by_test, list_all-weaker, Edge, ArchName, IsCycle, IsRotation, lines_of, last_line, unended, Family, Other, name_of, family_of, named_rotation, named, one_name, family_turned, named_rotates, without_is}
+use Rattle.tools_agree.{proofs.Vocabulary.{ended_nil, unended_nil}, specs.OwnLines.{AreCycles, LinesReadAsThemselves}}
 use Rattle.text_parts.proofs.LineLaws as lines
-use Rattle.cycle_names.specs.{declared.family.Family.Family, declared.family.Family.TheVariants.Other, CycleNames.name_of, Rotations.{family_of, named_rotation}}
-use Rattle.cycle_names.proofs.{NameLaws.{named, one_name}, NamedRotations.{family_turned, named_rotates}}
-use Rattle.cycles_from_lines.specs.{declared.line.LineForm.TheVariants.Edges, Cycles.{are_sound, cycles_of, cycle_said}, Normed.{name_line, name_lines}}
-use Rattle.cycles_from_lines.specs.Classified.{families_in_order, families_text, family_names, family_text, is_family, with_cycle_name}
-use Rattle.cycles_from_lines.proofs.{Cuts.without_is, LineLaws.{ended_nil, unended_nil}}
+use Rattle.cycles_from_lines.specs.{declared.line.LineForm.TheVariants.Edges, Cycles.{are_sound, cycles_of, cycle_said}, Normed.{name_line, name_lines}, Classified.{families_in_order, families_text, family_names, family_text, is_family, with_cycle_name}}
 use Rattle.lines_to_files.proofs.PrintedLines.{printed, name_line_is, is_line_byte, line_no_feed, printed_bytes, printed_said}
-use Rattle.tools_agree.specs.OwnLines.{AreCycles, LinesReadAsThemselves}
 
 -- the first line of a text of lines
 first_line : (cycle : List Edge) (rest : List ℕ) → IsCycle cycle → lines_of (name_line cycle ++ rest) ≡ printed cycle ∷ lines_of rest

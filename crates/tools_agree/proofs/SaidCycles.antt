@@ -1,31 +1,12 @@
 -- The texts of tests say their cycles.
-use Rattle.std.proofs.Common.{◌≡◌, ◌+◌, ℕ, true, false, List, [], ◌∷◌, map, Option, Some, None, Ok, refl, sym, ◌∙◌, ap, subst, arith}
-use Rattle.std.specs.{Prelude.{codes}, List.{AllByRecursion, join_by, position}}
-use Rattle.std.proofs.lemmas.Bool.Decides.{nat_tests}
-use Rattle.list_laws.proofs.Cases.{by_test}
-use Rattle.relax_edges.specs.{declared.kinds.ObsMode.ObsMode, declared.edge.Edge.Edge, EdgeTable.is_external, WordParts.word_of}
-use Rattle.edge_algebra_laws.specs.{Composable.IsCycle, Rotation.{IsRotation, rotated}}
-use Rattle.edge_algebra_laws.proofs.Rotating.{rotation_of_place}
-use Rattle.cycle_events.specs.Resolution.{ends_outside, turned}
-use Rattle.cycle_events.proofs.Turning.{turned_by_none, turned_at_position, turned_without}
-use Rattle.arch_trait.specs.{Cells.{WritesCells, MakesOneAccess}, Laws.IsArch, Threads.Puts, Writing.{Writing, WritesBack, name_in}}
-use Rattle.litmus_text.specs.{Printable.IsTestName, Reread.reread, TestReadsBack.TestReadsBack, TestReading.{TestRead, test_read}}
-use Rattle.cycle_names.specs.{CycleNames.name_of, Laws.are_of_arch}
-use Rattle.cycle_names.proofs.NameLaws.{names_of_cycles}
-use Rattle.tests_force_cycles.specs.{TestHeadline.HasTest, TestOf.test_of}
-use Rattle.bytes_force_cycles.proofs.{BackLaws.reads_back, Readable.readable}
-use Rattle.test_maker.specs.{CycleText.cycle_text, Refusals.refusal_of}
-use Rattle.test_maker.proofs.HavingTests.{accepted_has_test}
-use Rattle.co_tests.specs.{CoherenceTests.{HasCoherenceTest, coherence_test_of}, CoRefusals.{coherence_refusal_of, coherence_text}}
-use Rattle.co_tests.proofs.Printed.{has_code}
-use Rattle.co_tests.proofs.Accepted as accepted_tests
-use Rattle.co_tests.proofs.Readable as coherence_tests
-use Rattle.tests_from_files.specs.{QuotedCycle.text_said, FilesEnds.{said_on}}
-use Rattle.tests_to_files.specs.Plans.{named_text}
-use Rattle.diycross7_cycles.specs.Choices.{crossed}
-use Rattle.diycross7_cycles.proofs.CrossedCycles.{crosses_all}
+use Rattle.std.{proofs.{Common.{◌≡◌, ◌+◌, ℕ, true, false, List, [], ◌∷◌, map, Option, Some, None, Ok, refl, sym, ◌∙◌, ap, subst, arith}, lemmas.Bool.Decides.nat_tests}, specs.{Prelude.codes, List.{AllByRecursion, join_by, position}}}
+use Rattle.tools_agree.proofs.Vocabulary.{by_test, ObsMode, Edge, is_external, word_of, IsCycle, IsRotation, rotated, rotation_of_place, ends_outside, turned, turned_by_none, turned_at_position, turned_without, WritesCells, MakesOneAccess, IsArch, Puts}
+use Rattle.tools_agree.proofs.Vocabulary.{Writing, WritesBack, name_in, IsTestName, reread, TestReadsBack, TestRead, test_read, HasTest, test_of, reads_back, readable, cycle_text, refusal_of, accepted_has_test, HasCoherenceTest, coherence_test_of}
+use Rattle.tools_agree.proofs.{Vocabulary.{coherence_refusal_of, coherence_text, text_said, said_on, named_text, crossed, crosses_all}, CyclesOfLines.{all_of, wanted_none}, OwnLines.{KeepsClass, keeps_class, same_families}, SaidTests.text_says}
 use Rattle.tools_agree.specs.SaidCycles.{TestsSayCycles, CoherenceTestsSayCycles, TurnedHaveFamilies, ListedAreAccepted, CrossedAreAccepted, TextsSayCycles, asked_on}
-use Rattle.tools_agree.proofs.{CyclesOfLines.{all_of, wanted_none}, OwnLines.{KeepsClass, keeps_class, same_families}, SaidTests.text_says}
+use Rattle.cycle_names.{specs.{CycleNames.name_of, Laws.are_of_arch}, proofs.NameLaws.names_of_cycles}
+use Rattle.co_tests.proofs.Accepted as accepted_tests
+use Rattle.co_tests.proofs.Printed as coherence_tests
 
 -- what a text is read as that quotes a cycle of an architecture
 pub record Quotes (a : Puts) (w : Writing) (text : List ℕ) (v : List Edge) : Type 0 where
@@ -43,8 +24,8 @@ test_quotes a w name cycle mode laws back cells one named c accepted =
     let es = turned cycle in
     let has : HasTest a es mode = accepted_has_test a cycle mode c accepted in
     let test = test_of a (name_in w.registers) es mode in
-    let r : TestReadsBack a.name w name test = reads_back a a.name w name test back cells (readable a a.name w name es mode laws back cells one named has.code) in
-    record { test = reread r.table name test; reads = r.read; quoted = refl; cycle = has.code.resolved.composes; of_arch = has.code.of_arch }
+    let r : TestReadsBack a.name w name test = reads_back a a.name w name test back cells (readable a a.name w name es mode laws back cells one named has.code.coded) in
+    record { test = reread r.table name test; reads = r.read; quoted = refl; cycle = has.code.resolved.composes; of_arch = has.code.coded.of_arch }
 
 -- and so does that of its coherence test
 pub coherence_quotes : (a : Puts) (w : Writing) (name : List ℕ) (cycle : List Edge) → IsArch a → WritesBack a w → WritesCells a w → MakesOneAccess a
@@ -54,7 +35,7 @@ coherence_quotes a w name cycle laws back cells one named c accepted =
     let es = turned cycle in
     let has : HasCoherenceTest a es = accepted_tests.accepted_has_test a cycle c accepted in
     let test = coherence_test_of a (name_in w.registers) es in
-    let r : TestReadsBack a.name w name test = reads_back a a.name w name test back cells (coherence_tests.readable a a.name w name es laws back cells one named (has_code a es has)) in
+    let r : TestReadsBack a.name w name test = reads_back a a.name w name test back cells (coherence_tests.readable a a.name w name es laws back cells one named has) in
     record { test = reread r.table name test; reads = r.read; quoted = refl; cycle = has.composes; of_arch = has.of_arch }
 
 quote_says : (a : Puts) (w : Writing) (text : List ℕ) (v : List Edge) → Quotes a w text v → text_said a.name w text ≡ Ok v

@@ -1,20 +1,10 @@
 -- A text that is read as a test says so in its header, and the cycle that it quotes is what it says.
-use Rattle.std.proofs.Common.{◌≡◌, ℕ, true, false, List, length, Option, Some, None, Result, Ok, Err, refl, sym, ◌∙◌, ap, cond, nat_lt}
-use Rattle.std.specs.{Prelude.{codes, ◌&&◌}, List.join_by, Str.bytes_eq}
-use Rattle.std.proofs.lemmas.{Bool.and_parts, Slice.Eq.bytes_eq-Decides}
-use Rattle.list_laws.proofs.Cases.{by_test}
-use Rattle.relax_edges.specs.{declared.edge.Edge.Edge, declared.kinds.ArchName.ArchName, Architectures.{arch_of, arch_word}, WordParts.word_of}
+use Rattle.std.{proofs.{Common.{◌≡◌, ℕ, true, false, List, length, Option, Some, None, Result, Ok, Err, refl, sym, ◌∙◌, ap, cond, nat_lt}, lemmas.{Bool.and_parts, Slice.Eq.bytes_eq-Decides}}, specs.{Prelude.{codes, ◌&&◌}, List.join_by, Str.bytes_eq}}
+use Rattle.tools_agree.proofs.Vocabulary.{by_test, Edge, ArchName, arch_of, arch_word, word_of, IsCycle, words, ◌>>=◌, Writing, TooLarge, BadHeader, MAX_TEST_TEXT, Lines, line, ends, bad, lines_from, TestRead, test_read, lines_read, arch_in_text}
+use Rattle.tools_agree.proofs.{Vocabulary.{arch_if, quoted_cycle, is_arch, test_said, cycle_of_test, cycle_or_fault, text_said}, SpelledWords.quoted_back}
 use Rattle.relax_edges.specs.declared.kinds.ArchName.TheVariants as archs
-use Rattle.edge_algebra_laws.specs.Composable.{IsCycle}
-use Rattle.text_parts.specs.{Words.words, ReadingSteps.◌>>=◌}
-use Rattle.arch_trait.specs.Writing.{Writing}
-use Rattle.litmus_text.specs.{declared.errors.TestKind.TheVariants.{TooLarge, BadHeader}, declared.limits.TheConstants.MAX_TEST_TEXT}
-use Rattle.litmus_text.specs.{TextLines.{Lines, line, ends, bad, lines_from}, TestReading.{TestRead, test_read, lines_read, arch_in_text}}
-use Rattle.litmus_text.specs.Header.{arch_if, arch_in, arch_read, header_read, is_short_name, name_in_header, two_words}
+use Rattle.litmus_text.specs.Header.{arch_in, arch_read, header_read, is_short_name, name_in_header, two_words}
 use Rattle.cycle_names.specs.Laws.{are_of_arch}
-use Rattle.cycles_from_lines.specs.Cycles.{quoted_cycle}
-use Rattle.tests_from_files.specs.{TestSaid.{is_arch, test_said}, QuotedCycle.{cycle_of_test, cycle_or_fault, text_said}}
-use Rattle.tools_agree.proofs.SpelledWords.{quoted_back}
 
 -- what is read before something else that is read was read
 before : {A B E : Type 0} (read : Result A E) (next : A → Result B E) (b : B) → read >>= next ≡ Ok b → (a : A) × (read ≡ Ok a)

@@ -1,17 +1,8 @@
 -- The executions that printed tests ask for are there.
 use Rattle.std.proofs.Common.{None, refl}
-use Rattle.cycle_events.specs.Resolution.{turned}
-use Rattle.arch_trait.specs.{Cells.{WritesCells, MakesOneAccess}, Laws.IsArch, Threads.Puts, Writing.{Writing, WritesBack}}
-use Rattle.program_meaning.specs.{Executions.Execution}
-use Rattle.tests_force_cycles.specs.{TestHeadline.HasTest}
-use Rattle.bytes_force_cycles.proofs.Printed.{printed_force}
-use Rattle.test_maker.proofs.HavingTests.{accepted_has_test}
-use Rattle.co_tests.specs.{CoherenceTests.{HasCoherenceTest, incoherent_execution}, CoRefusals.{coherence_text}}
-use Rattle.co_tests.proofs.{Accepted.neither_true, Printed.printed_show}
+use Rattle.tools_agree.proofs.Vocabulary.{turned, WritesCells, MakesOneAccess, IsArch, Puts, Writing, WritesBack, Execution, HasTest, printed_force, accepted_has_test, HasCoherenceTest, incoherent_execution, coherence_text, neither_true, printed_show}
+use Rattle.tools_agree.{proofs.Vocabulary.{numbers_by, run_by, is_run, is_coherence_run}, specs.YesVerdicts.{ExecutionsExist, CoherenceExecutionsExist}}
 use Rattle.co_tests.proofs.Accepted as accepted_tests
-use Rattle.two_runs.specs.{Runs.{numbers_by, run_by}}
-use Rattle.two_runs.proofs.{IntendedLaws.is_run, CoherenceLaws.is_coherence_run}
-use Rattle.tools_agree.specs.YesVerdicts.{ExecutionsExist, CoherenceExecutionsExist}
 
 -- the execution that the test of a cycle asks for is there
 pub executions_exist : (a : Puts) (w : Writing) → IsArch a → WritesBack a w → WritesCells a w → MakesOneAccess a → ExecutionsExist a w

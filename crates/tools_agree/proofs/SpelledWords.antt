@@ -1,22 +1,9 @@
 -- The words of edges are read back as these edges, and the quoted words of a cycle as the cycle.
-use Rattle.std.proofs.Common.{◌≡◌, ◌≤◌, ℕ, Bool, true, false, List, [], ◌∷◌, ◌++◌, length, Some, Ok, Err, refl, ◌∙◌, ap, arith, cond, nat_lt}
-use Rattle.std.proofs.lemmas.Bool.Decides.{nat_tests}
-use Rattle.std.specs.{Prelude.{codes, map, not}, List.{join_by, list_all, slice_split}}
-use Rattle.list_laws.proofs.Elements.{list_all-weaker}
-use Rattle.relax_edges.specs.{declared.edge.Edge.Edge, declared.TheConstants.MAX_EDGES, declared.kinds.ArchName.ArchName, WordParts.word_of, Spelling.edge_of}
-use Rattle.relax_edges.specs.ReadEdges.{before_edges}
-use Rattle.relax_edges.proofs.WordBounds.{word_not_short}
-use Rattle.edge_algebra_laws.proofs.SpellingLaws.{edge_of-word_of}
-use Rattle.edge_algebra_laws.specs.Composable.{IsCycle}
-use Rattle.edge_algebra.specs.{Compose.composed, ComposingLaws.composes_exactly}
-use Rattle.text_parts.specs.Names.{is_name_byte}
-use Rattle.text_parts.proofs.PieceLaws.{split_whole, split_off}
-use Rattle.edges_from_text.specs.{declared.read.Separators.TheVariants.Blanks, Spelled.{edges_spelled, separates}}
-use Rattle.cycle_names.specs.Laws.{are_of_arch}
-use Rattle.cycle_names.proofs.Tables.{word_bytes}
-use Rattle.cycles_from_lines.specs.Cycles.{cycle_made, composed_or, cycle_if_made, spelled_made, quoted_cycle}
-use Rattle.cycles_from_lines.specs.declared.errors.LineKind.TheVariants.{TooLong, NotOfArch}
-use Rattle.tools_agree.specs.SpelledWords.{WordsReadBack}
+use Rattle.std.{proofs.{Common.{◌≡◌, ◌≤◌, ℕ, Bool, true, false, List, [], ◌∷◌, ◌++◌, length, Some, Ok, Err, refl, ◌∙◌, ap, arith, cond, nat_lt}, lemmas.Bool.Decides.nat_tests}, specs.{Prelude.{codes, map, not}, List.{join_by, list_all, slice_split}}}
+use Rattle.tools_agree.proofs.Vocabulary.{list_all-weaker, Edge, MAX_EDGES, ArchName, word_of, edge_of, before_edges, word_not_short, edge_of-word_of, IsCycle, composed, composes_exactly, is_name_byte, split_whole, split_off, Blanks, edges_spelled}
+use Rattle.tools_agree.{proofs.Vocabulary.separates, specs.SpelledWords.WordsReadBack}
+use Rattle.cycle_names.{specs.Laws.are_of_arch, proofs.Tables.word_bytes}
+use Rattle.cycles_from_lines.specs.{Cycles.{cycle_made, composed_or, cycle_if_made, spelled_made, quoted_cycle}, declared.errors.LineKind.TheVariants.{TooLong, NotOfArch}}
 
 one_spelled : (word : List ℕ) (e : Edge) (words : List (List ℕ)) → 3 ≤ length word → edge_of word ≡ Some e
     → edges_spelled (word ∷ words) ≡ before_edges (Some e) (edges_spelled words)

@@ -1,14 +1,7 @@
 -- A cycle over one location has no resolution.
-use Rattle.std.proofs.Common.{◌≡◌, ◌≤◌, ◌<◌, ℕ, zero, suc, true, false, List, [], ◌∷◌, length, Err, refl, ◌∙◌, arith, append-nil, nat_lt}
-use Rattle.std.specs.{Prelude.{◌==◌, ◌&&◌}, List.{list_any}}
-use Rattle.std.proofs.lemmas.{Bool.Decides.nat_tests}
-use Rattle.list_laws.{specs.Numbers.upto, proofs.{Counts.count_upto_none, Numbers.slice_get-upto}}
-use Rattle.cycle_names.proofs.Members.{any_of_member, member_at}
-use Rattle.relax_edges.specs.{declared.edge.Edge.Edge, EdgeTable.is_diff}
-use Rattle.cycle_events.specs.Resolution.{edge_at, ends_outside, external_count, is_coherence_only, move_count, moves_in, resolution_of, thread_of, turned}
-use Rattle.cycle_events.specs.declared.errors.ResolveError.TheVariants.{CoherenceOnly}
-use Rattle.cycle_events.proofs.Turning.{turned_by_none}
-use Rattle.co_tests.proofs.{Accepted.neither_true}
+use Rattle.std.{proofs.{Common.{◌≡◌, ◌≤◌, ◌<◌, ℕ, zero, suc, true, false, List, [], ◌∷◌, length, Err, refl, ◌∙◌, arith, append-nil, nat_lt}, lemmas.Bool.Decides.nat_tests}, specs.{Prelude.{◌==◌, ◌&&◌}, List.list_any}}
+use Rattle.tools_agree.proofs.Vocabulary.{upto, count_upto_none, slice_get-upto, any_of_member, member_at, Edge, is_diff, edge_at, ends_outside, external_count, is_coherence_only, move_count, moves_in, resolution_of, thread_of, turned, CoherenceOnly}
+use Rattle.tools_agree.proofs.Vocabulary.{turned_by_none, neither_true}
 
 -- where no edge leads to another location, no thread has such edges
 no_moves : (es : List Edge) → list_any is_diff es ≡ false → move_count es ≡ 0

@@ -1,31 +1,12 @@
 -- The verdict on the execution that a printed test asks for says yes in every line; that on a coherence test's, that it isn't coherent.
-use Rattle.std.proofs.Common.{◌≡◌, ◌<◌, ℕ, suc, Bool, true, false, List, [], ◌∷◌, ◌++◌, length, map, Some, None, Ok, Err, refl, sym, ◌∙◌, ap, subst, arith, append-nil, nat_lt}
-use Rattle.std.specs.{Prelude.{codes}, List.{slice_get}, Result.result_ok}
-use Rattle.std.proofs.lemmas.{Bool.Decides.nat_tests, List.length-map, Option.slice_get_within}
-use Rattle.list_laws.proofs.Cases.{by_test}
-use Rattle.relax_edges.specs.{declared.edge.Edge.Edge}
-use Rattle.cycle_events.specs.Resolution.{IsResolved, event_after, external_count, resolution_of, turned}
-use Rattle.cycle_events.specs.declared.errors.ResolveError.TheVariants.{CoherenceOnly}
-use Rattle.cycle_events.proofs.Turning.{turned_by_none}
-use Rattle.arch_trait.specs.{Cells.{WritesCells, MakesOneAccess}, Laws.IsArch, PlaceNames.number_in, Threads.Puts, Writing.{Writing, WritesBack, name_in}}
-use Rattle.litmus_text.specs.{ReadPrograms.program_read, TestReading.{TestRead}, TestText.test_text}
-use Rattle.program_meaning.specs.{Executions.Execution, Programs.{Program, IsCandidate, IsCoherentIn}, Intended.intended, Standing.{AllStand, EdgeStands}}
-use Rattle.tests_force_cycles.specs.{TestHeadline.HasTest, TestOf.test_of}
-use Rattle.bytes_force_cycles.specs.{PrintedHeadline.BytesForce, Readings.{ReadingAsks, place_in_test}}
-use Rattle.bytes_force_cycles.proofs.Printed.{printed_force}
-use Rattle.test_maker.specs.{CycleText.cycle_text}
-use Rattle.test_maker.proofs.HavingTests.{accepted_has_test}
-use Rattle.co_tests.specs.{CoherenceTests.{HasCoherenceTest, coherence_test_of}, CoRefusals.{coherence_text}, Incoherence.{BytesShowIncoherence, MeetsReading}}
-use Rattle.co_tests.proofs.{Accepted.neither_true, Printed.printed_show}
+use Rattle.std.proofs.{Common.{◌≡◌, ◌<◌, ℕ, suc, Bool, true, false, List, [], ◌∷◌, ◌++◌, length, map, Some, None, Ok, Err, refl, sym, ◌∙◌, ap, subst, arith, append-nil, nat_lt}, lemmas.{Bool.Decides.nat_tests, List.length-map, Option.slice_get_within}}
+use Rattle.std.specs.{Prelude.codes, List.slice_get, Result.result_ok}
+use Rattle.tools_agree.proofs.Vocabulary.{by_test, Edge, IsResolved, event_after, external_count, resolution_of, turned, CoherenceOnly, turned_by_none, WritesCells, MakesOneAccess, IsArch, number_in, Puts, Writing, WritesBack, name_in, program_read}
+use Rattle.tools_agree.proofs.Vocabulary.{TestRead, test_text, Execution, Program, IsCandidate, IsCoherentIn, intended, AllStand, EdgeStands, HasTest, test_of, BytesForce, ReadingAsks, place_in_test, printed_force, cycle_text, accepted_has_test}
+use Rattle.tools_agree.proofs.{Vocabulary.{HasCoherenceTest, coherence_test_of, coherence_text, BytesShowIncoherence, MeetsReading, neither_true, printed_show, quoted_cycle, JudgesEdges, AreJudged, one_reading}, Unresolved.unresolved}
+use Rattle.tools_agree.{proofs.{SpelledWords.quoted_back, SaidTests.said_of_read, SaidCycles.{test_quotes, coherence_quotes}}, specs.YesVerdicts.{ExecutionsSayYes, CoherenceExecutionsSay, yes_lines, incoherent_lines}}
 use Rattle.co_tests.proofs.Accepted as accepted_tests
-use Rattle.cycles_from_lines.specs.Cycles.{quoted_cycle}
-use Rattle.exec_graph.specs.JudgedCycles.{JudgesEdges, AreJudged}
-use Rattle.exec_check.specs.declared.verdict.Verdict.{Verdict}
-use Rattle.exec_check.specs.{Verdicts.{IsVerdict, JudgesCandidate, JudgesFurther, EndsInCondition, judged_cycle, resolved_cycle, answer_line, judged_lines, further_lines, verdict_text}}
-use Rattle.two_runs.proofs.{ReadAgain.one_reading}
-use Rattle.tools_agree.specs.YesVerdicts.{ExecutionsSayYes, CoherenceExecutionsSay, yes_lines, incoherent_lines}
-use Rattle.tools_agree.proofs.Unresolved.{unresolved}
-use Rattle.tools_agree.proofs.{SpelledWords.quoted_back, SaidTests.said_of_read, SaidCycles.{test_quotes, coherence_quotes}}
+use Rattle.exec_check.specs.{declared.verdict.Verdict.Verdict, Verdicts.{IsVerdict, JudgesCandidate, JudgesFurther, EndsInCondition, judged_cycle, resolved_cycle, answer_line, judged_lines, further_lines, verdict_text}}
 
 -- edges that are all judged to stand
 all_yes : (judged : List (Edge × Bool)) (es : List Edge) → map (λ j. j.0) judged ≡ es

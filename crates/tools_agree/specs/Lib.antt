@@ -2,3 +2,11 @@ pub mod SpelledWords
 pub mod OwnLines
 pub mod SaidCycles
 pub mod YesVerdicts
+pub mod NamesUnder
+pub mod Observed
+pub mod Reordered
+pub mod NoCycles
+pub mod ItemRelaxations
+pub mod Words
+pub mod Written
+pub mod OneAnswer

@@ -2,15 +2,13 @@
 -- Source: own.
 use Rattle.std.specs.{Prelude.{◌≡◌, ◌<◌, ⊤, ℕ, true, List, length, map, Option, Some, Result, Ok, Err}, List.AllByRecursion}
 use Rattle.diy_io.specs.{declared.source.TheConstants.MAX_INPUT, Count.Rose, Taken.SourceSeen, Wrote.{SinkSeen, WroteAll, WrotePart}}
-use Rattle.relax_edges.specs.{declared.kinds.ArchName.ArchName, declared.edge.Edge.Edge}
-use Rattle.edge_algebra_laws.specs.Composable.{IsCycle}
+use Rattle.relax_edges.specs.declared.{kinds.ArchName.ArchName, edge.Edge.Edge}
+use Rattle.edge_algebra.specs.Composable.{IsCycle}
 use Rattle.text_parts.specs.Lines.{lines_of}
 use Rattle.cycle_names.specs.{Rotations.named_rotation, Laws.are_of_arch}
-use Rattle.cycle_enum_laws.specs.Listing.{AreAllListed}
-use Rattle.cycles_from_lines.specs.{Cycles.{are_sound, cycles_of}, Normed.{name_lines, Norms}, Classified.{families_text, Classifies}}
-use Rattle.cycles_from_lines.specs.declared.{line.LineForm.LineForm, line.LineForm.TheVariants.{Edges, Names}}
-use Rattle.cycles_from_lines.specs.declared.errors.{NormError.NormError, ClassifyError.ClassifyError, LinesError.LinesError}
-use Rattle.cycles_from_lines.specs.declared.errors.LinesError.TheVariants.{Wrong, TooMuch, InputFault}
+use Rattle.cycle_enum.specs.Listing.{AreAllListed}
+use Rattle.cycles_from_lines.specs.{Cycles.{are_sound, cycles_of}, Normed.{name_lines, Norms}, Classified.{families_text, Classifies}, declared.{line.LineForm.{LineForm, TheVariants.{Edges, Names}}, errors.NormError.NormError}}
+use Rattle.cycles_from_lines.specs.declared.errors.{ClassifyError.ClassifyError, LinesError.{LinesError, TheVariants.{Wrong, TooMuch, InputFault}}}
 use Rattle.cycles_from_lines.specs.declared.errors.NormError.TheVariants as norms
 use Rattle.cycles_from_lines.specs.declared.errors.ClassifyError.TheVariants as classes
 use Rattle.tests_to_files.specs.Plans.{Plan, IsPlanned}

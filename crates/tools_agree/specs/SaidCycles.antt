@@ -3,16 +3,15 @@
 use Rattle.std.specs.{Prelude.{◌≡◌, ⊤, ℕ, List, Option, Some, None, Ok, map}, List.AllByRecursion}
 use Rattle.diy_io.specs.{Count.Rose, Shelf.{Files, ShelfSeen}, Wrote.{SinkSeen, WroteAll, WrotePart}}
 use Rattle.relax_edges.specs.declared.{kinds.ObsMode.ObsMode, edge.Edge.Edge}
-use Rattle.edge_algebra_laws.specs.Composable.{IsCycle}
+use Rattle.edge_algebra.specs.Composable.{IsCycle}
 use Rattle.cycle_events.specs.Resolution.{turned}
 use Rattle.arch_trait.specs.{Threads.Puts, Writing.Writing}
 use Rattle.litmus_text.specs.Printable.{IsTestName}
-use Rattle.cycle_enum_laws.specs.Listing.{AreAllListed}
+use Rattle.cycle_enum.specs.Listing.{AreAllListed}
 use Rattle.test_maker.specs.{CycleText.cycle_text, Refusals.refusal_of}
 use Rattle.co_tests.specs.CoRefusals.{coherence_refusal_of, coherence_text}
 use Rattle.cycles_from_lines.specs.Classified.{families_text}
-use Rattle.tests_from_files.specs.{QuotedCycle.text_said, FilesEnds.{Asked, AreNamed, SayCycles, ClassifiesFiles}}
-use Rattle.tests_from_files.specs.declared.classified_errors.FilesEnd.{FilesEnd}
+use Rattle.tests_from_files.specs.{QuotedCycle.text_said, FilesEnds.{Asked, AreNamed, SayCycles, ClassifiesFiles}, declared.classified_errors.FilesEnd.FilesEnd}
 use Rattle.tests_from_files.specs.declared.classified_errors.FilesEnd.TheVariants as ends
 use Rattle.tests_to_files.specs.Plans.{Plan, IsPlanned, named_text}
 use Rattle.diycross7_cycles.specs.Choices.{crossed}

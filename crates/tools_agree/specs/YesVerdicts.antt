@@ -3,7 +3,7 @@
 use Rattle.std.specs.Prelude.{◌≡◌, ⊤, ℕ, true, List, ◌++◌, map, Some, None, Ok, codes}
 use Rattle.diy_io.specs.{Count.Rose, Shelf.{Files, ShelfSeen}, Opened.name_at, Wrote.{SinkSeen, WroteAll, WrotePart}}
 use Rattle.relax_edges.specs.declared.{kinds.ObsMode.ObsMode, edge.Edge.Edge}
-use Rattle.edge_algebra_laws.specs.Composable.{IsCycle}
+use Rattle.edge_algebra.specs.Composable.{IsCycle}
 use Rattle.cycle_events.specs.Resolution.{turned}
 use Rattle.arch_trait.specs.{PlaceNames.number_in, Threads.Puts, Writing.Writing}
 use Rattle.litmus_text.specs.{Printable.IsTestName, TestReading.TestRead}
@@ -13,8 +13,7 @@ use Rattle.test_maker.specs.{CycleText.cycle_text, Refusals.refusal_of}
 use Rattle.co_tests.specs.CoRefusals.{coherence_refusal_of, coherence_text}
 use Rattle.two_runs.specs.{IntendedRuns.{IsRunOf, intended_by}, CoherenceRuns.incoherent_by}
 use Rattle.tests_from_files.specs.TestSaid.{test_said}
-use Rattle.exec_check.specs.{Verdicts.{IsVerdict, edge_lines, verdict_text}, FilesChecked.{exec_said, FilesChecked}, declared.verdict.Verdict.Verdict}
-use Rattle.exec_check.specs.declared.checked_errors.CheckEnd.{CheckEnd}
+use Rattle.exec_check.specs.{Verdicts.{IsVerdict, edge_lines, verdict_text}, FilesChecked.{exec_said, FilesChecked}, declared.{verdict.Verdict.Verdict, checked_errors.CheckEnd.CheckEnd}}
 use Rattle.exec_check.specs.declared.checked_errors.CheckEnd.TheVariants as ends
 use Rattle.exec_check.specs.declared.shown.Shown.TheVariants as shows
 

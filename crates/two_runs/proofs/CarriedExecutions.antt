@@ -1,15 +1,7 @@
 -- An execution of the accesses of a cycle's test that reads what the intended one reads is one of the test's program.
 use Rattle.std.proofs.Common.{◌≡◌, ℕ, List, length, slice_get, sym, ◌∙◌, ap, subst}
-use Rattle.relax_edges.specs.declared.{kinds.ObsMode.ObsMode, edge.Edge.Edge}
-use Rattle.cycle_events.specs.Resolution.{move_count}
-use Rattle.arch_trait.specs.{Laws.IsArch, Threads.Puts}
-use Rattle.program_meaning.specs.{Accesses.Access, Executions.Execution, Executions.IsExecutionOf, Coherence.IsCoherent, Programs.IsCandidate}
-use Rattle.program_meaning.specs.{Programs.IsCoherentIn, Programs.accesses_in, Intended.IsNumbering, Intended.cycle_accesses, Intended.intended}
-use Rattle.accesses_force_cycles.specs.{Premises.MeetsCondition, Joining.MakesAccesses, Joining.ReadsAsAsked}
-use Rattle.accesses_force_cycles.proofs.{ResolvedFacts.resolves, IntendedReads.reads-count, Programs.makes_planned, Programs.intended_asked}
-use Rattle.tests_force_cycles.specs.{TestHeadline.HasCode, CycleSteps.cycle_steps}
-use Rattle.tests_force_cycles.proofs.{ThreadRuns.AreCodesOf, ThreadRuns.AreEnough, ThreadRuns.all_end, TestCodes.cycle_codes, TestCodes.cycle_program}
-use Rattle.tests_force_cycles.proofs.{TestCodes.are_codes, AccessesMade.planned-count, AccessesMade.asked_enough, AccessesMade.makes_enough}
+use Rattle.two_runs.proofs.Vocabulary.{ObsMode, Edge, move_count, IsArch, Puts, Access, Execution, IsExecutionOf, IsCoherent, IsCandidate, IsCoherentIn, accesses_in, IsNumbering, cycle_accesses, intended, MeetsCondition, MakesAccesses, ReadsAsAsked}
+use Rattle.two_runs.proofs.Vocabulary.{resolves, reads-count, makes_planned, intended_asked, HasCode, cycle_steps, AreCodesOf, AreEnough, all_end, cycle_codes, cycle_program, are_codes, planned-count, asked_enough, makes_enough}
 
 -- an execution is a candidate execution of the program and coherent there, and the accesses made are those of the test
 pub record IsCarried (a : Puts) (es : List Edge) (mode : ObsMode) (number : ℕ → ℕ) (x : Execution) : Type 0 where
@@ -29,10 +21,10 @@ carried a es mode number x laws t n same q = record {
 }
   where
     codes : AreCodesOf (cycle_codes a es mode number) (cycle_steps es mode number)
-    codes = are_codes a es mode number laws t.resolved t.of_arch
+    codes = are_codes a es mode number laws t.coded.laid t.coded.of_arch
 
     asked : ReadsAsAsked es mode number x
-    asked k planned reads g h = intended_asked es mode number (resolves es t.resolved) n k planned reads g (ap (λ l. slice_get l k) (sym same) ∙ h)
+    asked k planned reads g h = intended_asked es mode number (resolves es t.resolved).laid n k planned reads g (ap (λ l. slice_get l k) (sym same) ∙ h)
 
     enough : AreEnough (cycle_steps es mode number) x
     enough = asked_enough es mode number x asked

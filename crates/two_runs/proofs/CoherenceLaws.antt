@@ -1,20 +1,8 @@
 -- The execution that is made of a cycle over one location is the one that its coherence test asks for, and its text is read back.
 use Rattle.std.proofs.Common.{◌≡◌, ℕ, List, None, Ok, refl, sym, ◌∙◌, subst, arith}
-use Rattle.relax_edges.specs.declared.{kinds.ArchName.ArchName, kinds.ObsMode.TheVariants.Avoid, edge.Edge.Edge}
-use Rattle.cycle_events.specs.Resolution.{turned}
-use Rattle.arch_trait.specs.{SeenTests.TestSeen, Cells.WritesCells, Cells.MakesOneAccess, Laws.IsArch, Threads.Puts, Writing.Writing, Writing.WritesBack, Writing.name_in}
-use Rattle.litmus_text.specs.{Printable.IsTestName, TestReading.TestRead, TestReading.test_read, TestText.test_text}
-use Rattle.program_meaning.specs.{Executions.Execution, Programs.IsCandidate}
-use Rattle.tests_force_cycles.specs.TestOf.{plain}
-use Rattle.bytes_force_cycles.specs.Readings.{program_read}
-use Rattle.bytes_force_cycles.proofs.BackLaws.{reads_back}
-use Rattle.co_tests.specs.{CutResolution.cut_open, CoherenceTests.HasCoherenceTest, CoherenceTests.coherence_test_of, CoherenceTests.incoherent_execution}
-use Rattle.co_tests.specs.{CoRefusals.coherence_text, Incoherence.BytesShowIncoherence}
-use Rattle.co_tests.specs.Shape.{HasShape}
-use Rattle.co_tests.proofs.{ConditionMet.HasLoopCode, Printed.has_code, Readable.readable, Values.one_move}
-use Rattle.exec_meaning.proofs.RunLaws.{candidate_count}
-use Rattle.two_runs.specs.IntendedRuns.{IsRunOf}
-use Rattle.two_runs.proofs.{CutRuns.cut_small, ReadAgain.one_reading, ReadAgain.run_read, ShownLaws.run_intended}
+use Rattle.two_runs.proofs.Vocabulary.{ArchName, Avoid, Edge, turned, TestSeen, WritesCells, MakesOneAccess, IsArch, Puts, Writing, WritesBack, name_in, IsTestName, TestRead, test_read, test_text, Execution, IsCandidate, HasLaidCode, plain, program_read}
+use Rattle.two_runs.{proofs.{Vocabulary.{reads_back, one_move, candidate_count}, Fitting.laid_small, ReadAgain.{one_reading, run_read}, ShownLaws.run_intended}, specs.IntendedRuns.IsRunOf}
+use Rattle.co_tests.{specs.{CutResolution.cut_open, CoherenceTests.{HasCoherenceTest, coherence_test_of, incoherent_execution}, CoRefusals.coherence_text, Incoherence.BytesShowIncoherence, Shape.HasShape}, proofs.Printed.{has_code, has_loop, readable}}
 
 -- a cycle that has a coherence test has the shape of which the code makes one
 pub has_shape : (a : Puts) (es : List Edge) → HasCoherenceTest a es → HasShape es
@@ -40,13 +28,13 @@ is_coherence_run a arch w name es test run laws back cells single named has u re
   threads = candidate_count test run candidate;
   places = candidate.execution.write_lists;
   run_reads =
-      run_read arch w name (coherence_test_of a (name_in w.registers) es) (cut_open es) Avoid None plain test run (cut_small es code.loop_of.loop)
-      (omega (arith, one_move es code.loop_of.loop.is_cut)) refl
-      (reads_back a arch w name (coherence_test_of a (name_in w.registers) es) back cells (readable a arch w name es laws back cells single named code))
+      run_read arch w name (coherence_test_of a (name_in w.registers) es) (cut_open es) Avoid None plain test run (laid_small (cut_open es) code.laid)
+      (omega (arith, one_move es (has_loop a es has).is_cut)) refl
+      (reads_back a arch w name (coherence_test_of a (name_in w.registers) es) back cells (readable a arch w name es laws back cells single named has))
       reads candidate (is ∙ sym (run_intended (cut_open es) Avoid plain));
 }
   where
-    code : HasLoopCode a es
+    code : HasLaidCode a (cut_open es) Avoid
     code = has_code a es has
 
     same : u.test ≡ test

@@ -1,27 +1,9 @@
 -- The execution that is made of a cycle over one location, cut at an edge.
-use Rattle.std.proofs.Common.{◌≡◌, ◌<◌, ◌+◌, ◌==◌, ◌&&◌, ℕ, zero, suc, true, false, List, [], ◌∷◌, ◌++◌, map, length, Some, None, refl, sym, ap, ◌∙◌, arith, append-nil, eqb-true}
-use Rattle.std.proofs.lemmas.Bool.{and_parts}
-use Rattle.std.specs.{Prelude.Bool, List.find, Option.option_map}
-use Rattle.relax_edges.specs.{declared.kinds.Dir.Dir, declared.kinds.ObsMode.TheVariants.Avoid, declared.edge.Edge.Edge, EdgeTable.{same_dir, source_of}}
+use Rattle.std.{proofs.{Common.{◌≡◌, ◌<◌, ◌+◌, ◌==◌, ◌&&◌, ℕ, zero, suc, true, false, List, [], ◌∷◌, ◌++◌, map, length, Some, None, refl, sym, ap, ◌∙◌, arith, append-nil, eqb-true}, lemmas.Bool.and_parts}, specs.{Prelude.Bool, List.find}}
+use Rattle.two_runs.proofs.Vocabulary.{option_map, Dir, Avoid, Edge, same_dir, source_of, upto, find_upto_first, find_upto_none, edge_at, location_of, thread_of, is_write_at, value_of, write_at, write_at_parts, plain, cut_open, opened-length}
+use Rattle.two_runs.{proofs.{Vocabulary.{opened_thread, same_at, source_same, IsCut, one_location, one_move, value_positive, none_observed, opened_name}, Numbering.numbered_here}, specs.Runs.{cycle_reads, is_read_of, order_of, run_by}}
 use Rattle.relax_edges.specs.declared.kinds.Dir.TheVariants as dirs
-use Rattle.list_laws.specs.Numbers.{upto}
-use Rattle.list_laws.proofs.Finds.{find_upto_first, find_upto_none}
-use Rattle.cycle_events.specs.{Resolution.{edge_at, location_of, thread_of}, Values.{is_write_at, value_of, write_at}}
-use Rattle.cycle_events.proofs.Writes.{write_at_parts}
 use Rattle.program_meaning.specs.{Accesses.reads_by, Executions.Execution, Standing.event_name, Intended.{location_numbered, observer_reads, write_of}}
-use Rattle.tests_force_cycles.specs.TestOf.{plain}
-use Rattle.co_tests.specs.CutResolution.{cut_open}
-use Rattle.co_tests.proofs.Opened.{opened-length, opened-threads, opened_thread, same_at, source_same}
-use Rattle.co_tests.proofs.{Values.{IsCut, one_location, one_move, value_positive}, Events.{IsLoop, none_observed, opened_name, thread_under}}
-use Rattle.two_runs.specs.Runs.{cycle_reads, is_read_of, order_of, run_by}
-use Rattle.two_runs.proofs.{Fitting.IsSmallCycle, Numbering.numbered_here}
-
--- a cycle that is cut open is small
-pub cut_small : (es : List Edge) → IsLoop es → IsSmallCycle (cut_open es)
-cut_small es r = record {
-  few = omega (arith, opened-length es, r.composes.few);
-  threads = λ i h. omega (arith, thread_under es i r (omega (arith, h, opened-length es)), opened_thread es i, opened-threads es);
-}
 
 -- the execution of the reads of its threads and the order of its writes is the one that its test asks for
 pub cut_run : (es : List Edge) (x : Execution) → IsCut es → x.reads ≡ cycle_reads (cut_open es) → x.orders ≡ order_of (cut_open es) None 0 ∷ [] → x ≡ run_by (cut_open es) Avoid None plain

@@ -1,15 +1,7 @@
 -- The writes of a place that are added one after another, and those of the first places.
-use Rattle.std.proofs.Common.{◌≡◌, ℕ, ◌+◌, ◌-◌, ◌<◌, ◌≤◌, ◌==◌, List, length, Option, Some, None, sym, ap, ◌∙◌, subst, arith}
-use Rattle.std.specs.{Prelude.if◌then◌else◌, List.filter_map}
-use Rattle.list_laws.specs.Numbers.{upto}
-use Rattle.list_laws.proofs.Cases.{by_test}
-use Rattle.relax_edges.specs.declared.edge.Edge.{Edge}
-use Rattle.cycle_events.specs.Values.{write_count}
-use Rattle.program_meaning.specs.{declared.WriteAt.WriteAt, Executions.Execution, Intended.write_of}
-use Rattle.accesses_force_cycles.specs.Exchange.{swapped}
-use Rattle.program_meaning.specs.KeptExecutions.{with_write}
-use Rattle.two_runs.specs.Runs.{with_appended, order_of, value_there}
-use Rattle.two_runs.proofs.GrowingLists.{added_appended, appended_length, appended_none, filled_more, filled_to, found_more, found_no_more}
+use Rattle.std.{proofs.Common.{◌≡◌, ℕ, ◌+◌, ◌-◌, ◌<◌, ◌≤◌, ◌==◌, List, length, Option, Some, None, sym, ap, ◌∙◌, subst, arith}, specs.{Prelude.if◌then◌else◌, List.filter_map}}
+use Rattle.two_runs.{proofs.{Vocabulary.{upto, by_test, Edge, write_count, swapped}, GrowingLists.{added_appended, appended_length, appended_none, filled_more, filled_to, found_more, found_no_more}}, specs.Runs.{with_appended, order_of, value_there}}
+use Rattle.program_meaning.specs.{declared.WriteAt.WriteAt, Executions.Execution, Intended.write_of, KeptExecutions.with_write}
 
 -- an execution in which a place has the first writes of a location
 abbrev pub place_to : List Edge → Option ℕ → ℕ → Execution → ℕ → ℕ → Execution

@@ -1,14 +1,7 @@
 -- The reads of a thread among the first events, and those of the first threads.
-use Rattle.std.proofs.{Common.{◌≡◌, ℕ, ◌+◌, ◌<◌, ◌==◌, ◌&&◌, Bool, true, false, List, [], ◌∷◌, length, map, Option, refl, sym, ap, ◌∙◌}, lemmas.List.map-append}
-use Rattle.std.specs.List.{filter}
-use Rattle.list_laws.specs.Numbers.{upto}
-use Rattle.list_laws.proofs.{Cases.by_test, Ranks.{filter_yes, filter_no}}
-use Rattle.relax_edges.specs.declared.edge.Edge.{Edge}
-use Rattle.cycle_events.specs.{Resolution.{thread_of, events_in, location_of}, Values.value_of}
-use Rattle.program_meaning.specs.{declared.WriteAt.WriteAt, Accesses.is_read, Executions.Execution, Intended.{event_access, event_read, reads_in, write_of}}
-use Rattle.program_meaning.specs.KeptExecutions.{with_read}
-use Rattle.two_runs.specs.Runs.{with_appended, is_read_of}
-use Rattle.two_runs.proofs.GrowingLists.{added_appended, appended_none, filled_more, filled_to}
+use Rattle.std.{proofs.{Common.{◌≡◌, ℕ, ◌+◌, ◌<◌, ◌==◌, ◌&&◌, Bool, true, false, List, [], ◌∷◌, length, map, Option, refl, sym, ap, ◌∙◌}, lemmas.List.map-append}, specs.List.filter}
+use Rattle.two_runs.{proofs.{Vocabulary.{upto, by_test, filter_yes, filter_no, Edge, thread_of, events_in, location_of, value_of}, GrowingLists.{added_appended, appended_none, filled_more, filled_to}}, specs.Runs.{with_appended, is_read_of}}
+use Rattle.program_meaning.specs.{declared.WriteAt.WriteAt, Accesses.is_read, Executions.Execution, Intended.{event_access, event_read, reads_in, write_of}, KeptExecutions.with_read}
 
 -- the reads of a thread among the first events
 abbrev pub reads_before : List Edge → ℕ → ℕ → List ℕ

@@ -1,17 +1,8 @@
 -- The law of tests: the two executions of the accesses of a cycle's test without observers are those of its program.
 use Rattle.std.proofs.Common.{◌≡◌, ℕ, List, Option, Some, refl, sym, ◌∙◌, ap, subst}
-use Rattle.relax_edges.specs.{declared.kinds.ObsMode.TheVariants.Avoid, declared.kinds.Value.Value, declared.edge.Edge.Edge}
-use Rattle.cycle_events.specs.{Resolution.move_count, Values.observer_need, declared.needs.NeedsObserver.NeedsObserver}
-use Rattle.final_cond.specs.Conditions.{LeftSeen}
-use Rattle.arch_trait.specs.{Laws.IsArch, Threads.Puts}
-use Rattle.program_meaning.specs.{Accesses.Access, Executions.Execution, Coherence.final_value, Programs.Program}
-use Rattle.program_meaning.specs.Intended.{IsNumbering, cycle_accesses, intended}
-use Rattle.accesses_force_cycles.specs.{Exchange.exchanged, Laws.IsUndecided}
-use Rattle.accesses_force_cycles.proofs.{AllStand.{joined_edge, joined_stand}, ResolvedFacts.resolves, Laws.no_condition_serves_law, Needs.refused_entry, Resolves.Resolves}
-use Rattle.tests_force_cycles.specs.{FinalStates.final_state, TestHeadline.HasCode}
-use Rattle.tests_force_cycles.proofs.{Headline.{renumbered_numbers, renumbered_program}, TestCodes.{cycle_codes, cycle_program, are_codes}, MarksAndLinks.tied_up}
-use Rattle.two_runs.specs.Undecided.{NoneTells, Undecided, TestsUndecided}
-use Rattle.two_runs.proofs.{BrokenEdges.edge_breaks, CarriedExecutions.{IsCarried, carried}, States.{end_alike, one_state}}
+use Rattle.two_runs.proofs.Vocabulary.{Avoid, Value, Edge, move_count, observer_need, NeedsObserver, LeftSeen, IsArch, Puts, Access, Execution, final_value, Program, IsNumbering, cycle_accesses, intended, exchanged, IsUndecided, joined_edge}
+use Rattle.two_runs.proofs.{Vocabulary.{joined_stand, resolves, no_condition_serves_law, refused_entry, Resolves, final_state, HasCode, renumbered_numbers, renumbered_program, cycle_codes, cycle_program, are_codes, tied_up}, BrokenEdges.edge_breaks}
+use Rattle.two_runs.{proofs.{CarriedExecutions.{IsCarried, carried}, States.{end_alike, one_state}}, specs.Undecided.{NoneTells, Undecided, TestsUndecided}}
 
 -- whatever holds of the final state of the first execution holds of that of the second
 pub none_tells : (p : Program) (names : List (List ℕ)) (register_number : List ℕ → Option ℕ) (es : List Edge) (edge : ℕ) (one two : Execution) (C : (LeftSeen → Option Value) → Type 0) → NoneTells p names register_number es edge one two → C (final_state p names register_number one) → C (final_state p names register_number two)
@@ -26,11 +17,11 @@ cycle_undecided a es need number names register_number laws t o n = record {
   second_coherent = y.coherent;
   same_state = state;
   no_condition = λ condition met. ap condition state ∙ met;
-  stand = joined_stand es Avoid number (cycle_program a es Avoid number) (intended es Avoid number) r x.made u.joins
-      (tied_up a.name (cycle_codes a es Avoid number) es Avoid number (intended es Avoid number) t.resolved t.of_arch (are_codes a es Avoid number laws t.resolved t.of_arch) x.candidate);
-  breaks = edge_breaks es Avoid number (cycle_program a es Avoid number) (exchanged es number need.event) need.event r y.made (refused_entry es need r o).below u.breaks;
-  others = λ i h d. joined_edge es Avoid number (cycle_program a es Avoid number) (exchanged es number need.event) i r y.made
-      (tied_up a.name (cycle_codes a es Avoid number) es Avoid number (exchanged es number need.event) t.resolved t.of_arch (are_codes a es Avoid number laws t.resolved t.of_arch) y.candidate)
+  stand = joined_stand es Avoid number (cycle_program a es Avoid number) (intended es Avoid number) r.laid x.made u.joins
+      (tied_up a.name (cycle_codes a es Avoid number) es Avoid number (intended es Avoid number) t.coded.laid t.coded.of_arch (are_codes a es Avoid number laws t.coded.laid t.coded.of_arch) x.candidate);
+  breaks = edge_breaks es Avoid number (cycle_program a es Avoid number) (exchanged es number need.event) need.event r y.made (refused_entry es need r.laid o).below u.breaks;
+  others = λ i h d. joined_edge es Avoid number (cycle_program a es Avoid number) (exchanged es number need.event) i r.laid y.made
+      (tied_up a.name (cycle_codes a es Avoid number) es Avoid number (exchanged es number need.event) t.coded.laid t.coded.of_arch (are_codes a es Avoid number laws t.coded.laid t.coded.of_arch) y.candidate)
       h (u.others i h d);
 }
   where
@@ -57,4 +48,4 @@ cycle_undecided a es need number names register_number laws t o n = record {
 pub tests_undecided_law : TestsUndecided
 tests_undecided_law a register_name register_number es need test number laws t o e =
     subst (λ (p : Program). Undecided p test.places register_number es number need.event) (renumbered_program a register_name es Avoid test number e)
-    (cycle_undecided a es need number test.places register_number laws t o (renumbered_numbers a register_name es Avoid test number t e))
+    (cycle_undecided a es need number test.places register_number laws t o (renumbered_numbers a register_name es Avoid test number t.coded e))

@@ -1,20 +1,9 @@
 -- The law of printed tests: what is read of the text is the test without observers, except for the numbers of places.
 use Rattle.std.proofs.Common.{◌≡◌, ℕ, ◌<◌, List, length, Some, ap, subst}
-use Rattle.list_laws.specs.Numbers.{upto}
-use Rattle.relax_edges.specs.{declared.kinds.ArchName.ArchName, declared.kinds.ObsMode.TheVariants.Avoid, declared.edge.Edge.Edge}
-use Rattle.cycle_events.specs.{Resolution.{event_before, move_count}, Values.observer_need, declared.needs.NeedsObserver.NeedsObserver}
-use Rattle.arch_trait.specs.{Cells.{WritesCells, MakesOneAccess}, Laws.IsArch, PlaceNames.{letters, number_in}, Threads.Puts}
-use Rattle.arch_trait.specs.{Writing.{Writing, WritesBack, name_in}, SeenTests.TestSeen}
-use Rattle.litmus_text.specs.{TestReadsBack.TestReadsBack, Reread.reread, TestReading.TestRead, TestText.test_text}
-use Rattle.bytes_force_cycles.proofs.{BackLaws.reads_back, Readable.readable}
-use Rattle.bytes_force_cycles.proofs.RereadTests.{reread_test, reread_renumbered, by_table, threads_numbered, number_of_location, numbered_same, intended_same}
-use Rattle.program_meaning.specs.{Executions.Execution, Programs.Program, Intended.{intended, location_numbered}}
-use Rattle.accesses_force_cycles.specs.Exchange.{exchanged, exchanged_order}
-use Rattle.accesses_force_cycles.proofs.Lists.{map_same}
-use Rattle.tests_force_cycles.specs.{TestHeadline.HasCode, TestPrograms.test_program, TestOf.test_of}
-use Rattle.bytes_force_cycles.specs.Readings.{program_read, place_in_test}
-use Rattle.two_runs.specs.Undecided.{NoneTells, Undecided, BytesUndecided, PrintedUndecided}
-use Rattle.two_runs.proofs.ExchangeLaws.{tests_undecided_law}
+use Rattle.two_runs.proofs.Vocabulary.{upto, ArchName, Avoid, Edge, event_before, move_count, observer_need, NeedsObserver, WritesCells, MakesOneAccess, IsArch, letters, number_in, Puts, Writing, WritesBack, name_in, TestSeen, TestReadsBack, reread}
+use Rattle.two_runs.{proofs.{Vocabulary.{TestRead, test_text, Execution, Program, intended, location_numbered, exchanged, exchanged_order, map_same, HasCode, test_program, test_of}, ExchangeLaws.tests_undecided_law}, specs.Undecided.NoneTells}
+use Rattle.two_runs.specs.Undecided.{Undecided, BytesUndecided, PrintedUndecided}
+use Rattle.bytes_force_cycles.{proofs.{BackLaws.reads_back, Readable.readable, RereadTests.{reread_test, reread_renumbered, by_table, threads_numbered, number_of_location, numbered_same, intended_same}}, specs.Readings.{program_read, place_in_test}}
 
 -- the exchanged execution depends on the numbers of the cycle's locations alone
 exchanged_same : (es : List Edge) (event : ℕ) (f g : ℕ → ℕ) → ((l : ℕ) → l < move_count es → f l ≡ g l) → exchanged es f event ≡ exchanged es g event
@@ -46,7 +35,7 @@ read_undecided a arch w name es need laws t o r = record {
     made : Undecided (test_program kept) r.table (number_in w.registers) es number need.event
     made =
         tests_undecided_law a (name_in w.registers) (number_in w.registers) es need kept number laws t o
-        (reread_renumbered a (name_in w.registers) es Avoid r.table laws t (record { once = r.once; inside = r.among }) r.codes r.links)
+        (reread_renumbered a (name_in w.registers) es Avoid r.table laws t.coded (record { once = r.once; inside = r.among }) r.codes r.links)
 
     program_is : test_program kept ≡ program_read test
     program_is = λ i. record { places = length r.table; threads = threads_numbered r.table (letters (move_count es)) (test_of a (name_in w.registers) es Avoid).threads i }
@@ -64,4 +53,4 @@ read_undecided a arch w name es need laws t o r = record {
 pub printed_undecided_law : (a : Puts) (arch : ArchName) (w : Writing) → IsArch a → WritesBack a w → WritesCells a w → MakesOneAccess a → PrintedUndecided a arch w
 printed_undecided_law a arch w laws back cells one name es need named t o =
     read_undecided a arch w name es need laws t o
-    (reads_back a arch w name (test_of a (name_in w.registers) es Avoid) back cells (readable a arch w name es Avoid laws back cells one named t))
+    (reads_back a arch w name (test_of a (name_in w.registers) es Avoid) back cells (readable a arch w name es Avoid laws back cells one named t.coded))

@@ -1,23 +1,11 @@
 -- The executions that are made are read back from the texts that are written of them.
-use Rattle.std.proofs.Common.{◌≡◌, ◌≤◌, ◌<◌, ◌+◌, ℕ, zero, suc, List, [], ◌∷◌, map, length, refl, sym, ◌∙◌, subst, arith, length-append}
-use Rattle.std.proofs.{lemmas.List.Elements.{All-append, All-cons, All-map, All-nil}, lemmas.List.length-map}
-use Rattle.std.proofs.lemmas.List.Sums.{length-filter, count_by-le-length}
-use Rattle.std.specs.{Prelude.{Bool, true, Option, Some, None}, List.{All, cons_option, filter_map, list_all}, Option.option_map}
-use Rattle.relax_edges.specs.{declared.kinds.ObsMode.ObsMode, declared.edge.Edge.Edge, declared.TheConstants.MAX_EDGES}
-use Rattle.list_laws.specs.Numbers.{upto}
-use Rattle.list_laws.proofs.Numbers.{get_or-upto, length-map-upto, length-upto}
-use Rattle.cycle_events.specs.{Resolution.{IsResolved, events_in, external_count, location_of, move_count, thread_of}, Values.{value_of, write_at, write_count}}
-use Rattle.cycle_events.proofs.{Arcs.thread_below, Sizes.{external_and_moves, thread_size_most}, Threads.slot_most, ValuesAlongEdges.value_most}
-use Rattle.cycle_events.proofs.{ValuesAlongEdges.write_count_most, ValueLaws.threads_and_observers, Writes.write_of as number_written}
-use Rattle.text_parts.specs.Names.{is_place_name}
-use Rattle.litmus_text.specs.declared.limits.TheConstants.{MAX_ACCESSES}
-use Rattle.program_meaning.specs.{declared.WriteAt.WriteAt, Accesses.is_read, Standing.event_name}
-use Rattle.program_meaning.specs.Intended.{event_access, event_read, location_numbered, observed_locations, observer_reads, reads_in, write_of}
-use Rattle.tests_force_cycles.proofs.StepsAt.{observed-count}
-use Rattle.exec_text.specs.ExecutionReadBack.{AccessFits, ExecutionFits, ReadFits, SourceFits}
-use Rattle.exec_text.proofs.Short.{small_fits}
-use Rattle.two_runs.specs.Runs.{cycle_reads, observer_count, order_of, run_by, run_reads, thread_reads, value_there}
-use Rattle.two_runs.proofs.ObserverReads.{observed_read}
+use Rattle.std.proofs.{Common.{◌≡◌, ◌≤◌, ◌<◌, ◌+◌, ℕ, zero, suc, List, [], ◌∷◌, map, length, refl, sym, ◌∙◌, subst, arith, length-append}, lemmas.List.{Elements.{All-append, All-cons, All-map, All-nil}, length-map, Sums.length-filter}}
+use Rattle.std.{proofs.lemmas.List.Sums.count_by-le-length, specs.{Prelude.{Bool, true, Option, Some, None}, List.{All, cons_option, filter_map, list_all}, Option.option_map}}
+use Rattle.two_runs.proofs.Vocabulary.{ObsMode, Edge, MAX_EDGES, upto, get_or-upto, length-map-upto, length-upto, IsLaidOut, events_in, external_count, location_of, move_count, thread_of, value_of, write_at, write_count, thread_below, external_and_moves}
+use Rattle.two_runs.{proofs.{Vocabulary.{thread_size_most, slot_most, is_place_name, MAX_ACCESSES, observed-count, AccessFits, ExecutionFits, ReadFits, SourceFits, small_fits}, ObserverReads.observed_read}, specs.Runs.{cycle_reads, observer_count}}
+use Rattle.two_runs.specs.Runs.{order_of, run_by, run_reads, thread_reads, value_there}
+use Rattle.cycle_events.proofs.{ValuesAlongEdges.{value_most, write_count_most}, ValueLaws.threads_and_observers, Writes.write_of as number_written}
+use Rattle.program_meaning.specs.{declared.WriteAt.WriteAt, Accesses.is_read, Standing.event_name, Intended.{event_access, event_read, location_numbered, observed_locations, observer_reads, reads_in, write_of}}
 
 -- what holds of each thing that can be found holds of all that are found, and no more are found than are looked for
 found_first : {Y : Type 0} (P : Y → Type 0) (found : Option Y) (ys : List Y) → ((y : Y) → found ≡ Some y → P y) → All P ys → All P (cons_option found ys)
@@ -41,9 +29,9 @@ pub record IsSmallCycle (es : List Edge) : Type 0 where
   pub few : length es ≤ MAX_EDGES
   pub threads : (i : ℕ) → i < length es → thread_of es i < external_count es
 
--- a resolved cycle is one
-pub resolved_small : (es : List Edge) → IsResolved es → IsSmallCycle es
-resolved_small es r = record { few = r.composes.few; threads = λ i h. thread_below es i r h }
+-- a cycle that is laid out is one
+pub laid_small : (es : List Edge) → IsLaidOut es → IsSmallCycle es
+laid_small es r = record { few = r.composes.few; threads = λ i h. thread_below es i r h }
 
 -- a text of so many threads can name an event
 event_fits : (es : List Edge) (threads i : ℕ) → external_count es ≤ threads → IsSmallCycle es → i < length es → AccessFits threads (event_name es i)

@@ -1,11 +1,7 @@
 -- Lists of lists that grow at their ends, and what numbers lead to, with one number more.
-use Rattle.std.proofs.Common.{◌≡◌, ℕ, zero, suc, ◌+◌, ◌-◌, ◌<◌, List, [], ◌∷◌, ◌++◌, length, map, Option, Some, None, refl, sym, ap, ◌∙◌, subst, arith, append_assoc, append-nil}
-use Rattle.std.specs.{Prelude.slice_get, Prelude.unwrap_or, List.filter_map, List.cons_option}
-use Rattle.std.proofs.lemmas.{List.length-append, List.length-set, List.Elements.filter_map-append}
-use Rattle.list_laws.specs.Numbers.{upto}
-use Rattle.list_laws.proofs.Numbers.{length-map-upto, map-upto_more}
-use Rattle.program_meaning.specs.KeptExecutions.{added_to_list, empty_lists}
-use Rattle.two_runs.specs.Runs.{with_appended}
+use Rattle.std.proofs.{Common.{◌≡◌, ℕ, zero, suc, ◌+◌, ◌-◌, ◌<◌, List, [], ◌∷◌, ◌++◌, length, map, Option, Some, None, refl, sym, ap, ◌∙◌, subst, arith, append_assoc, append-nil}, lemmas.List.{length-append, length-set, Elements.filter_map-append}}
+use Rattle.std.specs.{Prelude.{slice_get, unwrap_or}, List.{filter_map, cons_option}}
+use Rattle.two_runs.{proofs.Vocabulary.{upto, length-map-upto, map-upto_more, added_to_list, empty_lists}, specs.Runs.with_appended}
 
 -- lists with no element more are as they were
 pub appended_none : {X : Type 0} (lists : List (List X)) (k : ℕ) → with_appended lists k [] ≡ lists

@@ -1,18 +1,8 @@
 -- The execution that is made of a cycle's test is the one that is asked for, and its text is read back.
-use Rattle.std.proofs.Common.{◌≡◌, ℕ, List, None, Ok, Err, refl, sym, ap, ◌∙◌, subst}
-use Rattle.std.specs.Prelude.{Result}
-use Rattle.relax_edges.specs.{declared.kinds.ArchName.ArchName, declared.kinds.ObsMode.ObsMode, declared.edge.Edge.Edge}
-use Rattle.cycle_events.specs.{declared.errors.ResolveError.ResolveError, Resolution.{resolution_of, turned}}
-use Rattle.arch_trait.specs.{Cells.{WritesCells, MakesOneAccess}, Laws.IsArch, Threads.Puts, Writing.{Writing, WritesBack, name_in}}
-use Rattle.litmus_text.specs.{Printable.IsTestName, TestReading.{TestRead, test_read}, TestText.test_text}
-use Rattle.program_meaning.specs.{Executions.Execution, Intended.intended, Programs.IsCandidate}
-use Rattle.tests_force_cycles.specs.{TestHeadline.HasTest, TestOf.test_of}
-use Rattle.bytes_force_cycles.specs.{PrintedHeadline.{BytesForce, PrintedForce}, Readings.{program_read, place_in_test}}
-use Rattle.test_maker.specs.{CycleText.cycle_text, Refusals.{foreign_edge, refusal_of, resolved_refusal}}
-use Rattle.test_maker.proofs.{HavingTests.neither, OfArch.resolved_turned}
-use Rattle.exec_meaning.proofs.RunLaws.{candidate_count}
-use Rattle.two_runs.specs.{IntendedRuns.{IsRead, IsRunOf, intended_by}, Runs.{numbers_by, run_by}}
-use Rattle.two_runs.proofs.{ReadAgain.{one_reading, read_again}, ShownLaws.run_intended}
+use Rattle.std.{proofs.Common.{◌≡◌, ℕ, List, None, Ok, Err, refl, sym, ap, ◌∙◌, subst}, specs.Prelude.Result}
+use Rattle.two_runs.proofs.Vocabulary.{ArchName, ObsMode, Edge, ResolveError, resolution_of, turned, WritesCells, MakesOneAccess, IsArch, Puts, Writing, WritesBack, name_in, IsTestName, TestRead, test_read, test_text, Execution, intended, IsCandidate}
+use Rattle.two_runs.proofs.{Vocabulary.{HasTest, test_of, BytesForce, PrintedForce, program_read, place_in_test, cycle_text, foreign_edge, refusal_of, resolved_refusal, neither, resolved_turned, candidate_count}, ReadAgain.{one_reading, read_again}}
+use Rattle.two_runs.{proofs.ShownLaws.run_intended, specs.{IntendedRuns.{IsRead, IsRunOf, intended_by}, Runs.{numbers_by, run_by}}}
 
 -- a cycle that isn't refused resolves, to the turned cycle
 pub accepted_resolves : (a : Puts) (cycle : List Edge) (mode : ObsMode) → refusal_of a cycle mode ≡ None → resolution_of cycle ≡ Ok (turned cycle)

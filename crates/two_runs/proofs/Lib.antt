@@ -1,3 +1,4 @@
+pub mod Vocabulary
 pub mod GrowingLists
 pub mod CycleReads
 pub mod ObserverReads
@@ -15,3 +16,4 @@ pub mod CarriedExecutions
 pub mod BrokenEdges
 pub mod ExchangeLaws
 pub mod ExchangePrinted
+pub mod OrderLines

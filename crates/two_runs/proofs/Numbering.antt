@@ -1,12 +1,6 @@
 -- The number of a name among those of places, and the location whose place has a number.
-use Rattle.std.proofs.Common.{◌≡◌, ℕ, ◌+◌, ◌<◌, ◌≤◌, ◌==◌, true, false, cond, List, [], length, drop, Some, sym, ap, ◌∙◌, subst, arith}
-use Rattle.std.specs.{Prelude.slice_index_or, Prelude.unwrap_or, List.position_from, Str.bytes_eq}
-use Rattle.std.proofs.{lemmas.Bool.ne_eqb, lemmas.List.drop_more, Math.Seq.drop-length}
-use Rattle.list_laws.proofs.{Cases.by_less, Finds.find_upto_first, Finds.find_upto_none}
-use Rattle.relax_edges.specs.declared.edge.Edge.{Edge}
-use Rattle.cycle_events.specs.Resolution.{move_count}
-use Rattle.litmus_text.specs.Placing.{or_zero}
-use Rattle.program_meaning.specs.Intended.{location_numbered}
+use Rattle.std.{proofs.{Common.{◌≡◌, ℕ, ◌+◌, ◌<◌, ◌≤◌, ◌==◌, true, false, cond, List, [], length, drop, Some, sym, ap, ◌∙◌, subst, arith}, lemmas.{Bool.ne_eqb, List.drop_more}, Math.Seq.drop-length}, specs.Prelude.{slice_index_or, unwrap_or}}
+use Rattle.two_runs.proofs.Vocabulary.{position_from, bytes_eq, by_less, find_upto_first, find_upto_none, Edge, move_count, or_zero, location_numbered}
 
 -- the number that is found from a name on
 abbrev pub found_from : List (List ℕ) → List ℕ → ℕ → ℕ

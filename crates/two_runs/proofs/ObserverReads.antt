@@ -1,15 +1,7 @@
 -- The reads of an observer that are added one after another, and those of the first observers.
-use Rattle.std.proofs.Common.{◌≡◌, ◌<◌, ◌+◌, ℕ, zero, suc, List, [], ◌∷◌, ◌++◌, map, length, refl, sym, ap, ◌∙◌, subst, arith, length-append}
-use Rattle.std.proofs.lemmas.Option.{same_Some, slice_get_within}
-use Rattle.std.specs.Prelude.{Option, Some, slice_get}
-use Rattle.relax_edges.specs.declared.edge.Edge.{Edge}
-use Rattle.list_laws.specs.Numbers.{upto}
-use Rattle.list_laws.proofs.Numbers.{length-map-upto, map-upto_more}
-use Rattle.cycle_events.specs.{Resolution.external_count, Values.write_count}
-use Rattle.program_meaning.specs.{declared.WriteAt.WriteAt, Executions.Execution, Intended.{observer_reads, ordered_write, write_of}}
-use Rattle.program_meaning.specs.KeptExecutions.{empty_lists, with_read}
-use Rattle.two_runs.specs.Runs.{with_appended, cycle_reads, thread_reads}
-use Rattle.two_runs.proofs.GrowingLists.{added_appended, appended_none}
+use Rattle.std.{proofs.{Common.{◌≡◌, ◌<◌, ◌+◌, ℕ, zero, suc, List, [], ◌∷◌, ◌++◌, map, length, refl, sym, ap, ◌∙◌, subst, arith, length-append}, lemmas.Option.{same_Some, slice_get_within}}, specs.Prelude.{Option, Some, slice_get}}
+use Rattle.two_runs.{proofs.{Vocabulary.{Edge, upto, length-map-upto, map-upto_more, external_count, write_count}, GrowingLists.{added_appended, appended_none}}, specs.Runs.{with_appended, cycle_reads, thread_reads}}
+use Rattle.program_meaning.specs.{declared.WriteAt.WriteAt, Executions.Execution, Intended.{observer_reads, ordered_write, write_of}, KeptExecutions.{empty_lists, with_read}}
 
 -- what the observer of a location reads of its write number k, from 0
 abbrev pub observed_read : List Edge → ℕ → ℕ → ℕ × Option WriteAt

@@ -1,25 +1,10 @@
 -- The text of an execution that is made is read as that execution, with the threads and places of the test that was read.
-use Rattle.std.proofs.{Common.{◌≡◌, ◌≤◌, ◌<◌, ◌+◌, ℕ, List, [], ◌∷◌, length, true, refl, sym, ap, ◌∙◌, subst, arith}, lemmas.Bool.and_from}
-use Rattle.std.specs.{Prelude.{Option, Result, Ok}, List.{AllByRecursion, list_all}}
-use Rattle.relax_edges.specs.{declared.TheConstants.MAX_EDGES, declared.kinds.ArchName.ArchName, declared.kinds.ObsMode.ObsMode, declared.edge.Edge.Edge}
-use Rattle.list_laws.proofs.Numbers.{length-map-upto}
-use Rattle.cycle_events.specs.Resolution.{external_count, move_count}
-use Rattle.text_parts.specs.Names.{is_place_name}
-use Rattle.arch_trait.specs.{Cells.{WritesCells, MakesOneAccess}, Laws.IsArch, PlaceNames.{letters, location_name}, Threads.Puts}
-use Rattle.arch_trait.specs.{Writing.{Writing, WritesBack, name_in}, SeenTests.TestSeen}
-use Rattle.arch_trait.proofs.Tables.{length-letters, location_new}
-use Rattle.litmus_text.specs.{declared.errors.TextError.TextError, TestReadsBack.{TestReadsBack, is_in}, Printable.IsTestName, Reread.reread}
-use Rattle.litmus_text.specs.{TestReading.{TestRead, test_read}, TestText.test_text}
-use Rattle.bytes_force_cycles.proofs.{BackLaws.{reads_back, numbered_in}, Readable.readable, RereadTests.got_is}
-use Rattle.program_meaning.specs.{declared.WriteAt.WriteAt, Executions.Execution, Intended.location_numbered, Programs.IsCandidate}
-use Rattle.exec_meaning.proofs.RunLaws.{candidate_count}
-use Rattle.exec_text.specs.{ExecutionText.execution_read, ExecutionReadBack.ExecutionFits, Written.text_of_execution}
-use Rattle.exec_text.proofs.ExecutionBack.{written_reads_back}
-use Rattle.tests_force_cycles.specs.{TestHeadline.HasCode, TestOf.test_of}
-use Rattle.tests_force_cycles.proofs.PlaceNames.{letter_at, locations_few}
-use Rattle.bytes_force_cycles.specs.Readings.{program_read}
-use Rattle.two_runs.specs.Runs.{observer_count, order_of, run_by}
-use Rattle.two_runs.proofs.Fitting.{IsSmallCycle, resolved_small, run_fits, run_length}
+use Rattle.std.{proofs.{Common.{◌≡◌, ◌≤◌, ◌<◌, ◌+◌, ℕ, List, [], ◌∷◌, length, true, refl, sym, ap, ◌∙◌, subst, arith}, lemmas.Bool.and_from}, specs.{Prelude.{Option, Result, Ok}, List.{AllByRecursion, list_all}}}
+use Rattle.two_runs.proofs.Vocabulary.{MAX_EDGES, ArchName, ObsMode, Edge, length-map-upto, external_count, move_count, is_place_name, WritesCells, MakesOneAccess, IsArch, letters, location_name, Puts, Writing, WritesBack, name_in, TestSeen}
+use Rattle.two_runs.proofs.Vocabulary.{length-letters, location_new, TextError, TestReadsBack, is_in, IsTestName, reread, TestRead, test_read, test_text, WriteAt, Execution, location_numbered, IsCandidate, candidate_count, execution_read, ExecutionFits}
+use Rattle.two_runs.{proofs.{Vocabulary.{text_of_execution, written_reads_back}, Fitting.{IsSmallCycle, laid_small, run_fits, run_length}}, specs.Runs.{observer_count, order_of, run_by}}
+use Rattle.bytes_force_cycles.{proofs.{BackLaws.{reads_back, numbered_in}, Readable.readable, RereadTests.got_is}, specs.Readings.program_read}
+use Rattle.tests_force_cycles.{specs.{TestHeadline.HasCode, TestOf.test_of}, proofs.PlaceNames.{letter_at, locations_few}}
 
 -- a name among those of locations has the form of a place's name
 name_formed : (n : ℕ) (name : List ℕ) → n ≤ MAX_EDGES → is_in (letters n) name ≡ true → is_place_name name ≡ true
@@ -72,5 +57,5 @@ pub read_again : (a : Puts) (w : Writing) (name : List ℕ) (es : List Edge) (mo
     → execution_read (length test.threads) test.places (text_of_execution test.places run) ≡ Ok run
 read_again a w name es mode moved number test run laws back cells one code named reads candidate is =
     let seen : TestSeen = test_of a (name_in w.registers) es mode in
-    run_read a.name w name seen es mode moved number test run (resolved_small es code.resolved) (omega (arith, locations_few es code.resolved)) refl
-    (reads_back a a.name w name seen back cells (readable a a.name w name es mode laws back cells one named code)) reads candidate is
+    run_read a.name w name seen es mode moved number test run (laid_small es code.coded.laid) (omega (arith, locations_few es code.coded.laid)) refl
+    (reads_back a a.name w name seen back cells (readable a a.name w name es mode laws back cells one named code.coded)) reads candidate is

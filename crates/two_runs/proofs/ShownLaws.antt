@@ -1,24 +1,11 @@
 -- What is made is what is to be shown: the two executions are the intended one and the exchanged one, and the law of refusals
 -- is about the test that was read.
-use Rattle.std.proofs.{Common.{◌≡◌, ℕ, suc, ◌+◌, ◌<◌, List, length, map, Option, Some, None, Ok, Err, refl, sym, ap, ◌∙◌, subst, arith}, Math.Path.fun_ext}
-use Rattle.std.specs.{Prelude.Result, List.filter_map}
-use Rattle.list_laws.specs.Numbers.{upto}
-use Rattle.relax_edges.specs.{declared.kinds.ArchName.ArchName, declared.kinds.ObsMode.ObsMode, declared.kinds.ObsMode.TheVariants.Avoid}
-use Rattle.relax_edges.specs.declared.edge.Edge.{Edge}
-use Rattle.cycle_events.specs.{Resolution.{IsResolved, event_before, move_count}, declared.needs.NeedsObserver.NeedsObserver}
-use Rattle.cycle_events.specs.Values.{observer_need, write_count}
-use Rattle.arch_trait.specs.{Cells.{WritesCells, MakesOneAccess}, Laws.IsArch, PlaceNames.number_in, Threads.Puts, Writing.{Writing, WritesBack, name_in}}
-use Rattle.litmus_text.specs.{Printable.IsTestName, TestReading.{TestRead, test_read}, TestText.test_text, ReadingAnswers.GivesInMemory}
-use Rattle.litmus_text.specs.{declared.errors.TextError.TextError, declared.errors.ReadError.ReadError}
+use Rattle.std.{proofs.{Common.{◌≡◌, ℕ, suc, ◌+◌, ◌<◌, List, length, map, Option, Some, None, Ok, Err, refl, sym, ap, ◌∙◌, subst, arith}, Math.Path.fun_ext}, specs.{Prelude.Result, List.filter_map}}
+use Rattle.two_runs.proofs.Vocabulary.{upto, ArchName, ObsMode, Avoid, Edge, IsResolved, event_before, move_count, NeedsObserver, observer_need, write_count, WritesCells, MakesOneAccess, IsArch, number_in, Puts, Writing, WritesBack, name_in, IsTestName}
+use Rattle.two_runs.proofs.{Vocabulary.{TestRead, test_read, test_text, GivesInMemory, TextError, ReadError, exchanged, exchanged_order, resolves, refused_entry, HasCode, test_of, program_read, place_in_test}, ReadAgain.{one_reading, read_again}}
+use Rattle.two_runs.specs.{Undecided.{BytesUndecided, NoneTells, PrintedUndecided, Undecided}, IntendedRuns.IsRead, Runs.{numbers_by, order_of, run_by, run_reads}, Shown.AreTwoRuns}
 use Rattle.litmus_text.specs.declared.errors.ReadError.TheVariants as errors
 use Rattle.program_meaning.specs.{Executions.Execution, Intended.{intended, location_numbered, location_order, write_of}}
-use Rattle.accesses_force_cycles.specs.Exchange.{exchanged, exchanged_order}
-use Rattle.accesses_force_cycles.proofs.{ResolvedFacts.resolves, Needs.refused_entry}
-use Rattle.tests_force_cycles.specs.{TestHeadline.HasCode, TestOf.test_of}
-use Rattle.bytes_force_cycles.specs.Readings.{program_read, place_in_test}
-use Rattle.two_runs.specs.{Undecided.{BytesUndecided, NoneTells, PrintedUndecided, Undecided}, IntendedRuns.IsRead}
-use Rattle.two_runs.specs.{Runs.{numbers_by, order_of, run_by, run_reads}, Shown.AreTwoRuns}
-use Rattle.two_runs.proofs.ReadAgain.{one_reading, read_again}
 
 in_order : (es : List Edge) (location : ℕ) → order_of es None location ≡ location_order es location
 unfolding order_of location_order
@@ -44,7 +31,7 @@ pub need_below : (es : List Edge) (need : NeedsObserver) (event : ℕ) → IsRes
     → (let left : Option ℕ = Some need.event in left) ≡ Some event → event < length es
 need_below es need event resolved needs e =
     let same : need.event ≡ event = cc in
-    subst (λ i. i < length es) same (refused_entry es need (resolves es resolved) needs).below
+    subst (λ i. i < length es) same (refused_entry es need (resolves es resolved).laid needs).below
 
 -- the law of refusals, under the architecture's own name
 pub undecided : (a : Puts) (arch : ArchName) (w : Writing) (name : List ℕ) (es : List Edge) (need : NeedsObserver) → a.name ≡ arch → PrintedUndecided a arch w

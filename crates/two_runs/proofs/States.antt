@@ -1,13 +1,6 @@
 -- Two executions of a program with the same reads, in which each place has the same value at the end, have one final state.
-use Rattle.std.proofs.{Common.{◌≡◌, ℕ, ◌<◌, ◌≤◌, List, [], length, Option, Some, None, slice_get, refl, sym, ◌∙◌, ap, arith}, lemmas.Option.slice_get_past}
-use Rattle.std.specs.{Prelude.unwrap_or, Option.{option_map, option_and_then}}
-use Rattle.list_laws.proofs.Cases.{by_less}
-use Rattle.relax_edges.specs.declared.kinds.Value.TheVariants.{Num}
-use Rattle.final_cond.specs.Conditions.{LeftSeen, InRegister, AtPlace}
-use Rattle.arch_trait.specs.PlaceNames.{number_in}
-use Rattle.program_meaning.specs.{declared.WriteAt.WriteAt, Accesses.{Access, at_name}, Executions.Execution}
-use Rattle.program_meaning.specs.{Coherence.{last_write, value_of_access, final_value}, Programs.{Program, accesses_in, held_at_last, register_in, runs_of}}
-use Rattle.tests_force_cycles.specs.FinalStates.{final_state}
+use Rattle.std.{proofs.{Common.{◌≡◌, ℕ, ◌<◌, ◌≤◌, List, [], length, Option, Some, None, slice_get, refl, sym, ◌∙◌, ap, arith}, lemmas.Option.slice_get_past}, specs.{Prelude.unwrap_or, Option.{option_map, option_and_then}}}
+use Rattle.two_runs.proofs.Vocabulary.{by_less, Num, LeftSeen, InRegister, AtPlace, number_in, WriteAt, Access, at_name, Execution, last_write, value_of_access, final_value, Program, accesses_in, held_at_last, register_in, runs_of, final_state}
 
 -- a place without an order has the value 0
 no_order : (threads : List (List Access)) (x : Execution) (place : ℕ) → length x.orders ≤ place → final_value threads x place ≡ 0

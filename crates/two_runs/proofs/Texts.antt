@@ -1,7 +1,6 @@
 -- A sink that was empty holds what was written to it, where its bytes are known.
-use Rattle.std.proofs.Common.{◌≡◌, ℕ, List, [], ap, subst, Some}
-use Rattle.std.specs.Prelude.{Option}
-use Rattle.diy_io.specs.Sink.{Grew, Shown, shown_after, shown_kept, shown_bytes}
+use Rattle.std.{proofs.Common.{◌≡◌, ℕ, List, [], ap, subst, Some}, specs.Prelude.Option}
+use Rattle.two_runs.proofs.Vocabulary.{Grew, Shown, shown_after, shown_kept, shown_bytes}
 
 some_is : (a b : List ℕ) → (let left : Option (List ℕ) = Some a in left) ≡ Some b → a ≡ b
 some_is a b e = cc e

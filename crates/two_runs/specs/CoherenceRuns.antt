@@ -7,7 +7,7 @@ use Rattle.program_meaning.specs.Executions.{Execution}
 use Rattle.cycle_events.specs.Resolution.{turned}
 use Rattle.arch_trait.specs.{Threads.Puts, Writing.Writing}
 use Rattle.co_tests.specs.{CoherenceTests.incoherent_execution, CoRefusals.{co_refusal, coherence_refusal_of, coherence_text}}
-use Rattle.two_runs.specs.{IntendedRuns.IsRunOf, declared.intended.IntendedRun.IntendedRun, declared.errors.CoherenceError.CoherenceError}
+use Rattle.two_runs.specs.{IntendedRuns.IsRunOf, declared.{intended.IntendedRun.IntendedRun, errors.CoherenceError.CoherenceError}}
 use Rattle.two_runs.specs.declared.errors.CoherenceError.TheVariants as errors
 
 -- the execution that the coherence test of a cycle asks for; it is the same for each reading of the test's text

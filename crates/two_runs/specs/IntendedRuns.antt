@@ -1,7 +1,7 @@
 -- The execution that the test of a cycle asks for, with locations numbered as in what the text of the test is read as.
 -- Source: own.
 use Rattle.std.specs.Prelude.{◌≡◌, ℕ, List, length, Some, None, Result, Ok, Err}
-use Rattle.relax_edges.specs.declared.{kinds.ArchName.ArchName, kinds.ObsMode.ObsMode, edge.Edge.Edge}
+use Rattle.relax_edges.specs.declared.{kinds.{ArchName.ArchName, ObsMode.ObsMode}, edge.Edge.Edge}
 use Rattle.cycle_events.specs.Resolution.{turned}
 use Rattle.arch_trait.specs.{Threads.Puts, Writing.Writing}
 use Rattle.litmus_text.specs.TestReading.{TestRead, test_read}

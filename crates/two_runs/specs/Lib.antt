@@ -3,3 +3,5 @@ pub mod IntendedRuns
 pub mod Runs
 pub mod Shown
 pub mod Undecided
+pub mod Needs
+pub mod NeedLaws

@@ -1,14 +1,13 @@
 -- How executions of a cycle's test are built. Only clauses of private functions and proofs cite this.
 -- Source: own.
 use Rattle.std.specs.{Prelude.{ℕ, ◌+◌, ◌==◌, ◌&&◌, Bool, List, [], ◌++◌, length, map, Option, Some, None, slice_get, slice_set, unwrap_or}, List.filter_map}
-use Rattle.relax_edges.specs.{declared.kinds.ObsMode.ObsMode, declared.edge.Edge.Edge}
+use Rattle.relax_edges.specs.declared.{kinds.ObsMode.ObsMode, edge.Edge.Edge}
 use Rattle.list_laws.specs.Numbers.{upto}
 use Rattle.cycle_events.specs.{Resolution.{external_count, move_count, thread_of}, Values.write_count}
 use Rattle.arch_trait.specs.PlaceNames.{location_name}
 use Rattle.litmus_text.specs.Placing.{place_in}
 use Rattle.diy_io.specs.{Sink.shown_bytes, Wrote.SinkSeen}
-use Rattle.program_meaning.specs.{declared.WriteAt.WriteAt, Accesses.is_read, Executions.Execution}
-use Rattle.program_meaning.specs.Intended.{event_access, event_read, location_numbered, observed_locations, observer_reads, reads_in, write_of}
+use Rattle.program_meaning.specs.{declared.WriteAt.WriteAt, Accesses.is_read, Executions.Execution, Intended.{event_access, event_read, location_numbered, observed_locations, observer_reads, reads_in, write_of}}
 use Rattle.accesses_force_cycles.specs.Exchange.{exchanged_value}
 use Rattle.two_runs.specs.declared.sink.TextSink.{TextSink}
 

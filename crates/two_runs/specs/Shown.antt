@@ -2,9 +2,8 @@
 -- observers, and two executions of what that is read as.
 -- Source: own.
 use Rattle.std.specs.{Prelude.{◌≡◌, ℕ, List, length, Option, Some, None, Result, Ok, Err, Vec}, Option.option_or, declared.alloc.Global.Global}
-use Rattle.relax_edges.specs.{declared.kinds.ObsMode.TheVariants.Avoid, declared.edge.Edge.Edge}
-use Rattle.cycle_events.specs.{declared.errors.ResolveError.ResolveError, declared.needs.NeedsObserver.NeedsObserver}
-use Rattle.cycle_events.specs.{Resolution.{event_before, resolution_of, turned}, Values.observer_need}
+use Rattle.relax_edges.specs.declared.{kinds.ObsMode.TheVariants.Avoid, edge.Edge.Edge}
+use Rattle.cycle_events.specs.{declared.{errors.ResolveError.ResolveError, needs.NeedsObserver.NeedsObserver}, Resolution.{event_before, resolution_of, turned}, Values.observer_need}
 use Rattle.arch_trait.specs.{PlaceNames.number_in, Threads.Puts, Writing.{Writing, name_in}}
 use Rattle.litmus_text.specs.{TestReading.{TestRead, test_read}, TestText.test_text}
 use Rattle.program_meaning.specs.{Executions.Execution, Intended.intended}
@@ -14,7 +13,7 @@ use Rattle.test_maker.specs.{declared.refusal.Refusal.Refusal, Refusals.{crowded
 use Rattle.test_maker.specs.declared.refusal.Refusal.TheVariants as refusals
 use Rattle.exec_text.specs.{ExecutionText.execution_read, Written.text_of_execution}
 use Rattle.bytes_force_cycles.specs.Readings.{program_read, place_in_test}
-use Rattle.two_runs.specs.{Undecided.NoneTells, declared.errors.WhyError.WhyError, declared.shown.TwoRuns.TwoRuns}
+use Rattle.two_runs.specs.{Undecided.NoneTells, declared.{errors.WhyError.WhyError, shown.TwoRuns.TwoRuns}}
 use Rattle.two_runs.specs.declared.errors.WhyError.TheVariants as errors
 
 -- why nothing is shown, among the reasons of all tools; none, if there is no memory

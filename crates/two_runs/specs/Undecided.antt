@@ -2,7 +2,7 @@
 -- The test without observers is the one of that mode, although the mode refuses the cycle.
 -- Source: own.
 use Rattle.std.specs.Prelude.{◌≡◌, ◌<◌, ℕ, Bool, true, List, length, Option, Some, Ok}
-use Rattle.relax_edges.specs.{declared.kinds.ArchName.ArchName, declared.kinds.ObsMode.TheVariants.Avoid, declared.kinds.Value.Value, declared.edge.Edge.Edge}
+use Rattle.relax_edges.specs.declared.{kinds.{ArchName.ArchName, ObsMode.TheVariants.Avoid, Value.Value}, edge.Edge.Edge}
 use Rattle.cycle_events.specs.{Resolution.event_before, Values.observer_need, declared.needs.NeedsObserver.NeedsObserver}
 use Rattle.final_cond.specs.Conditions.{LeftSeen}
 use Rattle.arch_trait.specs.{Laws.IsArch, PlaceNames.number_in, Threads.Puts, Writing.{Writing, name_in}, SeenTests.TestSeen}

@@ -1,12 +1,12 @@
 ghost use Rattle.std.specs.Prelude.{◌≡◌, map, length, count_by, IfOk};
 ghost use Rattle.arch_trait.specs.Cells.{is_access, ends_rows};
 ghost use Rattle.litmus_text.specs.{ReadingAnswers.{GivesInMemory}, TestTable.{no_columns, fits_in_column, after_locations}};
-ghost use Rattle.litmus_text.specs.TableScan.{instr_in, instr_or_nothing, cell_read, rows_scanned};
-ghost use Rattle.litmus_text.specs.Views.{text_left, pieces_left, cells_read, column_with_places, columns_with_places, columns_before, column_seen, EndsRow};
+ghost use Rattle.litmus_text.specs.TableScan.{instr_in, instr_or_nothing, cell_read, row_read, rows_scanned};
+ghost use Rattle.litmus_text.specs.Views.{text_left, pieces_left, column_with_places, columns_with_places, column_seen};
 
-use crate::errors::{ReadError, TestKind, TextError, error_at_line};
+use crate::errors::{ReadError, TestKind, error_at_line};
 use crate::limits::{MAX_ACCESSES, MAX_ROWS};
-use crate::reading::cuts::{Pieces, first_word_of_line};
+use crate::reading::cuts::first_word_of_line;
 use crate::reading::lines::Lines;
 use crate::reading::table::{Cells, Column, Placed, cells_of};
 use crate::reading::text::Text;
@@ -121,40 +121,31 @@ fn read_one_cell<A: Arch>(
     }
 }
 
-/// Judges the end of a row after its last column: no cell may be left, and the row must be whole.
-#[tactic(auto, unfolding(crate::specs::TableScan::row_read))]
-fn judge_end(number: u64, pieces: Pieces<'_>, is_whole: bool) -> Result<(), TextError>
-    ensures { EndsRow number is_whole (pieces_left pieces.entry) result }
-{
-    if let Some(_) = pieces.first() {
-        return Err(error_at_line(TestKind::BadTable, number));
-    }
-    if is_whole {
-        Ok(())
-    } else {
-        Err(error_at_line(TestKind::BadTable, number))
-    }
-}
-
 /// Reads the cells of a row, one for each column.
+#[tactic(auto, unfolding(crate::specs::TableScan::row_read))]
 fn read_row<A: Arch>(
     number: u64,
     cells: Cells<'_>,
     names: &mut Places,
     columns: &mut [Column],
 ) -> Result<(), ReadError>
-    ensures { GivesInMemory (λ _. columns_with_places names.new columns.new) result (cells_read A.writing number cells.entry names.old columns.old) }
+    ensures { GivesInMemory (λ _. columns_with_places names.new columns.new) result (row_read A.writing number cells.entry.whole (pieces_left cells.entry.pieces) names.old (map column_seen columns.old)) }
 {
-    let mut pieces = cells.pieces;
-    for i in 0..columns.len() {
-        let Some((cell, remainder)) = pieces.first() else {
-            return Err(ReadError::Text(error_at_line(TestKind::BadTable, number)));
-        };
-        read_one_cell::<A>(number, cell, names, &mut columns[i])?;
-        pieces = remainder;
-    }
-    judge_end(number, pieces, cells.whole)?;
-    Ok(())
+    let Some((column, further)) = columns.split_first_mut() else {
+        if cells.pieces.first().is_none() && cells.whole {
+            return Ok(());
+        }
+        return Err(ReadError::Text(error_at_line(TestKind::BadTable, number)));
+    };
+    let Some((cell, remainder)) = cells.pieces.first() else {
+        return Err(ReadError::Text(error_at_line(TestKind::BadTable, number)));
+    };
+    read_one_cell::<A>(number, cell, names, column)?;
+    let others = Cells {
+        pieces: remainder,
+        whole: cells.whole,
+    };
+    read_row::<A>(number, others, names, further)
 }
 
 /// Whether the first word of a line ends the rows of a table.
@@ -169,35 +160,28 @@ fn ends_rows(text: &[u8]) -> bool
         || word == b"locations".as_slice()
 }
 
-/// Reads the rows, up to the line that ends them.
-#[tactic(auto, using(crate::proofs::TableLoops::rows_missing, crate::proofs::TableLoops::rows_stop, crate::proofs::TableLoops::rows_full))]
+/// Reads the rows after so many others, up to the line that ends them.
+#[tactic(auto, unfolding(crate::specs::TableScan::rows_scanned))]
 pub(crate) fn read_rows<'a, A: Arch>(
+    rows: usize,
     text: Text<'a>,
     names: &mut Places,
     columns: &mut [Column],
 ) -> Result<Text<'a>, ReadError>
-    ensures { GivesInMemory (columns_before names.new columns.new) result (rows_scanned A.writing 0 (columns_with_places names.old columns.old) (text_left text.entry)) }
+    ensures { GivesInMemory (λ rest. (columns_with_places names.new columns.new, text_left rest)) result (rows_scanned A.writing rows (columns_with_places names.old columns.old) (text_left text.entry)) }
 {
-    let mut left = text;
-    let mut rows = 0;
-    'rows: loop {
-        let line = match left.lines() {
-            Lines::Ends(end) => return Err(ReadError::Text(error_at_line(
-                TestKind::EndMissing,
-                end,
-            ))),
-            Lines::Line(line) => line,
-        };
-        if ends_rows(line.text) {
-            return Ok(left);
-        }
-        if rows >= MAX_ROWS {
-            return Err(ReadError::Text(error_at_line(TestKind::TooLarge, line.number)));
-        }
-        read_row::<A>(line.number, cells_of(line.text), names, columns)?;
-        rows += 1;
-        left = line.rest;
+    let line = match text.lines() {
+        Lines::Ends(end) => return Err(ReadError::Text(error_at_line(TestKind::EndMissing, end))),
+        Lines::Line(line) => line,
+    };
+    if ends_rows(line.text) {
+        return Ok(text);
     }
+    if rows >= MAX_ROWS {
+        return Err(ReadError::Text(error_at_line(TestKind::TooLarge, line.number)));
+    }
+    read_row::<A>(line.number, cells_of(line.text), names, columns)?;
+    read_rows::<A>(rows + 1, line.rest, names, columns)
 }
 
 /// What is left after a line of locations, if the next line is one.

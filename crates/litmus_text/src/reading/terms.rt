@@ -1,7 +1,7 @@
-ghost use Rattle.std.specs.Prelude.{◌≡◌, [], true};
-ghost use Rattle.final_cond.specs.{Conditions.{AtPlace, left_view}, ConditionReading.{has_form}};
-ghost use Rattle.litmus_text.specs.{ReadingAnswers.{GivesTest}, Condition.{line_of_rest}, ConditionScan.{name_mentioned, left_put, term_here}};
-ghost use Rattle.litmus_text.specs.Views.{setting_seen, mentioned_seen, term_read_seen, all_terms_seen, terms_from, GivesMentioned};
+ghost use Rattle.std.specs.Prelude.{◌≡◌, ◌+◌, [], length, map, true};
+ghost use Rattle.final_cond.specs.{Conditions.{AtPlace, left_view, term_view}, ConditionReading.{has_form}};
+ghost use Rattle.litmus_text.specs.{ReadingAnswers.{GivesTest}, Condition.{line_of_rest}, ConditionScan.{name_mentioned, left_put, term_here, terms_here, after_terms}};
+ghost use Rattle.litmus_text.specs.Views.{setting_seen, mentioned_seen, term_read_seen, all_terms_seen};
 
 use crate::errors::{TestKind, TextError, error_at_line};
 use crate::reading::joined::Joined;
@@ -43,7 +43,7 @@ fn put_place(
     mentioned: &mut Mentioned,
 ) -> Result<(), TextError>
     requires { has_form (AtPlace name.now.bytes) ≡ true }
-    ensures { GivesMentioned mentioned.new result (name_mentioned begins line (mentioned_seen mentioned.old) name.now.bytes) }
+    ensures { GivesTest (λ _. mentioned_seen mentioned.new) result (name_mentioned begins line (mentioned_seen mentioned.old) name.now.bytes) }
 {
     if mentioned
         .names
@@ -69,7 +69,7 @@ fn put_left<A: Arch>(
     mentioned: &mut Mentioned,
 ) -> Result<(), TextError>
     requires { has_form (left_view left.now) ≡ true }
-    ensures { GivesMentioned mentioned.new result (left_put A.writing (setting_seen here.now) line (mentioned_seen mentioned.old) (left_view left.now)) }
+    ensures { GivesTest (λ _. mentioned_seen mentioned.new) result (left_put A.writing (setting_seen here.now) line (mentioned_seen mentioned.old) (left_view left.now)) }
 {
     match left {
         Left::Register { thread, name } => {
@@ -110,7 +110,37 @@ fn read_term<'a, A: Arch>(
     }
 }
 
+/// Appends so many terms at most to `terms`, up to the `)` after the last.
+#[tactic(auto, using(crate::proofs::TermLoops::stops_at_term, crate::proofs::TermLoops::stops_at_full, crate::proofs::TermLoops::stops_at_follow, crate::proofs::TermLoops::ends_at_follow, crate::proofs::TermLoops::goes_on, std::proofs::lemmas::List::map_push))]
+fn read_more_terms<'a, A: Arch>(
+    here: &Setting,
+    room: usize,
+    text: &'a [u8],
+    mentioned: &mut Mentioned,
+    terms: &mut ArrayVec<Term, MAX_TERMS>,
+) -> Result<&'a [u8], TextError>
+    requires { room + length terms.old.items ≡ MAX_TERMS }
+    ensures { GivesTest (all_terms_seen terms.new.items mentioned.new) result (after_terms (map term_view terms.old.items) (terms_here A.writing (setting_seen here.now) room (mentioned_seen mentioned.old) text.now)) }
+{
+    let (term, rest) = match read_term::<A>(here, text, mentioned) {
+        Ok(term) => term,
+        Err(fault) => return Err(fault),
+    };
+    if room == 0 {
+        return Err(error_at_line(TestKind::TooLarge, here.begins));
+    }
+    terms.push(term);
+    match read_follow(rest) {
+        Ok((Follow::Term, remainder)) => {
+            read_more_terms::<A>(here, room - 1, remainder, mentioned, terms)
+        }
+        Ok((Follow::End, remainder)) => Ok(remainder),
+        Err(_) => Err(error_at_line(TestKind::BadCondition, here.begins)),
+    }
+}
+
 /// Appends the terms to `terms`, which is empty, up to the `)` after the last.
+#[tactic(auto, using(crate::proofs::TermLoops::nothing_before))]
 pub(crate) fn read_terms<'a, A: Arch>(
     here: &Setting,
     text: &'a [u8],
@@ -118,22 +148,7 @@ pub(crate) fn read_terms<'a, A: Arch>(
     terms: &mut ArrayVec<Term, MAX_TERMS>,
 ) -> Result<&'a [u8], TextError>
     requires { terms.old.items ≡ [] }
-    ensures { GivesTest (all_terms_seen terms.new.items mentioned.new) result (terms_from A.writing here.now mentioned.old text.now) }
+    ensures { GivesTest (all_terms_seen terms.new.items mentioned.new) result (terms_here A.writing (setting_seen here.now) MAX_TERMS (mentioned_seen mentioned.old) text.now) }
 {
-    let mut rest = text;
-    'terms: loop {
-        let (term, after) = match read_term::<A>(here, rest, mentioned) {
-            Ok(term) => term,
-            Err(fault) => return Err(fault),
-        };
-        if terms.is_full() {
-            return Err(error_at_line(TestKind::TooLarge, here.begins));
-        }
-        terms.push(term);
-        match read_follow(after) {
-            Ok((Follow::Term, remainder)) => rest = remainder,
-            Ok((Follow::End, remainder)) => return Ok(remainder),
-            Err(_) => return Err(error_at_line(TestKind::BadCondition, here.begins)),
-        }
-    }
+    read_more_terms::<A>(here, MAX_TERMS, text, mentioned, terms)
 }

@@ -168,7 +168,7 @@ fn read_table<A: Arch>(
 {
     let Begun { mut names, values } = begun;
     let mut columns = no_columns(alloc, threads)?;
-    let text = read_rows::<A>(text, &mut names, &mut columns)?;
+    let text = read_rows::<A>(0, text, &mut names, &mut columns)?;
     judge_all_labels(&columns)?;
     read_rest::<A>(alloc, head, &values, &columns, names, text)
 }

@@ -1,6 +1,5 @@
 -- The texts that are left give the barrier the text that all give it, and have room.
-use Rattle.std.proofs.Common.{◌≡◌, true, length}
-use Rattle.std.specs.List.{list_all}
+use Rattle.std.{proofs.Common.{◌≡◌, true, length}, specs.List.list_all}
 use Rattle.arch_instructions.specs.FixedTexts.{barrier_text, is_short}
 use Rattle.arch_instructions.proofs.fixed.print_barrier.Given as goal
 

@@ -1,6 +1,5 @@
 -- An operation that is no label is printed by a form of the table.
-use Rattle.arch_instructions_laws.specs.Tables.{table_seen}
-use Rattle.arch_instructions.proofs.Printed.{has_other}
+use Rattle.arch_instructions.{specs.Tables.table_seen, proofs.Printed.has_other}
 use Rattle.arch_instructions.proofs.print.print_by.Goals as goal
 
 pub print_first-requires : goal.print_first-requires

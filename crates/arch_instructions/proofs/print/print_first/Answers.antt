@@ -1,6 +1,5 @@
 -- The first form that does the operation prints it, and there is one.
-use Rattle.std.proofs.Common.{◌∙◌, sym}
-use Rattle.arch_instructions.proofs.Printed.{walk_good, walk_on, walk_found, walk_ends}
+use Rattle.arch_instructions.proofs.{Vocabulary.{◌∙◌, sym}, Printed.{walk_good, walk_on, walk_found, walk_ends}}
 use Rattle.arch_instructions.proofs.print.print_first.Goals as goal
 
 pub print_if-requires-clause-good : goal.print_if-requires-clause-good

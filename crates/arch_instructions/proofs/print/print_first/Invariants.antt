@@ -1,7 +1,6 @@
 -- Nothing is printed so far, and the first form that does the operation is among those that are left.
 use Rattle.std.proofs.Common.{◌≡◌, [], length}
-use Rattle.arch_trait.specs.Writing.{name_in}
-use Rattle.arch_instructions.proofs.Printed.{Walk}
+use Rattle.arch_instructions.proofs.{Vocabulary.name_in, Printed.Walk}
 use Rattle.arch_instructions.proofs.print.print_first.Given as goal
 
 abbrev pub invariant-loop-left : goal.invariant-loop-left

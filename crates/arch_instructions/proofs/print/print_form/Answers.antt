@@ -1,7 +1,6 @@
 -- There is room for the word, the blank and the operands of a good form.
 use Rattle.std.proofs.Common.{◌++◌, ◌∙◌, List, ℕ, ap}
-use Rattle.arch_instructions_laws.specs.Tables.{form_seen}
-use Rattle.arch_instructions.proofs.Room.{word_room, blank_room, form_ready}
+use Rattle.arch_instructions.{specs.Tables.form_seen, proofs.Room.{word_room, blank_room, form_ready}}
 use Rattle.arch_instructions.proofs.print.print_form.Goals as goal
 
 pub push_word-requires : goal.push_word-requires

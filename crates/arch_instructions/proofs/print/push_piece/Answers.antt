@@ -1,8 +1,6 @@
 -- There is room for what is in a hole and for the fixed text after it.
 use Rattle.std.proofs.Common.{◌∙◌, sym, ap, length, length-append, arith}
-use Rattle.arch_trait.specs.Writing.{name_in}
-use Rattle.arch_instructions_laws.specs.Tables.{piece_seen, hole_filled}
-use Rattle.arch_instructions.proofs.Room.{hole_room, after_room}
+use Rattle.arch_instructions.{proofs.{Vocabulary.name_in, Room.{hole_room, after_room}}, specs.Tables.{piece_seen, hole_filled}}
 use Rattle.arch_instructions.proofs.print.push_piece.Goals as goal
 
 pub push_hole-requires : goal.push_hole-requires

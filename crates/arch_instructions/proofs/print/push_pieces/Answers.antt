@@ -1,6 +1,5 @@
 -- Operands are printed one after another with commas between, as far as the holes can hold them.
-use Rattle.std.proofs.Common.{refl, ◌∙◌, sym}
-use Rattle.arch_instructions.proofs.OperandsPrinted.{going_piece, going_stops, going_comma, going_on, going_ends}
+use Rattle.arch_instructions.proofs.{Vocabulary.{refl, ◌∙◌, sym}, OperandsPrinted.{going_piece, going_stops, going_comma, going_on, going_ends}}
 use Rattle.arch_instructions.proofs.print.push_pieces.Goals as goal
 
 pub loop-left-init : goal.loop-left-init

@@ -1,9 +1,6 @@
 -- Operands are printed as far as those that are left.
 use Rattle.std.proofs.Common.{◌++◌, map, length}
-use Rattle.arch_trait.specs.Writing.{name_in}
-use Rattle.arch_instructions_laws.specs.Tables.{piece_seen, operands_fit}
-use Rattle.arch_instructions.specs.Printing.{joined_texts}
-use Rattle.arch_instructions.proofs.OperandsPrinted.{Going}
+use Rattle.arch_instructions.{proofs.{Vocabulary.name_in, OperandsPrinted.Going}, specs.{Tables.{piece_seen, operands_fit}, Printing.joined_texts}}
 use Rattle.arch_instructions.proofs.print.push_pieces.Given as goal
 
 abbrev pub invariant-loop-left : goal.invariant-loop-left

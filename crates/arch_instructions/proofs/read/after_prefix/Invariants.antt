@@ -1,6 +1,6 @@
 -- What is left of the fixed text and of the text gives what the whole texts give.
 use Rattle.std.proofs.Common.{◌≡◌, length}
-use Rattle.arch_instructions_laws.specs.Tables.{after_prefix}
+use Rattle.arch_instructions.specs.Tables.{after_prefix}
 use Rattle.arch_instructions.proofs.read.after_prefix.Given as goal
 
 abbrev pub invariant-loop-left : goal.invariant-loop-left

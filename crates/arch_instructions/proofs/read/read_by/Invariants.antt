@@ -1,8 +1,6 @@
 -- The forms that are left read what the whole table reads.
 use Rattle.std.proofs.Common.{◌≡◌, map, length}
-use Rattle.arch_trait.specs.InstructionPieces.{operand_texts}
-use Rattle.arch_instructions_laws.specs.Tables.{form_seen}
-use Rattle.arch_instructions.specs.Founds.{forms_raw}
+use Rattle.arch_instructions.{proofs.Vocabulary.operand_texts, specs.{Tables.form_seen, Founds.forms_raw}}
 use Rattle.arch_instructions.proofs.read.read_by.Given as goal
 
 abbrev pub invariant-loop-left : goal.invariant-loop-left

@@ -1,9 +1,6 @@
 -- A form whose sort isn't that of the operation doesn't do it.
-use Rattle.std.proofs.Common.{◌∙◌, sym}
+use Rattle.arch_instructions.{proofs.{Vocabulary.{◌∙◌, sym}, OtherSorts.other_sort}, specs.{Tables.form_seen, contracts.sorts.Sort.the_type}}
 use denote.Enum.Bare.{same_false}
-use Rattle.arch_instructions_laws.specs.Tables.{form_seen}
-use Rattle.arch_instructions.specs.contracts.sorts.Sort.{the_type}
-use Rattle.arch_instructions.proofs.OtherSorts.{other_sort}
 use Rattle.arch_instructions.proofs.sorts.may_do.Goals as goal
 
 pub returns : goal.returns

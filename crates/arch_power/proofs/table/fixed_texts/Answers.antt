@@ -1,8 +1,6 @@
 -- The checker prints each operation with digits, and each barrier, both ways.
-use Rattle.std.proofs.Common.{refl}
-use Rattle.std.specs.Fmt.{digits}
-use Rattle.arch_instructions_laws.specs.Tables.{operands_fit, piece_texts, first_written}
-use Rattle.arch_instructions.specs.FixedTextLaws.{are_of_table}
+use Rattle.std.{proofs.Common.refl, specs.Fmt.digits}
+use Rattle.arch_instructions.specs.{Tables.{operands_fit, piece_texts, first_written}, FixedTextLaws.are_of_table}
 use Rattle.arch_power.specs.Table.{forms, table}
 use Rattle.arch_power.proofs.table.fixed_texts.Goals as goal
 

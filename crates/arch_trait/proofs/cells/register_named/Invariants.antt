@@ -1,7 +1,5 @@
 -- None of the registers that were passed has the name.
-use Rattle.std.proofs.Common.{◌≡◌, drop}
-use Rattle.std.specs.{List.position_from, Str.bytes_eq}
-use Rattle.arch_trait.specs.PlaceNames.{number_in}
+use Rattle.arch_trait.{proofs.Vocabulary.{◌≡◌, drop, position_from, bytes_eq}, specs.PlaceNames.number_in}
 use Rattle.arch_trait.proofs.cells.register_named.Given as goal
 
 abbrev pub invariant-loop-r : goal.invariant-loop-r

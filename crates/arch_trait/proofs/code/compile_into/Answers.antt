@@ -1,7 +1,5 @@
 -- The code that was made makes the accesses, and is well formed where it isn't refused.
-use Rattle.std.proofs.Common.{ap, ◌∙◌, ◌≤◌, arith}
-use Rattle.arch_trait.specs.Threads.{shape_of}
-use Rattle.arch_trait.proofs.WholeRuns.{made_so, formed_so}
+use Rattle.arch_trait.{proofs.{Vocabulary.{ap, ◌∙◌, ◌≤◌, arith}, WholeRuns.{made_so, formed_so}}, specs.Threads.shape_of}
 use Rattle.arch_trait.proofs.code.compile_into.Goals as goal
 
 pub returns-clause-makes : goal.returns-clause-makes

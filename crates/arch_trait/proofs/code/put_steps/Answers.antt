@@ -1,6 +1,5 @@
 -- The registers that each access takes are left, and the walk over the accesses goes on.
-use Rattle.arch_trait.specs.Threads.{way_seen}
-use Rattle.arch_trait.proofs.Compiling.{next_left, goes_on}
+use Rattle.arch_trait.{specs.Threads.way_seen, proofs.Compiling.{next_left, goes_on}}
 use Rattle.arch_trait.proofs.code.put_steps.Goals as goal
 
 pub put_step-requires-clause-left : goal.put_step-requires-clause-left

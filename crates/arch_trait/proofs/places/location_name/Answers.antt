@@ -1,6 +1,5 @@
 -- The letter of a location is ASCII, and there is room for it.
-use Rattle.std.proofs.Common.{◌<◌, length, ap, arith}
-use Rattle.arch_trait.proofs.Tables.{letter_ascii}
+use Rattle.arch_trait.proofs.{Vocabulary.{◌<◌, length, ap, arith}, Tables.letter_ascii}
 use Rattle.arch_trait.proofs.places.location_name.Goals as goal
 
 pub push_ascii-requires : goal.push_ascii-requires

@@ -1,7 +1,5 @@
 -- The name isn't among those that were passed.
-use Rattle.std.proofs.Common.{◌≡◌, drop, map}
-use Rattle.std.specs.{List.position_from, Str.bytes_eq}
-use Rattle.arch_trait.specs.PlaceNames.{number_in}
+use Rattle.arch_trait.{proofs.Vocabulary.{◌≡◌, drop, map, position_from, bytes_eq}, specs.PlaceNames.number_in}
 use Rattle.arch_trait.proofs.places.number_in.Given as goal
 
 abbrev pub invariant-loop-i : goal.invariant-loop-i

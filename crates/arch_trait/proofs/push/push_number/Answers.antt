@@ -1,8 +1,5 @@
 -- A number of one or two digits is printed digit by digit: there is room for them, and they are its decimal.
-use Rattle.std.proofs.Common.{ℕ, ◌+◌, ◌/◌, ◌%◌, List, [], ◌∷◌, ◌++◌, length, length-append, append_assoc, ◌∙◌, ap, sym, arith, rules}
-use Rattle.std.specs.Fmt.{decimal}
-use Rattle.std.proofs.lemmas.Fmt.{decimal_digit}
-use Rattle.arch_trait.proofs.Digits.{two_digits, two_digits_fit}
+use Rattle.arch_trait.proofs.{Vocabulary.{ℕ, ◌+◌, ◌/◌, ◌%◌, List, [], ◌∷◌, ◌++◌, length, length-append, append_assoc, ◌∙◌, ap, sym, arith, rules, decimal_digit, decimal}, Digits.{two_digits, two_digits_fit}}
 use Rattle.arch_trait.proofs.push.push_number.Goals as goal
 
 pub push_digit-requires : goal.push_digit-requires

@@ -1,6 +1,5 @@
 -- The operands of a text are the pieces between its commas.
-use Rattle.std.proofs.Common.{sym}
-use Rattle.arch_trait.proofs.Commas.{no_bytes, some_bytes, operands_none, operands_more, gave_one, gave_two, gave_three, gave_four}
+use Rattle.arch_trait.proofs.{Vocabulary.sym, Commas.{no_bytes, some_bytes, operands_none, operands_more, gave_one, gave_two, gave_three, gave_four}}
 use Rattle.arch_trait.proofs.reading.operands_of.Goals as goal
 
 pub returns-then-is_empty : goal.returns-then-is_empty

@@ -1,6 +1,5 @@
 -- None of the registers that were passed holds the address of the place.
-use Rattle.std.proofs.Common.{◌≡◌, drop}
-use Rattle.arch_trait.specs.Taking.{address_in}
+use Rattle.arch_trait.{proofs.Vocabulary.{◌≡◌, drop}, specs.Taking.address_in}
 use Rattle.arch_trait.proofs.regs.address_in.Given as goal
 
 abbrev pub invariant-loop-register : goal.invariant-loop-register

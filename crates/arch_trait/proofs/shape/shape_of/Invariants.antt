@@ -1,7 +1,5 @@
 -- The loop of `shape_of`: the shape of the accesses so far, and with those that are left it is that of the thread.
-use Rattle.std.proofs.Common.{◌≡◌, ◌≤◌, drop}
-use Rattle.arch_trait.specs.Threads.{shape_of}
-use Rattle.arch_trait.proofs.Shapes.{shape_with}
+use Rattle.arch_trait.{proofs.{Vocabulary.{◌≡◌, ◌≤◌, drop}, Shapes.shape_with}, specs.Threads.shape_of}
 use Rattle.arch_trait.proofs.shape.shape_of.Given as goal
 
 abbrev pub invariant-loop-i : goal.invariant-loop-i

@@ -1,9 +1,7 @@
 -- A store of a digit is printed as the table writes it.
-use Rattle.std.proofs.Common.{◌+◌, ◌++◌, ◌∷◌, [], ◌∙◌, sym, ap}
-use Rattle.std.specs.Prelude.{codes}
+use Rattle.std.{proofs.Common.{◌+◌, ◌++◌, ◌∷◌, [], ◌∙◌, sym, ap}, specs.Prelude.codes}
 use Rattle.arch_trait.specs.Writing.{op_text, name_in}
-use Rattle.arch_x86.specs.Table.{writing}
-use Rattle.arch_x86.proofs.ShortTexts.{store_text}
+use Rattle.arch_x86.{specs.Table.writing, proofs.ShortTexts.store_text}
 use Rattle.arch_x86.proofs.short.print_short.Goals as goal
 
 pub returns-in-StoreAt : goal.returns-in-StoreAt

@@ -1,6 +1,5 @@
-use Rattle.std.proofs.Common.{◌≡◌, Some, sym, ◌∙◌, ap}
-use Rattle.std.specs.Option.{option_map}
-use Rattle.edges_from_text.specs.{declared.read.Separators.TheVariants.Blanks, KeptEdges.{edges_added}, Spelled.{edges_of}}
+use Rattle.std.{proofs.Common.{◌≡◌, Some, sym, ◌∙◌, ap}, specs.Option.option_map}
+use Rattle.edges_from_text.specs.{declared.read.Separators.TheVariants.Blanks, KeptEdges.edges_added, Spelled.edges_of}
 use Rattle.check_callers.proofs.Made.{composed_same, kept_whole}
 use Rattle.check_callers.proofs.names.name_in_text.Goals as goal
 

@@ -1,8 +1,5 @@
 -- That `co_test_into` makes the test of a cycle that has one.
-use Rattle.std.proofs.Common.{◌∙◌, sym, ap}
-use Rattle.test_maker.specs.Refusals.{foreign_edge}
-use Rattle.test_maker.proofs.HavingTests.{not_foreign}
-use Rattle.co_tests.proofs.CoherenceTestParts.{made_has_test}
+use Rattle.co_tests.proofs.{Vocabulary.{◌∙◌, sym, ap, foreign_edge, not_foreign}, CoherenceTestParts.made_has_test}
 use Rattle.co_tests.proofs.maker.co_test_into.Goals as goal
 
 pub make_of_arch-requires : goal.make_of_arch-requires

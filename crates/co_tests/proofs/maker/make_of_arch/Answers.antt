@@ -1,11 +1,6 @@
 -- That `make_of_arch` turns a cycle into one of the shape, of the architecture too.
-use Rattle.std.proofs.{Common.{◌≡◌, ◌∙◌, sym, ap, subst, false, nat_lt, arith}, lemmas.Bool.le-ltb}
-use Rattle.edge_algebra_laws.specs.Rotation.{rotated}
-use Rattle.cycle_events.specs.Resolution.{external_count, turned}
-use Rattle.test_maker.specs.Made.{AreOfArch}
-use Rattle.co_tests.specs.{CoherenceTests.writes_in, CoRefusals.is_no_coherence}
-use Rattle.co_tests.specs.Shape.{HasShape}
-use Rattle.co_tests.proofs.CoherenceTestParts.{all_turned, no_reason, turned_shape}
+use Rattle.co_tests.{proofs.{Vocabulary.{◌≡◌, ◌∙◌, sym, ap, subst, false, nat_lt, arith, le-ltb, rotated, external_count, turned, AreOfArch}, CoherenceTestParts.{all_turned, no_reason, turned_shape}}, specs.CoherenceTests.writes_in}
+use Rattle.co_tests.specs.{CoRefusals.is_no_coherence, Shape.HasShape}
 use Rattle.co_tests.proofs.maker.make_of_arch.Goals as goal
 
 pub make_turned-requires-clause-shape : goal.make_turned-requires-clause-shape

@@ -1,7 +1,5 @@
 -- That `make_turned` makes the coherence test of a turned cycle.
-use Rattle.std.proofs.Common.{◌≡◌, ◌∙◌, sym, true, false}
-use Rattle.co_tests.specs.CutResolution.{is_ordering}
-use Rattle.co_tests.proofs.{Cuts.loop_at, CoherenceTestParts.made_printable, CoherenceTestParts.made_turned, CoherenceTestParts.none_found}
+use Rattle.co_tests.{proofs.{Vocabulary.{◌≡◌, ◌∙◌, sym, true, false}, Cuts.loop_at, CoherenceTestParts.{made_printable, made_turned, none_found}}, specs.CutResolution.is_ordering}
 use Rattle.co_tests.proofs.maker.make_turned.Goals as goal
 
 pub unreachable-requires : goal.unreachable-requires
@@ -18,4 +16,4 @@ pub returns-clause-printable : goal.returns-clause-printable
 returns-clause-printable g c =
     let l = loop_at c.args.edges.now c.in-Some.cut c.requires.shape (sym c.cut_of.ensures ∙ c.in-Some.is) in
     made_printable g.A.Arch.puts g.A.Arch.REGISTERS g.met.A.Arch.same_registers g.met.A.Arch.laws c.args.edges.now c.set_letters.new.self c.put_threads.new.threads _ c.put_last_term.new.cond c.put_threads.new.cond c.put_threads.result
-    (record { loop = l.loop; of_arch = c.requires.of_arch; few_writes = c.requires.shape.few_writes }) c.set_letters.ensures c.put_threads.ensures
+    l.loop c.requires.of_arch c.set_letters.ensures c.put_threads.ensures

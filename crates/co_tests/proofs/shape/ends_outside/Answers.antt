@@ -1,6 +1,5 @@
 -- The answer is whether the last edge is external.
-use Rattle.std.proofs.Common.{◌-◌, length, arith, sym, ◌∙◌}
-use Rattle.cycle_events.proofs.Locations.{ends_with}
+use Rattle.co_tests.proofs.Vocabulary.{◌-◌, length, arith, sym, ◌∙◌, ends_with}
 use Rattle.co_tests.proofs.shape.ends_outside.Goals as goal
 
 pub returns-in-len1-up : goal.returns-in-len1-up

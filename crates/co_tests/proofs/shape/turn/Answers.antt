@@ -1,6 +1,5 @@
 -- The cycle that is given is turned as its definition says.
-use Rattle.std.proofs.Common.{sym, ◌∙◌}
-use Rattle.cycle_events.proofs.Turning.{turned_by_none, turned_at_position, turned_without}
+use Rattle.co_tests.proofs.Vocabulary.{sym, ◌∙◌, turned_by_none, turned_at_position, turned_without}
 use Rattle.co_tests.proofs.shape.turn.Goals as goal
 
 pub returns-then-ends_outside-clause-turned : goal.returns-then-ends_outside-clause-turned

@@ -1,10 +1,5 @@
 -- That `link_into` gives the link of the cut resolution.
-use Rattle.std.proofs.Common.{◌≡◌, ◌+◌, ◌-◌, arith, sym, ap, ◌∙◌}
-use Rattle.cycle_events.specs.Resolution.{slot_of}
-use Rattle.cycle_events.proofs.Threads.{slot-zero, slot_out}
-use Rattle.tests_force_cycles.proofs.StepsFit.{link_first}
-use Rattle.co_tests.proofs.Opened.{opened_link}
-use Rattle.co_tests.proofs.{Cuts.link_inside, steps.link_into.Goals.{then-i-eq0-via-then-i-eq0, then-i-eq0-via-else-i-eq0+then-is_external}}
+use Rattle.co_tests.proofs.{Vocabulary.{◌≡◌, ◌+◌, ◌-◌, arith, sym, ap, ◌∙◌, slot_of, slot-zero, slot_out, link_first}, Opened.opened_link, Cuts.link_inside, steps.link_into.Goals.{then-i-eq0-via-then-i-eq0, then-i-eq0-via-else-i-eq0+then-is_external}}
 use Rattle.co_tests.proofs.steps.link_into.Goals as goal
 
 pub returns-then-i-eq0 : goal.returns-then-i-eq0

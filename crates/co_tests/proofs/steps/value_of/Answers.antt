@@ -1,6 +1,5 @@
 -- That `value_of` counts the writes along the arc.
-use Rattle.std.proofs.Common.{◌+◌, arith, length-take}
-use Rattle.co_tests.proofs.Cuts.{cut_below, loop_at, value_after_cut, value_before_cut}
+use Rattle.co_tests.proofs.{Vocabulary.{◌+◌, arith, length-take}, Cuts.{cut_below, loop_at, value_after_cut, value_before_cut}}
 use Rattle.co_tests.proofs.steps.value_of.Goals as goal
 
 pub overflow_add-cut : goal.overflow_add-cut

@@ -1,20 +1,8 @@
 -- That `put_threads` makes the code of all threads, or refuses the first that needs too many registers.
-use Rattle.std.proofs.Common.{◌≡◌, ◌<◌, ◌+◌, ◌++◌, ◌∷◌, [], arith, sym, ◌∙◌, ap, length, map, length-take, length-append, take, true, false, refl}
-use Rattle.std.proofs.{lemmas.List.length-map, lemmas.List.Sums.count_by-le-length}
-use Rattle.std.specs.Option.{option_map}
-use Rattle.relax_edges.specs.EdgeTable.{is_external}
-use Rattle.cycle_events.specs.Resolution.{edge_at, external_count, thread_of}
-use Rattle.cycle_events.proofs.Threads.{thread-zero, thread_end, thread_in, thread_most, thread_out}
-use Rattle.final_cond.specs.Conditions.{term_view}
+use Rattle.co_tests.proofs.Vocabulary.{◌≡◌, ◌<◌, ◌+◌, ◌++◌, ◌∷◌, [], arith, sym, ◌∙◌, ap, length, map, length-take, length-append, take, true, false, refl, length-map, count_by-le-length, option_map, is_external, edge_at, external_count, thread_of}
+use Rattle.co_tests.proofs.{Vocabulary.{thread-zero, thread_end, thread_in, thread_most, thread_out, term_view, plain, thread_terms, reads-count, thread_terms-count, TooManyRegisters, crowded_here, grown_none, grown_more, grown_all}, Loops.loop_thread}
+use Rattle.co_tests.{proofs.{Cuts.loop_at, threads.put_threads.Goals.{then-is_external+in-Ok, else-is_external}, ThreadSteps.{none_yet, one_more, steps_most, thread_whole, thread_within, threads_count}}, specs.CoherenceTests.coherence_steps}
 use Rattle.arch_trait.specs.{declared.step.Step.Step, Codes.thread_code_of, Threads.{is_load_dir, compiled}, Writing.name_in}
-use Rattle.tests_force_cycles.specs.TestOf.{plain, thread_terms}
-use Rattle.tests_force_cycles.proofs.Terms.{reads-count, thread_terms-count}
-use Rattle.test_maker.specs.declared.refusal.Refusal.TheVariants.{TooManyRegisters}
-use Rattle.co_tests.specs.CoherenceTests.{coherence_steps}
-use Rattle.co_tests.proofs.Fits.{loop_thread}
-use Rattle.co_tests.proofs.{Cuts.loop_at, threads.put_threads.Goals.{then-is_external+in-Ok, else-is_external}}
-use Rattle.test_maker.proofs.Growing.{crowded_here, grown_none, grown_more, grown_all}
-use Rattle.co_tests.proofs.ThreadSteps.{none_yet, one_more, steps_most, thread_whole, thread_within, threads_count}
 use Rattle.co_tests.proofs.threads.put_threads.Goals as goal
 
 pub loop-i-init : goal.loop-i-init
@@ -39,8 +27,7 @@ put_thread-requires-clause-fit g c =
     let pushed = c.push.ensures.items ∙ ap (λ s. c.loop-i.steps.items ++ s ∷ []) c.step_of.ensures ∙ one_more es c.loop-i.thread c.loop-i.i c.loop-i.steps.items c.loop-i.invariant.steps c.loop-i.invariant.thread in
     let whole = thread_whole es c.loop-i.thread c.loop-i.i c.as_slice.result.now (omega (arith, c.loop-i-test.true)) out c.loop-i.invariant.thread (c.as_slice.ensures.value ∙ pushed)
     (omega (arith, c.loop-i.invariant.thread, thread_within es c.loop-i.i (omega (arith, c.loop-i-test.true)) out)) in
-    (loop_thread es plain g.A.Arch.puts.name c.loop-i.thread c.as_slice.result.now
-    (record { loop = (loop_at es c.args.cut c.requires.shape c.requires.cut).loop; of_arch = c.requires.of_arch; few_writes = c.requires.shape.few_writes }) whole).fit
+    (loop_thread es g.A.Arch.puts.name c.loop-i.thread c.as_slice.result.now (loop_at es c.args.cut c.requires.shape c.requires.cut).loop c.requires.of_arch whole).fit
 
 pub put_thread-requires-clause-room : goal.put_thread-requires-clause-room
 put_thread-requires-clause-room g c =

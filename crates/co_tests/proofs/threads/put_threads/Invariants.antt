@@ -1,12 +1,5 @@
 -- The loop of `put_threads`: the threads before that of the next event are made, and the accesses of this one so far are known.
-use Rattle.std.proofs.Common.{◌≡◌, ◌≤◌, ◌+◌, length, map}
-use Rattle.arrayvec.specs.ArrayVec.{array_vec_len}
-use Rattle.final_cond.specs.Conditions.{term_view}
-use Rattle.cycle_events.specs.Resolution.{thread_of}
-use Rattle.arch_trait.specs.{Codes.thread_code_of, Writing.name_in}
-use Rattle.co_tests.specs.CoherenceTests.{coherence_steps}
-use Rattle.test_maker.proofs.Growing.{Grown}
-use Rattle.co_tests.proofs.ThreadSteps.{steps_so_far}
+use Rattle.co_tests.{proofs.{Vocabulary.{◌≡◌, ◌≤◌, ◌+◌, length, map, array_vec_len, term_view, thread_of, thread_code_of, name_in, Grown}, ThreadSteps.steps_so_far}, specs.CoherenceTests.coherence_steps}
 use Rattle.co_tests.proofs.threads.put_threads.Given as goal
 
 abbrev pub invariant-loop-i : goal.invariant-loop-i

@@ -1,8 +1,5 @@
 -- All moves are made after the event that is found, and the edge before it makes one.
-use Rattle.std.proofs.Common.{◌-◌, arith, sym, ◌∙◌, ap}
-use Rattle.cycle_events.specs.Resolution.{moves_before}
-use Rattle.cycle_events.proofs.Locations.{moves_end}
-use Rattle.coherence_values.proofs.Walk.{some_made, made_before, makes_last, events_many, last_read}
+use Rattle.coherence_values.proofs.{Vocabulary.{◌-◌, arith, sym, ◌∙◌, ap, moves_before, moves_end}, Walk.{some_made, made_before, makes_last, events_many, last_read}}
 use Rattle.coherence_values.proofs.valued.after_moves.Goals as goal
 
 pub loop-end-init : goal.loop-end-init

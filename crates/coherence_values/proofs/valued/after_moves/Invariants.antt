@@ -1,6 +1,5 @@
 -- What holds in the loop back over the events: all moves are made before each of them.
-use Rattle.std.proofs.Common.{◌≡◌, ◌≤◌, length}
-use Rattle.cycle_events.specs.Resolution.{move_count, moves_before}
+use Rattle.coherence_values.proofs.Vocabulary.{◌≡◌, ◌≤◌, length, move_count, moves_before}
 use Rattle.coherence_values.proofs.valued.after_moves.Given as goal
 
 abbrev pub invariant-loop-end : goal.invariant-loop-end

@@ -1,9 +1,6 @@
 -- What is walked is the rest of the arc of location 0.
-use Rattle.std.proofs.Common.{◌≡◌, ◌+◌, ◌-◌, length, sym, ◌∙◌, ap, arith}
-use Rattle.cycle_events.specs.Resolution.{location_of}
-use Rattle.cycle_events.proofs.Locations.{moves_kept}
-use Rattle.coherence_values.specs.{declared.valued.Arc.Arc, Arc.seen_of}
-use Rattle.coherence_values.proofs.Walk.{writes_so_far, arc_begins, arc_goes_on, walk_step, fresh_arc, arc_wraps, makes_none, events_many, event_read, writes_before_is, writes_before_most}
+use Rattle.coherence_values.proofs.{Vocabulary.{◌≡◌, ◌+◌, ◌-◌, length, sym, ◌∙◌, ap, arith, location_of, moves_kept}, Walk.{writes_so_far, arc_begins, arc_goes_on, walk_step, fresh_arc, arc_wraps, makes_none, events_many, event_read, writes_before_is}}
+use Rattle.coherence_values.{proofs.Walk.writes_before_most, specs.{declared.valued.Arc.Arc, Arc.seen_of}}
 use Rattle.coherence_values.proofs.valued.arc_after.Goals as goal
 
 pub loop-i-init : goal.loop-i-init

@@ -1,8 +1,5 @@
 -- What holds in the loop over the events after the last edge to another location.
-use Rattle.std.proofs.Common.{◌≡◌}
-use Rattle.cycle_events.specs.Resolution.{move_count, moves_before, location_of}
-use Rattle.coherence_values.specs.Arc.{seen_of}
-use Rattle.coherence_values.proofs.Walk.{writes_so_far}
+use Rattle.coherence_values.{proofs.{Vocabulary.{◌≡◌, move_count, moves_before, location_of}, Walk.writes_so_far}, specs.Arc.seen_of}
 use Rattle.coherence_values.proofs.valued.arc_after.Given as goal
 
 abbrev pub invariant-loop-i : goal.invariant-loop-i

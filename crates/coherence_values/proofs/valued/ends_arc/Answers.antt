@@ -1,7 +1,5 @@
 -- The next event is at another location exactly where the edge leads to another one.
-use Rattle.std.proofs.{Common.{◌+◌, length, arith, sym, ◌∙◌, ap}, lemmas.Bool.le-ltb}
-use Rattle.cycle_events.specs.declared.event.Event.{Event}
-use Rattle.coherence_values.proofs.Walk.{arc_ended, last_keeps, events_many, event_read}
+use Rattle.coherence_values.proofs.{Vocabulary.{◌+◌, length, arith, sym, ◌∙◌, ap, le-ltb, Event}, Walk.{arc_ended, last_keeps, events_many, event_read}}
 use Rattle.coherence_values.proofs.valued.ends_arc.Goals as goal
 
 pub returns-then-i-events : goal.returns-then-i-events

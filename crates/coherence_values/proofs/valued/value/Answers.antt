@@ -1,11 +1,6 @@
 -- The answer is the valuation of the cycle in the mode, or the first location that needs an observer.
-use Rattle.std.proofs.Common.{◌≡◌, length, Some, None, sym, ◌∙◌, ap, arith}
-use Rattle.list_laws.specs.Numbers.{upto}
-use Rattle.list_laws.proofs.Numbers.{length-map-upto}
-use Rattle.cycle_events.specs.{Resolution.move_count, Values.{observer_need, write_count, first_need}, Entries.inner_entry}
-use Rattle.coherence_values.specs.{declared.valued.Arc.Arc, Arc.{seen_of, all_seen}}
-use Rattle.coherence_values.proofs.{Walk.arc_read, valued.value.Goals.{in-Avoid+else-loop-location-test, in_default}}
-use Rattle.cycle_events.proofs.Entries.{need_found, no_need_more, avoid_refused, avoid_allowed, others_allowed}
+use Rattle.coherence_values.proofs.Vocabulary.{◌≡◌, length, Some, None, sym, ◌∙◌, ap, arith, upto, length-map-upto, move_count, observer_need, write_count, first_need, inner_entry, need_found, no_need_more, avoid_refused, avoid_allowed, others_allowed}
+use Rattle.coherence_values.{proofs.{Walk.arc_read, valued.value.Goals.{in-Avoid+else-loop-location-test, in_default}}, specs.{declared.valued.Arc.Arc, Arc.{seen_of, all_seen}}}
 use Rattle.coherence_values.proofs.valued.value.Goals as goal
 
 pub returns-in-Some : goal.returns-in-Some

@@ -1,13 +1,7 @@
 -- What is walked is the values and the arcs of the cycle.
-use Rattle.std.proofs.Common.{◌≡◌, ◌+◌, true, false, length, map, sym, ◌∙◌, ap, arith}
-use Rattle.relax_edges.specs.EdgeTable.{is_diff}
-use Rattle.cycle_events.specs.{Resolution.{edge_at, location_of, moves_before}, Values.{value_of, write_count}}
-use Rattle.cycle_events.proofs.Locations.{moves-zero, moves_few, moves_end, location-zero}
-use Rattle.coherence_values.specs.{declared.valued.Arc.Arc, Arc.seen_of}
-use Rattle.list_laws.specs.Numbers.{upto}
-use Rattle.list_laws.proofs.Numbers.{length-map-upto, map-upto_more}
-use Rattle.coherence_values.proofs.Walk.{arc_begins, arc_goes_on, walk_step, fresh_arc, events_many, event_read, writes_before_is, writes_before_most, arcs_more, arcs_same}
-use Rattle.coherence_values.proofs.valued.walk_arcs.Goals.{then-ends_arc, else-ends_arc}
+use Rattle.coherence_values.proofs.Vocabulary.{◌≡◌, ◌+◌, true, false, length, map, sym, ◌∙◌, ap, arith, is_diff, edge_at, location_of, moves_before, value_of, write_count, moves-zero, moves_few, moves_end, location-zero, upto, length-map-upto}
+use Rattle.coherence_values.proofs.{Vocabulary.map-upto_more, Walk.{arc_begins, arc_goes_on, walk_step, fresh_arc, events_many, event_read, writes_before_is, writes_before_most, arcs_more, arcs_same}, valued.walk_arcs.Goals.then-ends_arc}
+use Rattle.coherence_values.{proofs.valued.walk_arcs.Goals.else-ends_arc, specs.{declared.valued.Arc.Arc, Arc.seen_of}}
 use Rattle.coherence_values.proofs.valued.walk_arcs.Goals as goal
 
 pub loop-i-init : goal.loop-i-init

@@ -1,9 +1,5 @@
 -- What holds in the loop over the events.
-use Rattle.std.proofs.Common.{◌≡◌, map}
-use Rattle.list_laws.specs.Numbers.{upto}
-use Rattle.cycle_events.specs.{Resolution.moves_before, Resolution.location_of, Values.value_of, Values.write_count}
-use Rattle.coherence_values.specs.Arc.{seen_of}
-use Rattle.coherence_values.proofs.Walk.{writes_so_far}
+use Rattle.coherence_values.{proofs.{Vocabulary.{◌≡◌, map, upto, moves_before, location_of, value_of, write_count}, Walk.writes_so_far}, specs.Arc.seen_of}
 use Rattle.coherence_values.proofs.valued.walk_arcs.Given as goal
 
 abbrev pub invariant-loop-i : goal.invariant-loop-i

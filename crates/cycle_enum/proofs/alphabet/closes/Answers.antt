@@ -1,6 +1,5 @@
 -- A list whose last edge joins its first is closed, and one whose last edge doesn't is no cycle.
-use Rattle.std.proofs.Common.{sym, ◌∙◌}
-use Rattle.cycle_enum.proofs.Composing.{last_joins_first, unclosed}
+use Rattle.cycle_enum.proofs.{Vocabulary.{sym, ◌∙◌}, Composing.{last_joins_first, unclosed}}
 use Rattle.cycle_enum.proofs.alphabet.closes.Goals as goal
 
 pub returns-in-len1-up-clause-closed : goal.returns-in-len1-up-clause-closed

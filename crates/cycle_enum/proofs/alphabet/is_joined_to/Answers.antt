@@ -1,6 +1,6 @@
 -- The test of the last edge decides whether the list joins the edge.
 use Rattle.std.proofs.Common.{◌∷◌, [], sym, ◌∙◌, arith}
-use Rattle.edge_algebra_laws.proofs.Composing.{last_joins_at}
+use Rattle.cycle_enum.proofs.Vocabulary.{last_joins_at}
 use Rattle.cycle_enum.proofs.alphabet.is_joined_to.Goals as goal
 
 pub returns-in-len1-up : goal.returns-in-len1-up

@@ -1,6 +1,5 @@
 -- Marking the first edge of a list and then the others marks the whole list.
-use Rattle.std.proofs.Common.{arith}
-use Rattle.cycle_enum.proofs.Marking.{marked_first}
+use Rattle.cycle_enum.proofs.{Vocabulary.arith, Marking.marked_first}
 use Rattle.cycle_enum.proofs.letters.+mark_edges.Goals as goal
 
 pub returns-in-len1-up : goal.returns-in-len1-up

@@ -1,7 +1,6 @@
 -- Where no relaxation can be read to the end of a list, it begins no cycle that is made of relaxations.
 use Rattle.std.proofs.{Common.{[], ◌<◌, length, true, arith, rules}, lemmas.List.length-map}
-use Rattle.relax_edges.specs.Order.{rank_of}
-use Rattle.cycle_enum.proofs.SetReading.{unread_nowhere}
+use Rattle.cycle_enum.proofs.{Vocabulary.rank_of, SetReading.unread_nowhere}
 use Rattle.cycle_enum.proofs.progress.may_occur.Goals as goal
 
 pub returns-else-is_empty : goal.returns-else-is_empty

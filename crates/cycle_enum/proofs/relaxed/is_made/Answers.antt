@@ -1,8 +1,6 @@
 -- A cycle none of whose rotations by a place is a concatenation is not made of relaxations.
 use Rattle.std.proofs.{Common.{◌≡◌, true, inl, inr, length, take, drop, refl, ◌∙◌, ap, arith}, lemmas.List.length-map}
-use Rattle.relax_edges.specs.Order.{rank_of}
-use Rattle.cycle_enum_laws.proofs.Relaxing.{made_at, made_nowhere}
-use Rattle.cycle_enum.proofs.Turning.{all_below, before_or_last, ranks_behind, ranks_before}
+use Rattle.cycle_enum.proofs.{Vocabulary.rank_of, Relaxing.{made_at, made_nowhere}, Turning.{all_below, before_or_last, ranks_behind, ranks_before}}
 use Rattle.cycle_enum.proofs.relaxed.is_made.Goals as goal
 
 pub is_read-requires-clause-first : goal.is_read-requires-clause-first

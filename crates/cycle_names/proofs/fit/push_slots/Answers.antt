@@ -1,5 +1,5 @@
 -- One edge more has one slot more, and with an edge without a slot the cycle is of no family.
-use Rattle.std.proofs.{Common.sym, Common.arith, lemmas.Grind.common_steps}
+use Rattle.std.proofs.{Common.{sym, arith}, lemmas.Grind.common_steps}
 use Rattle.cycle_names.proofs.{Tables.slot_joins, Places.none_beside}
 use Rattle.cycle_names.proofs.fit.push_slots.Goals as goal
 

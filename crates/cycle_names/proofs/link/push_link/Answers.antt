@@ -1,5 +1,5 @@
 -- A `+`, a link's word and the letters of its marks have up to 12 bytes.
-use Rattle.std.proofs.{Common.arith, Common.length-append, lemmas.Grind.common_steps}
+use Rattle.std.proofs.{Common.{arith, length-append}, lemmas.Grind.common_steps}
 use Rattle.cycle_names.proofs.Tables.{link_parts_short}
 use Rattle.cycle_names.proofs.link.push_link.Goals as goal
 

@@ -1,6 +1,5 @@
 -- The answer is the cycle of the name, and where there is none no cycle of the architecture has the name.
-use Rattle.cycle_names.proofs.Vocabulary.{sym, ◌∙◌, ap, err_from_is_err_and, composed, bytes_eq, name_of, are_of_arch, NotAName}
-use Rattle.cycle_names.proofs.CycleOf.{none_read, none_composed, none_named, none_of_arch, is_named, made_of}
+use Rattle.cycle_names.proofs.{Vocabulary.{sym, ◌∙◌, ap, err_from_is_err_and, composed, bytes_eq, name_of, are_of_arch, NotAName}, CycleOf.{none_read, none_composed, none_named, none_of_arch, is_named, made_of}}
 use Rattle.cycle_names.proofs.read.cycle_of.Goals.{else-has_name-via-then-has_name+else-are_of_arch, else-has_name-via-else-has_name}
 use Rattle.cycle_names.proofs.read.cycle_of.Goals as goal
 

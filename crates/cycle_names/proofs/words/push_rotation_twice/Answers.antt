@@ -1,7 +1,6 @@
 -- The words of the first edge, of those after it and of the prefix are those of the rotation, in both texts.
 use Rattle.std.proofs.Common.{◌∙◌, sym, arith}
-use Rattle.cycle_names.specs.{Fitting.separator_text, declared.words.Separator.TheVariants.{Dash, Blank}}
-use Rattle.cycle_names.proofs.{NameSteps.first_and_rest, Texts.joined_rotation}
+use Rattle.cycle_names.{specs.{Fitting.separator_text, declared.words.Separator.TheVariants.{Dash, Blank}}, proofs.{NameSteps.first_and_rest, Texts.joined_rotation}}
 use Rattle.cycle_names.proofs.words.push_rotation_twice.Goals as goal
 
 pub returns-in-len1-up-clause-dashed : goal.returns-in-len1-up-clause-dashed

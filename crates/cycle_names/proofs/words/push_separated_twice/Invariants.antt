@@ -1,6 +1,5 @@
 -- The words of the edges passed are added to both texts, and there is room for the others.
-use Rattle.cycle_names.proofs.Vocabulary.{◌≡◌, ◌≤◌, ◌+◌, ◌*◌, ◌++◌, length, drop, flat_map, word_of, separator_text, MAX_SEPARATED}
-use Rattle.cycle_names.specs.declared.words.Separator.TheVariants.{Dash, Blank}
+use Rattle.cycle_names.{proofs.Vocabulary.{◌≡◌, ◌≤◌, ◌+◌, ◌*◌, ◌++◌, length, drop, flat_map, word_of, separator_text, MAX_SEPARATED}, specs.declared.words.Separator.TheVariants.{Dash, Blank}}
 use Rattle.cycle_names.proofs.words.push_separated_twice.Given as goal
 
 abbrev pub invariant-loop-edge : goal.invariant-loop-edge

@@ -1,8 +1,6 @@
 -- What is counted is the threads and the locations.
 use Rattle.std.proofs.Common.{◌≡◌, length, arith, sym, ◌∙◌, ap}
-use Rattle.cycle_events.specs.Resolution.{edge_at, thread_of, moves_before}
-use Rattle.cycle_events.proofs.Threads.{thread-zero, thread_out, thread_in, thread_most, thread_end}
-use Rattle.cycle_events.proofs.Locations.{external_keeps, moves-zero, moves_on, moves_kept, moves_few, moves_end}
+use Rattle.cycle_events.{specs.Resolution.{edge_at, thread_of, moves_before}, proofs.{Threads.{thread-zero, thread_out, thread_in, thread_most, thread_end}, Locations.{external_keeps, moves-zero, moves_on, moves_kept, moves_few, moves_end}}}
 use Rattle.cycle_resolve.proofs.resolved.counts_of.Goals as goal
 use Rattle.cycle_resolve.proofs.resolved.counts_of.Goals.{then-is_external, else-is_external+then-is_diff, else-is_external+else-is_diff}
 

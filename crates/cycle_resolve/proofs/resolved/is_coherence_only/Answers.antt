@@ -1,11 +1,9 @@
 -- The answer is whether one thread has all edges to another location; else the events that are put are those of the cycle.
 use Rattle.std.proofs.Common.{◌≡◌, ◌+◌, true, length, map, arith, refl, sym, ◌∙◌, ap}
 use Rattle.relax_edges.specs.EdgeTable.{is_external}
-use Rattle.list_laws.specs.Numbers.{upto}
-use Rattle.list_laws.proofs.Numbers.{length-map-upto, map-upto_more}
-use Rattle.cycle_events.specs.Resolution.{edge_at, event_of, thread_of}
-use Rattle.cycle_events.proofs.Locations.{external_keeps, moves_counted}
-use Rattle.cycle_events.proofs.Walking.{Walked, counts_none, all_in_thread, none_in_thread, walked_start, walk_small, walked_out, walked_round, walked_on, walked_stays}
+use Rattle.list_laws.{specs.Numbers.upto, proofs.Numbers.{length-map-upto, map-upto_more}}
+use Rattle.cycle_events.{specs.Resolution.{edge_at, event_of, thread_of}, proofs.{Locations.{external_keeps, moves_counted}, Walking.{Walked, counts_none, all_in_thread, none_in_thread, walked_start, walk_small, walked_out, walked_round, walked_on}}}
+use Rattle.cycle_events.proofs.Walking.{walked_stays}
 use Rattle.cycle_resolve.proofs.resolved.is_coherence_only.Goals as goal
 use Rattle.cycle_resolve.proofs.resolved.is_coherence_only.Goals.{then-external+else-moves-locations, else-external+then-diff+then-location-locations, else-external+then-diff+else-location-locations, else-external+else-diff}
 

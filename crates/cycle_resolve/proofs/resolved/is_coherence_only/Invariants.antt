@@ -1,8 +1,7 @@
 -- In the loop over the edges: the events so far are put, and no thread that ended has all edges to another location.
 use Rattle.std.proofs.Common.{◌≡◌, map}
 use Rattle.list_laws.specs.Numbers.{upto}
-use Rattle.cycle_events.specs.Resolution.{event_of}
-use Rattle.cycle_events.proofs.Walking.{Walked}
+use Rattle.cycle_events.{specs.Resolution.event_of, proofs.Walking.Walked}
 use Rattle.cycle_resolve.proofs.resolved.is_coherence_only.Given as goal
 
 abbrev pub invariant-loop-edge : goal.invariant-loop-edge

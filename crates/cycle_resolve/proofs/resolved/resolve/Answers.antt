@@ -1,8 +1,7 @@
 -- What is given is the resolution of the cycle, or the error of its definition.
 use Rattle.std.proofs.Common.{◌≡◌, false, length, arith, sym, ◌∙◌, ap}
-use Rattle.cycle_events.specs.Resolution.{external_count, move_count, events_of, IsResolved, turned, is_coherence_only}
-use Rattle.edge_algebra_laws.specs.Rotation.{rotated}
-use Rattle.cycle_events.proofs.Turning.{turned_resolved, external_count-rotated, move_count-rotated}
+use Rattle.cycle_events.{specs.Resolution.{external_count, move_count, events_of, IsResolved, turned, is_coherence_only}, proofs.Turning.{turned_resolved, external_count-rotated, move_count-rotated}}
+use Rattle.edge_algebra.specs.Rotation.{rotated}
 use Rattle.cycle_resolve.proofs.resolved.resolve.Goals as goal
 
 -- the turned cycle is resolved

@@ -1,8 +1,5 @@
 -- That `gather` keeps the names of the cycles of a source, line by line.
-use Rattle.std.proofs.Common.{◌++◌}
-use Rattle.cycles_from_lines.specs.declared.line.LineForm.TheVariants.{Edges}
-use Rattle.cycles_from_lines.specs.LineSteps.{last_cycle}
-use Rattle.cycles_from_lines.proofs.{ReadLaws.{found_next, found_last}, TableLaws.{nothing_gathered, part_read, whole_read, gathered_last}}
+use Rattle.cycles_from_lines.{proofs.{Vocabulary.◌++◌, ReadLaws.{found_next, found_last}, TableLaws.{nothing_gathered, part_read, whole_read, gathered_last}}, specs.{declared.line.LineForm.TheVariants.Edges, LineSteps.last_cycle}}
 use Rattle.cycles_from_lines.proofs.classify.gather.Goals as goal
 
 pub loop-families-init : goal.loop-families-init

@@ -1,6 +1,5 @@
 -- The loop of `gather`: the names of the cycles that were given are kept, and the work falls.
-use Rattle.cycles_from_lines.specs.LineSteps.{work}
-use Rattle.cycles_from_lines.proofs.TableLaws.{Gathering}
+use Rattle.cycles_from_lines.{specs.LineSteps.work, proofs.TableLaws.Gathering}
 use Rattle.cycles_from_lines.proofs.classify.gather.Given as goal
 
 abbrev pub invariant-loop-families : goal.invariant-loop-families

@@ -1,5 +1,5 @@
 -- `follow` ends: the edges get fewer.
-use Rattle.std.proofs.Common.{length}
+use Rattle.cycles_from_lines.proofs.Vocabulary.{length}
 use Rattle.cycles_from_lines.proofs.edges.+follow.Given as goal
 
 abbrev pub decreases-follow : goal.decreases-follow

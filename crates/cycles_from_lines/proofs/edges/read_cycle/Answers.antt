@@ -1,6 +1,5 @@
 -- That `read_cycle` makes the cycle of the edges that were read.
-use Rattle.std.proofs.Common.{◌∙◌}
-use Rattle.cycles_from_lines.proofs.Words.{read_made}
+use Rattle.cycles_from_lines.proofs.{Vocabulary.◌∙◌, Words.read_made}
 use Rattle.cycles_from_lines.proofs.edges.read_cycle.Goals as goal
 
 pub returns-in-Ok : goal.returns-in-Ok

@@ -1,6 +1,5 @@
 -- That `hand_on` has nothing to write where the page is empty.
-use Rattle.diy_io.specs.WroteLaws.{wrote_nothing}
-use Rattle.cycles_from_lines.proofs.NormLaws.{nothing_held}
+use Rattle.cycles_from_lines.proofs.{Vocabulary.wrote_nothing, NormLaws.nothing_held}
 use Rattle.cycles_from_lines.proofs.norm.hand_on.Goals as goal
 
 pub returns-then-is_empty-clause-wrote : goal.returns-then-is_empty-clause-wrote

@@ -1,7 +1,5 @@
 -- That `make_line` makes the line of a cycle.
-use Rattle.std.proofs.Common.{ap, ◌∙◌, ◌++◌}
-use Rattle.std.specs.Prelude.{codes}
-use Rattle.cycles_from_lines.proofs.NormLaws.{line_text}
+use Rattle.cycles_from_lines.proofs.{Vocabulary.{ap, ◌∙◌, ◌++◌, codes}, NormLaws.line_text}
 use Rattle.cycles_from_lines.proofs.norm.make_line.Goals as goal
 
 pub returns : goal.returns

@@ -1,7 +1,5 @@
 -- That `norm_lines` writes the lines of the cycles up to the end of the source, or up to what stops it.
-use Rattle.std.proofs.Common.{sym, subst, arith}
-use Rattle.cycles_from_lines.specs.LineSteps.{HasRead}
-use Rattle.cycles_from_lines.proofs.NormLaws.{nothing_normed, line_normed, line_stopped, blank_normed, fault_normed, hand_on_stopped, more_normed, all_written, normed_last, normed_up_to}
+use Rattle.cycles_from_lines.{proofs.{Vocabulary.{sym, subst, arith}, NormLaws.{nothing_normed, line_normed, line_stopped, blank_normed, fault_normed, hand_on_stopped, more_normed, all_written, normed_last, normed_up_to}}, specs.LineSteps.HasRead}
 use Rattle.cycles_from_lines.proofs.norm.norm_lines.Goals as goal
 
 pub loop-cycle-init : goal.loop-cycle-init

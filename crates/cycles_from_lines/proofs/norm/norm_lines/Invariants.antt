@@ -1,6 +1,5 @@
 -- The loop of `norm_lines`: what is sent so far, and the work, which falls.
-use Rattle.cycles_from_lines.specs.LineSteps.{work}
-use Rattle.cycles_from_lines.proofs.NormLaws.{Normed}
+use Rattle.cycles_from_lines.{specs.LineSteps.work, proofs.NormLaws.Normed}
 use Rattle.cycles_from_lines.proofs.norm.norm_lines.Given as goal
 
 -- the lines of the cycles so far are at the sink, but for what the page holds

@@ -1,7 +1,5 @@
 -- That `send_name_line` sends the line of a cycle as a whole.
-use Rattle.std.proofs.Common.{◌∙◌, arith, ap, length}
-use Rattle.diy_io.specs.PageLaws.{sends_stopped}
-use Rattle.cycles_from_lines.proofs.NormLaws.{line_sent}
+use Rattle.cycles_from_lines.proofs.{Vocabulary.{◌∙◌, arith, ap, length, sends_stopped}, NormLaws.line_sent}
 use Rattle.cycles_from_lines.proofs.norm.send_name_line.Goals as goal
 
 pub returns-in_err-spill : goal.returns-in_err-spill

@@ -1,6 +1,5 @@
 -- That `write_name_line` writes the line of a cycle.
-use Rattle.std.proofs.Common.{◌∙◌}
-use Rattle.diy_io.specs.WroteLaws.{wrote_same}
+use Rattle.cycles_from_lines.proofs.Vocabulary.{◌∙◌, wrote_same}
 use Rattle.cycles_from_lines.proofs.norm.write_name_line.Goals as goal
 
 pub returns : goal.returns

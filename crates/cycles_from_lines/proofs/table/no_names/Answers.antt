@@ -1,8 +1,6 @@
 -- That `no_names` gives the table of no cycle.
 use Rattle.std.proofs.Common.{◌≡◌, ℕ, [], map, take, ap, ◌∙◌, arith}
-use Rattle.cycle_names.specs.{declared.family.Family.Family, Families.all_families}
-use Rattle.cycles_from_lines.specs.FamilyTables.{FamilyEntry}
-use Rattle.cycles_from_lines.proofs.TableLaws.{all_entries, entry_more, none_held}
+use Rattle.cycles_from_lines.{proofs.{Vocabulary.{Family, all_families}, TableLaws.{all_entries, entry_more, none_held}}, specs.FamilyTables.FamilyEntry}
 use Rattle.cycles_from_lines.proofs.table.no_names.Goals as goal
 
 pub loop-family-preserved : goal.loop-family-preserved

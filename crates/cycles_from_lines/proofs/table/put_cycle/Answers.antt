@@ -1,7 +1,5 @@
 -- That `put_cycle` adds the name of a cycle to those of its family.
-use Rattle.std.proofs.Common.{◌∙◌, ap}
-use Rattle.cycles_from_lines.specs.FamilyTables.{place_of_family}
-use Rattle.cycles_from_lines.proofs.TableLaws.{adds_cycle, ok_then}
+use Rattle.cycles_from_lines.{proofs.{Vocabulary.{◌∙◌, ap}, TableLaws.{adds_cycle, ok_then}}, specs.FamilyTables.place_of_family}
 use Rattle.cycles_from_lines.proofs.table.put_cycle.Goals as goal
 
 pub returns-clause-adds : goal.returns-clause-adds

@@ -1,6 +1,5 @@
 -- That `send_families` sends the lines of the families of a table.
-use Rattle.diy_io.specs.PageLaws.{sent_nothing}
-use Rattle.cycles_from_lines.proofs.TableLaws.{each_entry, part_entry, unsent_err}
+use Rattle.cycles_from_lines.proofs.{Vocabulary.sent_nothing, TableLaws.{each_entry, part_entry, unsent_err}}
 use Rattle.cycles_from_lines.proofs.table.send_families.Goals as goal
 
 pub loop-entry-init : goal.loop-entry-init

@@ -1,8 +1,5 @@
 -- The loop of `send_families`: what is sent so far.
-use Rattle.std.proofs.Common.{take}
-use Rattle.std.specs.List.{flat_map}
-use Rattle.diy_io.specs.Page.{SentAll}
-use Rattle.cycles_from_lines.specs.FamilyTables.{entry_text, family_view}
+use Rattle.cycles_from_lines.{proofs.Vocabulary.{take, flat_map, SentAll}, specs.FamilyTables.{entry_text, family_view}}
 use Rattle.cycles_from_lines.proofs.table.send_families.Given as goal
 
 -- the lines of the families so far are sent

@@ -1,8 +1,5 @@
 -- That `send_family` sends the lines of a family, if it has a name.
-use Rattle.std.proofs.Common.{sym}
-use Rattle.diy_io.specs.PageLaws.{sends_then, sends_stopped, sends_same}
-use Rattle.cycles_from_lines.specs.KeptNames.{names_in_set}
-use Rattle.cycles_from_lines.proofs.TableLaws.{no_text, some_text, empty_set, some_set, sends_nothing}
+use Rattle.cycles_from_lines.{proofs.{Vocabulary.{sym, sends_then, sends_stopped, sends_same}, TableLaws.{no_text, some_text, empty_set, some_set, sends_nothing}}, specs.KeptNames.names_in_set}
 use Rattle.cycles_from_lines.proofs.table.send_family.Goals as goal
 
 pub returns-then-is_empty : goal.returns-then-is_empty

@@ -1,9 +1,6 @@
 -- That `send_names` sends the lines of the names of a family.
-use Rattle.std.proofs.Common.{◌≡◌, map, ap}
-use Rattle.std.specs.String.{string_bytes}
-use Rattle.diy_io.specs.PageLaws.{sent_nothing}
-use Rattle.cycles_from_lines.specs.KeptNames.{names_in_set}
-use Rattle.cycles_from_lines.proofs.TableLaws.{names_go, names_cover, names_stop, unsent_err}
+use Rattle.std.{proofs.Common.{◌≡◌, map, ap}, specs.String.string_bytes}
+use Rattle.cycles_from_lines.{proofs.{Vocabulary.sent_nothing, TableLaws.{names_go, names_cover, names_stop, unsent_err}}, specs.KeptNames.names_in_set}
 use Rattle.cycles_from_lines.proofs.table.send_names.Goals as goal
 
 pub loop-name-init : goal.loop-name-init

@@ -1,8 +1,6 @@
 -- The loop of `send_names`: what is sent so far, and what is left.
-use Rattle.std.proofs.Common.{◌≡◌, ◌++◌, map}
-use Rattle.std.specs.{List.flat_map, String.string_bytes}
-use Rattle.diy_io.specs.Page.{SentAll}
-use Rattle.cycles_from_lines.specs.{Classified.name_entry, KeptNames.names_in_set}
+use Rattle.std.{proofs.Common.{◌≡◌, ◌++◌, map}, specs.{List.flat_map, String.string_bytes}}
+use Rattle.cycles_from_lines.{proofs.Vocabulary.SentAll, specs.{Classified.name_entry, KeptNames.names_in_set}}
 use Rattle.cycles_from_lines.proofs.table.send_names.Given as goal
 
 -- the lines of the names so far are sent, and the others are left

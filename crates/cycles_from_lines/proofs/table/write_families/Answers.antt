@@ -1,6 +1,5 @@
 -- That `write_families` writes the text of a table, or a prefix of it where the sink fails.
-use Rattle.diy_io.specs.PageLaws.{sent_wrote, unsent_wrote, sends_of}
-use Rattle.cycles_from_lines.proofs.TableLaws.{sent_of}
+use Rattle.cycles_from_lines.proofs.{Vocabulary.{sent_wrote, unsent_wrote, sends_of}, TableLaws.sent_of}
 use Rattle.cycles_from_lines.proofs.table.write_families.Goals as goal
 
 pub returns-in_err-send_families : goal.returns-in_err-send_families

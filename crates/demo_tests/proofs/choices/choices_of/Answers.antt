@@ -1,6 +1,5 @@
 -- The choices found among all edges, in order, are those for the link.
-use Rattle.std.proofs.Common.{arith}
-use Rattle.demo_tests.proofs.ChoiceLaws.{room_for, chosen_more, chosen_all}
+use Rattle.demo_tests.proofs.{Vocabulary.arith, ChoiceLaws.{room_for, chosen_more, chosen_all}}
 use Rattle.demo_tests.proofs.choices.choices_of.Goals as goal
 
 pub add_choice-requires : goal.add_choice-requires

@@ -1,8 +1,6 @@
 -- How the choices grow edge by edge.
-use Rattle.std.proofs.Common.{◌≡◌, take}
-use Rattle.std.specs.Prelude.{filter}
-use Rattle.relax_edges.specs.AllEdges.{edges_in_order}
-use Rattle.demo_tests.specs.Filled.{is_choice}
+use Rattle.std.{proofs.Common.{◌≡◌, take}, specs.Prelude.filter}
+use Rattle.demo_tests.{proofs.Vocabulary.edges_in_order, specs.Filled.is_choice}
 use Rattle.demo_tests.proofs.choices.choices_of.Given as goal
 
 -- the choices among the edges passed are found

@@ -1,11 +1,10 @@
 -- Each architecture has registers enough for two accesses a thread, so every cycle made of a family's has a test.
-use Rattle.std.proofs.Common.{arith}
+use Rattle.demo_tests.proofs.{Vocabulary.arith, FamilyRooms.HasRoom, FamilyTests.makes_all}
 use Rattle.arch_x86.specs.Puts as x86
 use Rattle.arch_power.specs.Puts as power
 use Rattle.arch_aarch64.specs.Puts as aarch64
 use Rattle.arch_riscv.specs.Puts as riscv
 use Rattle.arch_arm.specs.Puts as arm
-use Rattle.demo_tests.proofs.{FamilyRooms.HasRoom, FamilyTests.makes_all}
 use Rattle.demo_tests.proofs.families.families_have_tests.Goals as goal
 
 x86_room : HasRoom x86.puts

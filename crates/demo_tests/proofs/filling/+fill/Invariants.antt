@@ -1,5 +1,5 @@
 -- The filling ends, since each step leaves fewer slots.
-use Rattle.std.proofs.Common.{length}
+use Rattle.demo_tests.proofs.Vocabulary.{length}
 use Rattle.demo_tests.proofs.filling.+fill.Given as goal
 
 abbrev pub decreases-fill : goal.decreases-fill

@@ -1,6 +1,5 @@
 -- The text sent is the summary of the tests.
-use Rattle.diy_io.specs.WroteLaws.{wrote_same}
-use Rattle.demo_tests.proofs.TallyLaws.{summary_is}
+use Rattle.demo_tests.proofs.{Vocabulary.wrote_same, TallyLaws.summary_is}
 use Rattle.demo_tests.proofs.making.demo.Goals as goal
 
 pub returns : goal.returns

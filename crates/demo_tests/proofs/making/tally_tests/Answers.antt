@@ -1,8 +1,6 @@
 -- Each test is measured and counted, and there is room for it in the tallies.
-use Rattle.std.proofs.Common.{◌≡◌, ◌<◌, ◌%◌, ap, ◌∙◌, refl, arith}
-use Rattle.demo_tests.specs.{FilledLinks.links_filled, Tallies.numbered_text, TestCounting.text_tally}
-use Rattle.demo_tests.proofs.TallyLaws.{family_cycle, next_seed_of, text_so, accepted, texts_short, HasRoom, has_room, all_more, families_more, no_families_counted, none_counted, place_within}
-use Rattle.demo_tests.proofs.making.tally_tests.Given.{Over}
+use Rattle.demo_tests.proofs.{Vocabulary.{◌≡◌, ◌<◌, ◌%◌, ap, ◌∙◌, refl, arith}, TallyLaws.{family_cycle, next_seed_of, text_so, accepted, texts_short, HasRoom, has_room, all_more, families_more, no_families_counted, none_counted, place_within}}
+use Rattle.demo_tests.{proofs.making.tally_tests.Given.Over, specs.{FilledLinks.links_filled, Tallies.numbered_text, TestCounting.text_tally}}
 use Rattle.demo_tests.proofs.making.tally_tests.Goals as goal
 
 pub loop-number-init : goal.loop-number-init

@@ -1,7 +1,5 @@
 -- What is known of the tallies and of the sequence of draws before each test.
-use Rattle.std.proofs.Common.{◌≡◌}
-use Rattle.list_laws.specs.Numbers.{upto}
-use Rattle.demo_tests.specs.Tallies.{family_tallies, numbered_text, seed_of, tally_of_tests}
+use Rattle.demo_tests.{proofs.Vocabulary.{◌≡◌, upto}, specs.Tallies.{family_tallies, numbered_text, seed_of, tally_of_tests}}
 use Rattle.demo_tests.proofs.making.tally_tests.Given as goal
 
 -- the tests so far are counted, and this is the seed for the next one

@@ -1,5 +1,5 @@
 -- The sending ends, since each step leaves fewer families.
-use Rattle.std.proofs.Common.{length}
+use Rattle.demo_tests.proofs.Vocabulary.{length}
 use Rattle.demo_tests.proofs.summary.+send_families.Given as goal
 
 abbrev pub decreases-send_families : goal.decreases-send_families

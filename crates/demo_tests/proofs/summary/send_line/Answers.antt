@@ -1,7 +1,5 @@
 -- The pieces sent are those of the line.
-use Rattle.std.proofs.Common.{◌∙◌}
-use Rattle.diy_io.specs.PageLaws.{sends_same}
-use Rattle.demo_tests.proofs.LineLaws.{line_is}
+use Rattle.demo_tests.proofs.{Vocabulary.{◌∙◌, sends_same}, LineLaws.line_is}
 use Rattle.demo_tests.proofs.summary.send_line.Goals as goal
 
 pub returns : goal.returns

@@ -1,6 +1,5 @@
 -- The chunks of a text have its line feeds, and no count of them overflows.
-use Rattle.std.proofs.{Common.{◌≡◌, ◌+◌, ◌∙◌, ℕ, List, take, drop, arith}, lemmas.List.Sums.{sum_by-take-drop, count_by-le-length}}
-use Rattle.std.specs.Prelude.{◌==◌}
+use Rattle.std.{proofs.{Common.{◌≡◌, ◌+◌, ◌∙◌, ℕ, List, take, drop, arith}, lemmas.List.Sums.{sum_by-take-drop, count_by-le-length}}, specs.Prelude.◌==◌}
 use Rattle.diy_io.specs.Sink.{line_feed_count}
 use Rattle.diy_io.proofs.line_feeds.count_line_feeds.Goals as goal
 

@@ -1,6 +1,5 @@
 -- That `compose` gives the cycle that edges make.
-use Rattle.std.proofs.Common.{sym}
-use Rattle.diy_tools.proofs.RunAnswers.{composed_made}
+use Rattle.diy_tools.proofs.{Vocabulary.sym, RunAnswers.composed_made}
 use Rattle.diy_tools.proofs.edges.compose.Goals as goal
 
 pub returns-clause-made : goal.returns-clause-made

@@ -1,6 +1,5 @@
 -- That `families` answers as classify7 does, over lines, over files or for want of memory.
-use Rattle.std.proofs.Common.{◌∙◌, sym}
-use Rattle.diy_tools.proofs.FamilyAnswers.{files_asked, lines_asked, memory_asked}
+use Rattle.diy_tools.proofs.{Vocabulary.{◌∙◌, sym}, FamilyAnswers.{files_asked, lines_asked, memory_asked}}
 use Rattle.diy_tools.proofs.families.families.Goals as goal
 
 pub returns-in-Err-clause-answers : goal.returns-in-Err-clause-answers

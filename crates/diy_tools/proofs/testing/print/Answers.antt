@@ -1,8 +1,5 @@
 -- That `print` prints a test, or a prefix of its text.
-use Rattle.std.proofs.Common.{subst, sym}
-use Rattle.relax_edges.specs.declared.kinds.ArchName.{ArchName}
-use Rattle.litmus_text.specs.{Tests.test_seen, TestText.test_text}
-use Rattle.diy_io.specs.Wrote.{WroteAll, WrotePart}
+use Rattle.diy_tools.proofs.Vocabulary.{subst, sym, ArchName, test_seen, test_text, WroteAll, WrotePart}
 use Rattle.diy_tools.proofs.testing.print.Goals as goal
 
 pub print_test-requires : goal.print_test-requires

@@ -1,7 +1,5 @@
 -- That `answer` gives what the request asks for, or the error of the arguments.
-use Rattle.std.proofs.Common.{sym, ◌∙◌}
-use Rattle.diy_words.specs.Requests.{asked_of}
-use Rattle.diy_tools.proofs.SumAnswers.{asks_sum, asks_other, gives_sum, gives_whole}
+use Rattle.diy_tools.proofs.{Vocabulary.{sym, ◌∙◌, asked_of}, SumAnswers.{asks_sum, asks_other, gives_sum, gives_whole}}
 use Rattle.diy_tools.proofs.tools.answer.Goals as goal
 
 pub returns-in-Some-clause-gives : goal.returns-in-Some-clause-gives

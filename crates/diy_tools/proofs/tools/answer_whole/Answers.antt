@@ -1,9 +1,6 @@
 -- That `answer_whole` answers as norm7, mcheck7 and diyone7 with -co do, and that the shelf is at nothing after diyone7 with -why.
-use Rattle.std.proofs.Common.{subst, Ok}
-use Rattle.diy_words.specs.{declared.request.Request.Request, Given.GivesTask, Requests.asked_of}
-use Rattle.diy_tools.specs.{KeptRequests.{edges_kept, folder_kept, named_kept, refused_why}, ArchMachines.machine_of}
-use Rattle.diy_tools.proofs.{Coherent.coherence_answered, ExecutionAnswers.{execution_answered, loop_answered}, NeedsAnswers.needs_answered, RunAnswers.{check_answered, name_answered}}
-use Rattle.diy_tools.proofs.{WhyAnswers.runs_idle, LineTestAnswers.line_tests_answered, StatesAnswers.states_answered}
+use Rattle.diy_tools.proofs.{Vocabulary.{subst, Ok, Request, GivesTask, asked_of}, Coherent.coherence_answered, ExecutionAnswers.{execution_answered, loop_answered}, NeedsAnswers.needs_answered, RunAnswers.{check_answered, name_answered}}
+use Rattle.diy_tools.{proofs.{WhyAnswers.runs_idle, LineTestAnswers.line_tests_answered, StatesAnswers.states_answered}, specs.{KeptRequests.{edges_kept, folder_kept, named_kept, refused_why}, ArchMachines.machine_of}}
 use Rattle.diy_tools.proofs.tools.answer_whole.Goals as goal
 
 pub returns-in-Name-clause-answers : goal.returns-in-Name-clause-answers

@@ -1,8 +1,6 @@
 -- That the claims of `run` follow from what it answers.
-use Rattle.diy_tools.proofs.Ends.{answers_end_once, answers_pass_over_none}
-use Rattle.diy_tools.proofs.{Causes.answers_caused, Causes.answers_memory, Completeness.answers_complete, ForcedTests.answers_force, Limits.answers_limited}
-use Rattle.diy_tools.proofs.SumAnswers.{given_answers, given_reports}
-use Rattle.run_status.proofs.Reported.{takes_line}
+use Rattle.diy_tools.proofs.{Ends.{answers_end_once, answers_pass_over_none}, Causes.{answers_caused, answers_memory}, Completeness.answers_complete, ForcedTests.answers_force, Limits.answers_limited, SumAnswers.{given_answers, given_reports}}
+use Rattle.diy_tools.proofs.Vocabulary.{takes_line}
 use Rattle.diy_tools.proofs.tools.run.Goals as goal
 
 pub returns-clause-complete : goal.returns-clause-complete

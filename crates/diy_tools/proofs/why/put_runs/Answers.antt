@@ -1,9 +1,5 @@
 -- That `put_runs` writes the three files, and then the line on them.
-use Rattle.std.proofs.Common.{subst}
-use Rattle.std.specs.Option.{option_map}
-use Rattle.tests_to_files.specs.Putting.{PutFiles}
-use Rattle.diy_tools.specs.WhyAnswers.{why_line}
-use Rattle.diy_tools.proofs.WhyAnswers.{files_are, line_after}
+use Rattle.diy_tools.{proofs.{Vocabulary.{subst, option_map, PutFiles}, WhyAnswers.{files_are, line_after}}, specs.WhyAnswers.why_line}
 use Rattle.diy_tools.proofs.why.put_runs.Goals as goal
 
 pub returns-in-Ok-clause-written : goal.returns-in-Ok-clause-written

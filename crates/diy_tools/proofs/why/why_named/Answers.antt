@@ -1,7 +1,5 @@
 -- That `why_named` answers for a cycle under a name.
-use Rattle.std.specs.Option.{option_map}
-use Rattle.diy_tools.specs.ArchMachines.{machine}
-use Rattle.diy_tools.proofs.WhyAnswers.{runs_written}
+use Rattle.diy_tools.{proofs.{Vocabulary.option_map, WhyAnswers.runs_written}, specs.ArchMachines.machine}
 use Rattle.diy_tools.proofs.why.why_named.Goals as goal
 
 pub returns-in-Ok-clause-answers : goal.returns-in-Ok-clause-answers

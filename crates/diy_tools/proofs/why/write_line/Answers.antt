@@ -1,5 +1,5 @@
 -- That `write_line` writes the line on the files, or a prefix of it.
-use Rattle.run_status.proofs.Reported.{own_wrote, own_unsent}
+use Rattle.diy_tools.proofs.Vocabulary.{own_wrote, own_unsent}
 use Rattle.diy_tools.proofs.why.write_line.Goals as goal
 
 pub returns-in_err-send_line : goal.returns-in_err-send_line

@@ -1,7 +1,5 @@
 -- That `read_files` finds the places of the files that words name.
-use Rattle.std.proofs.Common.{arith, ◌∙◌, sym, subst}
-use Rattle.diy_io.specs.SinkLaws.{on_err}
-use Rattle.diy_words.proofs.FileLaws.{FilesRead, files_begun, file_read, file_there, option_first, option_read, files_ended}
+use Rattle.diy_words.proofs.{Vocabulary.{arith, ◌∙◌, sym, subst, on_err}, FileLaws.{FilesRead, files_begun, file_read, file_there, option_first, option_read, files_ended}}
 use Rattle.diy_words.proofs.files.read_files.Goals as goal
 
 pub loop-at-init : goal.loop-at-init

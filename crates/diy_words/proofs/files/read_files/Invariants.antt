@@ -1,6 +1,5 @@
 -- The loop of `read_files`: the files before a place are found.
-use Rattle.std.proofs.Common.{◌-◌, length}
-use Rattle.diy_words.proofs.FileLaws.{FilesRead}
+use Rattle.diy_words.proofs.{Vocabulary.{◌-◌, length}, FileLaws.FilesRead}
 use Rattle.diy_words.proofs.files.read_files.Given as goal
 
 abbrev pub invariant-loop-at : goal.invariant-loop-at

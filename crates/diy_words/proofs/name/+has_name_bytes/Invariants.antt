@@ -1,5 +1,5 @@
 -- That `has_name_bytes` ends: the bytes get fewer.
-use Rattle.std.proofs.Common.{length}
+use Rattle.diy_words.proofs.Vocabulary.{length}
 use Rattle.diy_words.proofs.name.+has_name_bytes.Given as goal
 
 abbrev pub decreases-has_name_bytes : goal.decreases-has_name_bytes

@@ -1,7 +1,5 @@
 -- That `number_to` gives nothing where a text can't be parsed.
-use Rattle.std.proofs.Common.{arith, sym, subst}
-use Rattle.std.specs.Str.Parse.{ParsesUnsigned}
-use Rattle.diy_words.proofs.NumberLaws.{unparsed}
+use Rattle.diy_words.proofs.{Vocabulary.{arith, sym, subst, ParsesUnsigned}, NumberLaws.unparsed}
 use Rattle.diy_words.proofs.number.number_to.Goals as goal
 
 pub returns-in-Err-clause-value : goal.returns-in-Err-clause-value

@@ -1,7 +1,5 @@
 -- That `read_places` reads the lists of relaxations that words spell.
-use Rattle.std.proofs.Common.{arith, ◌∙◌, sym, ap, subst}
-use Rattle.diy_words.specs.Sayings.{begins_option}
-use Rattle.diy_words.proofs.PlaceLaws.{PlacesRead, places_begun, place_first, place_read, strict_read, option_first, option_read, places_ended}
+use Rattle.diy_words.{proofs.{Vocabulary.{arith, ◌∙◌, sym, ap, subst}, PlaceLaws.{PlacesRead, places_begun, place_first, place_read, strict_read, option_first, option_read, places_ended}}, specs.Sayings.begins_option}
 use Rattle.diy_words.proofs.places.read_places.Goals as goal
 
 pub loop-at-init : goal.loop-at-init

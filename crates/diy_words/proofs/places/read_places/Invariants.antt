@@ -1,6 +1,5 @@
 -- The loop of `read_places`: the lists before a place are read.
-use Rattle.std.proofs.Common.{◌-◌, length}
-use Rattle.diy_words.proofs.PlaceLaws.{PlacesRead}
+use Rattle.diy_words.proofs.{Vocabulary.{◌-◌, length}, PlaceLaws.PlacesRead}
 use Rattle.diy_words.proofs.places.read_places.Given as goal
 
 abbrev pub invariant-loop-at : goal.invariant-loop-at

@@ -1,6 +1,5 @@
 -- That `finish_cycle` gives what is asked for of the chosen edges.
-use Rattle.diy_words.specs.CodeNotes.{code_notes}
-use Rattle.diy_words.proofs.ChosenEdges.{chosen_gives}
+use Rattle.diy_words.{specs.CodeNotes.code_notes, proofs.ChosenEdges.chosen_gives}
 use Rattle.diy_words.proofs.read.finish_cycle.Goals as goal
 
 pub returns-in-Ok : goal.returns-in-Ok

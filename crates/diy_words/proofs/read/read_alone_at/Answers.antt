@@ -1,7 +1,5 @@
 -- That `read_alone_at` takes in a word by itself, or gives its error.
-use Rattle.std.proofs.Common.{◌+◌, arith}
-use Rattle.diy_words.specs.CodeNotes.{code_notes}
-use Rattle.diy_words.proofs.Judged.{taken, faulty, alone_first}
+use Rattle.diy_words.{proofs.{Vocabulary.{◌+◌, arith}, Judged.{taken, faulty, alone_first}}, specs.CodeNotes.code_notes}
 use Rattle.diy_words.proofs.read.read_alone_at.Goals as goal
 
 pub returns-in-Ok : goal.returns-in-Ok

@@ -1,7 +1,5 @@
 -- That `read_loosely` gives the request that the notes after all words make, or the first error.
-use Rattle.std.proofs.{Common.◌∙◌, Common.arith, Common.subst, lemmas.Result.err_from_is_err_and}
-use Rattle.diy_words.specs.CodeNotes.{GivesAtEnd, code_notes}
-use Rattle.diy_words.proofs.Judged.{gives_finished, gives_fault}
+use Rattle.diy_words.{proofs.{Vocabulary.{◌∙◌, arith, subst, err_from_is_err_and}, Judged.{gives_finished, gives_fault}}, specs.CodeNotes.{GivesAtEnd, code_notes}}
 use Rattle.diy_words.proofs.read.read_loosely.Goals as goal
 
 pub returns : goal.returns

@@ -1,6 +1,5 @@
 -- The loop of `read_loosely`: the notes after all words stay the same.
-use Rattle.std.proofs.Common.{◌≡◌, ◌-◌, length}
-use Rattle.diy_words.specs.{CodeNotes.code_notes, CodeNotes.notes_at_end, Notes.no_notes}
+use Rattle.diy_words.{proofs.Vocabulary.{◌≡◌, ◌-◌, length}, specs.{CodeNotes.{code_notes, notes_at_end}, Notes.no_notes}}
 use Rattle.diy_words.proofs.read.read_loosely.Given as goal
 
 abbrev pub invariant-loop-at : goal.invariant-loop-at

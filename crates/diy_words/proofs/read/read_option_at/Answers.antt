@@ -1,7 +1,5 @@
 -- That `read_option_at` takes in an option with its value, or gives the error.
-use Rattle.std.proofs.Common.{◌≡◌, ◌+◌, arith, length, sym, ap}
-use Rattle.diy_words.specs.{Notes.before_noted, CodeNotes.notes_after, CodeNotes.code_notes}
-use Rattle.diy_words.proofs.Judged.{taken, faulty, value_first, unvalued_last}
+use Rattle.diy_words.{proofs.{Vocabulary.{◌≡◌, ◌+◌, arith, length, sym, ap}, Judged.{taken, faulty, value_first, unvalued_last}}, specs.{Notes.before_noted, CodeNotes.{notes_after, code_notes}}}
 use Rattle.diy_words.proofs.read.read_option_at.Goals as goal
 
 pub returns-then-count-at-eq1 : goal.returns-then-count-at-eq1

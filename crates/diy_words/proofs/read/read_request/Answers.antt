@@ -1,6 +1,5 @@
 -- That `read_request` gives the request of the words, in its form.
-use Rattle.std.proofs.Common.{◌∙◌, sym}
-use Rattle.diy_words.proofs.{Judged.gives_named, RequestForm.request_form, RequestForm.request_within}
+use Rattle.diy_words.proofs.{Vocabulary.{◌∙◌, sym}, Judged.gives_named, RequestForm.{request_form, request_within}}
 use Rattle.diy_words.proofs.read.read_request.Goals as goal
 
 pub returns-in-Some : goal.returns-in-Some

@@ -1,7 +1,5 @@
 -- That `read_words` gives the error that there is without `-strict`.
-use Rattle.std.proofs.Common.{drop, length}
-use Rattle.diy_words.specs.{Parts.parts_of, Requests.loosely_asked}
-use Rattle.diy_words.proofs.StrictLaws.{fault_strictly}
+use Rattle.diy_words.{proofs.{Vocabulary.{drop, length}, StrictLaws.fault_strictly}, specs.{Parts.parts_of, Requests.loosely_asked}}
 use Rattle.diy_words.proofs.read.read_words.Goals as goal
 
 pub returns-in-Err : goal.returns-in-Err

@@ -1,7 +1,5 @@
 -- No position so far has an idle relaxation.
-use Rattle.std.proofs.Common.{◌≡◌, ◌<◌, ◌-◌, length}
-use Rattle.diy_words.specs.{Strict.idle_in_positions, StrictSteps.lists_from}
-use Rattle.diy_words.proofs.StrictLaws.{left_from}
+use Rattle.diy_words.{proofs.{Vocabulary.{◌≡◌, ◌<◌, ◌-◌, length}, StrictLaws.left_from}, specs.{Strict.idle_in_positions, StrictSteps.lists_from}}
 use Rattle.diy_words.proofs.strict.idle_in_positions.Given as goal
 
 abbrev pub invariant-loop-usage : goal.invariant-loop-usage

@@ -1,6 +1,5 @@
 -- Each part of the arguments is passed over, unless it is `-strict`.
-use Rattle.std.proofs.Common.{◌≡◌, ◌+◌, ◌||◌, true, false, sym, ◌∙◌, ap, arith}
-use Rattle.std.specs.{Prelude.codes, Str.bytes_eq}
+use Rattle.std.{proofs.Common.{◌≡◌, ◌+◌, ◌||◌, true, false, sym, ◌∙◌, ap, arith}, specs.{Prelude.codes, Str.bytes_eq}}
 use Rattle.diy_words.proofs.StrictLaws.{strict_from, strict_alone, strict_valued, strict_unvalued}
 use Rattle.diy_words.proofs.strict.is_strict.Goals as goal
 

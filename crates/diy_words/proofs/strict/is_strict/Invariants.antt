@@ -1,6 +1,5 @@
 -- No argument so far is `-strict`.
-use Rattle.std.proofs.Common.{◌≡◌, ◌≤◌, ◌-◌, length}
-use Rattle.diy_words.proofs.StrictLaws.{strict_from}
+use Rattle.diy_words.proofs.{Vocabulary.{◌≡◌, ◌≤◌, ◌-◌, length}, StrictLaws.strict_from}
 use Rattle.diy_words.proofs.strict.is_strict.Given as goal
 
 abbrev pub invariant-loop-at : goal.invariant-loop-at

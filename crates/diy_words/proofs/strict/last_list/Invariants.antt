@@ -1,7 +1,5 @@
 -- The last text is the last of those after the one reached so far.
-use Rattle.std.proofs.Common.{◌≡◌, ◌<◌, ◌+◌, ◌-◌, length}
-use Rattle.idle_relaxations.specs.Idle.{last_of}
-use Rattle.diy_words.specs.StrictSteps.{list_at, lists_from}
+use Rattle.diy_words.{proofs.Vocabulary.{◌≡◌, ◌<◌, ◌+◌, ◌-◌, length, last_of}, specs.StrictSteps.{list_at, lists_from}}
 use Rattle.diy_words.proofs.strict.last_list.Given as goal
 
 abbrev pub invariant-loop-next : goal.invariant-loop-next

@@ -1,7 +1,5 @@
 -- Each part of the arguments is passed over, unless it has a text of relaxations.
-use Rattle.std.proofs.Common.{◌+◌, sym, ◌∙◌, ap, arith}
-use Rattle.diy_words.specs.{Sayings.begins_option}
-use Rattle.diy_words.proofs.StrictLaws.{next_edges, next_operand, next_further, lists_other, lists_dashed, lists_unvalued, lists_none}
+use Rattle.diy_words.{proofs.{Vocabulary.{◌+◌, sym, ◌∙◌, ap, arith}, StrictLaws.{next_edges, next_operand, next_further, lists_other, lists_dashed, lists_unvalued, lists_none}}, specs.Sayings.begins_option}
 use Rattle.diy_words.proofs.strict.list_from.Goals as goal
 
 pub returns-then-count-at-eq1 : goal.returns-then-count-at-eq1

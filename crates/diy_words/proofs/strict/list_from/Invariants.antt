@@ -1,6 +1,5 @@
 -- No argument so far is a text of relaxations.
-use Rattle.std.proofs.Common.{◌≡◌, ◌≤◌, ◌-◌, length}
-use Rattle.diy_words.specs.StrictSteps.{lists_from}
+use Rattle.diy_words.{proofs.Vocabulary.{◌≡◌, ◌≤◌, ◌-◌, length}, specs.StrictSteps.lists_from}
 use Rattle.diy_words.proofs.strict.list_from.Given as goal
 
 abbrev pub invariant-loop-at : goal.invariant-loop-at

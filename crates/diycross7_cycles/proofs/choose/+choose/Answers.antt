@@ -1,10 +1,6 @@
 -- Each relaxation of the first list is appended, all choices with it are tried, and it is cut off again.
-use Rattle.std.proofs.Common.{◌≡◌, ◌<◌, ◌+◌, ◌-◌, ◌++◌, length, take, drop, rules, arith, sym, ap, subst, ◌∙◌}
-use Rattle.std.specs.Prelude.{OnOk}
-use Rattle.relax_edges.specs.declared.TheConstants.{MAX_EDGES}
-use Rattle.diycross7_cycles.specs.{Choices.is_accepted, CrossingSteps.{chosen_first, keep_accepted}}
-use Rattle.diycross7_cycles.proofs.{AcceptedLists.accepted_few, Choosing.{chosen_end, chosen_step, chosen_skip, cut_back, chosen_empty, chosen_split}}
-use Rattle.diycross7_cycles.proofs.choose.+choose.Goals.{then-is_ok+in_ok-choose-in-len1-up, else-is_ok}
+use Rattle.diycross7_cycles.proofs.{Vocabulary.{◌≡◌, ◌<◌, ◌+◌, ◌-◌, ◌++◌, length, take, drop, rules, arith, sym, ap, subst, ◌∙◌, OnOk, MAX_EDGES}, AcceptedLists.accepted_few, Choosing.{chosen_end, chosen_step, chosen_skip, cut_back, chosen_empty}}
+use Rattle.diycross7_cycles.{proofs.{Choosing.chosen_split, choose.+choose.Goals.{then-is_ok+in_ok-choose-in-len1-up, else-is_ok}}, specs.{Choices.is_accepted, CrossingSteps.{chosen_first, keep_accepted}}}
 use Rattle.diycross7_cycles.proofs.choose.+choose.Goals as goal
 
 pub loop-relax-preserved : goal.loop-relax-preserved

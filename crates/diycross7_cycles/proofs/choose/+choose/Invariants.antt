@@ -1,6 +1,5 @@
 -- What is kept so far, and then all choices with the relaxations that are left, is what the whole walk keeps.
-use Rattle.std.proofs.Common.{◌≡◌, drop, length}
-use Rattle.diycross7_cycles.specs.{Choices.is_accepted, Known.AreNormalForms, CrossingSteps.chosen_first}
+use Rattle.diycross7_cycles.{proofs.Vocabulary.{◌≡◌, drop, length}, specs.{Choices.is_accepted, Known.AreNormalForms, CrossingSteps.chosen_first}}
 use Rattle.diycross7_cycles.proofs.choose.+choose.Given as goal
 
 abbrev pub decreases-choose : goal.decreases-choose

@@ -1,6 +1,5 @@
 -- The answer is the cycle of the edges exactly where they are accepted.
-use Rattle.std.proofs.Common.{sym, ◌∙◌}
-use Rattle.diycross7_cycles.proofs.AcceptedLists.{said_accepted, said_refused, not_composed}
+use Rattle.diycross7_cycles.proofs.{Vocabulary.{sym, ◌∙◌}, AcceptedLists.{said_accepted, said_refused, not_composed}}
 use Rattle.diycross7_cycles.proofs.choose.accepted_cycle.Goals as goal
 
 pub returns-then-is_ok : goal.returns-then-is_ok

@@ -1,10 +1,6 @@
 -- The answer is the crossed cycles, each of which has a test.
-use Rattle.std.proofs.Common.{◌≡◌, true, rules, sym, ap, subst, ◌∙◌}
-use Rattle.std.specs.Prelude.{All, None}
-use Rattle.test_maker.specs.Refusals.{refusal_of}
-use Rattle.diycross7_cycles.specs.Choices.{crossed}
-use Rattle.diycross7_cycles.proofs.{Choosing.crossed_chosen, Choosing.crossed_empty, CrossedCycles.crossed_have_tests}
-use Rattle.diycross7_cycles.proofs.{choose.crossed_cycles.Goals.then-not-has_empty+in_ok-choose, choose.crossed_cycles.Goals.else-not-has_empty}
+use Rattle.std.{proofs.Common.{◌≡◌, true, rules, sym, ap, subst, ◌∙◌}, specs.Prelude.{All, None}}
+use Rattle.diycross7_cycles.{proofs.{Vocabulary.refusal_of, Choosing.{crossed_chosen, crossed_empty}, CrossedCycles.crossed_have_tests, choose.crossed_cycles.Goals.{then-not-has_empty+in_ok-choose, else-not-has_empty}}, specs.Choices.crossed}
 use Rattle.diycross7_cycles.proofs.choose.crossed_cycles.Goals as goal
 
 pub returns-clause-cycles : goal.returns-clause-cycles

@@ -1,8 +1,5 @@
 -- The edges are kept where they are accepted.
-use Rattle.std.proofs.Common.{◌≡◌, subst, sym, ◌∙◌}
-use Rattle.std.specs.Prelude.{OnOk}
-use Rattle.diycross7_cycles.specs.Choices.{is_accepted}
-use Rattle.diycross7_cycles.proofs.Choosing.{kept_some, kept_none}
+use Rattle.diycross7_cycles.{proofs.{Vocabulary.{◌≡◌, subst, sym, ◌∙◌, OnOk}, Choosing.{kept_some, kept_none}}, specs.Choices.is_accepted}
 use Rattle.diycross7_cycles.proofs.choose.keep_accepted.Goals as goal
 
 pub returns-in-Some-clause-kept : goal.returns-in-Some-clause-kept

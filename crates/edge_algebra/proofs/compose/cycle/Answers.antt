@@ -1,7 +1,5 @@
 -- A list in which no break is found is a cycle.
-use Rattle.std.proofs.Common.{rules, arith, sym, ◌∙◌}
-use Rattle.edge_algebra_laws.proofs.Composing.{unbroken_cycle}
-use Rattle.edge_algebra.proofs.Composed.{counted_from_zero}
+use Rattle.edge_algebra.proofs.{Vocabulary.{rules, arith, sym, ◌∙◌}, Composing.unbroken_cycle, Composed.counted_from_zero}
 use Rattle.edge_algebra.proofs.compose.cycle.Goals as goal
 
 pub of-requires : goal.of-requires

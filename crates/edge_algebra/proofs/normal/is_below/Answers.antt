@@ -1,6 +1,5 @@
 -- A rotation that begins with a greater rank is not less. The rotations are compared from each place on by their ranks there, and then from the next place on.
-use Rattle.std.proofs.Common.{sym, arith}
-use Rattle.edge_algebra.proofs.Windows.{begins_greater, compared}
+use Rattle.edge_algebra.proofs.{Vocabulary.{sym, arith}, Windows.{begins_greater, compared}}
 use Rattle.edge_algebra.proofs.normal.is_below.Goals as goal
 
 pub returns-then-ranks-place : goal.returns-then-ranks-place

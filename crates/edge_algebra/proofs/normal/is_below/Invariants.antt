@@ -1,6 +1,6 @@
 -- The comparison of the two rotations is that of what is left of them.
 use Rattle.std.proofs.Common.{◌≡◌, drop}
-use Rattle.edge_algebra_laws.specs.{Rotation.rotated, CycleOrder.ranks_below}
+use Rattle.edge_algebra.specs.{Rotation.rotated, CycleOrder.ranks_below}
 use Rattle.edge_algebra.proofs.normal.is_below.Given as goal
 
 abbrev pub invariant-loop-i : goal.invariant-loop-i

@@ -1,7 +1,5 @@
 -- The place that the search ends with begins the least rotation.
-use Rattle.std.proofs.Common.{sym, ◌∙◌, arith}
-use Rattle.edge_algebra_laws.proofs.Rotating.{normal_of_places, rotation_of_place}
-use Rattle.edge_algebra.proofs.{Windows.{first, kept, replaced}, normal.least_place.Goals.{then-is_below, else-is_below}}
+use Rattle.edge_algebra.proofs.{Vocabulary.{sym, ◌∙◌, arith}, Rotating.{normal_of_places, rotation_of_place}, Windows.{first, kept, replaced}, normal.least_place.Goals.{then-is_below, else-is_below}}
 use Rattle.edge_algebra.proofs.normal.least_place.Goals as goal
 
 pub loop-place-init : goal.loop-place-init

@@ -1,6 +1,6 @@
 -- A place that is none of the list is past its end once.
 use Rattle.std.proofs.{Common.{◌-◌, ◌∙◌, ap, arith, length, slice_get}, Math.Nat.mod-eq_of_lt, lemmas.Option.slice_get-get_or}
-use Rattle.edge_algebra_laws.proofs.Places.{past_once}
+use Rattle.edge_algebra.proofs.Places.{past_once}
 use Rattle.edge_algebra.proofs.normal.rank_at.Goals as goal
 
 pub returns-then-i-ranks : goal.returns-then-i-ranks

@@ -1,6 +1,6 @@
 -- The ranks of the edges before a place are in the list.
 use Rattle.std.proofs.Common.{◌≡◌, ◌++◌, length, map, drop}
-use Rattle.relax_edges.specs.Order.{rank_of}
+use Rattle.edge_algebra.proofs.Vocabulary.{rank_of}
 use Rattle.edge_algebra.proofs.normal.ranks_of.Given as goal
 
 abbrev pub invariant-loop-edge : goal.invariant-loop-edge

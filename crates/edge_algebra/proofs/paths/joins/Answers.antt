@@ -1,6 +1,5 @@
 -- The test of the last edge of one path and the first of the next decides whether they join.
-use Rattle.std.proofs.Common.{sym, ◌∙◌}
-use Rattle.edge_algebra_laws.proofs.Composing.{last_joins_at}
+use Rattle.edge_algebra.proofs.{Vocabulary.{sym, ◌∙◌}, Composing.last_joins_at}
 use Rattle.edge_algebra.proofs.paths.joins.Goals as goal
 
 pub returns : goal.returns

@@ -1,6 +1,5 @@
 -- A printed name spells the edge with this name.
-use Rattle.std.proofs.Common.{sym, ◌∙◌}
-use Rattle.edges_from_text.proofs.EdgeReadings.{edge_of_named}
+use Rattle.edges_from_text.proofs.{Vocabulary.{sym, ◌∙◌}, EdgeReadings.edge_of_named}
 use Rattle.edges_from_text.proofs.edge.spelled.Goals as goal
 
 pub returns-in-Some : goal.returns-in-Some

@@ -1,8 +1,6 @@
 -- The bytes passed are none of them separators, and their hash is kept.
-use Rattle.std.proofs.Common.{◌≡◌, ◌≤◌, ◌+◌, length}
-use Rattle.std.specs.List.{before_first, position_or_len}
-use Rattle.relax_edges.specs.HashedWords.{hashed}
-use Rattle.edges_from_text.specs.Spelled.{separates}
+use Rattle.std.{proofs.Common.{◌≡◌, ◌≤◌, ◌+◌, length}, specs.List.{before_first, position_or_len}}
+use Rattle.edges_from_text.{proofs.Vocabulary.hashed, specs.Spelled.separates}
 use Rattle.edges_from_text.proofs.read.first_word.Given as goal
 
 abbrev pub invariant-loop-rest : goal.invariant-loop-rest

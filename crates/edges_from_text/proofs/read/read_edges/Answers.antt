@@ -1,7 +1,6 @@
 -- Each word read adds its edge, and a word that is none ends the reading.
 use Rattle.std.proofs.Common.{◌≡◌, [], ◌∷◌, None, sym, ◌∙◌}
-use Rattle.edges_from_text.specs.Spelled.{separates}
-use Rattle.edges_from_text.proofs.ReadingLaws.{spelled, first_read, first_fails, after_separator, after_end, none_if_err}
+use Rattle.edges_from_text.{specs.Spelled.separates, proofs.ReadingLaws.{spelled, first_read, first_fails, after_separator, after_end, none_if_err}}
 use Rattle.edges_from_text.proofs.read.read_edges.Goals as goal
 
 pub returns-in_err-read_word : goal.returns-in_err-read_word

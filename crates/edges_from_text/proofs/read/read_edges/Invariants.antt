@@ -1,8 +1,6 @@
 -- What the words read leave, and the words of the rest add to it, is what the words of the text add.
-use Rattle.std.proofs.Common.{◌≡◌, length}
-use Rattle.std.specs.List.{slice_split}
-use Rattle.edges_from_text.specs.Spelled.{separates}
-use Rattle.edges_from_text.proofs.ReadingLaws.{spelled}
+use Rattle.std.{proofs.Common.{◌≡◌, length}, specs.List.slice_split}
+use Rattle.edges_from_text.{specs.Spelled.separates, proofs.ReadingLaws.spelled}
 use Rattle.edges_from_text.proofs.read.read_edges.Given as goal
 
 abbrev pub invariant-loop-rest : goal.invariant-loop-rest

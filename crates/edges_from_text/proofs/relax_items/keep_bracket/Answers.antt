@@ -1,6 +1,5 @@
 -- The relaxations of a good bracket are kept, and a bad bracket is refused.
-use Rattle.std.proofs.{Common.◌∙◌, lemmas.Result.err_from_is_err_and}
-use Rattle.edges_from_text.proofs.Prefixes.{kept_bracket, bad_bracket, bracket_len}
+use Rattle.edges_from_text.proofs.{Vocabulary.{◌∙◌, err_from_is_err_and}, Prefixes.{kept_bracket, bad_bracket, bracket_len}}
 use Rattle.edges_from_text.proofs.relax_items.keep_bracket.Goals as goal
 
 pub returns-in_err-keep_words-in-Some-clause-kept : goal.returns-in_err-keep_words-in-Some-clause-kept

@@ -1,6 +1,5 @@
 -- The item that a text begins with is kept, by the text's first byte.
-use Rattle.std.proofs.Common.{◌∙◌, sym}
-use Rattle.edges_from_text.proofs.Prefixes.{at_closing, at_separator, at_separator_len, at_word}
+use Rattle.edges_from_text.proofs.{Vocabulary.{◌∙◌, sym}, Prefixes.{at_closing, at_separator, at_separator_len, at_word}}
 use Rattle.edges_from_text.proofs.relax_items.keep_item.Goals as goal
 
 pub keep_word-requires-clause-word : goal.keep_word-requires-clause-word

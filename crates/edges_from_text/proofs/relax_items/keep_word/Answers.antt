@@ -1,6 +1,5 @@
 -- The relaxations of the word that a text begins with are kept.
-use Rattle.std.proofs.{Common.◌∙◌, lemmas.Result.err_from_is_err_and}
-use Rattle.edges_from_text.proofs.Prefixes.{kept_run}
+use Rattle.edges_from_text.proofs.{Vocabulary.{◌∙◌, err_from_is_err_and}, Prefixes.kept_run}
 use Rattle.edges_from_text.proofs.relax_items.keep_word.Goals as goal
 
 pub returns-in_err-keep_words-clause-kept : goal.returns-in_err-keep_words-clause-kept

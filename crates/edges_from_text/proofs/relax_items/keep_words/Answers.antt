@@ -1,7 +1,5 @@
 -- Where some choice of the words' edges joins, the paths found are what the words keep.
-use Rattle.std.proofs.Common.{◌∙◌, sym, arith}
-use Rattle.edges_from_text.specs.RelaxText.{words_of}
-use Rattle.edges_from_text.proofs.Items.{kept_words_some}
+use Rattle.edges_from_text.{proofs.{Vocabulary.{◌∙◌, sym, arith}, Items.kept_words_some}, specs.RelaxText.words_of}
 use Rattle.edges_from_text.proofs.relax_items.keep_words.Goals as goal
 
 pub returns-then-branch-clause-kept : goal.returns-then-branch-clause-kept

@@ -1,6 +1,5 @@
 -- The items of a text are kept one after another, up to the first that is refused.
-use Rattle.std.proofs.Common.{◌∙◌, sym, rules}
-use Rattle.edges_from_text.proofs.{Items.{items_step, items_end, items_refused}, ItemScan.items_scanned}
+use Rattle.edges_from_text.proofs.{Vocabulary.{◌∙◌, sym, rules}, Items.{items_step, items_end, items_refused}, ItemScan.items_scanned}
 use Rattle.edges_from_text.proofs.relax_list.keep_items.Goals as goal
 
 pub loop-at-init : goal.loop-at-init

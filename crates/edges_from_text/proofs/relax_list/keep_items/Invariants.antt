@@ -1,7 +1,6 @@
 -- What is left of the text adds to the list kept so far what the whole text adds to the list at the start.
 use Rattle.std.proofs.Common.{◌≡◌, ◌≤◌, ◌-◌, length, drop}
-use Rattle.edges_from_text.specs.{RelaxText.items_of, RelaxKept.kept_items}
-use Rattle.edges_from_text.proofs.ItemScan.{items_from}
+use Rattle.edges_from_text.{specs.{RelaxText.items_of, RelaxKept.kept_items}, proofs.ItemScan.items_from}
 use Rattle.edges_from_text.proofs.relax_list.keep_items.Given as goal
 
 abbrev pub invariant-loop-at : goal.invariant-loop-at

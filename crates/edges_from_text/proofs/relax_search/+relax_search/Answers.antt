@@ -1,9 +1,6 @@
 -- The search keeps exactly the paths that begin with the chosen edges, or is refused where there is no room for them.
 use Rattle.std.proofs.{Common.{◌≡◌, ◌∷◌, [], ◌++◌, false, map, refl, ap, ◌∙◌, arith}, lemmas.Result.err_from_is_err_and}
-use Rattle.relax_edges.specs.{declared.kinds.Reach.TheVariants.Internal, declared.kinds.Com.TheVariants.Rf, declared.edge.Edge.TheVariants.Com}
-use Rattle.relax_edges.specs.JoinedEdges.{is_joined}
-use Rattle.edges_from_text.specs.{RelaxText.words_of, Relaxations.word_edges}
-use Rattle.edges_from_text.proofs.Search.{keeps_no_path, keeps_first, keeps_word_next, refused_word, keeps_word, keeps_no_word, refused_no_word}
+use Rattle.edges_from_text.{proofs.{Vocabulary.{Internal, Rf, Com, is_joined}, Search.{keeps_no_path, keeps_first, keeps_word_next, refused_word, keeps_word, keeps_no_word, refused_no_word}}, specs.{RelaxText.words_of, Relaxations.word_edges}}
 use Rattle.edges_from_text.proofs.relax_search.+relax_search.Goals as goal
 
 pub keep_after-returns-then-not-extends-clause-kept : goal.keep_after-returns-then-not-extends-clause-kept

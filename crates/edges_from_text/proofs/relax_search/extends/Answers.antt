@@ -1,6 +1,5 @@
 -- A path goes on with an edge that its last edge joins.
-use Rattle.std.proofs.Common.{◌∙◌, sym}
-use Rattle.edges_from_text.proofs.Search.{path_extended}
+use Rattle.edges_from_text.proofs.{Vocabulary.{◌∙◌, sym}, Search.path_extended}
 use Rattle.edges_from_text.proofs.relax_search.extends.Goals as goal
 
 pub returns-in-len1-up : goal.returns-in-len1-up

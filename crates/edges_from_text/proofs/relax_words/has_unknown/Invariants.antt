@@ -1,6 +1,5 @@
 -- No word passed is unknown, so the rest has an unknown word exactly where the text has.
-use Rattle.std.proofs.Common.{◌≡◌, length}
-use Rattle.std.specs.List.{list_any}
+use Rattle.std.{proofs.Common.{◌≡◌, length}, specs.List.list_any}
 use Rattle.edges_from_text.specs.{RelaxText.{words_of, is_empty}, Relaxations.word_edges}
 use Rattle.edges_from_text.proofs.relax_words.has_unknown.Given as goal
 

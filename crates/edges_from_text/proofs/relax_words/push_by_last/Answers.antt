@@ -1,6 +1,5 @@
 -- A star as the last byte adds the edges of both its choices.
-use Rattle.std.proofs.Common.{append_assoc}
-use Rattle.edges_from_text.proofs.Stars.{pushed_twice}
+use Rattle.edges_from_text.proofs.{Vocabulary.append_assoc, Stars.pushed_twice}
 use Rattle.edges_from_text.proofs.relax_words.push_by_last.Goals as goal
 
 pub returns-then-last-eq42 : goal.returns-then-last-eq42

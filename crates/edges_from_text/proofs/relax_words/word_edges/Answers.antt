@@ -1,6 +1,5 @@
 -- A word names the edges that its last two bytes choose.
-use Rattle.std.proofs.Common.{sym, ◌∙◌}
-use Rattle.edges_from_text.proofs.Stars.{word_edges_split}
+use Rattle.edges_from_text.proofs.{Vocabulary.{sym, ◌∙◌}, Stars.word_edges_split}
 use Rattle.edges_from_text.proofs.relax_words.word_edges.Goals as goal
 
 pub returns-in-len2-up : goal.returns-in-len2-up

@@ -1,7 +1,5 @@
 -- How the list of judged edges grows by one edge.
-use Rattle.std.proofs.Common.{◌≡◌, Some, slice_get, subst}
-use Rattle.litmus_text.specs.ReadPrograms.{program_read}
-use Rattle.exec_check.proofs.Judging.{one_judged}
+use Rattle.exec_check.proofs.{Vocabulary.{◌≡◌, Some, slice_get, subst, program_read}, Judging.one_judged}
 use Rattle.exec_check.proofs.edges.edges_of.Goals as goal
 
 pub loop-i-preserved : goal.loop-i-preserved

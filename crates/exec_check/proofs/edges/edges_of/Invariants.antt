@@ -1,6 +1,5 @@
 -- What holds in the loop over the edges of the cycle.
-use Rattle.litmus_text.specs.ReadPrograms.{program_read}
-use Rattle.exec_check.proofs.Judging.{AreJudgedTo}
+use Rattle.exec_check.proofs.{Vocabulary.program_read, Judging.AreJudgedTo}
 use Rattle.exec_check.proofs.edges.edges_of.Given as goal
 
 -- the edges so far are judged

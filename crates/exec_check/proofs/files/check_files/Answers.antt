@@ -1,10 +1,6 @@
 -- That `check_files` writes what is to be shown, or ends at the first file with an error.
-use Rattle.std.proofs.Common.{sym, subst}
-use Rattle.diy_io.specs.{Shelf.ShelfSeen, Wrote.{SinkSeen, WroteAll, WrotePart}}
-use Rattle.relax_edges.specs.declared.kinds.ArchName.{ArchName}
-use Rattle.arch_trait.specs.Writing.{Writing}
-use Rattle.exec_check.specs.{declared.checked_errors.CheckEnd.CheckEnd, FilesChecked.FilesChecked}
-use Rattle.exec_check.proofs.CheckedEndLaws.{test_refused, exec_refused, execution_shown}
+use Rattle.exec_check.{proofs.{Vocabulary.{sym, subst, ShelfSeen, SinkSeen, WroteAll, WrotePart, ArchName, Writing}, CheckedEndLaws.{test_refused, exec_refused, execution_shown}}, specs.declared.checked_errors.CheckEnd.CheckEnd}
+use Rattle.exec_check.specs.FilesChecked.{FilesChecked}
 use Rattle.exec_check.proofs.files.check_files.Goals as goal
 
 pub returns-in-Err-clause-checked : goal.returns-in-Err-clause-checked

@@ -1,6 +1,5 @@
 -- That the sink holds the text of the graph.
-use Rattle.std.proofs.Common.{◌∙◌, ap}
-use Rattle.exec_check.proofs.TextSinkLaws.{text_held}
+use Rattle.exec_check.proofs.{Vocabulary.{◌∙◌, ap}, TextSinkLaws.text_held}
 use Rattle.exec_check.proofs.shown.graph_text_by.Goals as goal
 
 pub returns-in-Ok : goal.returns-in-Ok

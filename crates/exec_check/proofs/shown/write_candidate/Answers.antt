@@ -1,9 +1,5 @@
 -- That what is written is the graph.
-use Rattle.std.proofs.Common.{◌∙◌, ap, sym, subst}
-use Rattle.litmus_text.specs.ReadPrograms.{program_read}
-use Rattle.exec_graph.specs.{Drawing.Draws, Graphs.{PictureSeen, drawing_text, visits_of_runs}}
-use Rattle.exec_meaning.proofs.RunLaws.{visits_are}
-use Rattle.exec_check.proofs.ShownLaws.{picture_is}
+use Rattle.exec_check.proofs.{Vocabulary.{◌∙◌, ap, sym, subst, program_read, Draws, PictureSeen, drawing_text, visits_of_runs, visits_are}, ShownLaws.picture_is}
 use Rattle.exec_check.proofs.shown.write_candidate.Goals as goal
 
 pub returns : goal.returns

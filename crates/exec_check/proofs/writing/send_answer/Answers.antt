@@ -1,7 +1,5 @@
 -- What is sent is the line of an answer.
-use Rattle.std.proofs.Common.{◌∙◌}
-use Rattle.diy_io.specs.PageLaws.{sends_same}
-use Rattle.exec_check.proofs.Lines.{answer_line_is}
+use Rattle.exec_check.proofs.{Vocabulary.{◌∙◌, sends_same}, Lines.answer_line_is}
 use Rattle.exec_check.proofs.writing.send_answer.Goals as goal
 
 pub returns : goal.returns

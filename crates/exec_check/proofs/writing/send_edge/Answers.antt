@@ -1,7 +1,5 @@
 -- What is sent is the line of an edge.
-use Rattle.std.proofs.Common.{◌∙◌}
-use Rattle.diy_io.specs.PageLaws.{sends_same}
-use Rattle.exec_check.proofs.Lines.{edge_line_is}
+use Rattle.exec_check.proofs.{Vocabulary.{◌∙◌, sends_same}, Lines.edge_line_is}
 use Rattle.exec_check.proofs.writing.send_edge.Goals as goal
 
 pub returns : goal.returns

@@ -1,9 +1,5 @@
 -- What is sent is the lines of a candidate's answers.
-use Rattle.std.proofs.Common.{◌++◌, ap}
-use Rattle.std.specs.Prelude.{codes}
-use Rattle.diy_io.specs.PageLaws.{sends_same, sends_stopped, sends_then}
-use Rattle.exec_check.specs.Verdicts.{answer_line, judged_lines}
-use Rattle.exec_check.proofs.Lines.{further_none, further_is}
+use Rattle.exec_check.{proofs.{Vocabulary.{◌++◌, ap, codes, sends_same, sends_stopped, sends_then}, Lines.{further_none, further_is}}, specs.Verdicts.{answer_line, judged_lines}}
 use Rattle.exec_check.proofs.writing.send_further.Goals as goal
 
 pub returns-then-not-verdict : goal.returns-then-not-verdict

@@ -1,7 +1,5 @@
 -- What is sent is the lines of the verdict.
-use Rattle.std.specs.Prelude.{codes}
-use Rattle.diy_io.specs.PageLaws.{sends_then}
-use Rattle.exec_check.specs.Verdicts.{answer_line, further_lines, verdict_text}
+use Rattle.exec_check.{proofs.Vocabulary.{codes, sends_then}, specs.Verdicts.{answer_line, further_lines, verdict_text}}
 use Rattle.exec_check.proofs.writing.send_verdict.Goals as goal
 
 pub returns : goal.returns

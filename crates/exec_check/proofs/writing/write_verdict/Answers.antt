@@ -1,5 +1,5 @@
 -- What is written is the lines of the verdict.
-use Rattle.diy_io.specs.PageLaws.{sent_wrote, sends_of}
+use Rattle.exec_check.proofs.Vocabulary.{sent_wrote, sends_of}
 use Rattle.exec_check.proofs.writing.write_verdict.Goals as goal
 
 pub returns : goal.returns

@@ -1,7 +1,5 @@
 -- The loop over the edges of a cycle: the arrows so far and those of the edges that are left make up the whole.
-use Rattle.std.proofs.Common.{◌≡◌, ◌++◌, drop, map}
-use Rattle.exec_graph.specs.Graphs.{arrows_of}
-use Rattle.exec_graph.proofs.GraphLines.{arrows_from}
+use Rattle.exec_graph.{proofs.{Vocabulary.{◌≡◌, ◌++◌, drop, map}, GraphLines.arrows_from}, specs.Graphs.arrows_of}
 use Rattle.exec_graph.proofs.arrows.cycle_arrows.Given as goal
 
 abbrev pub invariant-loop-i : goal.invariant-loop-i

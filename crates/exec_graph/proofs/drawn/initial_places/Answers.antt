@@ -1,7 +1,5 @@
 -- How the places grow by one.
-use Rattle.std.specs.List.{list_any}
-use Rattle.exec_graph.specs.Graphs.{reads_initial}
-use Rattle.exec_graph.proofs.GraphLines.{initial_few, initial_more}
+use Rattle.exec_graph.{proofs.{Vocabulary.list_any, GraphLines.{initial_few, initial_more}}, specs.Graphs.reads_initial}
 use Rattle.exec_graph.proofs.drawn.initial_places.Goals as goal
 
 pub loop-place-preserved : goal.loop-place-preserved

@@ -1,6 +1,5 @@
 -- The loop over the places: those so far whose initial value is read are listed.
-use Rattle.std.proofs.Common.{◌≡◌, ◌≤◌, length}
-use Rattle.exec_graph.specs.Graphs.{initial_places}
+use Rattle.exec_graph.{proofs.Vocabulary.{◌≡◌, ◌≤◌, length}, specs.Graphs.initial_places}
 use Rattle.exec_graph.proofs.drawn.initial_places.Given as goal
 
 abbrev pub invariant-loop-place : goal.invariant-loop-place

@@ -1,6 +1,5 @@
 -- The loops over the places and over the accesses: those so far are drawn.
-use Rattle.std.proofs.Common.{◌≡◌, ◌++◌, map, take}
-use Rattle.exec_graph.specs.Graphs.{access_among, initial_write, visits_of_runs}
+use Rattle.exec_graph.{proofs.Vocabulary.{◌≡◌, ◌++◌, map, take}, specs.Graphs.{access_among, initial_write, visits_of_runs}}
 use Rattle.exec_graph.proofs.drawn.points_drawn.Given as goal
 
 abbrev pub invariant-loop-place : goal.invariant-loop-place

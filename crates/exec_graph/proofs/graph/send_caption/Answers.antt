@@ -1,6 +1,5 @@
 -- The parts of the caption are sent one after another.
-use Rattle.exec_graph.specs.Graphs.{caption}
-use Rattle.diy_io.specs.PageLaws.{sends_stopped, sends_then}
+use Rattle.exec_graph.{specs.Graphs.caption, proofs.Vocabulary.{sends_stopped, sends_then}}
 use Rattle.exec_graph.proofs.graph.send_caption.Goals as goal
 
 pub returns-in_err-send_quoted_after : goal.returns-in_err-send_quoted_after

@@ -1,10 +1,5 @@
 -- What is sent is the text of the condition.
-use Rattle.std.proofs.Common.{◌++◌, ◌∙◌, ap, arith}
-use Rattle.std.specs.List.{flat_map}
-use Rattle.diy_io.specs.PageLaws.{sends_same}
-use Rattle.final_cond.specs.{Conditions.cond_view, CondText.cond_text}
-use Rattle.exec_graph.specs.Graphs.{quoted_byte}
-use Rattle.exec_graph.proofs.GraphLines.{short_page}
+use Rattle.exec_graph.{proofs.{Vocabulary.{◌++◌, ◌∙◌, ap, arith, flat_map, sends_same, cond_view, cond_text}, GraphLines.short_page}, specs.Graphs.quoted_byte}
 use Rattle.exec_graph.proofs.graph.send_condition_after.Goals as goal
 
 pub returns : goal.returns

@@ -1,8 +1,6 @@
 -- The lines of the edges that are dashed are sent one after another.
 use Rattle.std.proofs.Common.{cond, []}
-use Rattle.exec_graph.specs.Graphs.{edge_lines, is_dashed}
-use Rattle.diy_io.specs.PageLaws.{each_sent, sent_nothing}
-use Rattle.exec_graph.proofs.SentLines.{passing_sent, passing_stopped_at}
+use Rattle.exec_graph.{specs.Graphs.{edge_lines, is_dashed}, proofs.{SentLines.{passing_sent, passing_stopped_at}, Vocabulary.{each_sent, sent_nothing}}}
 use Rattle.exec_graph.proofs.graph.send_dashed.Goals as goal
 
 pub loop-arrow-init : goal.loop-arrow-init

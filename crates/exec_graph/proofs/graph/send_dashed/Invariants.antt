@@ -1,8 +1,6 @@
 -- The loop over the arrows: the lines of those so far that are dashed are sent.
-use Rattle.std.proofs.Common.{take, cond, []}
-use Rattle.std.specs.List.{flat_map}
-use Rattle.diy_io.specs.Page.{SentAll}
-use Rattle.exec_graph.specs.Graphs.{edge_lines, is_dashed}
+use Rattle.std.{proofs.Common.{take, cond, []}, specs.List.flat_map}
+use Rattle.exec_graph.{proofs.Vocabulary.SentAll, specs.Graphs.{edge_lines, is_dashed}}
 use Rattle.exec_graph.proofs.graph.send_dashed.Given as goal
 
 abbrev pub invariant-loop-arrow : goal.invariant-loop-arrow

@@ -1,7 +1,5 @@
 -- The parts of the graph are sent one after another.
-use Rattle.std.proofs.Common.{ap}
-use Rattle.exec_graph.specs.Graphs.{relation_lines}
-use Rattle.diy_io.specs.PageLaws.{sends_same, sends_stopped, sends_then}
+use Rattle.exec_graph.{proofs.Vocabulary.{ap, sends_same, sends_stopped, sends_then}, specs.Graphs.relation_lines}
 use Rattle.exec_graph.proofs.graph.send_graph.Goals as goal
 
 pub returns-in_err-send_opening : goal.returns-in_err-send_opening

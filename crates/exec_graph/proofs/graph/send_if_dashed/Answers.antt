@@ -1,6 +1,5 @@
 -- Nothing is sent of any other edge.
-use Rattle.std.proofs.Common.{sym, ◌∙◌}
-use Rattle.exec_graph.proofs.SentLines.{unless_passing}
+use Rattle.exec_graph.proofs.{Vocabulary.{sym, ◌∙◌}, SentLines.unless_passing}
 use Rattle.exec_graph.proofs.graph.send_if_dashed.Goals as goal
 
 pub returns : goal.returns

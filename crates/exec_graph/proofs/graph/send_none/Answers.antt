@@ -1,6 +1,5 @@
 -- The parts of the text are sent one after the other.
-use Rattle.exec_graph.specs.Graphs.{no_drawing_text}
-use Rattle.diy_io.specs.PageLaws.{sends_stopped, sends_then}
+use Rattle.exec_graph.{specs.Graphs.no_drawing_text, proofs.Vocabulary.{sends_stopped, sends_then}}
 use Rattle.exec_graph.proofs.graph.send_none.Goals as goal
 
 pub returns-in_err-send_quoted_after : goal.returns-in_err-send_quoted_after

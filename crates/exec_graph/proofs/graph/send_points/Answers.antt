@@ -1,5 +1,5 @@
 -- The lines of what is drawn are sent one after another.
-use Rattle.diy_io.specs.PageLaws.{sends_stopped, sends_then}
+use Rattle.exec_graph.proofs.Vocabulary.{sends_stopped, sends_then}
 use Rattle.exec_graph.proofs.graph.send_points.Goals as goal
 
 pub returns-in_err-send_initials : goal.returns-in_err-send_initials

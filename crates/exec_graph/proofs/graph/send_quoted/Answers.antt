@@ -1,7 +1,5 @@
 -- The bytes are sent one after another.
-use Rattle.exec_graph.specs.Graphs.{quoted_byte}
-use Rattle.diy_io.specs.PageLaws.{each_sent, sent_nothing}
-use Rattle.exec_graph.proofs.SentLines.{all_sent, stopped_at}
+use Rattle.exec_graph.{specs.Graphs.quoted_byte, proofs.{SentLines.{all_sent, stopped_at}, Vocabulary.{each_sent, sent_nothing}}}
 use Rattle.exec_graph.proofs.graph.send_quoted.Goals as goal
 
 pub loop-byte-init : goal.loop-byte-init

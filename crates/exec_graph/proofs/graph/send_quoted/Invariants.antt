@@ -1,8 +1,5 @@
 -- The loop over the bytes: those so far are sent.
-use Rattle.std.proofs.Common.{take}
-use Rattle.std.specs.List.{flat_map}
-use Rattle.diy_io.specs.Page.{SentAll}
-use Rattle.exec_graph.specs.Graphs.{quoted_byte}
+use Rattle.exec_graph.{proofs.Vocabulary.{take, flat_map, SentAll}, specs.Graphs.quoted_byte}
 use Rattle.exec_graph.proofs.graph.send_quoted.Given as goal
 
 abbrev pub invariant-loop-byte : goal.invariant-loop-byte

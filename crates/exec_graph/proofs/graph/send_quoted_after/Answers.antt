@@ -1,5 +1,5 @@
 -- The texts are sent one after the other.
-use Rattle.diy_io.specs.PageLaws.{sends_stopped, sends_then}
+use Rattle.exec_graph.proofs.Vocabulary.{sends_stopped, sends_then}
 use Rattle.exec_graph.proofs.graph.send_quoted_after.Goals as goal
 
 pub returns-in_err-send : goal.returns-in_err-send

@@ -1,8 +1,5 @@
 -- The lines of the relations are sent one after another.
-use Rattle.exec_graph.specs.declared.graph.TheConstants.{RELATIONS}
-use Rattle.exec_graph.specs.Graphs.{thin_lines}
-use Rattle.diy_io.specs.PageLaws.{each_sent, sent_nothing}
-use Rattle.exec_graph.proofs.SentLines.{all_sent, stopped_at}
+use Rattle.exec_graph.{specs.{declared.graph.TheConstants.RELATIONS, Graphs.thin_lines}, proofs.{SentLines.{all_sent, stopped_at}, Vocabulary.{each_sent, sent_nothing}}}
 use Rattle.exec_graph.proofs.graph.send_relations.Goals as goal
 
 pub loop-relation-init : goal.loop-relation-init

@@ -1,9 +1,5 @@
 -- The loop over the relations: the lines of those so far are sent.
-use Rattle.std.proofs.Common.{take}
-use Rattle.std.specs.List.{flat_map}
-use Rattle.diy_io.specs.Page.{SentAll}
-use Rattle.exec_graph.specs.declared.graph.TheConstants.{RELATIONS}
-use Rattle.exec_graph.specs.Graphs.{thin_lines}
+use Rattle.exec_graph.{proofs.Vocabulary.{take, flat_map, SentAll}, specs.{declared.graph.TheConstants.RELATIONS, Graphs.thin_lines}}
 use Rattle.exec_graph.proofs.graph.send_relations.Given as goal
 
 abbrev pub invariant-loop-relation : goal.invariant-loop-relation

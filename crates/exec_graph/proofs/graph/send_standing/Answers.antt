@@ -1,9 +1,6 @@
 -- The lines of the edges that stand are sent one after another.
 use Rattle.std.proofs.Common.{cond, []}
-use Rattle.exec_graph.specs.declared.arrows.Arrow.{Arrow}
-use Rattle.exec_graph.specs.Graphs.{edge_lines}
-use Rattle.diy_io.specs.PageLaws.{each_sent, sent_nothing}
-use Rattle.exec_graph.proofs.SentLines.{passing_sent, passing_stopped_at}
+use Rattle.exec_graph.{specs.{declared.arrows.Arrow.Arrow, Graphs.edge_lines}, proofs.{SentLines.{passing_sent, passing_stopped_at}, Vocabulary.{each_sent, sent_nothing}}}
 use Rattle.exec_graph.proofs.graph.send_standing.Goals as goal
 
 pub loop-arrow-init : goal.loop-arrow-init

@@ -1,9 +1,6 @@
 -- The loop over the arrows: the lines of those so far that stand are sent.
-use Rattle.std.proofs.Common.{take, cond, []}
-use Rattle.std.specs.List.{flat_map}
-use Rattle.diy_io.specs.Page.{SentAll}
-use Rattle.exec_graph.specs.declared.arrows.Arrow.{Arrow}
-use Rattle.exec_graph.specs.Graphs.{edge_lines}
+use Rattle.std.{proofs.Common.{take, cond, []}, specs.List.flat_map}
+use Rattle.exec_graph.{proofs.Vocabulary.SentAll, specs.{declared.arrows.Arrow.Arrow, Graphs.edge_lines}}
 use Rattle.exec_graph.proofs.graph.send_standing.Given as goal
 
 abbrev pub invariant-loop-arrow : goal.invariant-loop-arrow

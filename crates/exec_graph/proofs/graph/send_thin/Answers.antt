@@ -1,8 +1,5 @@
 -- The lines of the thin arrows of a relation are sent one after another.
-use Rattle.exec_graph.proofs.SentLines.{pairs_from}
-use Rattle.exec_graph.specs.Graphs.{is_thin, pair_line}
-use Rattle.diy_io.specs.PageLaws.{sent_nothing}
-use Rattle.exec_graph.proofs.SentLines.{one_sent, pairs_sent, pairs_stopped}
+use Rattle.exec_graph.{proofs.{SentLines.{pairs_from, one_sent, pairs_sent, pairs_stopped}, Vocabulary.sent_nothing}, specs.Graphs.{is_thin, pair_line}}
 use Rattle.exec_graph.proofs.graph.send_thin.Goals as goal
 
 pub loop-from-init : goal.loop-from-init

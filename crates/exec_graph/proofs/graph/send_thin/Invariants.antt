@@ -1,9 +1,5 @@
 -- The loop over the first of each pair: the lines of those so far are sent.
-use Rattle.std.proofs.Common.{take}
-use Rattle.std.specs.List.{flat_map}
-use Rattle.diy_io.specs.Page.{SentAll}
-use Rattle.exec_graph.proofs.SentLines.{pairs_from}
-use Rattle.exec_graph.specs.Graphs.{is_thin, pair_line}
+use Rattle.exec_graph.{proofs.{Vocabulary.{take, flat_map, SentAll}, SentLines.pairs_from}, specs.Graphs.{is_thin, pair_line}}
 use Rattle.exec_graph.proofs.graph.send_thin.Given as goal
 
 abbrev pub invariant-loop-from : goal.invariant-loop-from

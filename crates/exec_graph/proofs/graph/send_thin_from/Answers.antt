@@ -1,8 +1,6 @@
 -- The lines of the thin arrows that lead from one are sent one after another.
 use Rattle.std.proofs.Common.{cond, []}
-use Rattle.exec_graph.specs.Graphs.{is_thin, pair_line}
-use Rattle.diy_io.specs.PageLaws.{sent_nothing}
-use Rattle.exec_graph.proofs.SentLines.{one_sent, passing_sent, passing_stopped}
+use Rattle.exec_graph.{specs.Graphs.{is_thin, pair_line}, proofs.{SentLines.{one_sent, passing_sent, passing_stopped}, Vocabulary.sent_nothing}}
 use Rattle.exec_graph.proofs.graph.send_thin_from.Goals as goal
 
 pub loop-to-init : goal.loop-to-init

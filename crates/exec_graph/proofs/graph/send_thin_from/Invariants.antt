@@ -1,8 +1,6 @@
 -- The loop over the second of each pair: the lines of those so far are sent.
-use Rattle.std.proofs.Common.{take, cond, []}
-use Rattle.std.specs.List.{flat_map}
-use Rattle.diy_io.specs.Page.{SentAll}
-use Rattle.exec_graph.specs.Graphs.{is_thin, pair_line}
+use Rattle.std.{proofs.Common.{take, cond, []}, specs.List.flat_map}
+use Rattle.exec_graph.{proofs.Vocabulary.SentAll, specs.Graphs.{is_thin, pair_line}}
 use Rattle.exec_graph.proofs.graph.send_thin_from.Given as goal
 
 abbrev pub invariant-loop-to : goal.invariant-loop-to

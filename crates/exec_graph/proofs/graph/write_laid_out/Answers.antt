@@ -1,7 +1,5 @@
 -- What is written is the text of the graph.
-use Rattle.diy_io.specs.PageLaws.{sends_of, sends_same, sent_wrote, unsent_wrote}
-use Rattle.exec_graph.specs.Graphs.{picture_seen}
-use Rattle.exec_graph.proofs.SentLines.{drawing_is}
+use Rattle.exec_graph.{proofs.{Vocabulary.{sends_of, sends_same, sent_wrote, unsent_wrote}, SentLines.drawing_is}, specs.Graphs.picture_seen}
 use Rattle.exec_graph.proofs.graph.write_laid_out.Goals as goal
 
 pub returns-in_err-send_graph : goal.returns-in_err-send_graph

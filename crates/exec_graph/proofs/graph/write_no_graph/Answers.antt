@@ -1,5 +1,5 @@
 -- What is written is the text.
-use Rattle.diy_io.specs.PageLaws.{sends_of, sent_wrote}
+use Rattle.exec_graph.proofs.Vocabulary.{sends_of, sent_wrote}
 use Rattle.exec_graph.proofs.graph.write_no_graph.Goals as goal
 
 pub returns : goal.returns

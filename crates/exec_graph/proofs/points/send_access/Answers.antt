@@ -1,6 +1,5 @@
 -- The parts of the line are sent one after the other.
-use Rattle.exec_graph.specs.Graphs.{access_line}
-use Rattle.diy_io.specs.PageLaws.{sends_stopped, sends_then}
+use Rattle.exec_graph.{specs.Graphs.access_line, proofs.Vocabulary.{sends_stopped, sends_then}}
 use Rattle.exec_graph.proofs.points.send_access.Goals as goal
 
 pub returns-in_err-send_access_label : goal.returns-in_err-send_access_label

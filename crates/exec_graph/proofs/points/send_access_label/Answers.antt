@@ -1,6 +1,5 @@
 -- The parts of the line are sent one after another.
-use Rattle.exec_graph.specs.Graphs.{access_label}
-use Rattle.diy_io.specs.PageLaws.{sends_stopped, sends_then}
+use Rattle.exec_graph.{specs.Graphs.access_label, proofs.Vocabulary.{sends_stopped, sends_then}}
 use Rattle.exec_graph.proofs.points.send_access_label.Goals as goal
 
 pub returns-in_err-send_access_after : goal.returns-in_err-send_access_after

@@ -1,9 +1,5 @@
 -- The pieces are the position.
-use Rattle.std.proofs.Common.{◌≡◌, ◌+◌, arith}
-use Rattle.std.specs.Fmt.{decimal}
-use Rattle.diy_io.specs.PageLaws.{sends_same}
-use Rattle.exec_graph.specs.Graphs.{column, down_sign, row}
-use Rattle.exec_graph.proofs.SentLines.{access_place_is}
+use Rattle.exec_graph.{proofs.{Vocabulary.{◌≡◌, ◌+◌, arith, decimal, sends_same}, SentLines.access_place_is}, specs.Graphs.{column, down_sign, row}}
 use Rattle.exec_graph.proofs.points.send_access_place.Goals as goal
 
 pub returns : goal.returns

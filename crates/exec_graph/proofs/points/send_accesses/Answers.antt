@@ -1,7 +1,5 @@
 -- The lines of the accesses are sent one after another.
-use Rattle.exec_graph.specs.Graphs.{access_line}
-use Rattle.diy_io.specs.PageLaws.{sent_nothing}
-use Rattle.exec_graph.proofs.SentLines.{all_numbered, numbered_sent, numbered_stopped}
+use Rattle.exec_graph.{specs.Graphs.access_line, proofs.{SentLines.{all_numbered, numbered_sent, numbered_stopped}, Vocabulary.sent_nothing}}
 use Rattle.exec_graph.proofs.points.send_accesses.Goals as goal
 
 pub loop-number-init : goal.loop-number-init

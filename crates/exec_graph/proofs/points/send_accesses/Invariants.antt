@@ -1,8 +1,5 @@
 -- The loop over the accesses: the lines of those so far are sent.
-use Rattle.std.proofs.Common.{take}
-use Rattle.std.specs.List.{enumerate_from, flat_map}
-use Rattle.diy_io.specs.Page.{SentAll}
-use Rattle.exec_graph.specs.Graphs.{access_line}
+use Rattle.exec_graph.{proofs.Vocabulary.{take, enumerate_from, flat_map, SentAll}, specs.Graphs.access_line}
 use Rattle.exec_graph.proofs.points.send_accesses.Given as goal
 
 abbrev pub invariant-loop-number : goal.invariant-loop-number

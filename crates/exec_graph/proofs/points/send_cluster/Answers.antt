@@ -1,7 +1,5 @@
 -- The parts of the line are sent one after another.
-use Rattle.std.proofs.Common.{◌∙◌, ap}
-use Rattle.exec_graph.specs.Graphs.{cluster_opening, observer_word}
-use Rattle.diy_io.specs.PageLaws.{sends_same, sends_stopped, sends_then}
+use Rattle.exec_graph.{proofs.Vocabulary.{◌∙◌, ap, sends_same, sends_stopped, sends_then}, specs.Graphs.{cluster_opening, observer_word}}
 use Rattle.exec_graph.proofs.points.send_cluster.Goals as goal
 
 pub returns-in_err-send_cluster_opening : goal.returns-in_err-send_cluster_opening

@@ -1,9 +1,5 @@
 -- The pieces are the opening.
-use Rattle.std.proofs.Common.{◌≡◌, ◌+◌, ◌-◌, arith}
-use Rattle.std.specs.Fmt.{decimal}
-use Rattle.diy_io.specs.PageLaws.{sends_same}
-use Rattle.exec_graph.specs.Graphs.{column, row}
-use Rattle.exec_graph.proofs.SentLines.{cluster_opening_is}
+use Rattle.exec_graph.{proofs.{Vocabulary.{◌≡◌, ◌+◌, ◌-◌, arith, decimal, sends_same}, SentLines.cluster_opening_is}, specs.Graphs.{column, row}}
 use Rattle.exec_graph.proofs.points.send_cluster_opening.Goals as goal
 
 pub returns : goal.returns

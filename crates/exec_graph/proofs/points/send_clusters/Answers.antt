@@ -1,7 +1,5 @@
 -- The lines of the threads are sent one after another.
-use Rattle.exec_graph.specs.Graphs.{cluster_line}
-use Rattle.diy_io.specs.PageLaws.{sent_nothing}
-use Rattle.exec_graph.proofs.SentLines.{all_numbers, number_sent, number_stopped}
+use Rattle.exec_graph.{specs.Graphs.cluster_line, proofs.{SentLines.{all_numbers, number_sent, number_stopped}, Vocabulary.sent_nothing}}
 use Rattle.exec_graph.proofs.points.send_clusters.Goals as goal
 
 pub loop-thread-init : goal.loop-thread-init

@@ -1,9 +1,5 @@
 -- The loop over the threads: the lines of those so far are sent.
-use Rattle.std.proofs.Common.{take}
-use Rattle.std.specs.List.{flat_map}
-use Rattle.list_laws.specs.Numbers.{upto}
-use Rattle.diy_io.specs.Page.{SentAll}
-use Rattle.exec_graph.specs.Graphs.{cluster_line}
+use Rattle.exec_graph.{proofs.Vocabulary.{take, flat_map, upto, SentAll}, specs.Graphs.cluster_line}
 use Rattle.exec_graph.proofs.points.send_clusters.Given as goal
 
 abbrev pub invariant-loop-thread : goal.invariant-loop-thread

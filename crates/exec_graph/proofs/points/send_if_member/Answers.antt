@@ -1,6 +1,5 @@
 -- Nothing is sent of any other access.
-use Rattle.std.proofs.lemmas.Bool.{ne_eqb}
-use Rattle.exec_graph.proofs.SentLines.{unless_passing}
+use Rattle.exec_graph.proofs.{Vocabulary.ne_eqb, SentLines.unless_passing}
 use Rattle.exec_graph.proofs.points.send_if_member.Goals as goal
 
 pub returns : goal.returns

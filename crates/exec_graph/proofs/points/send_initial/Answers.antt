@@ -1,9 +1,5 @@
 -- The pieces are the line.
-use Rattle.std.proofs.Common.{◌≡◌, ◌+◌, ◌*◌, arith, count_by}
-use Rattle.std.specs.Fmt.{decimal}
-use Rattle.diy_io.specs.PageLaws.{sends_same}
-use Rattle.exec_graph.specs.Graphs.{column, home, is_below}
-use Rattle.exec_graph.proofs.SentLines.{initial_line_is}
+use Rattle.exec_graph.{proofs.{Vocabulary.{◌≡◌, ◌+◌, ◌*◌, arith, count_by, decimal, sends_same}, SentLines.initial_line_is}, specs.Graphs.{column, home, is_below}}
 use Rattle.exec_graph.proofs.points.send_initial.Goals as goal
 
 pub returns : goal.returns

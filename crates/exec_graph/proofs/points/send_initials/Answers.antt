@@ -1,7 +1,5 @@
 -- The lines of the initial writes are sent one after another.
-use Rattle.exec_graph.specs.Graphs.{initial_line}
-use Rattle.diy_io.specs.PageLaws.{each_sent, sent_nothing}
-use Rattle.exec_graph.proofs.SentLines.{all_sent, stopped_at}
+use Rattle.exec_graph.{specs.Graphs.initial_line, proofs.{SentLines.{all_sent, stopped_at}, Vocabulary.{each_sent, sent_nothing}}}
 use Rattle.exec_graph.proofs.points.send_initials.Goals as goal
 
 pub loop-place-init : goal.loop-place-init

@@ -1,8 +1,5 @@
 -- The loop over the initial writes: the lines of those so far are sent.
-use Rattle.std.proofs.Common.{take}
-use Rattle.std.specs.List.{flat_map}
-use Rattle.diy_io.specs.Page.{SentAll}
-use Rattle.exec_graph.specs.Graphs.{initial_line}
+use Rattle.exec_graph.{proofs.Vocabulary.{take, flat_map, SentAll}, specs.Graphs.initial_line}
 use Rattle.exec_graph.proofs.points.send_initials.Given as goal
 
 abbrev pub invariant-loop-place : goal.invariant-loop-place

@@ -1,7 +1,5 @@
 -- The pieces are the letter.
-use Rattle.std.proofs.Common.{◌≡◌, ◌+◌, ◌%◌, ◌∷◌, [], arith}
-use Rattle.diy_io.specs.PageLaws.{sends_same}
-use Rattle.exec_graph.proofs.SentLines.{letter_is}
+use Rattle.exec_graph.proofs.{Vocabulary.{◌≡◌, ◌+◌, ◌%◌, ◌∷◌, [], arith, sends_same}, SentLines.letter_is}
 use Rattle.exec_graph.proofs.points.send_letter.Goals as goal
 
 pub returns : goal.returns

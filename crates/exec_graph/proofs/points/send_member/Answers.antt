@@ -1,8 +1,5 @@
 -- The pieces are the member.
-use Rattle.std.proofs.Common.{◌≡◌, arith}
-use Rattle.std.specs.Fmt.{decimal}
-use Rattle.diy_io.specs.PageLaws.{sends_same}
-use Rattle.exec_graph.proofs.SentLines.{member_is}
+use Rattle.exec_graph.proofs.{Vocabulary.{◌≡◌, arith, decimal, sends_same}, SentLines.member_is}
 use Rattle.exec_graph.proofs.points.send_member.Goals as goal
 
 pub returns : goal.returns

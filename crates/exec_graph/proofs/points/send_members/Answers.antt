@@ -1,8 +1,6 @@
 -- The accesses of the thread are sent one after another.
 use Rattle.std.proofs.Common.{cond, []}
-use Rattle.exec_graph.specs.Graphs.{is_in_thread, member_word}
-use Rattle.diy_io.specs.PageLaws.{each_sent, sent_nothing}
-use Rattle.exec_graph.proofs.SentLines.{passing_sent, passing_stopped_at}
+use Rattle.exec_graph.{specs.Graphs.{is_in_thread, member_word}, proofs.{SentLines.{passing_sent, passing_stopped_at}, Vocabulary.{each_sent, sent_nothing}}}
 use Rattle.exec_graph.proofs.points.send_members.Goals as goal
 
 pub loop-access-init : goal.loop-access-init

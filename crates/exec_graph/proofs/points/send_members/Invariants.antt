@@ -1,8 +1,6 @@
 -- The loop over the accesses: those of the thread so far are sent.
-use Rattle.std.proofs.Common.{take, cond, []}
-use Rattle.std.specs.List.{flat_map}
-use Rattle.diy_io.specs.Page.{SentAll}
-use Rattle.exec_graph.specs.Graphs.{is_in_thread, member_word}
+use Rattle.std.{proofs.Common.{take, cond, []}, specs.List.flat_map}
+use Rattle.exec_graph.{proofs.Vocabulary.SentAll, specs.Graphs.{is_in_thread, member_word}}
 use Rattle.exec_graph.proofs.points.send_members.Given as goal
 
 abbrev pub invariant-loop-access : goal.invariant-loop-access

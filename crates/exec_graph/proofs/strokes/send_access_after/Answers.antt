@@ -1,8 +1,5 @@
 -- The pieces are the text and the name.
-use Rattle.std.proofs.Common.{◌≡◌, arith}
-use Rattle.std.specs.Fmt.{decimal}
-use Rattle.diy_io.specs.PageLaws.{sends_same}
-use Rattle.exec_graph.proofs.SentLines.{name_after_is}
+use Rattle.exec_graph.proofs.{Vocabulary.{◌≡◌, arith, decimal, sends_same}, SentLines.name_after_is}
 use Rattle.exec_graph.proofs.strokes.send_access_after.Goals as goal
 
 pub returns : goal.returns

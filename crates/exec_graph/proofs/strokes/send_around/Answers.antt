@@ -1,5 +1,5 @@
 -- The text, the word and the pieces are sent one after another.
-use Rattle.diy_io.specs.PageLaws.{sends_stopped, sends_then}
+use Rattle.exec_graph.proofs.Vocabulary.{sends_stopped, sends_then}
 use Rattle.exec_graph.proofs.strokes.send_around.Goals as goal
 
 pub returns-in_err-send : goal.returns-in_err-send

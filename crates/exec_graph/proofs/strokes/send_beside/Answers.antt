@@ -1,6 +1,5 @@
 -- The parts of the line are sent one after the other.
-use Rattle.exec_graph.specs.Graphs.{word_beside}
-use Rattle.diy_io.specs.PageLaws.{sends_stopped, sends_then}
+use Rattle.exec_graph.{specs.Graphs.word_beside, proofs.Vocabulary.{sends_stopped, sends_then}}
 use Rattle.exec_graph.proofs.strokes.send_beside.Goals as goal
 
 pub returns-in_err-send_beside_name : goal.returns-in_err-send_beside_name

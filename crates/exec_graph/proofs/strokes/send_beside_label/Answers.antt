@@ -1,6 +1,5 @@
 -- The pieces are what follows the name.
-use Rattle.diy_io.specs.PageLaws.{sends_same}
-use Rattle.exec_graph.proofs.SentLines.{beside_label_is}
+use Rattle.exec_graph.proofs.{Vocabulary.sends_same, SentLines.beside_label_is}
 use Rattle.exec_graph.proofs.strokes.send_beside_label.Goals as goal
 
 pub returns : goal.returns

@@ -1,6 +1,5 @@
 -- The parts of the line are sent one after another.
-use Rattle.exec_graph.specs.Graphs.{ends_word}
-use Rattle.diy_io.specs.PageLaws.{sends_stopped, sends_then}
+use Rattle.exec_graph.{specs.Graphs.ends_word, proofs.Vocabulary.{sends_stopped, sends_then}}
 use Rattle.exec_graph.proofs.strokes.send_ends.Goals as goal
 
 pub returns-in_err-send_point_after : goal.returns-in_err-send_point_after

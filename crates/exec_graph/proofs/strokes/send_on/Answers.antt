@@ -1,6 +1,5 @@
 -- The pieces are the word and what is around it.
-use Rattle.diy_io.specs.PageLaws.{sends_same}
-use Rattle.exec_graph.proofs.SentLines.{word_on_is}
+use Rattle.exec_graph.proofs.{Vocabulary.sends_same, SentLines.word_on_is}
 use Rattle.exec_graph.proofs.strokes.send_on.Goals as goal
 
 pub returns : goal.returns

@@ -1,6 +1,5 @@
 -- The parts of the lines are sent one after another.
-use Rattle.exec_graph.specs.Graphs.{stroke_lines}
-use Rattle.diy_io.specs.PageLaws.{sends_stopped, sends_then}
+use Rattle.exec_graph.{specs.Graphs.stroke_lines, proofs.Vocabulary.{sends_stopped, sends_then}}
 use Rattle.exec_graph.proofs.strokes.send_stroke.Goals as goal
 
 pub returns-in_err-send_side_line : goal.returns-in_err-send_side_line

@@ -1,6 +1,5 @@
 -- How the count grows by one item, and that all are counted in the end.
-use Rattle.std.proofs.lemmas.Option.{slice_get-get_or}
-use Rattle.exec_graph.proofs.TieLaws.{all_counted, counted_so, few_counted}
+use Rattle.exec_graph.proofs.{Vocabulary.slice_get-get_or, TieLaws.{all_counted, counted_so, few_counted}}
 use Rattle.exec_graph.proofs.ties.loads_at.Goals as goal
 
 pub loop-item-preserved : goal.loop-item-preserved

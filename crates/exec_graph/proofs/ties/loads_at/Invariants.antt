@@ -1,6 +1,5 @@
 -- What holds in the loop over the items of a run.
-use Rattle.std.proofs.Common.{◌≡◌, ◌≤◌, ◌+◌}
-use Rattle.exec_graph.proofs.TieLaws.{loads_from}
+use Rattle.exec_graph.proofs.{Vocabulary.{◌≡◌, ◌≤◌, ◌+◌}, TieLaws.loads_from}
 use Rattle.exec_graph.proofs.ties.loads_at.Given as goal
 
 -- the loads so far and those that are left are all

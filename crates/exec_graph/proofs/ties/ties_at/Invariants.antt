@@ -1,7 +1,5 @@
 -- What holds in the loop over the items of a run.
-use Rattle.std.proofs.Common.{◌≡◌, drop, slice_get}
-use Rattle.program_meaning.specs.Accesses.{visits_from, visits_of}
-use Rattle.exec_graph.specs.Ties.{ties_if}
+use Rattle.exec_graph.{proofs.Vocabulary.{◌≡◌, drop, slice_get, visits_from, visits_of}, specs.Ties.ties_if}
 use Rattle.exec_graph.proofs.ties.ties_at.Given as goal
 
 -- the access is the one that is left at a number, after the barriers that were passed

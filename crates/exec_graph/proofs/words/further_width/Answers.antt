@@ -1,7 +1,5 @@
 -- How the count grows by one barrier, and that all are counted in the end.
-use Rattle.std.proofs.Common.{arith, ◌∙◌}
-use Rattle.exec_graph.specs.Graphs.{further_barrier}
-use Rattle.exec_graph.proofs.SentLines.{all_wide, one_wider}
+use Rattle.exec_graph.{proofs.{Vocabulary.{arith, ◌∙◌}, SentLines.{all_wide, one_wider}}, specs.Graphs.further_barrier}
 use Rattle.exec_graph.proofs.words.further_width.Goals as goal
 
 pub loop-barred-preserved : goal.loop-barred-preserved

@@ -1,7 +1,5 @@
 -- The loop over the barriers: those so far are counted.
-use Rattle.std.proofs.Common.{◌≡◌, ◌≤◌, ◌*◌, length, take}
-use Rattle.std.specs.List.{flat_map}
-use Rattle.exec_graph.specs.Graphs.{further_barrier}
+use Rattle.exec_graph.{proofs.Vocabulary.{◌≡◌, ◌≤◌, ◌*◌, length, take, flat_map}, specs.Graphs.further_barrier}
 use Rattle.exec_graph.proofs.words.further_width.Given as goal
 
 abbrev pub invariant-loop-barred : goal.invariant-loop-barred

@@ -1,7 +1,5 @@
 -- The barriers are sent one after another.
-use Rattle.exec_graph.specs.Graphs.{further_barrier}
-use Rattle.diy_io.specs.PageLaws.{each_sent, sent_nothing}
-use Rattle.exec_graph.proofs.SentLines.{all_sent, stopped_at}
+use Rattle.exec_graph.{specs.Graphs.further_barrier, proofs.{SentLines.{all_sent, stopped_at}, Vocabulary.{each_sent, sent_nothing}}}
 use Rattle.exec_graph.proofs.words.send_all_further.Goals as goal
 
 pub loop-barred-init : goal.loop-barred-init

@@ -1,8 +1,5 @@
 -- The loop over the barriers: those so far are sent.
-use Rattle.std.proofs.Common.{take}
-use Rattle.std.specs.List.{flat_map}
-use Rattle.diy_io.specs.Page.{SentAll}
-use Rattle.exec_graph.specs.Graphs.{further_barrier}
+use Rattle.exec_graph.{proofs.Vocabulary.{take, flat_map, SentAll}, specs.Graphs.further_barrier}
 use Rattle.exec_graph.proofs.words.send_all_further.Given as goal
 
 abbrev pub invariant-loop-barred : goal.invariant-loop-barred

@@ -1,6 +1,5 @@
 -- How the list of accesses grows by those of one item.
-use Rattle.std.proofs.lemmas.Option.{slice_get-get_or}
-use Rattle.exec_meaning.proofs.VisitLaws.{after_item}
+use Rattle.exec_meaning.proofs.{Vocabulary.slice_get-get_or, VisitLaws.after_item}
 use Rattle.exec_meaning.proofs.accesses.accesses_of.Goals as goal
 
 pub loop-item-preserved : goal.loop-item-preserved

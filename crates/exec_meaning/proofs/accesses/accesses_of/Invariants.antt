@@ -1,6 +1,5 @@
 -- What holds in the loop over the items of a run.
-use Rattle.std.proofs.Common.{◌≡◌, ◌++◌, drop}
-use Rattle.program_meaning.specs.Accesses.{accesses_of, visits_of}
+use Rattle.exec_meaning.proofs.Vocabulary.{◌≡◌, ◌++◌, drop, accesses_of, visits_of}
 use Rattle.exec_meaning.proofs.accesses.accesses_of.Given as goal
 
 -- the accesses found, and those of the items that are left

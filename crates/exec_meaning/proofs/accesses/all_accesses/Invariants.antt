@@ -1,6 +1,5 @@
 -- In the loop over the runs: the accesses of those before this one are listed.
-use Rattle.std.proofs.Common.{◌≡◌, map, take}
-use Rattle.program_meaning.specs.Accesses.{accesses_of, visits_of}
+use Rattle.exec_meaning.proofs.Vocabulary.{◌≡◌, map, take, accesses_of, visits_of}
 use Rattle.exec_meaning.proofs.accesses.all_accesses.Given as goal
 
 abbrev pub invariant-loop-trace : goal.invariant-loop-trace

@@ -1,6 +1,5 @@
 -- In the loop over the threads: the answer is that for the threads that are left.
-use Rattle.std.proofs.Common.{◌≡◌, drop}
-use Rattle.program_meaning.specs.Deciding.{every, thread_covered}
+use Rattle.exec_meaning.proofs.Vocabulary.{◌≡◌, drop, every, thread_covered}
 use Rattle.exec_meaning.proofs.candidate.are_covered.Given as goal
 
 abbrev pub invariant-loop-thread : goal.invariant-loop-thread

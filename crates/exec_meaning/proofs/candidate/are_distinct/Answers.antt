@@ -1,7 +1,5 @@
 -- The loop over an order decides whether its writes are distinct.
-use Rattle.std.proofs.{Common.{◌+◌, ap, sym, ◌∙◌}, lemmas.Option.slice_get-get_or}
-use Rattle.std.specs.List.{list_any}
-use Rattle.exec_meaning.proofs.Loops.{distinct_step, distinct_stops, distinct_ends, after_is}
+use Rattle.exec_meaning.proofs.{Vocabulary.{◌+◌, ap, sym, ◌∙◌, slice_get-get_or, list_any}, Loops.{distinct_step, distinct_stops, distinct_ends, after_is}}
 use Rattle.exec_meaning.proofs.candidate.are_distinct.Goals as goal
 
 pub returns-then-occurs_in : goal.returns-then-occurs_in

@@ -1,6 +1,5 @@
 -- In the loop over the writes: the answer is that for the writes that are left.
-use Rattle.std.proofs.Common.{◌≡◌, drop}
-use Rattle.program_meaning.specs.Deciding.{are_distinct}
+use Rattle.exec_meaning.proofs.Vocabulary.{◌≡◌, drop, are_distinct}
 use Rattle.exec_meaning.proofs.candidate.are_distinct.Given as goal
 
 abbrev pub invariant-loop-i : goal.invariant-loop-i

@@ -1,7 +1,5 @@
 -- In the loop over the writes: the answer is that for the writes that are left.
-use Rattle.std.proofs.Common.{◌≡◌, drop}
-use Rattle.std.specs.List.{list_all}
-use Rattle.program_meaning.specs.{Accesses.at_name, Deciding.writes_there}
+use Rattle.exec_meaning.proofs.Vocabulary.{◌≡◌, drop, list_all, at_name, writes_there}
 use Rattle.exec_meaning.proofs.candidate.are_there.Given as goal
 
 abbrev pub invariant-loop-write : goal.invariant-loop-write

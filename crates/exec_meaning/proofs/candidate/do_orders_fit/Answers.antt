@@ -1,7 +1,5 @@
 -- An order that passes leaves the answer to the places after it.
-use Rattle.std.proofs.Common.{sym, ◌∙◌}
-use Rattle.program_meaning.specs.Deciding.{is_order}
-use Rattle.exec_meaning.proofs.Loops.{every_step}
+use Rattle.exec_meaning.proofs.{Vocabulary.{sym, ◌∙◌, is_order}, Loops.every_step}
 use Rattle.exec_meaning.proofs.candidate.do_orders_fit.Goals as goal
 
 pub loop-place-preserved : goal.loop-place-preserved

@@ -1,6 +1,5 @@
 -- In the loop over the places: the answer is that for the places that are left.
-use Rattle.std.proofs.Common.{◌≡◌, drop}
-use Rattle.program_meaning.specs.Deciding.{every, is_order, orders_fit}
+use Rattle.exec_meaning.proofs.Vocabulary.{◌≡◌, drop, every, is_order, orders_fit}
 use Rattle.exec_meaning.proofs.candidate.do_orders_fit.Given as goal
 
 abbrev pub invariant-loop-place : goal.invariant-loop-place

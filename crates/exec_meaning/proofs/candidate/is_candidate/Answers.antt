@@ -1,10 +1,5 @@
 -- The answer is whether the execution is a candidate.
-use Rattle.std.proofs.Common.{map, ◌∙◌, ap, subst}
-use Rattle.std.specs.Prelude.{option_map}
-use Rattle.program_meaning.specs.Programs.{runs_of}
-use Rattle.litmus_text.specs.ReadPrograms.{program_read}
-use Rattle.exec_meaning.specs.EndedRuns.{AreEndedRuns}
-use Rattle.exec_meaning.proofs.RunLaws.{no_candidate, candidate_means, candidate_from, as_many}
+use Rattle.exec_meaning.{proofs.{Vocabulary.{map, ◌∙◌, ap, subst, option_map, runs_of, program_read}, RunLaws.{no_candidate, candidate_means, candidate_from, as_many}}, specs.EndedRuns.AreEndedRuns}
 use Rattle.exec_meaning.proofs.candidate.is_candidate.Goals as goal
 
 pub returns-in-None : goal.returns-in-None

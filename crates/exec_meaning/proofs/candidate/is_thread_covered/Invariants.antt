@@ -1,6 +1,5 @@
 -- In the loop over the accesses: the answer is that for the accesses that are left.
-use Rattle.std.proofs.Common.{◌≡◌, drop}
-use Rattle.program_meaning.specs.Deciding.{every, name, is_covered}
+use Rattle.exec_meaning.proofs.Vocabulary.{◌≡◌, drop, every, name, is_covered}
 use Rattle.exec_meaning.proofs.candidate.is_thread_covered.Given as goal
 
 abbrev pub invariant-loop-i : goal.invariant-loop-i

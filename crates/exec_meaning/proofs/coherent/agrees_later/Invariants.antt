@@ -1,7 +1,6 @@
 -- In the loop over the accesses: the answer is that for the accesses that are left.
-use Rattle.std.proofs.Common.{◌≡◌, ◌||◌, drop}
-use Rattle.std.specs.Prelude.{not, nat_lt}
-use Rattle.program_meaning.specs.Deciding.{every, agrees, agrees_later}
+use Rattle.std.{proofs.Common.{◌≡◌, ◌||◌, drop}, specs.Prelude.{not, nat_lt}}
+use Rattle.exec_meaning.proofs.Vocabulary.{every, agrees, agrees_later}
 use Rattle.exec_meaning.proofs.coherent.agrees_later.Given as goal
 
 abbrev pub invariant-loop-number : goal.invariant-loop-number

@@ -1,8 +1,5 @@
 -- The answer is whether the execution is coherent.
-use Rattle.std.proofs.Common.{map, ◌∙◌, ap, sym, subst}
-use Rattle.program_meaning.specs.Coherence.{IsCoherent}
-use Rattle.litmus_text.specs.ReadPrograms.{program_read}
-use Rattle.exec_meaning.proofs.RunLaws.{accesses_are}
+use Rattle.exec_meaning.proofs.{Vocabulary.{map, ◌∙◌, ap, sym, subst, IsCoherent, program_read}, RunLaws.accesses_are}
 use Rattle.exec_meaning.proofs.coherent.is_coherent.Goals as goal
 
 pub returns : goal.returns

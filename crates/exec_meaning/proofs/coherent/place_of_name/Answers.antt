@@ -1,6 +1,5 @@
 -- The place of a name in the coherence order is that of its numbers.
-use Rattle.std.proofs.Common.{ap, ◌∙◌}
-use Rattle.program_meaning.specs.{declared.WriteAt.WriteAt, Coherence.coherence_place}
+use Rattle.exec_meaning.proofs.Vocabulary.{ap, ◌∙◌, WriteAt, coherence_place}
 use Rattle.exec_meaning.proofs.coherent.place_of_name.Goals as goal
 
 pub returns : goal.returns

@@ -1,6 +1,5 @@
 -- In the loop over the accesses: the answer is that for the accesses that are left.
-use Rattle.std.proofs.Common.{◌≡◌, drop}
-use Rattle.program_meaning.specs.Deciding.{every, agrees_later, thread_coheres}
+use Rattle.exec_meaning.proofs.Vocabulary.{◌≡◌, drop, every, agrees_later, thread_coheres}
 use Rattle.exec_meaning.proofs.coherent.thread_coheres.Given as goal
 
 abbrev pub invariant-loop-number : goal.invariant-loop-number

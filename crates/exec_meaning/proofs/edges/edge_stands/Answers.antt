@@ -1,10 +1,5 @@
 -- The answer is whether the edge stands in the execution.
-use Rattle.std.proofs.Common.{map, refl, ◌∙◌, ap, sym}
-use Rattle.cycle_events.specs.Resolution.{edge_at}
-use Rattle.program_meaning.specs.{Accesses.at_name, Accesses.visits_of, Standing.event_name}
-use Rattle.litmus_text.specs.ReadPrograms.{program_read}
-use Rattle.exec_meaning.specs.StandingEdges.{named_access, stands_if}
-use Rattle.exec_meaning.proofs.{RunLaws.accesses_are, RunLaws.visits_are, EdgesHeld.edge_decided, EdgesHeld.edge_is}
+use Rattle.exec_meaning.{proofs.{Vocabulary.{map, refl, ◌∙◌, ap, sym, edge_at, at_name, visits_of, event_name, program_read}, RunLaws.{accesses_are, visits_are}, EdgesHeld.{edge_decided, edge_is}}, specs.StandingEdges.{named_access, stands_if}}
 use Rattle.exec_meaning.proofs.edges.edge_stands.Goals as goal
 
 pub returns : goal.returns

@@ -1,9 +1,5 @@
 -- How the state grows by the value of one place.
-use Rattle.std.proofs.Common.{◌<◌, ◌≡◌, length, [], ◌∷◌, ◌++◌, get_or, ap, ◌∙◌, arith}
-use Rattle.relax_edges.specs.declared.kinds.Value.TheVariants.{Num}
-use Rattle.program_meaning.specs.Coherence.{final_value}
-use Rattle.final_cond.specs.Conditions.{AtPlace}
-use Rattle.exec_meaning.proofs.FinalLaws.{places_more}
+use Rattle.exec_meaning.proofs.{Vocabulary.{◌<◌, ◌≡◌, length, [], ◌∷◌, ◌++◌, get_or, ap, ◌∙◌, arith, Num, final_value, AtPlace}, FinalLaws.places_more}
 use Rattle.exec_meaning.proofs.final_state.add_places.Goals as goal
 
 pub loop-place-preserved : goal.loop-place-preserved

@@ -1,7 +1,5 @@
 -- In the loop over the places: the state has the values of those before this one.
-use Rattle.std.proofs.Common.{◌≡◌, ◌++◌, take}
-use Rattle.program_meaning.specs.Coherence.{final_value}
-use Rattle.exec_meaning.specs.Finals.{places_at}
+use Rattle.exec_meaning.{proofs.Vocabulary.{◌≡◌, ◌++◌, take, final_value}, specs.Finals.places_at}
 use Rattle.exec_meaning.proofs.final_state.add_places.Given as goal
 
 abbrev pub invariant-loop-place : goal.invariant-loop-place

@@ -1,8 +1,5 @@
 -- How the state grows by the value of one register.
-use Rattle.std.proofs.Common.{◌<◌, length, [], ◌∷◌, ◌++◌, get_or, ap, ◌∙◌, arith}
-use Rattle.micro_ops.specs.RunThreads.{value_in_run}
-use Rattle.final_cond.specs.Conditions.{InRegister}
-use Rattle.exec_meaning.proofs.FinalLaws.{registers_more}
+use Rattle.exec_meaning.proofs.{Vocabulary.{◌<◌, length, [], ◌∷◌, ◌++◌, get_or, ap, ◌∙◌, arith, value_in_run, InRegister}, FinalLaws.registers_more}
 use Rattle.exec_meaning.proofs.final_state.add_registers.Goals as goal
 
 pub loop-register-preserved : goal.loop-register-preserved

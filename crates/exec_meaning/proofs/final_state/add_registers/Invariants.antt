@@ -1,7 +1,5 @@
 -- In the loop over the registers of a thread: the state has the values of those before this one.
-use Rattle.std.proofs.Common.{◌≡◌, ◌++◌, take}
-use Rattle.micro_ops.specs.RunThreads.{value_in_run}
-use Rattle.exec_meaning.specs.Finals.{registers_at}
+use Rattle.exec_meaning.{proofs.Vocabulary.{◌≡◌, ◌++◌, take, value_in_run}, specs.Finals.registers_at}
 use Rattle.exec_meaning.proofs.final_state.add_registers.Given as goal
 
 abbrev pub invariant-loop-register : goal.invariant-loop-register

@@ -1,7 +1,5 @@
 -- In the loop over the threads: the state has the registers of those before this one.
-use Rattle.std.proofs.Common.{◌≡◌, ◌++◌, map, take}
-use Rattle.micro_ops.specs.RunThreads.{value_in_run}
-use Rattle.exec_meaning.specs.Finals.{all_registers}
+use Rattle.exec_meaning.{proofs.Vocabulary.{◌≡◌, ◌++◌, map, take, value_in_run}, specs.Finals.all_registers}
 use Rattle.exec_meaning.proofs.final_state.add_threads.Given as goal
 
 abbrev pub invariant-loop-thread : goal.invariant-loop-thread

@@ -1,10 +1,5 @@
 -- The state that is made is the final state of the execution.
-use Rattle.std.proofs.Common.{◌≡◌, length, map, ◌++◌, ap, sym, ◌∙◌, arith}
-use Rattle.litmus_text.specs.ReadPrograms.{program_read}
-use Rattle.micro_ops.specs.RunThreads.{value_in_run}
-use Rattle.program_meaning.specs.Coherence.{final_value}
-use Rattle.exec_meaning.specs.Finals.{all_registers, places_at}
-use Rattle.exec_meaning.proofs.{RunLaws.accesses_are, RunLaws.trace_count, FinalLaws.final_is}
+use Rattle.exec_meaning.{proofs.{Vocabulary.{◌≡◌, length, map, ◌++◌, ap, sym, ◌∙◌, arith, program_read, value_in_run, final_value}, RunLaws.{accesses_are, trace_count}, FinalLaws.final_is}, specs.Finals.{all_registers, places_at}}
 use Rattle.exec_meaning.proofs.final_state.final_of.Goals as goal
 
 pub add_threads-requires : goal.add_threads-requires

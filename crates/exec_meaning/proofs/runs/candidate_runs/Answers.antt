@@ -1,10 +1,5 @@
 -- In a candidate execution all runs end.
-use Rattle.std.proofs.Common.{subst}
-use Rattle.std.specs.Prelude.{option_map}
-use Rattle.program_meaning.specs.Programs.{runs_of}
-use Rattle.litmus_text.specs.ReadPrograms.{program_read}
-use Rattle.exec_meaning.specs.EndedRuns.{AreEndedRuns}
-use Rattle.exec_meaning.proofs.RunLaws.{candidate_count, no_candidate}
+use Rattle.exec_meaning.{proofs.{Vocabulary.{subst, option_map, runs_of, program_read}, RunLaws.{candidate_count, no_candidate}}, specs.EndedRuns.AreEndedRuns}
 use Rattle.exec_meaning.proofs.runs.candidate_runs.Goals as goal
 
 pub run_all-requires : goal.run_all-requires

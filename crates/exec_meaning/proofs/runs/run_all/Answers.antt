@@ -1,9 +1,5 @@
 -- The runs that are made are those of the program, if all end.
-use Rattle.std.proofs.{Common.subst, Common.arith, Common.slice_get}
-use Rattle.program_meaning.specs.Programs.{runs_of}
-use Rattle.litmus_text.specs.ReadPrograms.{program_read}
-use Rattle.exec_meaning.specs.EndedRuns.{IsRunIn}
-use Rattle.exec_meaning.proofs.RunLaws.{runs_more, run_missing, runs_all}
+use Rattle.exec_meaning.{proofs.{Vocabulary.{subst, arith, slice_get, runs_of, program_read}, RunLaws.{runs_more, run_missing, runs_all}}, specs.EndedRuns.IsRunIn}
 use Rattle.exec_meaning.proofs.runs.run_all.Goals as goal
 
 pub loop-thread-preserved : goal.loop-thread-preserved

@@ -1,8 +1,5 @@
 -- What holds in the loop over the threads.
-use Rattle.std.proofs.Common.{◌≡◌, map, take}
-use Rattle.litmus_text.specs.ReadPrograms.{program_read}
-use Rattle.program_meaning.specs.Programs.{runs_of}
-use Rattle.exec_meaning.specs.EndedRuns.{ended_run}
+use Rattle.exec_meaning.{proofs.Vocabulary.{◌≡◌, map, take, program_read, runs_of}, specs.EndedRuns.ended_run}
 use Rattle.exec_meaning.proofs.runs.run_all.Given as goal
 
 -- the runs so far came to their ends

@@ -1,7 +1,5 @@
 -- The run that is made is that of the program's thread, if it ends.
-use Rattle.std.proofs.Common.{Some, None, ◌∙◌, subst}
-use Rattle.micro_ops.specs.RunThreads.{CausedBy}
-use Rattle.exec_meaning.proofs.RunLaws.{run_is, is_run, stuck_run, left_run}
+use Rattle.exec_meaning.proofs.{Vocabulary.{Some, None, ◌∙◌, subst, CausedBy}, RunLaws.{run_is, is_run, stuck_run, left_run}}
 use Rattle.exec_meaning.proofs.runs.run_one.Goals as goal
 
 pub run_thread-requires : goal.run_thread-requires

@@ -1,5 +1,5 @@
 -- In the loop over the reads: the values of those before this one are listed.
-use Rattle.std.proofs.Common.{◌≡◌, map, take}
+use Rattle.exec_meaning.proofs.Vocabulary.{◌≡◌, map, take}
 use Rattle.exec_meaning.proofs.runs.values_of.Given as goal
 
 abbrev pub invariant-loop-read : goal.invariant-loop-read

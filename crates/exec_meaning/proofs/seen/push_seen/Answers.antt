@@ -1,6 +1,5 @@
 -- How the accesses that are seen grow by that of one item.
-use Rattle.std.proofs.{Common.{Some, ap, ◌∙◌, arith}, lemmas.Option.slice_get-get_or}
-use Rattle.exec_meaning.proofs.{SeenLaws.{after_seen, after_passed}, seen.push_seen.Goals.{in-Access+in_ok-push-in-Access, in-Barrier}}
+use Rattle.exec_meaning.proofs.{Vocabulary.{Some, ap, ◌∙◌, arith, slice_get-get_or}, SeenLaws.{after_seen, after_passed}, seen.push_seen.Goals.{in-Access+in_ok-push-in-Access, in-Barrier}}
 use Rattle.exec_meaning.proofs.seen.push_seen.Goals as goal
 
 pub loop-item-preserved : goal.loop-item-preserved

@@ -1,7 +1,5 @@
 -- What holds in the loop over the items of a run.
-use Rattle.std.proofs.Common.{◌≡◌, ◌≤◌, ◌++◌, drop}
-use Rattle.program_meaning.specs.{Accesses.visits_of, SeenAccesses.seen_in_thread}
-use Rattle.exec_meaning.proofs.SeenLaws.{seen_from}
+use Rattle.exec_meaning.proofs.{Vocabulary.{◌≡◌, ◌≤◌, ◌++◌, drop, visits_of, seen_in_thread}, SeenLaws.seen_from}
 use Rattle.exec_meaning.proofs.seen.push_seen.Given as goal
 
 -- the accesses seen, and those of the items that are left, make up the whole

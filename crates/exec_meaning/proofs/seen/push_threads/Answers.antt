@@ -1,7 +1,5 @@
 -- How the accesses that are seen grow by those of one thread.
-use Rattle.std.proofs.Common.{◌++◌, ap, ◌∙◌}
-use Rattle.program_meaning.specs.{Accesses.visits_of, SeenAccesses.seen_in_thread}
-use Rattle.exec_meaning.proofs.SeenLaws.{thread_seen}
+use Rattle.exec_meaning.proofs.{Vocabulary.{◌++◌, ap, ◌∙◌, visits_of, seen_in_thread}, SeenLaws.thread_seen}
 use Rattle.exec_meaning.proofs.seen.push_threads.Goals as goal
 
 pub loop-thread-preserved : goal.loop-thread-preserved

@@ -1,6 +1,5 @@
 -- What holds in the loop over the threads.
-use Rattle.std.proofs.Common.{◌≡◌, ◌++◌, drop}
-use Rattle.exec_meaning.proofs.SeenLaws.{threads_from, visits_shown}
+use Rattle.exec_meaning.proofs.{Vocabulary.{◌≡◌, ◌++◌, drop}, SeenLaws.{threads_from, visits_shown}}
 use Rattle.exec_meaning.proofs.seen.push_threads.Given as goal
 
 -- the accesses seen, and those of the threads that are left, make up the whole

@@ -1,7 +1,5 @@
 -- That the accesses of all threads are seen.
-use Rattle.std.proofs.Common.{◌≡◌, length, map, ◌∙◌, ◌++◌, ap, sym, arith}
-use Rattle.litmus_text.specs.ReadPrograms.{program_read}
-use Rattle.exec_meaning.proofs.{RunLaws.{accesses_are, trace_count}, SeenLaws.{runs_seen, threads_from, visits_shown}}
+use Rattle.exec_meaning.proofs.{Vocabulary.{◌≡◌, length, map, ◌∙◌, ◌++◌, ap, sym, arith, program_read}, RunLaws.{accesses_are, trace_count}, SeenLaws.{runs_seen, threads_from, visits_shown}}
 use Rattle.exec_meaning.proofs.seen.seen_accesses.Goals as goal
 
 pub push_threads-requires : goal.push_threads-requires

@@ -1,6 +1,5 @@
 -- A text without a byte has no line.
-use Rattle.std.proofs.Common.{arith}
-use Rattle.exec_text.proofs.FirstLines.{no_line}
+use Rattle.exec_text.proofs.{Vocabulary.arith, FirstLines.no_line}
 use Rattle.exec_text.proofs.lines.first_line.Goals as goal
 
 pub returns-then-is_empty : goal.returns-then-is_empty

@@ -1,8 +1,5 @@
 -- What holds in the loop over the words of a place's line.
-use Rattle.std.proofs.Common.{◌≡◌, ◌<◌, length}
-use Rattle.text_parts.specs.Words.{words}
-use Rattle.program_meaning.specs.KeptExecutions.{with_write}
-use Rattle.exec_text.specs.{declared.errors.ExecKind.TheVariants.BadWrite, ExecutionText.{access_named, all_named}, ExecutionSteps.line_added}
+use Rattle.exec_text.{proofs.Vocabulary.{◌≡◌, ◌<◌, length, words, with_write}, specs.{declared.errors.ExecKind.TheVariants.BadWrite, ExecutionText.{access_named, all_named}, ExecutionSteps.line_added}}
 use Rattle.exec_text.proofs.reading.add_writes.Given as goal
 
 abbrev pub invariant-loop-word : goal.invariant-loop-word

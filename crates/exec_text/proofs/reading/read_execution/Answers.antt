@@ -1,8 +1,5 @@
 -- What is read is the reading of the text, and has the threads and places of the test.
-use Rattle.std.proofs.Common.{◌≡◌, length, ap, ◌∙◌, arith}
-use Rattle.program_meaning.specs.KeptExecutions.{nothing_kept}
-use Rattle.text_parts.specs.Lines.{lines_of}
-use Rattle.exec_text.proofs.WholeExecutions.{threads_wrong, threads_read, orders_many, places_wrong, both_read, ended_read, shape_read, stray_read, short_read, wrong_text}
+use Rattle.exec_text.proofs.{Vocabulary.{◌≡◌, length, ap, ◌∙◌, arith, nothing_kept, lines_of}, WholeExecutions.{threads_wrong, threads_read, orders_many, places_wrong, both_read, ended_read, shape_read, stray_read, short_read, wrong_text}}
 use Rattle.exec_text.proofs.reading.read_execution.Goals as goal
 
 pub returns-in-Err-read_threads-clause-read : goal.returns-in-Err-read_threads-clause-read

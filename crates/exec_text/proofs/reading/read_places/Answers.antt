@@ -1,10 +1,7 @@
 -- What is read of the places' lines is their reading, error or not.
-use Rattle.std.proofs.Common.{◌≡◌, ◌+◌, [], map, drop, length, sym, ap, ◌∙◌, arith}
-use Rattle.std.specs.Prelude.{slice_index_or}
-use Rattle.program_meaning.specs.KeptExecutions.{with_write}
-use Rattle.exec_text.specs.{declared.errors.ExecKind.TheVariants.{BadPlace, BadWrite}, ExecutionText.{access_named, line_read, place_head}}
-use Rattle.text_parts.specs.Lines.{lines_of}
-use Rattle.exec_text.proofs.{LinesRead.{one_line, one_stops, none_left, all_read, error_line}, Growing.{writes_kept, elements_from, no_elements}}
+use Rattle.std.{proofs.Common.{◌≡◌, ◌+◌, [], map, drop, length, sym, ap, ◌∙◌, arith}, specs.Prelude.slice_index_or}
+use Rattle.exec_text.{proofs.{Vocabulary.{with_write, lines_of}, LinesRead.{one_line, one_stops, none_left, all_read, error_line}, Growing.{writes_kept, elements_from, no_elements}}, specs.declared.errors.ExecKind.TheVariants.{BadPlace, BadWrite}}
+use Rattle.exec_text.specs.ExecutionText.{access_named, line_read, place_head}
 use Rattle.exec_text.proofs.reading.read_places.Goals as goal
 
 pub returns-in-Err : goal.returns-in-Err

@@ -1,9 +1,6 @@
 -- What holds in the loop over the places.
 use Rattle.std.proofs.Common.{◌≡◌, ◌+◌, map, drop, length}
-use Rattle.program_meaning.specs.KeptExecutions.{with_write}
-use Rattle.exec_text.specs.{declared.errors.ExecKind.TheVariants.{BadPlace, BadWrite}, ExecutionText.{access_named, line_read, each_line_read, place_head}}
-use Rattle.exec_text.specs.ExecutionSteps.{lines_added}
-use Rattle.text_parts.specs.Lines.{lines_of}
+use Rattle.exec_text.{proofs.Vocabulary.{with_write, lines_of}, specs.{declared.errors.ExecKind.TheVariants.{BadPlace, BadWrite}, ExecutionText.{access_named, line_read, each_line_read, place_head}, ExecutionSteps.lines_added}}
 use Rattle.exec_text.proofs.reading.read_places.Given as goal
 
 abbrev pub invariant-loop-place : goal.invariant-loop-place

@@ -1,10 +1,7 @@
 -- What is read of the threads' lines is their reading, error or not.
-use Rattle.std.proofs.Common.{◌≡◌, ◌+◌, ◌-◌, map, sym, ap, ◌∙◌, arith}
-use Rattle.std.specs.List.{range_with_len}
-use Rattle.program_meaning.specs.KeptExecutions.{with_read}
-use Rattle.exec_text.specs.{declared.errors.ExecKind.TheVariants.{BadThread, BadRead}, ExecutionText.{read_named, line_read, thread_head}}
-use Rattle.text_parts.specs.Lines.{lines_of}
-use Rattle.exec_text.proofs.{LinesRead.{one_line, one_stops, none_left, all_read, error_line}, Growing.{reads_kept, numbers_from, no_numbers}}
+use Rattle.std.{proofs.Common.{◌≡◌, ◌+◌, ◌-◌, map, sym, ap, ◌∙◌, arith}, specs.List.range_with_len}
+use Rattle.exec_text.{proofs.{Vocabulary.{with_read, lines_of}, LinesRead.{one_line, one_stops, none_left, all_read, error_line}, Growing.{reads_kept, numbers_from, no_numbers}}, specs.declared.errors.ExecKind.TheVariants.{BadThread, BadRead}}
+use Rattle.exec_text.specs.ExecutionText.{read_named, line_read, thread_head}
 use Rattle.exec_text.proofs.reading.read_threads.Goals as goal
 
 pub returns-in-Err : goal.returns-in-Err

@@ -1,10 +1,6 @@
 -- What holds in the loop over the threads.
-use Rattle.std.proofs.Common.{◌≡◌, ◌+◌, ◌-◌, map, length}
-use Rattle.std.specs.List.{range_with_len}
-use Rattle.program_meaning.specs.KeptExecutions.{with_read}
-use Rattle.exec_text.specs.{declared.errors.ExecKind.TheVariants.{BadThread, BadRead}, ExecutionText.{read_named, line_read, each_line_read, thread_head}}
-use Rattle.exec_text.specs.ExecutionSteps.{lines_added}
-use Rattle.text_parts.specs.Lines.{lines_of}
+use Rattle.std.{proofs.Common.{◌≡◌, ◌+◌, ◌-◌, map, length}, specs.List.range_with_len}
+use Rattle.exec_text.{proofs.Vocabulary.{with_read, lines_of}, specs.{declared.errors.ExecKind.TheVariants.{BadThread, BadRead}, ExecutionText.{read_named, line_read, each_line_read, thread_head}, ExecutionSteps.lines_added}}
 use Rattle.exec_text.proofs.reading.read_threads.Given as goal
 
 abbrev pub invariant-loop-thread : goal.invariant-loop-thread

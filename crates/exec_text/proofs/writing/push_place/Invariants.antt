@@ -1,7 +1,6 @@
 -- What holds in the loop over the writes of a place.
 use Rattle.std.proofs.Common.{◌≡◌, ◌++◌, map, drop}
-use Rattle.exec_text.specs.Written.{access_word, place_line}
-use Rattle.exec_text.proofs.Appending.{further}
+use Rattle.exec_text.{specs.Written.{access_word, place_line}, proofs.Appending.further}
 use Rattle.exec_text.proofs.writing.push_place.Given as goal
 
 -- the text and the writes that are left make up the line

@@ -1,10 +1,6 @@
 -- How the text grows by the line of one place.
-use Rattle.std.proofs.Common.{◌<◌, ◌+◌, ◌++◌, ◌∷◌, [], map, drop, length, ap, sym, ◌∙◌, arith}
-use Rattle.std.specs.{Prelude.slice_index_or, List.flat_map, List.zip}
-use Rattle.list_laws.proofs.Elements.{drop_given}
-use Rattle.litmus_text.specs.TestText.{with_line_feed}
-use Rattle.exec_text.specs.Written.{place_line}
-use Rattle.exec_text.proofs.{Appending.one_more, Growing.elements_from}
+use Rattle.std.{proofs.Common.{◌<◌, ◌+◌, ◌++◌, ◌∷◌, [], map, drop, length, ap, sym, ◌∙◌, arith}, specs.{Prelude.slice_index_or, List.{flat_map, zip}}}
+use Rattle.exec_text.{proofs.{Vocabulary.{drop_given, with_line_feed}, Appending.one_more, Growing.elements_from}, specs.Written.place_line}
 use Rattle.exec_text.proofs.writing.push_places.Goals as goal
 
 pub loop-place-preserved : goal.loop-place-preserved

@@ -1,8 +1,6 @@
 -- What holds in the loop over the places.
-use Rattle.std.proofs.Common.{◌≡◌, ◌++◌, map, drop}
-use Rattle.std.specs.List.{flat_map, zip}
-use Rattle.litmus_text.specs.TestText.{with_line_feed}
-use Rattle.exec_text.specs.Written.{place_line}
+use Rattle.std.{proofs.Common.{◌≡◌, ◌++◌, map, drop}, specs.List.{flat_map, zip}}
+use Rattle.exec_text.{proofs.Vocabulary.with_line_feed, specs.Written.place_line}
 use Rattle.exec_text.proofs.writing.push_places.Given as goal
 
 -- the text and the lines of the places that are left make up the whole

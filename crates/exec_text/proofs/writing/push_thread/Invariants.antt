@@ -1,7 +1,6 @@
 -- What holds in the loop over the reads of a thread.
 use Rattle.std.proofs.Common.{◌≡◌, ◌++◌, map, drop}
-use Rattle.exec_text.specs.Written.{read_word, thread_line}
-use Rattle.exec_text.proofs.Appending.{further}
+use Rattle.exec_text.{specs.Written.{read_word, thread_line}, proofs.Appending.further}
 use Rattle.exec_text.proofs.writing.push_thread.Given as goal
 
 -- the text and the reads that are left make up the line

@@ -1,10 +1,6 @@
 -- How the text grows by the line of one thread.
-use Rattle.std.proofs.Common.{◌+◌, ◌++◌, map, drop, ap, sym, ◌∙◌}
-use Rattle.std.specs.List.{enumerate_from, flat_map}
-use Rattle.list_laws.proofs.Elements.{drop_given}
-use Rattle.litmus_text.specs.TestText.{with_line_feed}
-use Rattle.exec_text.specs.Written.{thread_line}
-use Rattle.exec_text.proofs.Appending.{one_more}
+use Rattle.std.{proofs.Common.{◌+◌, ◌++◌, map, drop, ap, sym, ◌∙◌}, specs.List.{enumerate_from, flat_map}}
+use Rattle.exec_text.{proofs.{Vocabulary.{drop_given, with_line_feed}, Appending.one_more}, specs.Written.thread_line}
 use Rattle.exec_text.proofs.writing.push_threads.Goals as goal
 
 pub loop-thread-preserved : goal.loop-thread-preserved

@@ -1,8 +1,6 @@
 -- What holds in the loop over the threads.
-use Rattle.std.proofs.Common.{◌≡◌, ◌++◌, map, drop}
-use Rattle.std.specs.List.{enumerate_from, flat_map}
-use Rattle.litmus_text.specs.TestText.{with_line_feed}
-use Rattle.exec_text.specs.Written.{thread_line}
+use Rattle.std.{proofs.Common.{◌≡◌, ◌++◌, map, drop}, specs.List.{enumerate_from, flat_map}}
+use Rattle.exec_text.{proofs.Vocabulary.with_line_feed, specs.Written.thread_line}
 use Rattle.exec_text.proofs.writing.push_threads.Given as goal
 
 -- the text and the lines of the threads that are left make up the whole

@@ -1,7 +1,5 @@
 -- That `judge_lines` judges one more line.
-use Rattle.std.proofs.Common.{arith}
-use Rattle.lines_to_files.specs.{Judged.making_of, TextLines.lines_by}
-use Rattle.lines_to_files.proofs.JudgedLines.{judges_more}
+use Rattle.lines_to_files.{proofs.{Vocabulary.arith, JudgedLines.judges_more}, specs.{Judged.making_of, TextLines.lines_by}}
 use Rattle.lines_to_files.proofs.judging.judge_lines.Goals as goal
 
 pub loop-line-preserved : goal.loop-line-preserved

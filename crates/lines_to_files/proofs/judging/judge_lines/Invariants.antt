@@ -1,7 +1,5 @@
 -- The loop of `judge_lines`: which lines were judged, and which are left.
-use Rattle.std.proofs.Common.{◌+◌, ◌≤◌, length}
-use Rattle.lines_to_files.specs.{Judged.making_of, TextLines.lines_by}
-use Rattle.lines_to_files.proofs.JudgedLines.{Judges}
+use Rattle.lines_to_files.{proofs.{Vocabulary.{◌+◌, ◌≤◌, length}, JudgedLines.Judges}, specs.{Judged.making_of, TextLines.lines_by}}
 use Rattle.lines_to_files.proofs.judging.judge_lines.Given as goal
 
 abbrev pub invariant-loop-line : goal.invariant-loop-line

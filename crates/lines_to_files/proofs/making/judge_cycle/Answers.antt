@@ -1,6 +1,5 @@
 -- That a refusal that `judge_cycle` returns names a location of the cycle.
-use Rattle.std.proofs.lemmas.Result.{err_from_is_err_and}
-use Rattle.lines_to_files.proofs.Located.{refusal_located}
+use Rattle.lines_to_files.proofs.{Vocabulary.err_from_is_err_and, Located.refusal_located}
 use Rattle.lines_to_files.proofs.making.judge_cycle.Goals as goal
 
 pub returns-in_err-accepted-in-Observed-clause-located : goal.returns-in_err-accepted-in-Observed-clause-located

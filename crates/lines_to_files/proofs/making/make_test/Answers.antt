@@ -1,6 +1,5 @@
 -- That `make_test` makes a test that is ready to be printed.
-use Rattle.test_maker.specs.CycleTextLaws.{made_text}
-use Rattle.lines_to_files.proofs.MadeTexts.{made_coherence}
+use Rattle.lines_to_files.proofs.{Vocabulary.made_text, MadeTexts.made_coherence}
 use Rattle.lines_to_files.proofs.making.make_test.Goals as goal
 
 pub returns-in-Ok : goal.returns-in-Ok

@@ -1,9 +1,5 @@
 -- That `set_name` finds whether the name of a cycle, which stands for a label, can name a file.
-use Rattle.std.proofs.Common.{sym, ◌∙◌, ap, subst}
-use Rattle.std.specs.Prelude.{unwrap_or}
-use Rattle.cycle_names.specs.{CycleNames.name_of, Laws.IsName}
-use Rattle.lines_to_files.specs.RightTests.{names_file}
-use Rattle.lines_to_files.proofs.ListedLines.{name_names}
+use Rattle.lines_to_files.{proofs.{Vocabulary.{sym, ◌∙◌, ap, subst, unwrap_or, name_of, IsName}, ListedLines.name_names}, specs.RightTests.names_file}
 use Rattle.lines_to_files.proofs.names.set_name.Goals as goal
 
 pub returns-in-None-clause-fit : goal.returns-in-None-clause-fit

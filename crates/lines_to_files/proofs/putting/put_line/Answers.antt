@@ -1,8 +1,6 @@
 -- That `put_line` writes the file of a line's test.
 use Rattle.std.proofs.Common.{Ok, sym, ap, ◌∙◌}
-use Rattle.diy_io.specs.SinkLaws.{on_err}
-use Rattle.lines_to_files.specs.Judged.{making_of, read_with, test_read}
-use Rattle.lines_to_files.proofs.PutTests.{line_put, line_none, line_fails}
+use Rattle.lines_to_files.{proofs.{Vocabulary.on_err, PutTests.{line_put, line_none, line_fails}}, specs.Judged.{making_of, read_with, test_read}}
 use Rattle.lines_to_files.proofs.putting.put_line.Goals as goal
 
 pub returns-in_err-put_test-in-Ok-Some-clause-failed : goal.returns-in_err-put_test-in-Ok-Some-clause-failed

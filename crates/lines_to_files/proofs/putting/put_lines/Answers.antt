@@ -1,8 +1,5 @@
 -- That `put_lines` writes the files of the tests of the first lines.
-use Rattle.std.proofs.Common.{take, refl}
-use Rattle.diy_io.specs.SinkLaws.{on_err}
-use Rattle.lines_to_files.specs.{Judged.making_of, TextLines.lines_by}
-use Rattle.lines_to_files.proofs.PutTests.{puts_first, puts_fit, puts_more, puts_stop}
+use Rattle.lines_to_files.{proofs.{Vocabulary.{take, refl, on_err}, PutTests.{puts_first, puts_fit, puts_more, puts_stop}}, specs.{Judged.making_of, TextLines.lines_by}}
 use Rattle.lines_to_files.proofs.putting.put_lines.Goals as goal
 
 pub loop-left-init : goal.loop-left-init

@@ -1,7 +1,5 @@
 -- The loop of `put_lines`: which files are there so far, and which lines are left.
-use Rattle.std.proofs.Common.{take}
-use Rattle.lines_to_files.specs.{Judged.making_of, TextLines.lines_by}
-use Rattle.lines_to_files.proofs.PutTests.{Puts}
+use Rattle.lines_to_files.{proofs.{Vocabulary.take, PutTests.Puts}, specs.{Judged.making_of, TextLines.lines_by}}
 use Rattle.lines_to_files.proofs.putting.put_lines.Given as goal
 
 abbrev pub invariant-loop-left : goal.invariant-loop-left

@@ -1,9 +1,6 @@
 -- That `read_test` reads the name and the cycle of a line's test.
 use Rattle.std.proofs.Common.{◌≡◌, List, Option, Some, Result, Ok, true, rules}
-use Rattle.relax_edges.specs.declared.edge.Edge.{Edge}
-use Rattle.cycles_from_lines.specs.{declared.errors.LineKind.LineKind, Cycles.line_said, declared.line.LineForm.TheVariants.Edges}
-use Rattle.lines_to_files.specs.{GivenTests.test_given, RightTests.names_file}
-use Rattle.lines_to_files.proofs.{NormalForms.normal_is, TestsRead.line_named}
+use Rattle.lines_to_files.{proofs.{Vocabulary.{Edge, LineKind, Edges, line_said}, NormalForms.normal_is, TestsRead.line_named}, specs.{GivenTests.test_given, RightTests.names_file}}
 use Rattle.lines_to_files.proofs.reading.read_test.Goals as goal
 
 pub returns : goal.returns

@@ -1,6 +1,5 @@
 -- That `end_at_limit` finds how the reading ends.
-use Rattle.std.proofs.Common.{rules}
-use Rattle.lines_to_files.proofs.ReadTexts.{taken_over}
+use Rattle.lines_to_files.proofs.{Vocabulary.rules, ReadTexts.taken_over}
 use Rattle.lines_to_files.proofs.source_text.end_at_limit.Goals as goal
 
 pub returns-in-Ok : goal.returns-in-Ok

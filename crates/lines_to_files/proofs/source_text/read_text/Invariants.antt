@@ -1,7 +1,5 @@
 -- The loop of `read_text`: what was taken so far.
-use Rattle.std.proofs.Common.{◌≤◌, ◌-◌, length}
-use Rattle.diy_io.specs.declared.source.TheConstants.{MAX_INPUT}
-use Rattle.lines_to_files.specs.ReadTexts.{HasTaken}
+use Rattle.lines_to_files.{proofs.Vocabulary.{◌≤◌, ◌-◌, length, MAX_INPUT}, specs.ReadTexts.HasTaken}
 use Rattle.lines_to_files.proofs.source_text.read_text.Given as goal
 
 abbrev pub invariant-loop-piece : goal.invariant-loop-piece

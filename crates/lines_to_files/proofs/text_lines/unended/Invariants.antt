@@ -1,6 +1,5 @@
 -- The loop of `unended`: what is unended in the rest is unended in the text.
-use Rattle.std.proofs.Common.{◌≡◌, length}
-use Rattle.text_parts.specs.Lines.{unended}
+use Rattle.lines_to_files.proofs.Vocabulary.{◌≡◌, length, unended}
 use Rattle.lines_to_files.proofs.text_lines.unended.Given as goal
 
 abbrev pub invariant-loop-later : goal.invariant-loop-later

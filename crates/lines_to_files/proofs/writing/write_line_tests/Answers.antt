@@ -1,7 +1,5 @@
 -- That `write_line_tests` leaves what its end says.
-use Rattle.std.proofs.Common.{refl}
-use Rattle.lines_to_files.specs.TestFiles.{making_in}
-use Rattle.lines_to_files.proofs.Endings.{file_fails, line_wrong, stops, goes_on, names_fail, reads, judges, puts_by}
+use Rattle.lines_to_files.{proofs.{Vocabulary.refl, Endings.{file_fails, line_wrong, stops, goes_on, names_fail, reads, judges, puts_by}}, specs.TestFiles.making_in}
 use Rattle.lines_to_files.proofs.writing.write_line_tests.Goals as goal
 
 pub returns-in-Err-put_lines-clause-ends : goal.returns-in-Err-put_lines-clause-ends

@@ -1,6 +1,5 @@
 -- A cell that is kept is the cell of the column, which is blank after its last text.
-use Rattle.litmus_text.proofs.Vocabulary.{[], ap, arith, column_of, get_or_past, length, sym, thread_code_of, ◌<◌, ◌∙◌}
-use Rattle.litmus_text.proofs.{TableLaws.length-column_of, CellLaws.same_cell}
+use Rattle.litmus_text.proofs.{Vocabulary.{[], ap, arith, column_of, get_or_past, length, sym, thread_code_of, ◌<◌, ◌∙◌}, TableLaws.length-column_of, CellLaws.same_cell}
 use Rattle.litmus_text.proofs.column.put_cell.Goals as goal
 
 pub put-requires-in-Some-clause-within : goal.put-requires-in-Some-clause-within

@@ -1,6 +1,5 @@
 -- The width of a column is that of its widest cell, and its cells are kept.
-use Rattle.litmus_text.proofs.Vocabulary.{arith, column_of, length, refl, thread_code_of, ◌<◌}
-use Rattle.litmus_text.proofs.{KeptLaws.kept_none, KeptLaws.kept_more, KeptLaws.kept_whole, KeptLaws.wider, TableLaws.whole_width, TableLaws.length-column_of}
+use Rattle.litmus_text.proofs.{Vocabulary.{arith, column_of, length, refl, thread_code_of, ◌<◌}, KeptLaws.{kept_none, kept_more, kept_whole, wider}, TableLaws.{whole_width, length-column_of}}
 use Rattle.litmus_text.proofs.column.width_of.Goals as goal
 
 pub returns-clause-width : goal.returns-clause-width

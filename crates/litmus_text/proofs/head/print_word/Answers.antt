@@ -5,5 +5,5 @@ use Rattle.litmus_text.proofs.head.print_word.Goals as goal
 pub returns-clause-short : goal.returns-clause-short
 returns-clause-short c =
     let parts = length-append (separator_at (codes " ") c.args.i) (word_of c.args.edge) in
-    let word = ap length c.word.ensures.word in
+    let word = ap length c.text.ensures.word in
     omega (arith, separator_short (codes " ") c.args.i)

@@ -1,6 +1,5 @@
 -- The items of threads are appended as long as there is room, and after the last thread the closing brace.
-use Rattle.litmus_text.proofs.Vocabulary.{ap, arith, map, refl, sym, test_seen, thread_code_of, ◌+◌, ◌≢◌}
-use Rattle.litmus_text.proofs.TextParts.{no_parts, items_more, items_put, closing_put}
+use Rattle.litmus_text.proofs.{Vocabulary.{ap, arith, map, refl, sym, test_seen, thread_code_of, ◌+◌, ◌≢◌}, TextParts.{no_parts, items_more, items_put, closing_put}}
 use Rattle.litmus_text.proofs.parts.put_items.Goals as goal
 
 pub loop-thread-init : goal.loop-thread-init

@@ -1,7 +1,6 @@
 -- The cells of a row are appended one after another.
-use Rattle.litmus_text.proofs.Vocabulary.{[], arith, column_of, columns_of, get_or, map, refl, thread_code_of}
-use Rattle.litmus_text.proofs.{JoinLaws.none_put, JoinLaws.one_text_put, JoinLaws.all_put, JoinLaws.all_short, KeptLaws.first_more, KeptLaws.holds_column}
-use Rattle.litmus_text.proofs.TableLaws.{width_at, cell_is, length_columns, widths_long, cell_within}
+use Rattle.litmus_text.proofs.{Vocabulary.{[], arith, column_of, columns_of, get_or, map, refl, thread_code_of}, JoinLaws.{none_put, one_text_put, all_put, all_short}, KeptLaws.{first_more, holds_column}, TableLaws.{width_at, cell_is, length_columns}}
+use Rattle.litmus_text.proofs.TableLaws.{widths_long, cell_within}
 use Rattle.litmus_text.proofs.table.print_cells.Goals as goal
 
 pub loop-thread-init : goal.loop-thread-init

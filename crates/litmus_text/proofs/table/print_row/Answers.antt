@@ -1,6 +1,5 @@
 -- A row is a blank, its cells, and what ends the line.
-use Rattle.litmus_text.proofs.Vocabulary.{ap, arith, cell_text, codes, columns_of, join_by, length, length-append, map, thread_code_of}
-use Rattle.litmus_text.proofs.{JoinLaws.three_put, TableLaws.row_is}
+use Rattle.litmus_text.proofs.{Vocabulary.{ap, arith, cell_text, codes, columns_of, join_by, length, length-append, map, thread_code_of}, JoinLaws.three_put, TableLaws.row_is}
 use Rattle.litmus_text.proofs.table.print_row.Goals as goal
 
 pub returns-clause-text : goal.returns-clause-text

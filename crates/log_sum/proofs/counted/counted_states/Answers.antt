@@ -1,8 +1,6 @@
 -- `counted_states` gives all states of a table, in byte order.
-use Rattle.std.proofs.Common.{◌≡◌, ℕ, List, ap, ◌∙◌, map}
-use Rattle.std.specs.{declared.vec.Vec.Vec, declared.alloc.Global.Global}
-use Rattle.log_sum.specs.{declared.state_table.StateSum.StateSum, KeptStates.counted_view, StateEntries.placed_state, Summed.StateSummed}
-use Rattle.log_sum.proofs.{EntryLaws.placed_entries}
+use Rattle.std.{proofs.Common.{◌≡◌, ℕ, List, ap, ◌∙◌, map}, specs.declared.{vec.Vec.Vec, alloc.Global.Global}}
+use Rattle.log_sum.{specs.{declared.state_table.StateSum.StateSum, KeptStates.counted_view, StateEntries.placed_state, Summed.StateSummed}, proofs.EntryLaws.placed_entries}
 use Rattle.log_sum.proofs.counted.counted_states.Goals as goal
 
 abbrev kept : List (Vec ℕ Global × StateSum) → Vec ℕ Global × ℕ → StateSummed

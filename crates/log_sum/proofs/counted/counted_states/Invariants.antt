@@ -1,6 +1,6 @@
 -- `counted_states`: the states so far, and with them those that are left, are the states of the table.
 use Rattle.std.proofs.Common.{◌≡◌, ◌++◌, map}
-use Rattle.log_sum.specs.{KeptStates.counted_view, StateEntries.placed_state, StateEntries.states_view}
+use Rattle.log_sum.specs.{KeptStates.counted_view, StateEntries.{placed_state, states_view}}
 use Rattle.log_sum.proofs.counted.counted_states.Given as goal
 
 -- what is put is what was seen of the table

@@ -1,6 +1,5 @@
 -- `count_of`: one digit after another is counted.
-use Rattle.std.proofs.Common.{arith}
-use Rattle.log_sum.proofs.CountLaws.{count_more, all_counted}
+use Rattle.log_sum.proofs.{Vocabulary.arith, CountLaws.{count_more, all_counted}}
 use Rattle.log_sum.proofs.counts.count_of.Goals as goal
 
 pub loop-digit-preserved : goal.loop-digit-preserved

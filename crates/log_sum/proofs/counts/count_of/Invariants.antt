@@ -1,6 +1,5 @@
 -- `count_of`: the digits so far.
-use Rattle.std.proofs.Common.{◌≡◌, ◌<◌, ◌^◌}
-use Rattle.std.specs.{Prelude.take, Str.Parse.digits_value}
+use Rattle.std.{proofs.Common.{◌≡◌, ◌<◌, ◌^◌}, specs.{Prelude.take, Str.Parse.digits_value}}
 use Rattle.log_sum.proofs.counts.count_of.Given as goal
 
 -- the count is theirs, and below the limit

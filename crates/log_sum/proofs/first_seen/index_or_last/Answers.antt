@@ -1,8 +1,5 @@
 -- `index_or_last` gives a text the index that the map has for it, or puts it with the last one.
-use Rattle.std.proofs.Common.{sym, ap, ◌∙◌, subst}
-use Rattle.std.specs.{Map.set_value, Ordering.{nat_cmp, is_eq}, Cmp.Lexicographic.slice_cmp}
-use Rattle.log_sum.specs.TextPlaces.{IsPut}
-use Rattle.log_sum.proofs.TextPlaceLaws.{put_new, put_known}
+use Rattle.log_sum.{proofs.{Vocabulary.{sym, ap, ◌∙◌, subst, set_value, nat_cmp, is_eq, slice_cmp}, TextPlaceLaws.{put_new, put_known}}, specs.TextPlaces.IsPut}
 use Rattle.log_sum.proofs.first_seen.index_or_last.Goals as goal
 
 pub returns-in-Some-get_mut : goal.returns-in-Some-get_mut

@@ -1,8 +1,6 @@
 -- `joined_words`: the words that are joined and those that are left are the words of the text.
 use Rattle.std.proofs.Common.{◌≡◌, length}
-use Rattle.text_parts.specs.Words.{words}
-use Rattle.log_sum.specs.Texts.{joined_words}
-use Rattle.log_sum.proofs.TextLaws.{joined_onto}
+use Rattle.log_sum.{proofs.{Vocabulary.words, TextLaws.joined_onto}, specs.Texts.joined_words}
 use Rattle.log_sum.proofs.lines.joined_words.Given as goal
 
 -- the words that are left, appended to those that are joined

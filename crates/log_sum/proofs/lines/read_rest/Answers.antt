@@ -1,6 +1,5 @@
 -- `read_rest`: a line that begins with none of the first letters says nothing.
-use Rattle.std.proofs.Common.{◌∙◌}
-use Rattle.log_sum.proofs.LetterLaws.{rest_by_none}
+use Rattle.log_sum.proofs.{Vocabulary.◌∙◌, LetterLaws.rest_by_none}
 use Rattle.log_sum.proofs.lines.read_rest.Goals as goal
 
 pub returns-else-letter-eq84 : goal.returns-else-letter-eq84

@@ -1,7 +1,6 @@
 -- `filled_sign` gives the blanks that fill a count, and the sign of the mark.
 use Rattle.std.proofs.Common.{◌∙◌, ◌++◌, ap, sym}
-use Rattle.log_sum.specs.{declared.kinds.Mark.Mark, SumText.{filling, mark_sign}}
-use Rattle.log_sum.proofs.PrintLaws.{filled_so}
+use Rattle.log_sum.{specs.{declared.kinds.Mark.Mark, SumText.{filling, mark_sign}}, proofs.PrintLaws.filled_so}
 use Rattle.log_sum.proofs.print.filled_sign.Goals as goal
 
 pub returns-in-Starred : goal.returns-in-Starred

@@ -1,6 +1,5 @@
 -- `print_condition` sends the lines of the condition and of the hash.
-use Rattle.diy_io.specs.PageLaws.{sends_then, sends_stopped}
-use Rattle.log_sum.specs.SumText.{condition_text}
+use Rattle.log_sum.{proofs.Vocabulary.{sends_then, sends_stopped}, specs.SumText.condition_text}
 use Rattle.log_sum.proofs.print.print_condition.Goals as goal
 
 pub returns-in_err-print_text : goal.returns-in_err-print_text

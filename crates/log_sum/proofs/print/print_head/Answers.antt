@@ -1,9 +1,5 @@
 -- `print_head` sends the lines above the states of a test.
-use Rattle.std.proofs.Common.{ap, ◌∙◌}
-use Rattle.std.specs.Fmt.{decimal}
-use Rattle.diy_io.specs.PageLaws.{sends_same}
-use Rattle.log_sum.specs.SumViews.{test_view}
-use Rattle.log_sum.proofs.{EntryLaws.placed_many, PrintLaws.head_is}
+use Rattle.log_sum.{proofs.{Vocabulary.{ap, ◌∙◌, decimal, sends_same}, EntryLaws.placed_many, PrintLaws.head_is}, specs.SumViews.test_view}
 use Rattle.log_sum.proofs.print.print_head.Goals as goal
 
 pub returns : goal.returns

@@ -1,8 +1,5 @@
 -- `print_line` sends the line of a test in the table.
-use Rattle.std.proofs.Common.{◌∙◌}
-use Rattle.diy_io.specs.PageLaws.{sends_same}
-use Rattle.log_sum.specs.SumViews.{test_view}
-use Rattle.log_sum.proofs.PrintLaws.{table_line_is}
+use Rattle.log_sum.{proofs.{Vocabulary.{◌∙◌, sends_same}, PrintLaws.table_line_is}, specs.SumViews.test_view}
 use Rattle.log_sum.proofs.print.print_line.Goals as goal
 
 pub returns : goal.returns

@@ -1,9 +1,6 @@
 -- `print_lines` sends the lines of all tests in the table.
-use Rattle.std.proofs.Common.{ℕ, List, suc, ap, map, drop, arith}
-use Rattle.std.specs.Prelude.{take}
-use Rattle.diy_io.specs.PageLaws.{sent_nothing}
-use Rattle.log_sum.specs.{SumViews.{named_view, test_view}, Summed.Summed, SumText.table_line}
-use Rattle.log_sum.proofs.PrintLaws.{taken_go, taken_end, lines_stop, covers_at}
+use Rattle.std.{proofs.Common.{ℕ, List, suc, ap, map, drop, arith}, specs.Prelude.take}
+use Rattle.log_sum.{proofs.{Vocabulary.sent_nothing, PrintLaws.{taken_go, taken_end, lines_stop, covers_at}}, specs.{SumViews.{named_view, test_view}, Summed.Summed, SumText.table_line}}
 use Rattle.log_sum.proofs.print.print_lines.Goals as goal
 
 abbrev text_of : List ℕ × Summed → List ℕ

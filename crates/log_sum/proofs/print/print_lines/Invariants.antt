@@ -1,8 +1,6 @@
 -- `print_lines`: the lines of the tests so far are sent.
-use Rattle.std.proofs.Common.{map}
-use Rattle.std.specs.Prelude.{take}
-use Rattle.diy_io.specs.Page.{SentAll}
-use Rattle.log_sum.specs.{SumViews.named_view, SumText.lines_text}
+use Rattle.std.{proofs.Common.map, specs.Prelude.take}
+use Rattle.log_sum.{proofs.Vocabulary.SentAll, specs.{SumViews.named_view, SumText.lines_text}}
 use Rattle.log_sum.proofs.print.print_lines.Given as goal
 
 -- the lines of the tests so far are sent

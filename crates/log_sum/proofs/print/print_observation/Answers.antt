@@ -1,8 +1,5 @@
 -- `print_observation` sends the line of the observation.
-use Rattle.std.proofs.Common.{◌∙◌}
-use Rattle.diy_io.specs.PageLaws.{sends_same}
-use Rattle.log_sum.specs.SumViews.{test_view}
-use Rattle.log_sum.proofs.PrintLaws.{observation_is}
+use Rattle.log_sum.{proofs.{Vocabulary.{◌∙◌, sends_same}, PrintLaws.observation_is}, specs.SumViews.test_view}
 use Rattle.log_sum.proofs.print.print_observation.Goals as goal
 
 pub returns : goal.returns

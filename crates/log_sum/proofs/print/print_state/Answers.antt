@@ -1,7 +1,5 @@
 -- `print_state` sends the line of a state.
-use Rattle.std.proofs.Common.{◌∙◌}
-use Rattle.log_sum.proofs.PrintLaws.{state_is}
-use Rattle.diy_io.specs.PageLaws.{sends_same}
+use Rattle.log_sum.proofs.{Vocabulary.{◌∙◌, sends_same}, PrintLaws.state_is}
 use Rattle.log_sum.proofs.print.print_state.Goals as goal
 
 pub returns : goal.returns

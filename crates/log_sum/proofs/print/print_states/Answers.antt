@@ -1,10 +1,7 @@
 -- `print_states` sends the lines of all states of a test, in byte order.
-use Rattle.std.proofs.Common.{◌≡◌, ℕ, List, ap, ◌∙◌, refl, map}
-use Rattle.std.specs.{Borrow.Bor, declared.vec.Vec.Vec, declared.alloc.Global.Global}
-use Rattle.diy_io.specs.PageLaws.{sent_nothing}
-use Rattle.log_sum.specs.{declared.kinds.Mark.Mark, declared.state_table.StateSum.StateSum, StateEntries.{placed_state, states_view}, Summed.StateSummed}
-use Rattle.log_sum.specs.SumText.{state_line}
-use Rattle.log_sum.proofs.{EntryLaws.placed_entries, PrintLaws.{lines_go, lines_stop, covers_next, covers_this}}
+use Rattle.std.{proofs.Common.{◌≡◌, ℕ, List, ap, ◌∙◌, refl, map}, specs.{Borrow.Bor, declared.{vec.Vec.Vec, alloc.Global.Global}}}
+use Rattle.log_sum.{proofs.{Vocabulary.sent_nothing, EntryLaws.placed_entries, PrintLaws.{lines_go, lines_stop, covers_next, covers_this}}, specs.{declared.{kinds.Mark.Mark, state_table.StateSum.StateSum}, StateEntries.{placed_state, states_view}}}
+use Rattle.log_sum.specs.{Summed.StateSummed, SumText.state_line}
 use Rattle.log_sum.proofs.print.print_states.Goals as goal
 
 abbrev shown : List (Vec ℕ Global × StateSum) → Bor (Vec ℕ Global) × Bor ℕ → StateSummed

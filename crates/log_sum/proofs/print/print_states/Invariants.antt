@@ -1,8 +1,6 @@
 -- `print_states`: the states so far and those that are left are the states of the test.
-use Rattle.std.proofs.Common.{◌≡◌, ◌++◌, map}
-use Rattle.std.specs.List.{flat_map}
-use Rattle.diy_io.specs.Page.{SentAll}
-use Rattle.log_sum.specs.{StateEntries.placed_state, StateEntries.states_view, SumText.state_line}
+use Rattle.std.{proofs.Common.{◌≡◌, ◌++◌, map}, specs.List.flat_map}
+use Rattle.log_sum.{proofs.Vocabulary.SentAll, specs.{StateEntries.{placed_state, states_view}, SumText.state_line}}
 use Rattle.log_sum.proofs.print.print_states.Given as goal
 
 -- the lines of the states so far are sent

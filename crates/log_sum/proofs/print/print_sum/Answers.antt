@@ -1,6 +1,5 @@
 -- `print_sum` sends the whole text of a test.
-use Rattle.log_sum.specs.SumText.{summed_text}
-use Rattle.log_sum.proofs.PrintLaws.{three_sent, first_stopped, second_stopped}
+use Rattle.log_sum.{specs.SumText.summed_text, proofs.PrintLaws.{three_sent, first_stopped, second_stopped}}
 use Rattle.log_sum.proofs.print.print_sum.Goals as goal
 
 pub returns-in_err-print_upper : goal.returns-in_err-print_upper

@@ -1,8 +1,6 @@
 -- `print_sums`: the texts of the tests so far are sent.
-use Rattle.std.proofs.Common.{map}
-use Rattle.std.specs.Prelude.{take}
-use Rattle.diy_io.specs.Page.{SentAll}
-use Rattle.log_sum.specs.{SumViews.named_view, SumText.sums_text}
+use Rattle.std.{proofs.Common.map, specs.Prelude.take}
+use Rattle.log_sum.{proofs.Vocabulary.SentAll, specs.{SumViews.named_view, SumText.sums_text}}
 use Rattle.log_sum.proofs.print.print_sums.Given as goal
 
 -- the texts of the tests so far are sent

@@ -1,8 +1,5 @@
 -- `print_verdict` sends the lines of the verdict and of the counts of both marks.
-use Rattle.std.proofs.Common.{ap, ◌∙◌}
-use Rattle.diy_io.specs.PageLaws.{sends_same}
-use Rattle.log_sum.specs.{SumViews.test_view, SumText.verdict_word}
-use Rattle.log_sum.proofs.PrintLaws.{verdict_is}
+use Rattle.log_sum.{proofs.{Vocabulary.{ap, ◌∙◌, sends_same}, PrintLaws.verdict_is}, specs.{SumViews.test_view, SumText.verdict_word}}
 use Rattle.log_sum.proofs.print.print_verdict.Goals as goal
 
 pub returns : goal.returns

@@ -1,7 +1,5 @@
 -- `has_left_twice` finds whether two neighbours have one left side.
-use Rattle.std.proofs.{Common.sym, Common.◌∙◌, Common.arith, lemmas.List.length-map}
-use Rattle.log_sum.specs.SumViews.{texts_of}
-use Rattle.log_sum.proofs.LeftLaws.{neighbours_are, twice_before, one_further, never_twice}
+use Rattle.log_sum.{proofs.{Vocabulary.{sym, ◌∙◌, arith, length-map}, LeftLaws.{neighbours_are, twice_before, one_further, never_twice}}, specs.SumViews.texts_of}
 use Rattle.log_sum.proofs.states.has_left_twice.Goals as goal
 
 pub returns-then-same_left : goal.returns-then-same_left

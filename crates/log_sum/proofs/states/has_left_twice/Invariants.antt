@@ -1,7 +1,6 @@
 -- `has_left_twice`: no two neighbours so far have one left side.
 use Rattle.std.proofs.Common.{◌≡◌, ℕ, ◌+◌, ◌<◌, false}
-use Rattle.log_sum.specs.{SumViews.texts_of, Equalities.same_left}
-use Rattle.log_sum.proofs.StateLaws.{text_at}
+use Rattle.log_sum.{specs.{SumViews.texts_of, Equalities.same_left}, proofs.StateLaws.text_at}
 use Rattle.log_sum.proofs.states.has_left_twice.Given as goal
 
 -- the neighbours so far have different left sides

@@ -1,8 +1,6 @@
 -- `write_form` writes the printed form of a set.
-use Rattle.std.proofs.{Common.{◌++◌, ◌∷◌, [], ap, sym, ◌∙◌, arith}, lemmas.List.take_more}
-use Rattle.std.specs.Prelude.{take}
-use Rattle.log_sum.specs.{SumViews.texts_of, LogStates.{state_form, form_with}}
-use Rattle.log_sum.proofs.StateLaws.{form_none, form_goes, take_whole}
+use Rattle.std.{proofs.{Common.{◌++◌, ◌∷◌, [], ap, sym, ◌∙◌, arith}, lemmas.List.take_more}, specs.Prelude.take}
+use Rattle.log_sum.{specs.{SumViews.texts_of, LogStates.{state_form, form_with}}, proofs.StateLaws.{form_none, form_goes, take_whole}}
 use Rattle.log_sum.proofs.states.write_form.Goals as goal
 
 pub loop-equality-init : goal.loop-equality-init

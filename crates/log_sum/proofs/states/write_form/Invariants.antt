@@ -1,6 +1,5 @@
 -- `write_form`: what is written is the form of the equalities so far.
-use Rattle.std.proofs.Common.{◌≡◌}
-use Rattle.std.specs.Prelude.{take}
+use Rattle.std.{proofs.Common.◌≡◌, specs.Prelude.take}
 use Rattle.log_sum.specs.{SumViews.texts_of, LogStates.state_form}
 use Rattle.log_sum.proofs.states.write_form.Given as goal
 

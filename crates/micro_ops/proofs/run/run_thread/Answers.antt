@@ -1,8 +1,7 @@
 -- The run ends as the definition of runs says, or gives the error that has its cause.
 use Rattle.std.proofs.Common.{rules, ◌≡◌, get_or, arith, ap, subst, Err, IfOk, ◌∙◌}
 use Rattle.micro_ops.specs.declared.operation.Micro.TheVariants as ops
-use Rattle.micro_ops.specs.{Running.{At, beginning, go, Ended}, Runners.point_of, RunThreads.value_in_run}
-use Rattle.micro_ops.proofs.Threads.{exec_more, room_left, stops, runner_ends, runner_runs, halt_cause, left_cause}
+use Rattle.micro_ops.{specs.{Running.{At, beginning, go, Ended}, Runners.point_of, RunThreads.value_in_run}, proofs.Threads.{exec_more, room_left, stops, runner_ends, runner_runs, halt_cause, left_cause}}
 use Rattle.micro_ops.proofs.run.run_thread.Goals as goal
 
 pub go-requires-clause-room : goal.go-requires-clause-room

@@ -1,6 +1,6 @@
 -- What holds in the loop over the operations.
 use Rattle.std.proofs.Common.{◌≡◌, take}
-use Rattle.micro_ops.specs.{Running.At, Running.exec, Running.beginning, Runners.point_of}
+use Rattle.micro_ops.specs.{Running.{At, exec, beginning}, Runners.point_of}
 use Rattle.micro_ops.proofs.run.run_thread.Given as goal
 
 abbrev pub invariant-loop-index : goal.invariant-loop-index

@@ -1,6 +1,5 @@
 -- `feed` answers an error that a piece shows, or that the log goes past 2^40 bytes.
-use Rattle.std.proofs.{Common.{◌++◌, take, arith}, lemmas.Result.err_from_is_err_and}
-use Rattle.msum7_files.proofs.FeedingLaws.{piece_refused, piece_full}
+use Rattle.msum7_files.proofs.{Vocabulary.{◌++◌, take, arith, err_from_is_err_and}, FeedingLaws.{piece_refused, piece_full}}
 use Rattle.msum7_files.proofs.feeding.feed.Goals as goal
 
 pub returns-in_err-feed_piece-clause-fed : goal.returns-in_err-feed_piece-clause-fed

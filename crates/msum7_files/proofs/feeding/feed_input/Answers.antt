@@ -1,7 +1,5 @@
 -- `feed_input` reads the log that the input is to its end, or until an error is seen, and feeds what it reads.
-use Rattle.std.proofs.{Common.{take, arith, ◌++◌, ◌∷◌, []}, lemmas.Result.err_from_is_err_and}
-use Rattle.diy_io.specs.Taken.{SourceSeen}
-use Rattle.msum7_files.proofs.FeedingLaws.{reads_nothing, took_of, reads_more, read_end, goes_on, reads_part, reads_failed, short_piece, end_faulty, whole_fed}
+use Rattle.msum7_files.proofs.{Vocabulary.{take, arith, ◌++◌, ◌∷◌, [], err_from_is_err_and, SourceSeen}, FeedingLaws.{reads_nothing, took_of, reads_more, read_end, goes_on, reads_part, reads_failed, short_piece, end_faulty, whole_fed}}
 use Rattle.msum7_files.proofs.feeding.feed_input.Goals as goal
 
 pub loop-count-init : goal.loop-count-init

@@ -1,6 +1,5 @@
 -- `feed_input`: what was read so far was fed.
-use Rattle.std.proofs.Common.{◌≤◌, ◌-◌, ◌^◌}
-use Rattle.msum7_files.specs.Feeding.{ForLogs, ReadSoFar}
+use Rattle.msum7_files.{proofs.Vocabulary.{◌≤◌, ◌-◌, ◌^◌}, specs.Feeding.{ForLogs, ReadSoFar}}
 use Rattle.msum7_files.proofs.feeding.feed_input.Given as goal
 
 -- what was read so far was fed

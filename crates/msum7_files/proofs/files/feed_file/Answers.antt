@@ -1,8 +1,6 @@
 -- `feed_file` reads the open file to its end, or until an error is seen, and feeds what it reads.
-use Rattle.std.proofs.{Common.{take, refl, arith, ◌∙◌, ◌++◌, ◌∷◌, []}, lemmas.Result.err_from_is_err_and}
-use Rattle.msum7_files.specs.Feeding.{log_seen}
-use Rattle.msum7_files.proofs.FeedingLaws.{reads_nothing, reads_more, reads_part, reads_failed, short_piece, end_faulty, whole_fed}
-use Rattle.msum7_files.proofs.FileLaws.{gave_took, gave_mode, gave_more, gave_whole}
+use Rattle.msum7_files.proofs.{Vocabulary.{take, refl, arith, ◌∙◌, ◌++◌, ◌∷◌, [], err_from_is_err_and}, FeedingLaws.{reads_nothing, reads_more, reads_part, reads_failed, short_piece, end_faulty, whole_fed}, FileLaws.{gave_took, gave_mode, gave_more}}
+use Rattle.msum7_files.{proofs.FileLaws.gave_whole, specs.Feeding.log_seen}
 use Rattle.msum7_files.proofs.files.feed_file.Goals as goal
 
 pub loop-count-init : goal.loop-count-init

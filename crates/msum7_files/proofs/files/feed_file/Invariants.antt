@@ -1,7 +1,5 @@
 -- `feed_file`: what was read so far was fed, and the file is still open.
-use Rattle.std.proofs.Common.{◌≡◌, ◌≤◌, ◌-◌, ◌^◌}
-use Rattle.diy_io.specs.Shelf.{IsReading}
-use Rattle.msum7_files.specs.Feeding.{ForLogs, ReadSoFar, log_seen}
+use Rattle.msum7_files.{proofs.Vocabulary.{◌≡◌, ◌≤◌, ◌-◌, ◌^◌, IsReading}, specs.Feeding.{ForLogs, ReadSoFar, log_seen}}
 use Rattle.msum7_files.proofs.files.feed_file.Given as goal
 
 -- what was read so far was fed, and the file is still open

@@ -1,7 +1,6 @@
 -- `feed_open` feeds the open file and closes it.
 use Rattle.std.proofs.Common.{ap, ◌∙◌, Err, ◌++◌, ◌∷◌, []}
-use Rattle.msum7_files.specs.Feeding.{log_seen}
-use Rattle.msum7_files.proofs.FileLaws.{closed, closed_fed, closed_failed, closed_stopped, read_refused, read_failed, idle_at_end}
+use Rattle.msum7_files.{specs.Feeding.log_seen, proofs.FileLaws.{closed, closed_fed, closed_failed, closed_stopped, read_refused, read_failed, idle_at_end}}
 use Rattle.msum7_files.proofs.files.feed_open.Goals as goal
 
 pub returns-in-Ok-finish-clause-read : goal.returns-in-Ok-finish-clause-read

@@ -1,7 +1,5 @@
 -- `fed_files` feeds the files that words name, one after another.
-use Rattle.std.proofs.Common.{◌∙◌, List, [], ℕ, sym, subst, arith}
-use Rattle.msum7_files.specs.{declared.faults.LogsFault.LogsFault, LogsRead.{FilesUpTo, LogFilesUnread}}
-use Rattle.msum7_files.proofs.FilesLaws.{one_more, files_unread}
+use Rattle.msum7_files.{proofs.{Vocabulary.{◌∙◌, List, [], ℕ, sym, subst, arith}, FilesLaws.{one_more, files_unread}}, specs.{declared.faults.LogsFault.LogsFault, LogsRead.{FilesUpTo, LogFilesUnread}}}
 use Rattle.msum7_files.proofs.reading.fed_files.Goals as goal
 
 pub returns-in-Err-clause-read : goal.returns-in-Err-clause-read

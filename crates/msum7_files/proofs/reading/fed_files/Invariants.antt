@@ -1,7 +1,5 @@
 -- `fed_files`: the files that the words so far name were fed.
-use Rattle.std.proofs.Common.{◌≡◌, []}
-use Rattle.diy_io.specs.Shelf.{Idle}
-use Rattle.msum7_files.specs.LogsRead.{FilesUpTo}
+use Rattle.msum7_files.{proofs.Vocabulary.{◌≡◌, [], Idle}, specs.LogsRead.FilesUpTo}
 use Rattle.msum7_files.proofs.reading.fed_files.Given as goal
 
 -- the files before this word were fed

@@ -1,7 +1,5 @@
 -- `fed_input` feeds the input.
-use Rattle.std.proofs.Common.{[], sym, subst}
-use Rattle.msum7_files.specs.{declared.faults.LogsFault.LogsFault, LogsRead.LogInputUnread}
-use Rattle.msum7_files.proofs.FilesLaws.{input_unread}
+use Rattle.msum7_files.{proofs.{Vocabulary.{[], sym, subst}, FilesLaws.input_unread}, specs.{declared.faults.LogsFault.LogsFault, LogsRead.LogInputUnread}}
 use Rattle.msum7_files.proofs.reading.fed_input.Goals as goal
 
 pub returns-in-Ok-feed_input : goal.returns-in-Ok-feed_input

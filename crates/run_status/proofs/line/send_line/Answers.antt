@@ -1,6 +1,5 @@
 -- That `send_line` sends the line of a status.
-use Rattle.std.proofs.Common.{sym}
-use Rattle.diy_io.specs.PageLaws.{not_spilled}
+use Rattle.run_status.proofs.Vocabulary.{sym, not_spilled}
 use Rattle.run_status.proofs.line.send_line.Goals as goal
 
 pub returns-in-Done : goal.returns-in-Done

@@ -1,5 +1,5 @@
 -- That `send_refused` sends the line of a refusal: its head, and then the refusal.
-use Rattle.diy_io.specs.PageLaws.{sends_then, sends_stopped}
+use Rattle.run_status.proofs.Vocabulary.{sends_then, sends_stopped}
 use Rattle.run_status.proofs.line.send_refused.Goals as goal
 
 pub returns-in_err-send : goal.returns-in_err-send

@@ -1,8 +1,5 @@
 -- That `send_text` sends the line of an error in a text: its head, and then what is wrong.
-use Rattle.std.proofs.Common.{append_assoc, sym}
-use Rattle.std.specs.Prelude.{codes}
-use Rattle.diy_io.specs.PageLaws.{sends_then, sends_stopped, sends_same}
-use Rattle.run_status.specs.Report.{kind_text, text_head}
+use Rattle.run_status.{proofs.Vocabulary.{append_assoc, sym, codes, sends_then, sends_stopped, sends_same}, specs.Report.{kind_text, text_head}}
 use Rattle.run_status.proofs.line.send_text.Goals as goal
 
 pub returns-in_err-send_head : goal.returns-in_err-send_head

@@ -1,8 +1,5 @@
 -- That `send_unobserved` sends the refusal that a write needs an observer: its name, that of the location, and the number of the event.
-use Rattle.std.proofs.Common.{◌≡◌, ◌∙◌, [], ap, sym, slice_index_or}
-use Rattle.std.specs.Fmt.{decimal}
-use Rattle.arch_trait.specs.PlaceNames.{location_name}
-use Rattle.run_status.proofs.Reported.{letter_at}
+use Rattle.run_status.proofs.{Vocabulary.{◌≡◌, ◌∙◌, [], ap, sym, slice_index_or, decimal, location_name}, Reported.letter_at}
 use Rattle.run_status.proofs.line.send_unobserved.Goals as goal
 
 pub returns : goal.returns

@@ -1,6 +1,5 @@
 -- That `send_usage` sends the line of words that make no request, where no word shows the error.
-use Rattle.std.proofs.Common.{arith, sym}
-use Rattle.run_status.proofs.Reported.{bare_line}
+use Rattle.run_status.proofs.{Vocabulary.{arith, sym}, Reported.bare_line}
 use Rattle.run_status.proofs.line.send_usage.Goals as goal
 
 pub returns-else-word-len : goal.returns-else-word-len

@@ -1,6 +1,5 @@
 -- That `log_name_at` gives the name of a log: an index past all arguments names none.
-use Rattle.std.proofs.Common.{arith}
-use Rattle.run_status.proofs.Skipped.{no_name}
+use Rattle.run_status.proofs.{Vocabulary.arith, Skipped.no_name}
 use Rattle.run_status.proofs.outcome.log_name_at.Goals as goal
 
 pub returns-in-None-checked_add : goal.returns-in-None-checked_add

@@ -1,7 +1,5 @@
 -- That `report` writes the lines of an outcome, or a prefix of them where the sink fails.
-use Rattle.std.proofs.Common.{sym, ◌∙◌}
-use Rattle.diy_io.specs.WroteLaws.{wrote_nothing}
-use Rattle.run_status.proofs.{Reported.{own_wrote, own_unsent}, Skipped.{no_blocks, silent_lines}}
+use Rattle.run_status.proofs.{Vocabulary.{sym, ◌∙◌, wrote_nothing}, Reported.{own_wrote, own_unsent}, Skipped.{no_blocks, silent_lines}}
 use Rattle.run_status.proofs.outcome.report.Goals as goal
 
 pub returns-then-is_empty : goal.returns-then-is_empty

@@ -1,7 +1,5 @@
 -- The lines of the blocks are sent one after another.
-use Rattle.diy_io.specs.PageLaws.{each_sent, sent_nothing}
-use Rattle.run_status.specs.SkippedLines.{block_line}
-use Rattle.run_status.proofs.Skipped.{all_sent, stopped_at}
+use Rattle.run_status.{proofs.{Vocabulary.{each_sent, sent_nothing}, Skipped.{all_sent, stopped_at}}, specs.SkippedLines.block_line}
 use Rattle.run_status.proofs.outcome.send_blocks.Goals as goal
 
 pub loop-block-init : goal.loop-block-init

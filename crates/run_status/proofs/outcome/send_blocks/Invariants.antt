@@ -1,8 +1,5 @@
 -- The loop over the blocks: the lines of those so far are sent.
-use Rattle.std.proofs.Common.{take}
-use Rattle.std.specs.List.{flat_map}
-use Rattle.diy_io.specs.Page.{SentAll}
-use Rattle.run_status.specs.SkippedLines.{block_line}
+use Rattle.run_status.{proofs.Vocabulary.{take, flat_map, SentAll}, specs.SkippedLines.block_line}
 use Rattle.run_status.proofs.outcome.send_blocks.Given as goal
 
 abbrev pub invariant-loop-block : goal.invariant-loop-block

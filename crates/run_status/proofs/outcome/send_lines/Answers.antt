@@ -1,6 +1,5 @@
 -- That `send_lines` sends the lines of the blocks, and then that of the status.
-use Rattle.diy_io.specs.PageLaws.{sends_then, sends_stopped, sends_same}
-use Rattle.run_status.proofs.Skipped.{lines_sent}
+use Rattle.run_status.proofs.{Vocabulary.{sends_then, sends_stopped, sends_same}, Skipped.lines_sent}
 use Rattle.run_status.proofs.outcome.send_lines.Goals as goal
 
 pub returns-in_err-send_blocks : goal.returns-in_err-send_blocks

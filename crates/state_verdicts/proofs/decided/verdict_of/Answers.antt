@@ -1,14 +1,6 @@
 -- The execution that is rebuilt is the only one that can end in the state; where none is rebuilt, the state fixes none.
-use Rattle.std.proofs.Common.{◌≡◌, arith, List, ℕ, Option, Some, length, map, sym, ap, subst, ◌∙◌}
-use Rattle.std.specs.Prelude.{option_map}
-use Rattle.std.proofs.lemmas.List.{length-map}
-use Rattle.arch_trait.specs.PlaceNames.{number_in}
-use Rattle.final_cond.specs.Conditions.{cond_view}
-use Rattle.litmus_text.specs.ReadPrograms.{program_read}
-use Rattle.program_meaning.specs.{Accesses.Access, Interleavings.accesses_on}
-use Rattle.rebuilt_executions.specs.Settled.{IsRebuilt}
-use Rattle.state_verdicts.specs.StateParts.{ends_given}
-use Rattle.state_verdicts.proofs.{Deciding.{AreOfState, best_rebuilt, not_fixed, order_count, place_count, reads_too, thread_count}, LoadLists.loads_count}
+use Rattle.state_verdicts.proofs.{Vocabulary.{◌≡◌, arith, List, ℕ, Option, Some, length, map, sym, ap, subst, ◌∙◌, length-map, option_map, number_in, cond_view, program_read, Access, accesses_on}, Deciding.{AreOfState, best_rebuilt, not_fixed}}
+use Rattle.state_verdicts.{proofs.{Deciding.{order_count, place_count, reads_too, thread_count}, LoadLists.loads_count}, specs.{Settled.IsRebuilt, StateParts.ends_given}}
 use Rattle.state_verdicts.proofs.decided.verdict_of.Goals as goal
 
 pub all_accesses-requires : goal.all_accesses-requires

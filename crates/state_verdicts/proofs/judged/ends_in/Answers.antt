@@ -1,9 +1,5 @@
 -- The state holds of what is held at the end exactly if it holds of the final state.
-use Rattle.arch_trait.specs.PlaceNames.{number_in}
-use Rattle.final_cond.specs.{Conditions.cond_view, States.value_in_state}
-use Rattle.litmus_text.specs.ReadPrograms.{program_read}
-use Rattle.tests_force_cycles.specs.FinalStates.{final_state}
-use Rattle.state_verdicts.proofs.Judging.{state_holds}
+use Rattle.state_verdicts.proofs.{Vocabulary.{number_in, cond_view, value_in_state, program_read, final_state}, Judging.state_holds}
 use Rattle.state_verdicts.proofs.judged.ends_in.Goals as goal
 
 pub returns : goal.returns

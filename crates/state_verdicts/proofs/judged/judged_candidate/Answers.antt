@@ -1,8 +1,5 @@
 -- The best candidate that ends so decides, or what all coherent ones have in common; otherwise nothing is said.
-use Rattle.std.proofs.Common.{◌≡◌, true, false, sym, ◌∙◌}
-use Rattle.arch_trait.specs.PlaceNames.{number_in}
-use Rattle.final_cond.specs.Conditions.{cond_view}
-use Rattle.state_verdicts.proofs.Judging.{coherent_here, relaxed_here, unordered_here}
+use Rattle.state_verdicts.proofs.{Vocabulary.{◌≡◌, true, false, sym, ◌∙◌, number_in, cond_view}, Judging.{coherent_here, relaxed_here, unordered_here}}
 use Rattle.state_verdicts.proofs.judged.judged_candidate.Goals as goal
 
 pub is_sequential-requires : goal.is_sequential-requires

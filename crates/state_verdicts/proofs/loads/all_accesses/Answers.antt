@@ -1,8 +1,5 @@
 -- Each thread adds the accesses of its run.
-use Rattle.std.proofs.Common.{Some, length, map, slice_get, refl, sym, ap, ◌∙◌, arith}
-use Rattle.std.proofs.lemmas.Option.{slice_get_read}
-use Rattle.accesses_force_cycles.proofs.Lists.{got_map}
-use Rattle.state_verdicts.proofs.LoadLists.{accesses_count, accesses_end, accesses_more}
+use Rattle.state_verdicts.proofs.{Vocabulary.{Some, length, map, slice_get, refl, sym, ap, ◌∙◌, arith, slice_get_read, got_map}, LoadLists.{accesses_count, accesses_end, accesses_more}}
 use Rattle.state_verdicts.proofs.loads.all_accesses.Goals as goal
 
 pub accesses_of_run-requires : goal.accesses_of_run-requires

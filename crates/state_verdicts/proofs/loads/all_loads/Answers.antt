@@ -1,12 +1,6 @@
 -- Each thread adds its values to those of the threads before.
-use Rattle.std.proofs.Common.{Some, map, drop, refl, sym, ap, ◌+◌, ◌∙◌, arith}
-use Rattle.std.specs.Prelude.{option_map}
-use Rattle.std.proofs.lemmas.List.{map_push}
-use Rattle.arch_trait.specs.PlaceNames.{number_in}
-use Rattle.final_cond.specs.Conditions.{cond_view}
-use Rattle.rebuilt_executions.specs.LoadValues.{values_of_loads}
+use Rattle.state_verdicts.{proofs.{Vocabulary.{Some, map, drop, refl, sym, ap, ◌+◌, ◌∙◌, arith, map_push, option_map, number_in, cond_view}, LoadLists.{before, loads_more, loads_stop, loads_end}}, specs.LoadValues.values_of_loads}
 use Rattle.state_verdicts.specs.StateParts.{known_registers, loads_from}
-use Rattle.state_verdicts.proofs.LoadLists.{before, loads_more, loads_stop, loads_end}
 use Rattle.state_verdicts.proofs.loads.all_loads.Goals as goal
 
 pub loop-thread-preserved : goal.loop-thread-preserved

@@ -1,11 +1,5 @@
 -- The values are those of the code of the thread.
-use Rattle.std.proofs.Common.{slice_get, ap, ◌∙◌}
-use Rattle.std.specs.Prelude.{option_map}
-use Rattle.arch_trait.specs.PlaceNames.{number_in}
-use Rattle.final_cond.specs.Conditions.{cond_view}
-use Rattle.rebuilt_executions.specs.LoadValues.{values_of_loads}
-use Rattle.state_verdicts.specs.StateParts.{known_registers}
-use Rattle.state_verdicts.proofs.{LoadLists.thread_found, Results.more_ok}
+use Rattle.state_verdicts.{proofs.{Vocabulary.{slice_get, ap, ◌∙◌, option_map, number_in, cond_view}, LoadLists.thread_found, Results.more_ok}, specs.{LoadValues.values_of_loads, StateParts.known_registers}}
 use Rattle.state_verdicts.proofs.loads.thread_loads.Goals as goal
 
 pub returns : goal.returns

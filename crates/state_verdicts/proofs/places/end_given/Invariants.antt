@@ -1,7 +1,5 @@
 -- In the loop over the equalities: the value is that of the equalities that are left.
-use Rattle.std.proofs.Common.{◌≡◌, drop, map}
-use Rattle.final_cond.specs.Conditions.{term_view}
-use Rattle.state_verdicts.specs.StateParts.{end_given}
+use Rattle.state_verdicts.{proofs.Vocabulary.{◌≡◌, drop, map, term_view}, specs.StateParts.end_given}
 use Rattle.state_verdicts.proofs.places.end_given.Given as goal
 
 abbrev pub invariant-loop-term : goal.invariant-loop-term

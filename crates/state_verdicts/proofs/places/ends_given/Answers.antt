@@ -1,8 +1,5 @@
 -- There are no more than locations.
-use Rattle.std.proofs.Common.{length, map, ap, arith}
-use Rattle.list_laws.proofs.Numbers.{length-map-upto}
-use Rattle.final_cond.specs.Conditions.{term_view}
-use Rattle.state_verdicts.specs.StateParts.{end_given}
+use Rattle.state_verdicts.{proofs.Vocabulary.{length, map, ap, arith, length-map-upto, term_view}, specs.StateParts.end_given}
 use Rattle.state_verdicts.proofs.places.ends_given.Goals as goal
 
 pub returns-clause-few : goal.returns-clause-few

@@ -1,7 +1,5 @@
 -- In the loop over the names: the number is that among the names that are left.
-use Rattle.std.proofs.Common.{◌≡◌, drop}
-use Rattle.std.specs.{List.position_from, Str.bytes_eq}
-use Rattle.arch_trait.specs.PlaceNames.{number_in}
+use Rattle.state_verdicts.proofs.Vocabulary.{◌≡◌, drop, position_from, bytes_eq, number_in}
 use Rattle.state_verdicts.proofs.places.number_of.Given as goal
 
 abbrev pub invariant-loop-place : goal.invariant-loop-place

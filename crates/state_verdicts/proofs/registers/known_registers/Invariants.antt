@@ -1,8 +1,5 @@
 -- In the loop over the equalities: the registers so far, and those of the equalities that are left, are all.
-use Rattle.std.proofs.Common.{◌≡◌, ◌++◌, drop, map}
-use Rattle.final_cond.specs.Conditions.{term_view}
-use Rattle.arch_trait.specs.PlaceNames.{number_in}
-use Rattle.state_verdicts.specs.StateParts.{known_registers}
+use Rattle.state_verdicts.{proofs.Vocabulary.{◌≡◌, ◌++◌, drop, map, term_view, number_in}, specs.StateParts.known_registers}
 use Rattle.state_verdicts.proofs.registers.known_registers.Given as goal
 
 abbrev pub invariant-loop-term : goal.invariant-loop-term

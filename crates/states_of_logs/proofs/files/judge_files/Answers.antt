@@ -1,8 +1,5 @@
 -- That `judge_files` writes the states with their verdicts, or ends at the first cause.
-use Rattle.std.proofs.Common.{sym, subst}
-use Rattle.diy_io.specs.{Shelf.ShelfSeen, Wrote.SinkSeen}
-use Rattle.states_of_logs.specs.{declared.states_end.StatesEnd.StatesEnd, StatesEnds.FilesJudged}
-use Rattle.states_of_logs.proofs.EndLaws.{files_judged, files_unread}
+use Rattle.states_of_logs.{proofs.{Vocabulary.{sym, subst, ShelfSeen, SinkSeen}, EndLaws.{files_judged, files_unread}}, specs.{declared.states_end.StatesEnd.StatesEnd, StatesEnds.FilesJudged}}
 use Rattle.states_of_logs.proofs.files.judge_files.Goals as goal
 
 pub returns-in-Ok-read_files-clause-judged : goal.returns-in-Ok-read_files-clause-judged

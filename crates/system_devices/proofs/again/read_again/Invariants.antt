@@ -1,6 +1,5 @@
 -- The loop of `read_again`: the buffer keeps its length, an interrupted read takes nothing, and the signals that may come get fewer.
-use Rattle.std.proofs.Common.{◌≡◌, length}
-use Rattle.std.specs.Io.KnownBytes.{Keeps}
+use Rattle.std.{proofs.Common.{◌≡◌, length}, specs.Io.KnownBytes.Keeps}
 use Rattle.system_devices.proofs.again.read_again.Given as goal
 
 abbrev pub invariant-loop-signals : goal.invariant-loop-signals

@@ -1,6 +1,5 @@
 -- That `accepted` judges a cycle that resolves and has values by its registers.
-use Rattle.std.proofs.Common.{◌∙◌}
-use Rattle.test_maker.proofs.Reasons.{is_valued}
+use Rattle.test_maker.proofs.{Vocabulary.◌∙◌, Reasons.is_valued}
 use Rattle.test_maker.proofs.acceptance.accepted.Goals as goal
 
 pub returns : goal.returns

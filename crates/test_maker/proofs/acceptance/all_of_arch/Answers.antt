@@ -1,7 +1,5 @@
 -- That `all_of_arch` asks by the architecture's own name.
-use Rattle.std.proofs.Common.{◌∙◌, sym, subst}
-use Rattle.relax_edges.specs.declared.kinds.ArchName.{ArchName}
-use Rattle.test_maker.specs.{Made.Judges, Refusals.{foreign_edge, foreign_refusal}}
+use Rattle.test_maker.{proofs.Vocabulary.{◌∙◌, sym, subst, ArchName}, specs.{Made.Judges, Refusals.{foreign_edge, foreign_refusal}}}
 use Rattle.test_maker.proofs.acceptance.all_of_arch.Goals as goal
 
 pub returns : goal.returns

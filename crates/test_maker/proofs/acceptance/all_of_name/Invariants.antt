@@ -1,8 +1,5 @@
 -- The loop of `all_of_name`: the edges before a place are of the architecture.
-use Rattle.std.proofs.Common.{◌≡◌, drop, not}
-use Rattle.std.specs.{List.position_from, Option.option_map}
-use Rattle.relax_edges.specs.EdgeTable.{is_of_arch}
-use Rattle.test_maker.specs.{declared.refusal.Refusal.TheVariants.NotOfArch, Refusals.foreign_edge}
+use Rattle.test_maker.{proofs.Vocabulary.{◌≡◌, drop, not, position_from, option_map, is_of_arch}, specs.{declared.refusal.Refusal.TheVariants.NotOfArch, Refusals.foreign_edge}}
 use Rattle.test_maker.proofs.acceptance.all_of_name.Given as goal
 
 abbrev pub invariant-loop-at : goal.invariant-loop-at

@@ -1,9 +1,5 @@
 -- That `enough_registers` finds the first thread that needs too many registers, if there is one.
-use Rattle.std.proofs.Common.{◌∙◌, ap, sym}
-use Rattle.std.specs.Option.{option_map}
-use Rattle.tests_force_cycles.specs.{CycleSteps.cycle_steps, TestOf.plain}
-use Rattle.test_maker.specs.declared.refusal.Refusal.TheVariants.{TooManyRegisters}
-use Rattle.test_maker.proofs.Growing.{crowded_here, calm_here}
+use Rattle.test_maker.{proofs.{Vocabulary.{◌∙◌, ap, sym, option_map, cycle_steps, plain}, Growing.{crowded_here, calm_here}}, specs.declared.refusal.Refusal.TheVariants.TooManyRegisters}
 use Rattle.test_maker.proofs.acceptance.enough_registers.Goals as goal
 
 pub returns-then-is_crowded : goal.returns-then-is_crowded

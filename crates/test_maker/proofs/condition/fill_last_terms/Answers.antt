@@ -1,12 +1,7 @@
 -- That `fill_last_terms` gives the terms of the locations whose last value is named.
-use Rattle.std.proofs.Common.{◌∙◌, ◌<◌, map, sym, ap, arith, length}
-use Rattle.cycle_events.specs.Resolution.{move_count}
-use Rattle.arrayvec.specs.ArrayVec.{ArrayVec}
-use Rattle.final_cond.specs.{declared.cond.Term.Term, Conditions.term_view}
-use Rattle.tests_force_cycles.specs.TestOf.{is_named_location, last_term}
-use Rattle.test_maker.proofs.{Filling.found_same, Naming.{last_room, named_more}, condition.fill_last_terms.Goals.{then-is_named, else-is_named}}
+use Rattle.test_maker.proofs.{Vocabulary.{◌∙◌, ◌<◌, map, sym, ap, arith, length, move_count, ArrayVec, Term, term_view, is_named_location, last_term, length-letters}, Filling.found_same, Naming.{last_room, named_more}}
+use Rattle.test_maker.proofs.condition.fill_last_terms.Goals.{then-is_named, else-is_named}
 use Rattle.test_maker.proofs.condition.fill_last_terms.Goals as goal
-use Rattle.arch_trait.proofs.Tables.{length-letters}
 
 pub push_last_term-requires-clause-place : goal.push_last_term-requires-clause-place
 push_last_term-requires-clause-place c =

@@ -1,9 +1,5 @@
 -- The loop of `fill_last_terms`: the terms of the locations so far.
-use Rattle.std.proofs.Common.{◌≡◌, map}
-use Rattle.std.specs.List.{filter}
-use Rattle.list_laws.specs.Numbers.{upto}
-use Rattle.final_cond.specs.Conditions.{term_view}
-use Rattle.tests_force_cycles.specs.TestOf.{is_named_location, last_term}
+use Rattle.test_maker.proofs.Vocabulary.{◌≡◌, map, filter, upto, term_view, is_named_location, last_term}
 use Rattle.test_maker.proofs.condition.fill_last_terms.Given as goal
 
 abbrev pub invariant-loop-location : goal.invariant-loop-location

@@ -1,10 +1,5 @@
 -- The loop of `put_load_terms`: the terms so far and those that are left, and that there is room for them.
-use Rattle.std.proofs.Common.{◌≡◌, ◌+◌, ◌≤◌, ◌++◌, length, map, drop}
-use Rattle.std.specs.List.{zip}
-use Rattle.arrayvec.specs.ArrayVec.{array_vec_len}
-use Rattle.final_cond.specs.Conditions.{term_view}
-use Rattle.arch_trait.specs.{Writing.name_in, Codes.AllBelow}
-use Rattle.tests_force_cycles.specs.{CycleSteps.numbers_read, TestOf.load_term}
+use Rattle.test_maker.proofs.Vocabulary.{◌≡◌, ◌+◌, ◌≤◌, ◌++◌, length, map, drop, zip, array_vec_len, term_view, name_in, AllBelow, numbers_read, load_term}
 use Rattle.test_maker.proofs.condition.put_load_terms.Given as goal
 
 abbrev pub invariant-loop-step : goal.invariant-loop-step

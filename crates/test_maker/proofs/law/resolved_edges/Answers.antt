@@ -1,5 +1,5 @@
 -- That the resolution of a cycle is the turned cycle, and of the architecture where the cycle is.
-use Rattle.test_maker.proofs.{HavingTests.not_foreign, OfArch.resolved_turned, OfArch.turned_of_arch}
+use Rattle.test_maker.proofs.{HavingTests.not_foreign, OfArch.{resolved_turned, turned_of_arch}}
 use Rattle.test_maker.proofs.law.resolved_edges.Goals as goal
 
 pub returns-clause-turned : goal.returns-clause-turned

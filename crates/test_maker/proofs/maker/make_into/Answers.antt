@@ -1,9 +1,5 @@
 -- That `make_into` makes the test of a cycle that has one, which forces it, and that its refusals name locations of the cycle.
-use Rattle.std.proofs.{Common.{◌∙◌, Ok, sym, subst}, lemmas.Result.err_from_is_err_and}
-use Rattle.std.specs.Prelude.{IfOk}
-use Rattle.cycle_events.specs.Resolution.{IsResolved}
-use Rattle.arch_trait.specs.Writing.{name_in}
-use Rattle.test_maker.proofs.{TestsForced.made_forces, HavingTests.made_has_test, Located.need_located, Reasons.{is_valued, made_seen}}
+use Rattle.test_maker.proofs.{Vocabulary.{◌∙◌, Ok, sym, subst, err_from_is_err_and, IfOk, IsResolved, name_in}, TestsForced.made_forces, HavingTests.made_has_test, Located.need_located, Reasons.{is_valued, made_seen}}
 use Rattle.test_maker.proofs.maker.make_into.Goals as goal
 
 pub returns-in_err-as_ref-2-clause-located : goal.returns-in_err-as_ref-2-clause-located

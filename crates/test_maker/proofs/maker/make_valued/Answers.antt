@@ -1,8 +1,5 @@
 -- That what `make_valued` makes can be printed, and that the cycle has code then.
-use Rattle.std.proofs.Common.{ap, ◌∙◌}
-use Rattle.cycle_events.specs.Resolution.{move_count}
-use Rattle.arch_trait.specs.PlaceNames.{letters}
-use Rattle.test_maker.proofs.{HavingTests.made_has_code, Printing.made_printable}
+use Rattle.test_maker.proofs.{Vocabulary.{ap, ◌∙◌, move_count, letters}, HavingTests.made_has_code, Printing.made_printable}
 use Rattle.test_maker.proofs.maker.make_valued.Goals as goal
 
 pub returns-clause-printable : goal.returns-clause-printable

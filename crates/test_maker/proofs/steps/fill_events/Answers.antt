@@ -1,8 +1,5 @@
 -- That `fill_events` gives the accesses of all events.
-use Rattle.std.proofs.Common.{◌∙◌, ◌≡◌, ◌<◌, ◌++◌, ◌∷◌, [], map, ap, arith, length, sym}
-use Rattle.list_laws.specs.Numbers.{upto}
-use Rattle.list_laws.proofs.Numbers.{length-map-upto, map-upto_more}
-use Rattle.tests_force_cycles.specs.{CycleSteps.event_step, TestOf.plain}
+use Rattle.test_maker.proofs.Vocabulary.{◌∙◌, ◌≡◌, ◌<◌, ◌++◌, ◌∷◌, [], map, ap, arith, length, sym, upto, length-map-upto, map-upto_more, event_step, plain}
 use Rattle.test_maker.proofs.steps.fill_events.Goals as goal
 
 pub push-requires : goal.push-requires

@@ -1,7 +1,5 @@
 -- The loop of `fill_events`: the accesses of the events so far.
-use Rattle.std.proofs.Common.{◌≡◌, map}
-use Rattle.list_laws.specs.Numbers.{upto}
-use Rattle.tests_force_cycles.specs.{CycleSteps.event_step, TestOf.plain}
+use Rattle.test_maker.proofs.Vocabulary.{◌≡◌, map, upto, event_step, plain}
 use Rattle.test_maker.proofs.steps.fill_events.Given as goal
 
 abbrev pub invariant-loop-i : goal.invariant-loop-i

@@ -1,9 +1,5 @@
 -- That `fill_observer` gives the reads of an observer.
-use Rattle.std.proofs.Common.{◌∙◌, ◌-◌, sym, ap, arith, slice_get, Some}
-use Rattle.cycle_events.specs.Resolution.{external_count}
-use Rattle.program_meaning.specs.Intended.{observed_locations}
-use Rattle.tests_force_cycles.specs.TestOf.{plain}
-use Rattle.tests_force_cycles.proofs.StepsAt.{observer_steps_at, steps-count}
+use Rattle.test_maker.proofs.Vocabulary.{◌∙◌, ◌-◌, sym, ap, arith, slice_get, Some, external_count, observed_locations, plain, observer_steps_at, steps-count}
 use Rattle.test_maker.proofs.steps.fill_observer.Goals as goal
 
 pub observed_location-requires : goal.observed_location-requires

@@ -1,8 +1,5 @@
 -- That `fill_reads` has room for the reads of an observer.
-use Rattle.std.proofs.Common.{◌<◌, arith}
-use Rattle.cycle_events.specs.Values.{write_count}
-use Rattle.tests_force_cycles.specs.CycleSteps.{observing}
-use Rattle.test_maker.proofs.Filling.{few_reads}
+use Rattle.test_maker.proofs.{Vocabulary.{◌<◌, arith, write_count, observing}, Filling.few_reads}
 use Rattle.test_maker.proofs.steps.fill_reads.Goals as goal
 
 pub push-requires : goal.push-requires

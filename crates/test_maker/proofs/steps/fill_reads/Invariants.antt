@@ -1,7 +1,5 @@
 -- The loop of `fill_reads`: the reads so far.
-use Rattle.std.proofs.Common.{◌≡◌, map}
-use Rattle.list_laws.specs.Numbers.{upto}
-use Rattle.tests_force_cycles.specs.CycleSteps.{observing}
+use Rattle.test_maker.proofs.Vocabulary.{◌≡◌, map, upto, observing}
 use Rattle.test_maker.proofs.steps.fill_reads.Given as goal
 
 abbrev pub invariant-loop-k : goal.invariant-loop-k

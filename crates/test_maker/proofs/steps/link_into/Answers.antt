@@ -1,6 +1,5 @@
 -- That `link_into` gives the link of the edge before an event.
-use Rattle.std.proofs.Common.{◌∙◌, ◌-◌, sym, ap, slice_get}
-use Rattle.test_maker.proofs.Filling.{slot_after, link_after}
+use Rattle.test_maker.proofs.{Vocabulary.{◌∙◌, ◌-◌, sym, ap, slice_get}, Filling.{slot_after, link_after}}
 use Rattle.test_maker.proofs.steps.link_into.Goals as goal
 
 pub overflow_sub-i : goal.overflow_sub-i

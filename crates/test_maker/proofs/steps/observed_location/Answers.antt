@@ -1,9 +1,5 @@
 -- That `observed_location` finds the location of an observer.
-use Rattle.std.proofs.Common.{◌∙◌, ◌≡◌, ◌<◌, sym, ap, arith}
-use Rattle.std.specs.List.{count_by}
-use Rattle.list_laws.specs.Numbers.{upto}
-use Rattle.cycle_events.specs.{Resolution.move_count, Values.is_observed}
-use Rattle.test_maker.proofs.Filling.{observed_got, observers_all}
+use Rattle.test_maker.proofs.{Vocabulary.{◌∙◌, ◌≡◌, ◌<◌, sym, ap, arith, count_by, upto, move_count, is_observed}, Filling.{observed_got, observers_all}}
 use Rattle.test_maker.proofs.steps.observed_location.Goals as goal
 
 pub returns-then-before-observer-clause-found : goal.returns-then-before-observer-clause-found

@@ -1,9 +1,5 @@
 -- That `observer_count` counts the observers.
-use Rattle.std.proofs.Common.{◌∙◌, ◌≡◌, sym, ap, arith}
-use Rattle.std.specs.List.{count_by}
-use Rattle.list_laws.specs.Numbers.{upto}
-use Rattle.list_laws.proofs.{Counts.count_upto-le, Ranks.length-filter-upto}
-use Rattle.cycle_events.specs.{Resolution.move_count, Values.is_observed}
+use Rattle.test_maker.proofs.Vocabulary.{◌∙◌, ◌≡◌, sym, ap, arith, count_by, upto, count_upto-le, length-filter-upto, move_count, is_observed}
 use Rattle.test_maker.proofs.steps.observer_count.Goals as goal
 
 pub overflow_add-count : goal.overflow_add-count

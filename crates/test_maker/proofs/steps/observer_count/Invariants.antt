@@ -1,8 +1,5 @@
 -- The loop of `observer_count`: how many locations so far are observed.
-use Rattle.std.proofs.Common.{◌≡◌}
-use Rattle.std.specs.List.{count_by}
-use Rattle.list_laws.specs.Numbers.{upto}
-use Rattle.cycle_events.specs.Values.{is_observed}
+use Rattle.test_maker.proofs.Vocabulary.{◌≡◌, count_by, upto, is_observed}
 use Rattle.test_maker.proofs.steps.observer_count.Given as goal
 
 abbrev pub invariant-loop-location : goal.invariant-loop-location

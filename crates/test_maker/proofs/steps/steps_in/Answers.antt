@@ -1,8 +1,5 @@
 -- That the accesses of a thread are side by side.
-use Rattle.std.proofs.Common.{◌≤◌, ap, ◌∙◌, arith, length}
-use Rattle.list_laws.proofs.Numbers.{length-map-upto}
-use Rattle.tests_force_cycles.specs.{CycleSteps.event_step, TestOf.plain}
-use Rattle.test_maker.proofs.Ranges.{thread_range}
+use Rattle.test_maker.proofs.{Vocabulary.{◌≤◌, ap, ◌∙◌, arith, length, length-map-upto, event_step, plain}, Ranges.thread_range}
 use Rattle.test_maker.proofs.steps.steps_in.Goals as goal
 
 pub slice_bounds-result-end : goal.slice_bounds-result-end

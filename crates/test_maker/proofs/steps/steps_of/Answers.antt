@@ -1,8 +1,5 @@
 -- That `steps_of` gives the accesses of a thread of the cycle.
-use Rattle.std.proofs.Common.{◌∙◌, ◌<◌, sym, ap, arith, Some}
-use Rattle.cycle_events.specs.Resolution.{external_count}
-use Rattle.tests_force_cycles.specs.TestOf.{plain}
-use Rattle.tests_force_cycles.proofs.StepsAt.{thread_steps_at}
+use Rattle.test_maker.proofs.Vocabulary.{◌∙◌, ◌<◌, sym, ap, arith, Some, external_count, plain, thread_steps_at}
 use Rattle.test_maker.proofs.steps.steps_of.Goals as goal
 
 pub returns-then-thread-threads-clause-steps : goal.returns-then-thread-threads-clause-steps

@@ -1,9 +1,5 @@
 -- That `thread_count` counts the threads of the test.
-use Rattle.std.proofs.Common.{◌∙◌, ap, arith}
-use Rattle.cycle_events.specs.Resolution.{external_count}
-use Rattle.tests_force_cycles.specs.TestOf.{plain}
-use Rattle.tests_force_cycles.proofs.StepsAt.{steps-count}
-use Rattle.test_maker.proofs.Filling.{few_threads}
+use Rattle.test_maker.proofs.{Vocabulary.{◌∙◌, ap, arith, external_count, plain, steps-count}, Filling.few_threads}
 use Rattle.test_maker.proofs.steps.thread_count.Goals as goal
 
 pub overflow_add-result : goal.overflow_add-result

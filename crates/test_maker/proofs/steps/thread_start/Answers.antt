@@ -1,7 +1,5 @@
 -- That `thread_start` finds where a thread begins.
-use Rattle.std.proofs.Common.{◌∙◌, ◌≡◌, ◌<◌, ap, arith, length}
-use Rattle.cycle_events.specs.{Resolution.thread_of, declared.event.Event.Event}
-use Rattle.test_maker.proofs.Ranges.{start_found}
+use Rattle.test_maker.proofs.{Vocabulary.{◌∙◌, ◌≡◌, ◌<◌, ap, arith, length, thread_of, Event}, Ranges.start_found}
 use Rattle.test_maker.proofs.steps.thread_start.Goals as goal
 
 pub returns-then-event-thread : goal.returns-then-event-thread

@@ -1,6 +1,5 @@
 -- The loop of `thread_start`: the events so far are of the threads before.
-use Rattle.std.proofs.Common.{ℕ, ◌<◌}
-use Rattle.cycle_events.specs.Resolution.{thread_of}
+use Rattle.test_maker.proofs.Vocabulary.{ℕ, ◌<◌, thread_of}
 use Rattle.test_maker.proofs.steps.thread_start.Given as goal
 
 abbrev pub invariant-loop-event : goal.invariant-loop-event

@@ -1,7 +1,5 @@
 -- That the loads of a thread have registers, and that there is room for their terms.
-use Rattle.std.proofs.{Common.{◌∙◌, ◌∷◌, [], sym, ap, subst, arith, length, length-append, map}, lemmas.List.length-map}
-use Rattle.arch_trait.specs.{Codes.{AllBelow, thread_code_of}, Threads.compiled}
-use Rattle.tests_force_cycles.proofs.Terms.{reads-count}
+use Rattle.test_maker.proofs.Vocabulary.{◌∙◌, ◌∷◌, [], sym, ap, subst, arith, length, length-append, map, length-map, AllBelow, thread_code_of, compiled, reads-count}
 use Rattle.test_maker.proofs.threads.put_thread.Goals as goal
 
 pub last_loads-requires : goal.last_loads-requires

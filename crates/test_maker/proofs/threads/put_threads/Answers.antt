@@ -1,12 +1,6 @@
 -- That `put_threads` makes the code of all threads, or refuses the first that needs too many registers.
-use Rattle.std.proofs.Common.{◌∙◌, ap, arith, map, refl}
-use Rattle.std.specs.Option.{option_map}
-use Rattle.final_cond.specs.Conditions.{term_view}
-use Rattle.arch_trait.specs.{Codes.thread_code_of, Writing.name_in}
-use Rattle.tests_force_cycles.specs.{CycleSteps.cycle_steps, TestOf.plain}
-use Rattle.tests_force_cycles.proofs.StepsFit.{steps_fit}
+use Rattle.test_maker.proofs.{Vocabulary.{◌∙◌, ap, arith, map, refl, option_map, term_view, thread_code_of, name_in, cycle_steps, plain, steps_fit, laid_out}, Growing.{crowded_here, grown_none, grown_more, grown_all}, Rooms.{thread_room, load_room}}
 use Rattle.test_maker.specs.declared.refusal.Refusal.TheVariants.{TooManyRegisters}
-use Rattle.test_maker.proofs.{Growing.{crowded_here, grown_none, grown_more, grown_all}, Rooms.{thread_room, load_room}}
 use Rattle.test_maker.proofs.threads.put_threads.Goals as goal
 
 pub loop-thread-init : goal.loop-thread-init
@@ -20,7 +14,7 @@ loop-thread-init g c = record {
 pub put_thread-requires-clause-fit : goal.put_thread-requires-clause-fit
 put_thread-requires-clause-fit g c =
     let resolved = c.resolved.ensures.resolved in
-    (steps_fit c.args.valued.now.edges c.args.valued.now.mode plain g.A.Arch.puts.name c.loop-thread.thread c.steps_of-steps.result.now resolved c.requires.of_arch c.steps_of-steps.ensures.steps).fit
+    (steps_fit c.args.valued.now.edges c.args.valued.now.mode plain g.A.Arch.puts.name c.loop-thread.thread c.steps_of-steps.result.now (laid_out resolved) c.requires.of_arch c.steps_of-steps.ensures.steps).fit
 
 pub put_thread-requires-clause-room : goal.put_thread-requires-clause-room
 put_thread-requires-clause-room g c =

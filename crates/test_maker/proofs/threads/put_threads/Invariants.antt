@@ -1,7 +1,5 @@
 -- The loop of `put_threads`: the threads so far are made.
-use Rattle.std.proofs.Common.{◌≡◌}
-use Rattle.arch_trait.specs.Writing.{name_in}
-use Rattle.test_maker.proofs.Rooms.{GrownTo}
+use Rattle.test_maker.proofs.{Vocabulary.{◌≡◌, name_in}, Rooms.GrownTo}
 use Rattle.test_maker.proofs.threads.put_threads.Given as goal
 
 abbrev pub invariant-loop-thread : goal.invariant-loop-thread

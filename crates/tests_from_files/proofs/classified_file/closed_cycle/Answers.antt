@@ -1,6 +1,5 @@
 -- That `closed_cycle` gives an error of the text whatever the closing of its file gave.
-use Rattle.tests_from_files.specs.FilesEnds.{Asked}
-use Rattle.tests_from_files.proofs.ClassifiedFileLaws.{text_faulty, text_unclosed}
+use Rattle.tests_from_files.{specs.FilesEnds.Asked, proofs.ClassifiedFileLaws.{text_faulty, text_unclosed}}
 use Rattle.tests_from_files.proofs.classified_file.closed_cycle.Goals as goal
 
 pub returns-in_err-cycle : goal.returns-in_err-cycle

@@ -1,6 +1,5 @@
 -- That `cycle_of_file` gives the cycle that a file says, or why there is none.
-use Rattle.tests_from_files.specs.FilesEnds.{Asked}
-use Rattle.tests_from_files.proofs.ClassifiedFileLaws.{file_closed}
+use Rattle.tests_from_files.{specs.FilesEnds.Asked, proofs.ClassifiedFileLaws.file_closed}
 use Rattle.tests_from_files.proofs.classified_file.cycle_of_file.Goals as goal
 
 pub returns-clause-file : goal.returns-clause-file

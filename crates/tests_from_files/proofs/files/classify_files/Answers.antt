@@ -1,8 +1,7 @@
 -- That `classify_files` writes the families of the files' cycles, or ends at the first file with an error.
 use Rattle.std.proofs.Common.{◌∙◌, ℕ, get_or, sym, subst, arith, refl}
 use Rattle.diy_io.specs.{Shelf.ShelfSeen, Wrote.SinkSeen}
-use Rattle.tests_from_files.specs.{declared.classified_errors.FilesEnd.FilesEnd, FilesEnds.{Asked, FilesClassified}}
-use Rattle.tests_from_files.proofs.FilesLaws.{none_so_far, one_more, next_so_far, files_refused, files_said}
+use Rattle.tests_from_files.{specs.{declared.classified_errors.FilesEnd.FilesEnd, FilesEnds.{Asked, FilesClassified}}, proofs.FilesLaws.{none_so_far, one_more, next_so_far, files_refused, files_said}}
 use Rattle.tests_from_files.proofs.files.classify_files.Goals as goal
 
 pub loop-place-init : goal.loop-place-init

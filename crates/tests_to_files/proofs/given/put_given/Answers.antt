@@ -1,7 +1,5 @@
 -- That `put_given` writes the files of cycles and the one that names them.
-use Rattle.std.proofs.Common.{◌≡◌, rules}
-use Rattle.tests_to_files.specs.{ListedFiles.all_path, Plans.folder_of}
-use Rattle.tests_to_files.proofs.{GivenLaws.given_put, GivenLaws.given_stop, Shelves.ok_so, Shelves.err_so}
+use Rattle.tests_to_files.{proofs.{Vocabulary.{◌≡◌, rules}, GivenLaws.{given_put, given_stop}, Shelves.{ok_so, err_so}}, specs.{ListedFiles.all_path, Plans.folder_of}}
 use Rattle.tests_to_files.proofs.given.put_given.Goals as goal
 
 pub returns-clause-ok : goal.returns-clause-ok

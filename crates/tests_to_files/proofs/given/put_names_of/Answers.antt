@@ -1,11 +1,7 @@
 -- That `put_names_of` writes the file that names the files of cycles.
-use Rattle.std.proofs.{Common.drop, Common.rules, lemmas.List.drop_all}
-use Rattle.diy_io.specs.SinkLaws.{on_err}
-use Rattle.tests_to_files.specs.ListedFiles.{file_lines}
-use Rattle.tests_to_files.proofs.GivenLaws.{Lists, left_at, lists_first, lists_written, lists_more, lists_end, lists_stop}
-use Rattle.tests_to_files.proofs.Shelves.{filling_begun, filling_more, filling_part, closed_ok, closed_err}
+use Rattle.tests_to_files.proofs.{Vocabulary.{drop, rules, drop_all, on_err}, GivenLaws.{Lists, left_at, lists_first, lists_written, lists_more, lists_end, lists_stop}, Shelves.{filling_begun, filling_more, filling_part, closed_ok, closed_err}}
+use Rattle.tests_to_files.{proofs.given.put_names_of.Goals.{then-remaining_capacity-lt-MAX_LISTED_LINE+in_ok-append, else-remaining_capacity-lt-MAX_LISTED_LINE}, specs.ListedFiles.file_lines}
 use Rattle.tests_to_files.proofs.given.put_names_of.Goals as goal
-use Rattle.tests_to_files.proofs.given.put_names_of.Goals.{then-remaining_capacity-lt-MAX_LISTED_LINE+in_ok-append, else-remaining_capacity-lt-MAX_LISTED_LINE}
 
 pub loop-cycle-init : goal.loop-cycle-init
 loop-cycle-init g c = record {

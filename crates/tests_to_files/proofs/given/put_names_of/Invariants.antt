@@ -1,6 +1,5 @@
 -- The loop of `put_names_of`: what the file has so far, and which lines wait.
-use Rattle.std.proofs.Common.{drop}
-use Rattle.tests_to_files.proofs.GivenLaws.{Lists}
+use Rattle.tests_to_files.proofs.{Vocabulary.drop, GivenLaws.Lists}
 use Rattle.tests_to_files.proofs.given.put_names_of.Given as goal
 
 abbrev pub invariant-loop-cycle : goal.invariant-loop-cycle

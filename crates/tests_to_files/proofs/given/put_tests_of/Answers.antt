@@ -1,7 +1,5 @@
 -- That `put_tests_of` writes the files of the tests of cycles.
-use Rattle.diy_io.specs.SinkLaws.{on_err}
-use Rattle.tests_to_files.specs.Plans.{folder_of, named_text}
-use Rattle.tests_to_files.proofs.GivenLaws.{left_at, puts_first, puts_more, puts_stop}
+use Rattle.tests_to_files.{proofs.{Vocabulary.on_err, GivenLaws.{left_at, puts_first, puts_more, puts_stop}}, specs.Plans.{folder_of, named_text}}
 use Rattle.tests_to_files.proofs.given.put_tests_of.Goals as goal
 
 pub loop-cycle-init : goal.loop-cycle-init

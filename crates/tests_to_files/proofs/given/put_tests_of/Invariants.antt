@@ -1,7 +1,5 @@
 -- The loop of `put_tests_of`: which files are there so far.
-use Rattle.std.proofs.Common.{drop}
-use Rattle.tests_to_files.specs.Plans.{folder_of, named_text}
-use Rattle.tests_to_files.proofs.GivenLaws.{Puts}
+use Rattle.tests_to_files.{proofs.{Vocabulary.drop, GivenLaws.Puts}, specs.Plans.{folder_of, named_text}}
 use Rattle.tests_to_files.proofs.given.put_tests_of.Given as goal
 
 abbrev pub invariant-loop-cycle : goal.invariant-loop-cycle

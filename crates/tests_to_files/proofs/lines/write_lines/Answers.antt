@@ -1,7 +1,6 @@
 -- That `write_lines` writes the lines of the listed cycles, in order.
 use Rattle.std.proofs.Common.{Some, None, refl, ap}
-use Rattle.diy_io.specs.SinkLaws.{on_err}
-use Rattle.tests_to_files.proofs.{LineSteps.{lines_first, lines_more, lines_stop, lines_end, lines_cut}, Walks.{planned_answer, went_on}}
+use Rattle.tests_to_files.proofs.{Vocabulary.on_err, LineSteps.{lines_first, lines_more, lines_stop, lines_end, lines_cut}, Walks.{planned_answer, went_on}}
 use Rattle.tests_to_files.proofs.lines.write_lines.Goals as goal
 
 pub loop-cycle-init : goal.loop-cycle-init

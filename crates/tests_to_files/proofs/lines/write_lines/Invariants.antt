@@ -1,8 +1,5 @@
 -- The loop of `write_lines`: the lines so far are sent, and fewer cycles are left.
-use Rattle.std.proofs.Common.{◌≡◌}
-use Rattle.cycle_enum_laws.specs.Counting.{later}
-use Rattle.tests_to_files.specs.Plans.{IsPlanned, walk_plan}
-use Rattle.tests_to_files.proofs.LineSteps.{LinesSent}
+use Rattle.tests_to_files.{proofs.{Vocabulary.{◌≡◌, later}, LineSteps.LinesSent}, specs.Plans.{IsPlanned, walk_plan}}
 use Rattle.tests_to_files.proofs.lines.write_lines.Given as goal
 
 abbrev pub invariant-loop-cycle : goal.invariant-loop-cycle

@@ -1,5 +1,5 @@
 -- That `write_listed` leaves what the lines of a listing are to leave.
-use Rattle.std.proofs.Common.{refl, rules}
+use Rattle.tests_to_files.proofs.Vocabulary.{refl, rules}
 use Rattle.tests_to_files.proofs.lines.write_listed.Goals as goal
 
 pub write_lines-requires-clause-sought : goal.write_lines-requires-clause-sought

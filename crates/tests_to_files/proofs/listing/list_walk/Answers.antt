@@ -1,6 +1,5 @@
 -- That `list_walk` leaves what the listing of a walk is to leave.
-use Rattle.std.proofs.Common.{inl, inr, refl}
-use Rattle.tests_to_files.proofs.{Walks.planned, Walks.all_written, Walks.naming_stopped, WantedCycles.stops_test_too}
+use Rattle.tests_to_files.proofs.{Vocabulary.{inl, inr, refl}, Walks.{planned, all_written, naming_stopped}, WantedCycles.stops_test_too}
 use Rattle.tests_to_files.proofs.listing.list_walk.Goals as goal
 
 pub returns-in-Err : goal.returns-in-Err

@@ -1,5 +1,5 @@
 -- That `list_tests` leaves what a listing is to leave.
-use Rattle.std.proofs.Common.{◌≡◌, ap, rules, refl}
+use Rattle.tests_to_files.proofs.Vocabulary.{◌≡◌, ap, rules, refl}
 use Rattle.tests_to_files.proofs.listing.list_with.Goals as goal
 
 pub list_walk-requires-clause-sought : goal.list_walk-requires-clause-sought

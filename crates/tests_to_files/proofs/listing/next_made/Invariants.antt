@@ -1,6 +1,5 @@
 -- The loop of `next_made`: the cycles passed over have no test, and fewer are left.
-use Rattle.cycle_enum_laws.specs.Counting.{later}
-use Rattle.tests_to_files.proofs.WalkTakenOn.{PassesOver}
+use Rattle.tests_to_files.proofs.{Vocabulary.later, WalkTakenOn.PassesOver}
 use Rattle.tests_to_files.proofs.listing.next_made.Given as goal
 
 abbrev pub invariant-loop-cycle : goal.invariant-loop-cycle

@@ -1,10 +1,6 @@
 -- That `put_tests` writes the files of the listed cycles, in order.
 use Rattle.std.proofs.Common.{Some, None, refl, ap}
-use Rattle.diy_io.specs.SinkLaws.{on_err}
-use Rattle.cycle_enum_laws.specs.Listing.{IsAnswer}
-use Rattle.cycle_enum.specs.Walking.{Lists}
-use Rattle.tests_to_files.specs.Plans.{HaveTests, folder_of, named_text}
-use Rattle.tests_to_files.proofs.{FileSteps.{goes_first, goes_on, goes_stop, goes_end}, Walks.{tested_as, went_on, went_further}}
+use Rattle.tests_to_files.{proofs.{Vocabulary.{on_err, IsAnswer, Lists}, FileSteps.{goes_first, goes_on, goes_stop, goes_end}, Walks.{tested_as, went_on, went_further}}, specs.Plans.{HaveTests, folder_of, named_text}}
 use Rattle.tests_to_files.proofs.listing.put_tests.Goals as goal
 
 pub loop-cycle-init : goal.loop-cycle-init

@@ -1,8 +1,5 @@
 -- The loop of `put_tests`: the files so far are there, and fewer cycles are left.
-use Rattle.std.proofs.Common.{◌≡◌}
-use Rattle.cycle_enum_laws.specs.Counting.{later}
-use Rattle.cycle_enum.specs.Walking.{Lists}
-use Rattle.tests_to_files.specs.{Keeping.Goes, Plans.HaveTests, Plans.folder_of, Plans.named_text}
+use Rattle.tests_to_files.{proofs.Vocabulary.{◌≡◌, later, Lists}, specs.{Keeping.Goes, Plans.{HaveTests, folder_of, named_text}}}
 use Rattle.tests_to_files.proofs.listing.put_tests.Given as goal
 
 abbrev pub invariant-loop-cycle : goal.invariant-loop-cycle

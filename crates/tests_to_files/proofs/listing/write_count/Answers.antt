@@ -1,7 +1,5 @@
 -- That `write_count` writes the line on how many tests there are.
-use Rattle.std.proofs.Common.{◌∙◌, arith}
-use Rattle.diy_io.specs.WroteLaws.{wrote_same}
-use Rattle.tests_to_files.proofs.FileLines.{count_built}
+use Rattle.tests_to_files.proofs.{Vocabulary.{◌∙◌, arith, wrote_same}, FileLines.count_built}
 use Rattle.tests_to_files.proofs.listing.write_count.Goals as goal
 
 pub returns : goal.returns

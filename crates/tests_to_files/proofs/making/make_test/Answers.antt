@@ -1,5 +1,5 @@
 -- That `make_test` makes a test that is ready to be printed.
-use Rattle.test_maker.specs.CycleTextLaws.{made_text}
+use Rattle.tests_to_files.proofs.Vocabulary.{made_text}
 use Rattle.tests_to_files.proofs.making.make_test.Goals as goal
 
 pub returns-in-Ok-clause-ready : goal.returns-in-Ok-clause-ready

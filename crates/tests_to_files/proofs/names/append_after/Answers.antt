@@ -1,14 +1,9 @@
 -- That `append_after` writes the lines that were kept, and then those of the listed cycles after a cycle.
 use Rattle.std.proofs.Common.{◌++◌, Some, None, ap, rules}
-use Rattle.diy_io.specs.SinkLaws.{on_err}
-use Rattle.cycle_enum_laws.specs.Listing.{IsAnswer}
-use Rattle.cycle_enum.specs.Walking.{Lists}
-use Rattle.tests_to_files.specs.{Keeping.Naming, Plans.HaveTests, Putting.Filling}
-use Rattle.tests_to_files.proofs.FileSteps.{naming_none, naming_first, naming_written, naming_more, naming_done, naming_stop}
-use Rattle.tests_to_files.proofs.Shelves.{filling_begun, filling_more, filling_part, closed_ok, closed_err, ok_so, err_so}
-use Rattle.tests_to_files.proofs.Walks.{least_again, tested_as, went_on}
+use Rattle.tests_to_files.proofs.{Vocabulary.{on_err, IsAnswer, Lists}, FileSteps.{naming_none, naming_first, naming_written, naming_more, naming_done, naming_stop}, Shelves.{filling_begun, filling_more, filling_part, closed_ok, closed_err, ok_so}}
+use Rattle.tests_to_files.{proofs.{Shelves.err_so, Walks.{least_again, tested_as, went_on}, names.append_after.Goals.{then-remaining_capacity-lt-MAX_LISTED_LINE+in_ok-append, else-remaining_capacity-lt-MAX_LISTED_LINE}}, specs.Keeping.Naming}
+use Rattle.tests_to_files.specs.{Plans.HaveTests, Putting.Filling}
 use Rattle.tests_to_files.proofs.names.append_after.Goals as goal
-use Rattle.tests_to_files.proofs.names.append_after.Goals.{then-remaining_capacity-lt-MAX_LISTED_LINE+in_ok-append, else-remaining_capacity-lt-MAX_LISTED_LINE}
 
 pub returns-in_err-create-clause-failed : goal.returns-in_err-create-clause-failed
 returns-in_err-create-clause-failed g c =

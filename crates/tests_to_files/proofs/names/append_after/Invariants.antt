@@ -1,8 +1,5 @@
 -- The loop of `append_after`: what the file has so far, which lines wait, and that fewer cycles are left.
-use Rattle.std.proofs.Common.{◌≡◌}
-use Rattle.cycle_enum_laws.specs.Counting.{later}
-use Rattle.cycle_enum.specs.Walking.{Lists}
-use Rattle.tests_to_files.specs.{Keeping.Naming, Plans.HaveTests}
+use Rattle.tests_to_files.{proofs.Vocabulary.{◌≡◌, later, Lists}, specs.{Keeping.Naming, Plans.HaveTests}}
 use Rattle.tests_to_files.proofs.names.append_after.Given as goal
 
 abbrev pub invariant-loop-cycle : goal.invariant-loop-cycle

@@ -1,7 +1,5 @@
 -- That `put_file` writes a file on the shelf, or a part of it.
-use Rattle.std.proofs.Common.{[]}
-use Rattle.diy_io.specs.SinkLaws.{on_err}
-use Rattle.tests_to_files.proofs.Shelves.{filling_begun, filling_more, filling_part, closed_ok, closed_err}
+use Rattle.tests_to_files.proofs.{Vocabulary.{[], on_err}, Shelves.{filling_begun, filling_more, filling_part, closed_ok, closed_err}}
 use Rattle.tests_to_files.proofs.putting.put_file.Goals as goal
 
 pub returns-in_err-append-clause-failed : goal.returns-in_err-append-clause-failed

@@ -1,8 +1,5 @@
 -- That `put_files` writes the files one after another.
-use Rattle.std.proofs.Common.{[], ◌∷◌, subst}
-use Rattle.diy_io.specs.SinkLaws.{on_err}
-use Rattle.tests_to_files.specs.Putting.{PutFiles, PutPart}
-use Rattle.tests_to_files.proofs.FilesPut.{files_first, files_more, files_stop}
+use Rattle.tests_to_files.{proofs.{Vocabulary.{[], ◌∷◌, subst, on_err}, FilesPut.{files_first, files_more, files_stop}}, specs.Putting.{PutFiles, PutPart}}
 use Rattle.tests_to_files.proofs.putting.put_files.Goals as goal
 
 pub loop-file-init : goal.loop-file-init

@@ -1,6 +1,5 @@
 -- The loop of `put_files`: which files are there so far.
-use Rattle.std.proofs.Common.{drop}
-use Rattle.tests_to_files.proofs.FilesPut.{FilesPut}
+use Rattle.tests_to_files.proofs.{Vocabulary.drop, FilesPut.FilesPut}
 use Rattle.tests_to_files.proofs.putting.put_files.Given as goal
 
 -- the files so far are there

@@ -1,9 +1,6 @@
 -- That `put_text` writes a file with the text of a test, or a part of it.
 use Rattle.std.proofs.Common.{◌≡◌, ◌<◌, Some, None, length, arith, subst, ap, rules}
-use Rattle.diy_io.specs.{SinkLaws.on_err, declared.page.TheConstants.SPILL}
-use Rattle.litmus_text.specs.{TextPartLaws.text_begins, TestText.test_text, Tests.test_seen}
-use Rattle.tests_to_files.proofs.Shelves.{filling_begun, closed_ok, closed_err}
-use Rattle.tests_to_files.proofs.Texts.{FilledTo, filled_first, filled_appended, filled_part, filled_more, filled_whole}
+use Rattle.tests_to_files.proofs.{Vocabulary.{on_err, SPILL, text_begins, test_text, test_seen}, Shelves.{filling_begun, closed_ok, closed_err}, Texts.{FilledTo, filled_first, filled_appended, filled_part, filled_more, filled_whole}}
 use Rattle.tests_to_files.proofs.putting.put_text.Goals.{then-as_slice-ge-SPILL+in_ok-append, else-as_slice-ge-SPILL}
 use Rattle.tests_to_files.proofs.putting.put_text.Goals as goal
 

@@ -1,6 +1,5 @@
 -- The loop of `put_text`: what the file has so far, and that fewer parts are left.
-use Rattle.litmus_text.specs.{Tests.test_seen, TestText.test_text, TextParts.parts_left}
-use Rattle.tests_to_files.proofs.Texts.{FilledTo}
+use Rattle.tests_to_files.proofs.{Vocabulary.{test_seen, test_text, parts_left}, Texts.FilledTo}
 use Rattle.tests_to_files.proofs.putting.put_text.Given as goal
 
 -- the file has the text up to what the page holds

@@ -1,5 +1,4 @@
-use Rattle.std.proofs.Common.{sym, ◌∙◌}
-use Rattle.text_parts.proofs.BlankLaws.{blank_off, inked_stays, none_stays}
+use Rattle.text_parts.proofs.{Vocabulary.{sym, ◌∙◌}, BlankLaws.{blank_off, inked_stays, none_stays}}
 use Rattle.text_parts.proofs.blanks.without_last_blanks.Goals as goal
 
 pub loop-text-preserved : goal.loop-text-preserved

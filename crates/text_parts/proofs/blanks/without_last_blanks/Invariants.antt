@@ -1,5 +1,4 @@
-use Rattle.std.proofs.Common.{◌≡◌, length}
-use Rattle.text_parts.specs.Blanks.{before_blanks}
+use Rattle.text_parts.{proofs.Vocabulary.{◌≡◌, length}, specs.Blanks.before_blanks}
 use Rattle.text_parts.proofs.blanks.without_last_blanks.Given as goal
 
 -- the text that is left is the same as the whole without the blanks at their ends

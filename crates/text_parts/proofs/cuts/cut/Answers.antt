@@ -1,5 +1,4 @@
-use Rattle.std.proofs.Common.{sym, ◌+◌, ◌-◌, take, drop, length, arith}
-use Rattle.text_parts.proofs.CutLaws.{cut_none, cut_is, cut_found, without_all}
+use Rattle.text_parts.proofs.{Vocabulary.{sym, ◌+◌, ◌-◌, take, drop, length, arith}, CutLaws.{cut_none, cut_is, cut_found, without_all}}
 use Rattle.text_parts.proofs.cuts.cut.Goals as goal
 
 pub returns-in-Some-clause-cut : goal.returns-in-Some-clause-cut

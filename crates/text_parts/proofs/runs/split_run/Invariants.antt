@@ -1,5 +1,4 @@
-use Rattle.text_parts.specs.Classes.{class_test}
-use Rattle.text_parts.proofs.RunLaws.{Passed}
+use Rattle.text_parts.{specs.Classes.class_test, proofs.RunLaws.Passed}
 use Rattle.text_parts.proofs.runs.split_run.Given as goal
 
 -- the bytes before the place have been passed

@@ -1,6 +1,4 @@
-use Rattle.std.proofs.Common.{◌<◌, ◌≤◌, length, sym, ◌∙◌, arith}
-use Rattle.text_parts.specs.Blanks.{is_inked}
-use Rattle.text_parts.proofs.{RunLaws.less_remainder, WordLaws.{word_found, no_word_found, empty_is_nil, some_if}}
+use Rattle.text_parts.{proofs.{Vocabulary.{◌<◌, ◌≤◌, length, sym, ◌∙◌, arith}, RunLaws.less_remainder, WordLaws.{word_found, no_word_found, empty_is_nil, some_if}}, specs.Blanks.is_inked}
 use Rattle.text_parts.proofs.words.next_word.Goals as goal
 
 pub returns-then-is_empty-clause-words : goal.returns-then-is_empty-clause-words

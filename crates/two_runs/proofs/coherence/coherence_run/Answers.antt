@@ -1,8 +1,5 @@
 -- What is made is the execution that the coherence test of the cycle asks for.
-use Rattle.std.proofs.Common.{◌∙◌, sym, ap, subst}
-use Rattle.arch_trait.specs.{SeenTests.TestSeen, Writing.name_in}
-use Rattle.co_tests.specs.CoherenceTests.{HasCoherenceTest, coherence_test_of}
-use Rattle.two_runs.proofs.CoherenceLaws.{of_cycle}
+use Rattle.two_runs.proofs.{Vocabulary.{◌∙◌, sym, ap, subst, TestSeen, name_in, HasCoherenceTest, coherence_test_of}, CoherenceLaws.of_cycle}
 use Rattle.two_runs.proofs.coherence.coherence_run.Goals as goal
 
 pub run_of_test-requires-clause-has_test : goal.run_of_test-requires-clause-has_test

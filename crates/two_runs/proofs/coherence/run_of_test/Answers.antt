@@ -1,11 +1,5 @@
 -- What is made is the execution that the test asks for.
-use Rattle.std.proofs.Common.{◌∙◌, sym, ap, subst}
-use Rattle.arch_trait.specs.{SeenTests.TestSeen}
-use Rattle.litmus_text.specs.{TestReading.test_read, TestText.test_text}
-use Rattle.co_tests.specs.Shape.{HasShape}
-use Rattle.co_tests.specs.CoherenceTests.{incoherent_execution}
-use Rattle.two_runs.specs.IntendedRuns.{IsRead, IsRunOf}
-use Rattle.two_runs.proofs.CoherenceLaws.{has_shape, is_coherence_run}
+use Rattle.two_runs.{proofs.{Vocabulary.{◌∙◌, sym, ap, subst, TestSeen, test_read, test_text, HasShape, incoherent_execution}, CoherenceLaws.{has_shape, is_coherence_run}}, specs.IntendedRuns.{IsRead, IsRunOf}}
 use Rattle.two_runs.proofs.coherence.run_of_test.Goals as goal
 
 pub read_printed-requires-clause-reads : goal.read_printed-requires-clause-reads

@@ -1,13 +1,8 @@
 -- The place has all writes.
 use Rattle.std.proofs.Common.{◌≡◌, ◌+◌, sym, ◌∙◌, arith, None, refl}
-use Rattle.cycle_events.specs.Values.{write_count}
+use Rattle.two_runs.proofs.{Vocabulary.{write_count, cut_open, write_count_is, loop_at}, CycleOrders.{place_begins, place_inside, place_more, place_same, place_whole}, incoherent.add_order.Goals.{in-Some+in_ok-add_write, in_default}}
 use Rattle.program_meaning.specs.Intended.{write_of}
-use Rattle.co_tests.specs.CutResolution.{cut_open}
-use Rattle.co_tests.proofs.Values.{write_count_is}
-use Rattle.co_tests.proofs.Cuts.{loop_at}
-use Rattle.two_runs.proofs.CycleOrders.{place_begins, place_inside, place_more, place_same, place_whole}
 use Rattle.two_runs.proofs.incoherent.add_order.Goals as goal
-use Rattle.two_runs.proofs.incoherent.add_order.Goals.{in-Some+in_ok-add_write, in_default}
 
 pub loop-k-init : goal.loop-k-init
 loop-k-init c = place_begins (cut_open c.args.edges.now) None 0 c.args.exec.now 0

@@ -1,7 +1,6 @@
 -- What holds in the loop over the writes.
 use Rattle.std.proofs.Common.{◌≡◌, None}
-use Rattle.co_tests.specs.CutResolution.{cut_open}
-use Rattle.two_runs.proofs.CycleOrders.{place_to}
+use Rattle.two_runs.proofs.{Vocabulary.cut_open, CycleOrders.place_to}
 use Rattle.two_runs.proofs.incoherent.add_order.Given as goal
 
 -- the place has its first writes

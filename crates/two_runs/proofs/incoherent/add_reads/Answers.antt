@@ -1,12 +1,6 @@
 -- Each thread has all its reads.
-use Rattle.std.proofs.Common.{◌≡◌, ◌<◌, sym, ◌∙◌, ap, arith, length, subst, map}
-use Rattle.list_laws.specs.Numbers.{upto}
-use Rattle.cycle_events.specs.Resolution.{external_count}
-use Rattle.program_meaning.specs.Executions.{Execution}
-use Rattle.co_tests.specs.CutResolution.{cut_open}
-use Rattle.co_tests.proofs.Opened.{opened-threads}
+use Rattle.two_runs.proofs.{Vocabulary.{◌≡◌, ◌<◌, sym, ◌∙◌, ap, arith, length, subst, map, upto, external_count, Execution, cut_open, opened-threads}, GrowingLists.{filled_length, filled_none, filled_to, filled_whole}, CycleReads.threads_more}
 use Rattle.two_runs.specs.Runs.{thread_reads}
-use Rattle.two_runs.proofs.{GrowingLists.{filled_length, filled_none, filled_to, filled_whole}, CycleReads.threads_more}
 use Rattle.two_runs.proofs.incoherent.add_reads.Goals as goal
 
 pub loop-thread-init : goal.loop-thread-init

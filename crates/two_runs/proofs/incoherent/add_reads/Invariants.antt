@@ -1,9 +1,5 @@
 -- What holds in the loop over the threads.
-use Rattle.std.proofs.Common.{◌≡◌}
-use Rattle.cycle_events.specs.Resolution.{external_count}
-use Rattle.co_tests.specs.CutResolution.{cut_open}
-use Rattle.two_runs.specs.Runs.{thread_reads}
-use Rattle.two_runs.proofs.GrowingLists.{filled_to}
+use Rattle.two_runs.{proofs.{Vocabulary.{◌≡◌, external_count, cut_open}, GrowingLists.filled_to}, specs.Runs.thread_reads}
 use Rattle.two_runs.proofs.incoherent.add_reads.Given as goal
 
 -- the first threads have their reads

@@ -1,12 +1,8 @@
 -- The thread has all its reads.
-use Rattle.std.proofs.Common.{◌≡◌, sym, ◌∙◌, ap, arith, length}
+use Rattle.two_runs.proofs.{Vocabulary.{◌≡◌, sym, ◌∙◌, ap, arith, length, cut_open, opened-length, one_location, loop_at}, CycleReads.{thread_begins, thread_more, thread_same, thread_whole}, incoherent.add_thread.Goals.then-is_read_of+in_ok-add_read}
+use Rattle.two_runs.proofs.incoherent.add_thread.Goals.{else-is_read_of}
 use Rattle.program_meaning.specs.Intended.{write_of}
-use Rattle.co_tests.specs.CutResolution.{cut_open}
-use Rattle.co_tests.proofs.{Opened.opened-length, Values.one_location}
-use Rattle.co_tests.proofs.Cuts.{loop_at}
-use Rattle.two_runs.proofs.CycleReads.{thread_begins, thread_more, thread_same, thread_whole}
 use Rattle.two_runs.proofs.incoherent.add_thread.Goals as goal
-use Rattle.two_runs.proofs.incoherent.add_thread.Goals.{then-is_read_of+in_ok-add_read, else-is_read_of}
 
 pub loop-i-init : goal.loop-i-init
 loop-i-init c = thread_begins (cut_open c.args.edges.now) c.args.exec.now c.args.thread

@@ -1,7 +1,5 @@
 -- What holds in the loop over the events.
-use Rattle.std.proofs.Common.{◌≡◌}
-use Rattle.co_tests.specs.CutResolution.{cut_open}
-use Rattle.two_runs.proofs.CycleReads.{thread_to}
+use Rattle.two_runs.proofs.{Vocabulary.{◌≡◌, cut_open}, CycleReads.thread_to}
 use Rattle.two_runs.proofs.incoherent.add_thread.Given as goal
 
 -- the thread has the reads of its first events

@@ -1,10 +1,7 @@
 -- The name is that of the event.
 use Rattle.std.proofs.Common.{◌≡◌, ◌<◌, ◌+◌, true, false, length, sym, ◌∙◌, ap, arith}
-use Rattle.relax_edges.specs.EdgeTable.{is_external}
-use Rattle.cycle_events.specs.Resolution.{edge_at, slot_of, thread_of}
-use Rattle.cycle_events.proofs.Threads.{slot-zero, slot_in, slot_most, slot_out, thread-zero, thread_in, thread_most, thread_out}
+use Rattle.two_runs.proofs.{Vocabulary.{is_external, edge_at, slot_of, thread_of, slot-zero, slot_in, slot_most, slot_out, thread-zero, thread_in, thread_most, thread_out}, incoherent.event_name.Goals.{then-is_external, else-is_external}}
 use Rattle.two_runs.proofs.incoherent.event_name.Goals as goal
-use Rattle.two_runs.proofs.incoherent.event_name.Goals.{then-is_external, else-is_external}
 
 pub loop-i-init : goal.loop-i-init
 loop-i-init c = record { thread = sym (thread-zero c.args.edges.now); access = sym (slot-zero c.args.edges.now) }

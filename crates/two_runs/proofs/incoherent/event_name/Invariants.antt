@@ -1,6 +1,5 @@
 -- What holds in the loop over the events before this one.
-use Rattle.std.proofs.Common.{◌≡◌}
-use Rattle.cycle_events.specs.Resolution.{slot_of, thread_of}
+use Rattle.two_runs.proofs.Vocabulary.{◌≡◌, slot_of, thread_of}
 use Rattle.two_runs.proofs.incoherent.event_name.Given as goal
 
 -- the name of the next event

@@ -1,7 +1,6 @@
 -- The cycle has a cut.
 use Rattle.std.proofs.Common.{◌≡◌, ◌∙◌, sym, true, false}
-use Rattle.co_tests.specs.CutResolution.{is_ordering}
-use Rattle.co_tests.proofs.CoherenceTestParts.{none_found}
+use Rattle.co_tests.{specs.CutResolution.is_ordering, proofs.CoherenceTestParts.none_found}
 use Rattle.two_runs.proofs.incoherent.incoherent_run.Goals as goal
 
 pub unreachable-requires : goal.unreachable-requires

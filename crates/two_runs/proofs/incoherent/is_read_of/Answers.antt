@@ -1,6 +1,5 @@
 -- An event is a read of a thread in the cut cycle where it is one in the cycle.
-use Rattle.std.proofs.Common.{sym, ap, ◌∙◌}
-use Rattle.two_runs.proofs.CutRuns.{no_read, reads_so}
+use Rattle.two_runs.proofs.{Vocabulary.{sym, ap, ◌∙◌}, CutRuns.{no_read, reads_so}}
 use Rattle.two_runs.proofs.incoherent.is_read_of.Goals as goal
 
 pub returns-in-R : goal.returns-in-R

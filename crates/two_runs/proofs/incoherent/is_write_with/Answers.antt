@@ -1,7 +1,5 @@
 -- An event is a write of a value in the cut cycle where it is one in the cycle.
-use Rattle.std.proofs.Common.{sym, ◌∙◌}
-use Rattle.co_tests.proofs.Cuts.{loop_at}
-use Rattle.two_runs.proofs.CutRuns.{no_write, writes_so}
+use Rattle.two_runs.proofs.{Vocabulary.{sym, ◌∙◌, loop_at}, CutRuns.{no_write, writes_so}}
 use Rattle.two_runs.proofs.incoherent.is_write_with.Goals as goal
 
 pub returns-in-R : goal.returns-in-R

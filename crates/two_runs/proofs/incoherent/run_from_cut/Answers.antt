@@ -1,12 +1,6 @@
 -- The execution that is made is the one that the test asks for.
 use Rattle.std.proofs.Common.{◌≡◌, [], ◌∷◌, None, ◌∙◌, ap}
-use Rattle.relax_edges.specs.declared.kinds.ObsMode.TheVariants.{Avoid}
-use Rattle.program_meaning.specs.Executions.{Execution}
-use Rattle.tests_force_cycles.specs.TestOf.{plain}
-use Rattle.co_tests.specs.CutResolution.{cut_open}
-use Rattle.co_tests.proofs.Cuts.{loop_at}
-use Rattle.two_runs.specs.Runs.{cycle_reads, order_of, with_appended}
-use Rattle.two_runs.proofs.{CutRuns.cut_run, ShownLaws.run_intended}
+use Rattle.two_runs.{proofs.{Vocabulary.{Avoid, Execution, plain, cut_open, loop_at}, CutRuns.cut_run, ShownLaws.run_intended}, specs.Runs.{cycle_reads, order_of, with_appended}}
 use Rattle.two_runs.proofs.incoherent.run_from_cut.Goals as goal
 
 pub returns : goal.returns

@@ -1,8 +1,6 @@
 -- The write that is found is the one with the value.
 use Rattle.std.proofs.Common.{◌≡◌, Some, sym, ◌∙◌, ap, arith, false}
-use Rattle.list_laws.proofs.Cases.{by_less}
-use Rattle.co_tests.proofs.Cuts.{loop_at}
-use Rattle.two_runs.proofs.CutRuns.{write_here, write_nowhere, writes_value}
+use Rattle.two_runs.proofs.{Vocabulary.{by_less, loop_at}, CutRuns.{write_here, write_nowhere, writes_value}}
 use Rattle.two_runs.proofs.incoherent.write_with.Goals as goal
 
 pub returns-then-is_write_with : goal.returns-then-is_write_with

@@ -1,6 +1,5 @@
 -- What holds in the loop over the events.
-use Rattle.std.proofs.Common.{◌≡◌, ◌<◌, ℕ, false}
-use Rattle.two_runs.proofs.CutRuns.{writes_value}
+use Rattle.two_runs.proofs.{Vocabulary.{◌≡◌, ◌<◌, ℕ, false}, CutRuns.writes_value}
 use Rattle.two_runs.proofs.incoherent.write_with.Given as goal
 
 -- none of the first events writes the value

@@ -1,12 +1,6 @@
 -- What is made of a cycle's test is the execution that it asks for.
 use Rattle.std.proofs.Common.{◌∙◌, None, sym, ap, subst}
-use Rattle.relax_edges.specs.declared.kinds.ArchName.{ArchName}
-use Rattle.cycle_events.specs.Resolution.{turned}
-use Rattle.arch_trait.specs.{SeenTests.TestSeen, Writing.name_in}
-use Rattle.litmus_text.specs.{TestReading.test_read, TestText.test_text}
-use Rattle.tests_force_cycles.specs.TestOf.{test_of}
-use Rattle.two_runs.specs.{IntendedRuns.IsRead, Runs.numbers_by, Runs.run_by}
-use Rattle.two_runs.proofs.IntendedLaws.{accepted_resolves, forced, is_run, made_is_read}
+use Rattle.two_runs.{proofs.{Vocabulary.{ArchName, turned, TestSeen, name_in, test_read, test_text, test_of}, IntendedLaws.{accepted_resolves, forced, is_run, made_is_read}}, specs.{IntendedRuns.IsRead, Runs.{numbers_by, run_by}}}
 use Rattle.two_runs.proofs.intended.run_of_made.Goals as goal
 
 pub read_printed-requires-clause-reads : goal.read_printed-requires-clause-reads

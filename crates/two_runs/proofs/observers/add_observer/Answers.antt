@@ -1,7 +1,5 @@
 -- The observer has all its reads.
-use Rattle.std.proofs.Common.{◌≡◌, arith}
-use Rattle.cycle_events.specs.Values.{write_count}
-use Rattle.two_runs.proofs.ObserverReads.{observer_begins, observer_more, observer_whole}
+use Rattle.two_runs.proofs.{Vocabulary.{◌≡◌, arith, write_count}, ObserverReads.{observer_begins, observer_more, observer_whole}}
 use Rattle.two_runs.proofs.observers.add_observer.Goals as goal
 
 pub loop-k-init : goal.loop-k-init

@@ -1,6 +1,5 @@
 -- What holds in the loop over the writes of the location.
-use Rattle.std.proofs.Common.{◌≡◌}
-use Rattle.two_runs.proofs.ObserverReads.{observer_to}
+use Rattle.two_runs.proofs.{Vocabulary.◌≡◌, ObserverReads.observer_to}
 use Rattle.two_runs.proofs.observers.add_observer.Given as goal
 
 -- the thread has its first reads

@@ -1,11 +1,6 @@
 -- All observers have their reads.
 use Rattle.std.proofs.{Common.{◌≡◌, ◌++◌, Some, sym, ◌∙◌, ap, arith, get_or, length, map, slice_get}, lemmas.Option.slice_get-get_or}
-use Rattle.list_laws.proofs.Ranks.{unrank_upto}
-use Rattle.cycle_events.specs.{Resolution.{IsResolved, external_count, move_count}, Values.is_observed}
-use Rattle.test_maker.proofs.Filling.{few_threads}
-use Rattle.program_meaning.specs.Intended.{observer_reads}
-use Rattle.two_runs.specs.Runs.{cycle_reads}
-use Rattle.two_runs.proofs.ObserverReads.{given_none, observer_inside, observers_more, observers_whole}
+use Rattle.two_runs.{proofs.{Vocabulary.{unrank_upto, IsResolved, external_count, move_count, is_observed, few_threads, observer_reads}, ObserverReads.{given_none, observer_inside, observers_more, observers_whole}}, specs.Runs.cycle_reads}
 use Rattle.two_runs.proofs.observers.add_observers.Goals as goal
 
 pub loop-k-init : goal.loop-k-init

@@ -1,6 +1,5 @@
 -- What holds in the loop over the observed locations.
-use Rattle.std.proofs.Common.{◌≡◌}
-use Rattle.two_runs.proofs.ObserverReads.{observers_to}
+use Rattle.two_runs.proofs.{Vocabulary.◌≡◌, ObserverReads.observers_to}
 use Rattle.two_runs.proofs.observers.add_observers.Given as goal
 
 -- the first observers have their reads

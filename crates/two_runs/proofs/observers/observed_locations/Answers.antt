@@ -1,8 +1,5 @@
 -- All observed locations are found.
-use Rattle.std.proofs.Common.{ap, arith, length}
-use Rattle.list_laws.proofs.{Counts.count_upto-le, Ranks.length-filter-upto}
-use Rattle.cycle_events.specs.{Resolution.IsResolved, Resolution.move_count, Values.is_observed}
-use Rattle.cycle_events.proofs.Sizes.{external_and_moves}
+use Rattle.two_runs.proofs.Vocabulary.{ap, arith, length, count_upto-le, length-filter-upto, IsResolved, move_count, is_observed, external_and_moves}
 use Rattle.two_runs.proofs.observers.observed_locations.Goals as goal
 
 pub push-requires : goal.push-requires

@@ -1,7 +1,6 @@
 -- What holds in the loop over the locations.
 use Rattle.std.proofs.Common.{◌≡◌, filter}
-use Rattle.list_laws.specs.Numbers.{upto}
-use Rattle.cycle_events.specs.Values.{is_observed}
+use Rattle.two_runs.proofs.Vocabulary.{upto, is_observed}
 use Rattle.two_runs.proofs.observers.observed_locations.Given as goal
 
 -- those of the first locations that are observed are there

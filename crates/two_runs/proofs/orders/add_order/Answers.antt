@@ -1,10 +1,8 @@
 -- The place has all writes of its order.
 use Rattle.std.proofs.Common.{◌≡◌, sym, ◌∙◌, arith, None}
-use Rattle.cycle_events.specs.Values.{write_count}
+use Rattle.two_runs.proofs.{Vocabulary.write_count, CycleOrders.{place_begins, place_inside, place_more, place_same, place_whole}, orders.add_order.Goals.{in-Some+in_ok-add_write, in_default}}
 use Rattle.program_meaning.specs.Intended.{write_of}
-use Rattle.two_runs.proofs.CycleOrders.{place_begins, place_inside, place_more, place_same, place_whole}
 use Rattle.two_runs.proofs.orders.add_order.Goals as goal
-use Rattle.two_runs.proofs.orders.add_order.Goals.{in-Some+in_ok-add_write, in_default}
 
 pub loop-k-init : goal.loop-k-init
 loop-k-init c = place_begins c.args.valued.now.edges c.args.moved c.args.location c.args.exec.now c.args.place

@@ -1,6 +1,5 @@
 -- What holds in the loop over the writes of a location.
-use Rattle.std.proofs.Common.{◌≡◌}
-use Rattle.two_runs.proofs.CycleOrders.{place_to}
+use Rattle.two_runs.proofs.{Vocabulary.◌≡◌, CycleOrders.place_to}
 use Rattle.two_runs.proofs.orders.add_order.Given as goal
 
 -- the place has its first writes

@@ -1,9 +1,6 @@
 -- Each place has all writes of its order.
-use Rattle.std.proofs.Common.{◌≡◌, ◌<◌, ℕ, List, sym, ◌∙◌, ap, arith, length, subst}
-use Rattle.cycle_events.specs.Resolution.{move_count}
-use Rattle.program_meaning.specs.{declared.WriteAt.WriteAt, Executions.Execution, Intended.location_numbered}
+use Rattle.two_runs.proofs.{Vocabulary.{◌≡◌, ◌<◌, ℕ, List, sym, ◌∙◌, ap, arith, length, subst, move_count, WriteAt, Execution, location_numbered}, GrowingLists.{filled_length, filled_none, filled_to, filled_whole}, CycleOrders.places_more}
 use Rattle.two_runs.specs.Runs.{with_appended, numbers_by, order_of}
-use Rattle.two_runs.proofs.{GrowingLists.{filled_length, filled_none, filled_to, filled_whole}, CycleOrders.places_more}
 use Rattle.two_runs.proofs.orders.add_orders.Goals as goal
 
 pub loop-place-init : goal.loop-place-init

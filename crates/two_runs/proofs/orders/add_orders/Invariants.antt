@@ -1,9 +1,5 @@
 -- What holds in the loop over the places.
-use Rattle.std.proofs.Common.{◌≡◌}
-use Rattle.cycle_events.specs.Resolution.{move_count}
-use Rattle.program_meaning.specs.Intended.{location_numbered}
-use Rattle.two_runs.specs.Runs.{numbers_by, order_of}
-use Rattle.two_runs.proofs.GrowingLists.{filled_to}
+use Rattle.two_runs.{proofs.{Vocabulary.{◌≡◌, move_count, location_numbered}, GrowingLists.filled_to}, specs.Runs.{numbers_by, order_of}}
 use Rattle.two_runs.proofs.orders.add_orders.Given as goal
 
 -- the first places have their writes

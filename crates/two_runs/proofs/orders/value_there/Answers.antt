@@ -1,8 +1,5 @@
 -- The value at a place of an order is that of a write of the location.
-use Rattle.std.proofs.Common.{◌≡◌, ◌≤◌, sym, ◌∙◌, ap, arith}
-use Rattle.cycle_events.specs.{declared.event.Event.Event, Resolution.{IsResolved, location_of}, Values.write_count}
-use Rattle.cycle_events.proofs.ValuesAlongEdges.{value_most, write_count_most}
-use Rattle.two_runs.proofs.CycleOrders.{swapped_most}
+use Rattle.two_runs.proofs.{Vocabulary.{◌≡◌, ◌≤◌, sym, ◌∙◌, ap, arith, Event, IsResolved, location_of, write_count, value_most, write_count_most}, CycleOrders.swapped_most}
 use Rattle.two_runs.proofs.orders.value_there.Goals as goal
 
 pub swap_value-requires-clause-below : goal.swap_value-requires-clause-below

@@ -1,14 +1,7 @@
 -- The location that is found is the one with the place, if there is one.
-use Rattle.std.proofs.Common.{◌≡◌, ◌∙◌, sym, ap, arith, length, []}
-use Rattle.std.specs.Prelude.{slice_index_or}
-use Rattle.cycle_events.specs.Resolution.{move_count}
-use Rattle.arch_trait.specs.PlaceNames.{location_name}
-use Rattle.litmus_text.specs.Placing.{place_in}
+use Rattle.two_runs.{proofs.{Vocabulary.{◌≡◌, ◌∙◌, sym, ap, arith, length, [], slice_index_or, move_count, location_name, length-letters, place_in}, Numbering.{numbered_here, numbered_nowhere, none_more}}, specs.Runs.numbers_by}
 use Rattle.test_maker.proofs.Naming.{letter_at}
-use Rattle.two_runs.specs.Runs.{numbers_by}
-use Rattle.two_runs.proofs.Numbering.{numbered_here, numbered_nowhere, none_more}
 use Rattle.two_runs.proofs.places.location_at.Goals as goal
-use Rattle.arch_trait.proofs.Tables.{length-letters}
 
 pub get-requires : goal.get-requires
 get-requires c = omega (arith, c.loop-location-test.true, length-letters c.locations-locations.result, ap length c.letters-names.ensures)

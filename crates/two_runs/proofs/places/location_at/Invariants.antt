@@ -1,6 +1,5 @@
 -- What holds in the loop over the locations.
-use Rattle.std.proofs.Common.{◌≡◌, ◌<◌, ◌==◌, ℕ, false}
-use Rattle.two_runs.specs.Runs.{numbers_by}
+use Rattle.two_runs.{proofs.Vocabulary.{◌≡◌, ◌<◌, ◌==◌, ℕ, false}, specs.Runs.numbers_by}
 use Rattle.two_runs.proofs.places.location_at.Given as goal
 
 -- none of the first locations has the place

@@ -1,6 +1,5 @@
 -- The number that is found is that of the name among the places.
-use Rattle.std.proofs.Common.{◌≡◌, ◌∙◌, sym, true, false, arith}
-use Rattle.std.specs.Str.{bytes_eq}
+use Rattle.std.{proofs.Common.{◌≡◌, ◌∙◌, sym, true, false, arith}, specs.Str.bytes_eq}
 use Rattle.two_runs.proofs.Numbering.{found_here, found_later, found_nowhere}
 use Rattle.two_runs.proofs.places.number_of.Goals as goal
 

@@ -1,7 +1,5 @@
 -- What holds in the loop over the names of the places.
-use Rattle.std.proofs.Common.{◌≡◌}
-use Rattle.litmus_text.specs.Placing.{place_in}
-use Rattle.two_runs.proofs.Numbering.{found_from}
+use Rattle.two_runs.proofs.{Vocabulary.{◌≡◌, place_in}, Numbering.found_from}
 use Rattle.two_runs.proofs.places.number_of.Given as goal
 
 -- the name is none of the first ones

@@ -1,6 +1,5 @@
 -- The text that is printed is the one that is read.
-use Rattle.std.proofs.Common.{◌∙◌, sym, subst}
-use Rattle.two_runs.specs.IntendedRuns.{IsRead}
+use Rattle.two_runs.{proofs.Vocabulary.{◌∙◌, sym, subst}, specs.IntendedRuns.IsRead}
 use Rattle.two_runs.proofs.printed.read_printed.Goals as goal
 
 pub read_text-requires : goal.read_text-requires

@@ -1,6 +1,5 @@
 -- A text of a test is read without an error.
-use Rattle.litmus_text.specs.TestReading.{test_read}
-use Rattle.two_runs.proofs.ShownLaws.{gives_fault, no_fault}
+use Rattle.two_runs.proofs.{Vocabulary.test_read, ShownLaws.{gives_fault, no_fault}}
 use Rattle.two_runs.proofs.printed.read_text.Goals as goal
 
 pub unreachable-requires : goal.unreachable-requires

@@ -1,11 +1,6 @@
 -- Each thread of the cycle has all its reads.
-use Rattle.std.proofs.Common.{◌≡◌, ◌<◌, ◌+◌, ◌-◌, ◌++◌, sym, ◌∙◌, ap, arith, length, subst, map}
-use Rattle.list_laws.specs.Numbers.{upto}
-use Rattle.cycle_events.specs.Resolution.{external_count}
-use Rattle.program_meaning.specs.Executions.{Execution}
-use Rattle.program_meaning.specs.KeptExecutions.{empty_lists}
+use Rattle.two_runs.proofs.{Vocabulary.{◌≡◌, ◌<◌, ◌+◌, ◌-◌, ◌++◌, sym, ◌∙◌, ap, arith, length, subst, map, upto, external_count, Execution, empty_lists}, GrowingLists.{filled_length, filled_none, filled_to}, CycleReads.threads_more}
 use Rattle.two_runs.specs.Runs.{observer_count, thread_reads}
-use Rattle.two_runs.proofs.{GrowingLists.{filled_length, filled_none, filled_to}, CycleReads.threads_more}
 use Rattle.two_runs.proofs.reads.add_reads.Goals as goal
 
 pub loop-thread-init : goal.loop-thread-init

@@ -1,8 +1,5 @@
 -- What holds in the loop over the threads.
-use Rattle.std.proofs.Common.{◌≡◌, ◌+◌}
-use Rattle.cycle_events.specs.Resolution.{external_count}
-use Rattle.two_runs.specs.Runs.{observer_count, thread_reads}
-use Rattle.two_runs.proofs.GrowingLists.{filled_to}
+use Rattle.two_runs.{proofs.{Vocabulary.{◌≡◌, ◌+◌, external_count}, GrowingLists.filled_to}, specs.Runs.{observer_count, thread_reads}}
 use Rattle.two_runs.proofs.reads.add_reads.Given as goal
 
 -- the first threads have their reads

@@ -1,10 +1,6 @@
 -- The thread has all its reads.
-use Rattle.std.proofs.Common.{◌≡◌, sym, ◌∙◌, ap, arith, length}
-use Rattle.cycle_events.specs.{declared.event.Event.Event, Resolution.location_of}
-use Rattle.cycle_events.proofs.ValuesAlongEdges.{value_most}
+use Rattle.two_runs.proofs.{Vocabulary.{◌≡◌, sym, ◌∙◌, ap, arith, length, Event, location_of, value_most}, CycleReads.{thread_begins, thread_more, thread_same, thread_whole}, reads.add_thread.Goals.{then-is_read_of+in_ok-add_read, else-is_read_of}}
 use Rattle.program_meaning.specs.Intended.{write_of}
-use Rattle.two_runs.proofs.CycleReads.{thread_begins, thread_more, thread_same, thread_whole}
-use Rattle.two_runs.proofs.reads.add_thread.Goals.{then-is_read_of+in_ok-add_read, else-is_read_of}
 use Rattle.two_runs.proofs.reads.add_thread.Goals as goal
 
 pub loop-i-init : goal.loop-i-init

@@ -1,6 +1,5 @@
 -- What holds in the loop over the events.
-use Rattle.std.proofs.Common.{◌≡◌}
-use Rattle.two_runs.proofs.CycleReads.{thread_to}
+use Rattle.two_runs.proofs.{Vocabulary.◌≡◌, CycleReads.thread_to}
 use Rattle.two_runs.proofs.reads.add_thread.Given as goal
 
 -- the thread has the reads of its first events

@@ -1,5 +1,5 @@
 -- The write that a read reads is an event of the cycle.
-use Rattle.std.proofs.Common.{◌-◌, length, ap, arith}
+use Rattle.two_runs.proofs.Vocabulary.{◌-◌, length, ap, arith}
 use Rattle.cycle_events.proofs.Writes.{write_of}
 use Rattle.two_runs.proofs.reads.write_of.Goals as goal
 

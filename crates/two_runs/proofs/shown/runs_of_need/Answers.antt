@@ -1,10 +1,6 @@
 -- The two executions that are made are those of the law.
 use Rattle.std.proofs.Common.{◌≡◌, ◌<◌, ℕ, length, None, Some, sym, ap, ◌∙◌, subst}
-use Rattle.relax_edges.specs.{declared.kinds.ArchName.ArchName, declared.kinds.ObsMode.TheVariants.Avoid}
-use Rattle.cycle_events.specs.Values.{Valuation}
-use Rattle.litmus_text.specs.TestReading.{test_read}
-use Rattle.two_runs.specs.{Runs.{numbers_by, run_by}, IntendedRuns.IsRead}
-use Rattle.two_runs.proofs.ShownLaws.{are_runs, need_below, undecided}
+use Rattle.two_runs.{proofs.{Vocabulary.{ArchName, Avoid, Valuation, test_read}, ShownLaws.{are_runs, need_below, undecided}}, specs.{Runs.{numbers_by, run_by}, IntendedRuns.IsRead}}
 use Rattle.two_runs.proofs.shown.runs_of_need.Goals as goal
 
 pub read_text-requires : goal.read_text-requires

@@ -1,6 +1,5 @@
 -- The cycle that is resolved is one of the architecture.
-use Rattle.std.proofs.Common.{◌∙◌, sym, ap}
-use Rattle.test_maker.specs.Refusals.{foreign_edge}
+use Rattle.two_runs.proofs.Vocabulary.{◌∙◌, sym, ap, foreign_edge}
 use Rattle.two_runs.proofs.shown.two_runs.Goals as goal
 
 pub runs_of_arch-requires-clause-of_arch : goal.runs_of_arch-requires-clause-of_arch

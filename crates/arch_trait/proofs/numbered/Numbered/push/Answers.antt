@@ -1,7 +1,5 @@
 -- There is room for the name of a numbered register, which is a letter and at most three digits.
-use Rattle.std.proofs.Common.{◌∷◌, [], ◌+◌, length, length-append, ap, arith, rules}
-use Rattle.std.specs.Fmt.{decimal}
-use Rattle.list_laws.proofs.Digits.{three_digits}
+use Rattle.arch_trait.proofs.Vocabulary.{◌∷◌, [], ◌+◌, length, length-append, ap, arith, rules, decimal, three_digits}
 use Rattle.arch_trait.proofs.numbered.Numbered.push.Goals as goal
 
 pub push_number-requires : goal.push_number-requires

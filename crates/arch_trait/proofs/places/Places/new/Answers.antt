@@ -1,6 +1,5 @@
 -- A list without names is a table.
-use Rattle.std.proofs.Common.{ap, map}
-use Rattle.arch_trait.proofs.Tables.{no_names}
+use Rattle.arch_trait.proofs.{Vocabulary.{ap, map}, Tables.no_names}
 use Rattle.arch_trait.proofs.places.Places.new.Goals as goal
 
 pub invariant_of-result : goal.invariant_of-result

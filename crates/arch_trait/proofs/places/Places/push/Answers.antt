@@ -1,7 +1,5 @@
 -- A table to which a new name is added is a table.
-use Rattle.std.proofs.{Common.{[], ◌∷◌, ◌∙◌, ap, map, length, arith}, lemmas.List.map-append}
-use Rattle.arch_trait.specs.PlaceNames.{number_in}
-use Rattle.arch_trait.proofs.Tables.{one_name}
+use Rattle.arch_trait.{proofs.{Vocabulary.{[], ◌∷◌, ◌∙◌, ap, map, length, arith, map-append}, Tables.one_name}, specs.PlaceNames.number_in}
 use Rattle.arch_trait.proofs.places.Places.push.Goals as goal
 
 pub invariant_of-self : goal.invariant_of-self

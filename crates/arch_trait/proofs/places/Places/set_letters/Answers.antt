@@ -1,7 +1,5 @@
 -- The name of each further location is new, and there is room for it.
-use Rattle.std.proofs.Common.{◌<◌, arith}
-use Rattle.arch_trait.specs.declared.step.TheConstants.{MAX_STEPS}
-use Rattle.arch_trait.proofs.Tables.{location_new, length-letters}
+use Rattle.arch_trait.{proofs.{Vocabulary.{◌<◌, arith}, Tables.{location_new, length-letters}}, specs.declared.step.TheConstants.MAX_STEPS}
 use Rattle.arch_trait.proofs.places.Places.set_letters.Goals as goal
 
 pub push-requires-clause-new : goal.push-requires-clause-new

@@ -1,6 +1,5 @@
 -- The names so far are those of as many locations.
-use Rattle.std.proofs.Common.{◌≡◌}
-use Rattle.arch_trait.specs.PlaceNames.{letters}
+use Rattle.arch_trait.{proofs.Vocabulary.◌≡◌, specs.PlaceNames.letters}
 use Rattle.arch_trait.proofs.places.Places.set_letters.Given as goal
 
 abbrev pub invariant-loop-i : goal.invariant-loop-i

@@ -1,8 +1,5 @@
 -- The code of the next thread is made in its place, after the threads before it.
-use Rattle.std.proofs.Common.{◌∙◌, ◌∷◌, [], ◌++◌, ap, map, arith, length}
-use Rattle.arrayvec.specs.ArrayVec.{ArrayVec}
-use Rattle.arch_trait.specs.{declared.code.Code.Code, Codes.thread_code_of, Threads.compiled}
-use Rattle.arch_trait.proofs.NextThreads.{next_before, next_made, next_within}
+use Rattle.arch_trait.{proofs.{Vocabulary.{◌∙◌, ◌∷◌, [], ◌++◌, ap, map, arith, length, ArrayVec}, NextThreads.{next_before, next_made, next_within}}, specs.{declared.code.Code.Code, Codes.thread_code_of, Threads.compiled}}
 use Rattle.arch_trait.proofs.thread_codes.ThreadCodes.compile_next.Goals as goal
 
 pub bounds-deref_mut-self-inside : goal.bounds-deref_mut-self-inside

@@ -1,8 +1,5 @@
 -- The arc of a location is the one that its number names.
-use Rattle.std.proofs.Common.{◌≡◌, arith, ◌∙◌, ap}
-use Rattle.list_laws.proofs.Numbers.{place_in_map, get_or-map-upto}
-use Rattle.cycle_events.specs.{Resolution.move_count, Values.Valuation, Values.write_count}
-use Rattle.coherence_values.specs.Arc.{seen_of, all_seen}
+use Rattle.coherence_values.{proofs.Vocabulary.{◌≡◌, arith, ◌∙◌, ap, place_in_map, get_or-map-upto, move_count, Valuation, write_count}, specs.Arc.{seen_of, all_seen}}
 use Rattle.coherence_values.proofs.valued.Valued.arc.Goals as goal
 
 pub bounds-deref-from : goal.bounds-deref-from

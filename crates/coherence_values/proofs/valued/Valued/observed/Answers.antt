@@ -1,10 +1,5 @@
 -- The answer is whether the location is observed in this mode.
-use Rattle.std.proofs.Common.{◌≡◌, sym, ◌∙◌, ap, refl}
-use Rattle.std.specs.{Prelude.nat_le, Option.is_some}
-use Rattle.relax_edges.specs.declared.kinds.ObsMode.TheVariants.{Accept, Avoid, Force}
-use Rattle.coherence_values.specs.declared.valued.Arc.{Arc}
-use Rattle.cycle_events.specs.Values.{Valuation, is_observed}
-use Rattle.cycle_events.proofs.Entries.{inner_found}
+use Rattle.coherence_values.{proofs.Vocabulary.{◌≡◌, sym, ◌∙◌, ap, refl, nat_le, is_some, Accept, Avoid, Force, Valuation, is_observed, inner_found}, specs.declared.valued.Arc.Arc}
 use Rattle.coherence_values.proofs.valued.Valued.observed.Goals as goal
 
 pub returns-in-Accept : goal.returns-in-Accept

@@ -1,8 +1,5 @@
 -- The value of an event is that of its definition.
-use Rattle.std.proofs.Common.{◌≡◌, length, arith, ◌∙◌, ap}
-use Rattle.list_laws.proofs.Numbers.{place_in_map, get_or-map-upto}
-use Rattle.cycle_events.specs.Values.{Valuation, value_of}
-use Rattle.coherence_values.specs.Arc.{values_of}
+use Rattle.coherence_values.{proofs.Vocabulary.{◌≡◌, length, arith, ◌∙◌, ap, place_in_map, get_or-map-upto, Valuation, value_of}, specs.Arc.values_of}
 use Rattle.coherence_values.proofs.valued.Valued.value_of.Goals as goal
 
 pub bounds-deref-from : goal.bounds-deref-from

@@ -1,8 +1,5 @@
 -- The write that is found is the one of the location with this number.
-use Rattle.std.proofs.Common.{◌≡◌, ◌+◌, ◌==◌, ◌&&◌, length, Some, None, sym, ◌∙◌, ap, arith}
-use Rattle.list_laws.proofs.{Cases.by_less, Finds.{find_upto_first, find_upto_none}}
-use Rattle.cycle_events.specs.{Resolution.IsResolved, Values.{Valuation, is_write_at, value_of, write_at}}
-use Rattle.cycle_events.proofs.{ValuesAlongEdges.write_count_most, Writes.write_number}
+use Rattle.coherence_values.proofs.Vocabulary.{◌≡◌, ◌+◌, ◌==◌, ◌&&◌, length, Some, None, sym, ◌∙◌, ap, arith, by_less, find_upto_first, find_upto_none, IsResolved, Valuation, is_write_at, value_of, write_at, write_count_most, write_number, laid_out}
 use Rattle.coherence_values.proofs.valued.Valued.write_at.Goals as goal
 
 pub overflow_add-k : goal.overflow_add-k
@@ -29,7 +26,7 @@ unfolding write_at
 unreachable-requires c =
     let v : c.self.inside.resolved.now ≡ c.args.self.now.edges = ap (λ (x : Valuation). x.edges) c.self.view_is in
     let r : IsResolved c.args.self.now.edges = rw v at c.self.invariant.resolved in
-    let n = write_number c.args.self.now.edges c.args.location c.args.k r c.requires in
+    let n = write_number c.args.self.now.edges c.args.location c.args.k (laid_out r) c.requires in
     let none : write_at c.args.self.now.edges c.args.location c.args.k ≡ None =
     find_upto_none (λ i. is_write_at c.args.self.now.edges c.args.location i && (value_of c.args.self.now.edges i == c.args.k + 1)) (length c.args.self.now.edges)
     (λ i h. c.loop-event.invariant i (omega (arith, h, ap length (c.cycle.ensures.value ∙ v)))) in

@@ -1,6 +1,5 @@
 -- In the loop over the events: none before this one is the write.
-use Rattle.std.proofs.Common.{◌≡◌, ℕ, ◌+◌, ◌<◌, false, ◌==◌, ◌&&◌}
-use Rattle.cycle_events.specs.Values.{is_write_at, value_of}
+use Rattle.coherence_values.proofs.Vocabulary.{◌≡◌, ℕ, ◌+◌, ◌<◌, false, ◌==◌, ◌&&◌, is_write_at, value_of}
 use Rattle.coherence_values.proofs.valued.Valued.write_at.Given as goal
 
 abbrev pub invariant-loop-event : goal.invariant-loop-event

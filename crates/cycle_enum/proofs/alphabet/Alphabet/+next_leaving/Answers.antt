@@ -1,10 +1,6 @@
 -- A letter that leaves another access is passed over, and the rank grows.
 use Rattle.std.proofs.Common.{◌<◌, ◌+◌, ◌-◌, sym, ◌∙◌, arith}
-use Rattle.relax_edges.specs.declared.order.TheConstants.{EDGES}
-use Rattle.edge_algebra_laws.proofs.RankLaws.{rank_below}
-use Rattle.cycle_enum_laws.specs.Search.{OccursIn}
-use Rattle.cycle_enum.specs.Letters.{IsFirstLetter}
-use Rattle.cycle_enum.proofs.EdgesPassedOver.{next_leaving}
+use Rattle.cycle_enum.{proofs.{Vocabulary.{EDGES, rank_below}, EdgesPassedOver.next_leaving}, specs.{Search.OccursIn, Letters.IsFirstLetter}}
 use Rattle.cycle_enum.proofs.alphabet.Alphabet.+next_leaving.Goals as goal
 
 pub overflow_add-letter : goal.overflow_add-letter

@@ -1,8 +1,5 @@
 -- A list goes on to a longer one, or is passed over with all that begin with it, and no candidate is left out.
-use Rattle.cycle_enum_laws.specs.Search.{IsListCandidate}
-use Rattle.cycle_enum_laws.proofs.GrowingLists.{extended_by, extended_none}
-use Rattle.cycle_enum.specs.Letters.{least_rank}
-use Rattle.cycle_enum.proofs.EdgesPassedOver.{none_below_least}
+use Rattle.cycle_enum.{specs.{Search.IsListCandidate, Letters.least_rank}, proofs.{GrowingLists.{extended_by, extended_none}, EdgesPassedOver.none_below_least}}
 use Rattle.cycle_enum.proofs.alphabet.Alphabet.extend.Goals as goal
 
 pub returns-in-Some : goal.returns-in-Some

@@ -1,9 +1,6 @@
 -- Where each relaxation has one edge, a cycle is made of them exactly where each of its edges occurs in one.
-use Rattle.std.proofs.Common.{◌↔◌}
-use Rattle.std.specs.{List.AllByRecursion, Prelude.IsTrue}
-use Rattle.cycle_enum_laws.specs.Search.{OccursIn}
-use Rattle.cycle_enum_laws.proofs.Candidates.{made_occurs, single_made}
-use Rattle.cycle_enum.proofs.Lettering.{all_marked}
+use Rattle.std.{proofs.Common.◌↔◌, specs.{List.AllByRecursion, Prelude.IsTrue}}
+use Rattle.cycle_enum.{specs.Search.OccursIn, proofs.{Candidates.{made_occurs, single_made}, Lettering.all_marked}}
 use Rattle.cycle_enum.proofs.alphabet.Alphabet.makes.Goals as goal
 
 pub returns-then-self : goal.returns-then-self

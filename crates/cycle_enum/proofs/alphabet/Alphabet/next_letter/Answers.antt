@@ -1,9 +1,6 @@
 -- The first letter that leaves the access that the last edge enters is the next one that may follow.
 use Rattle.std.proofs.Common.{◌≡◌, ◌∷◌, [], ◌&&◌, arith}
-use Rattle.relax_edges.specs.{declared.edge.Edge.Edge, EdgeTable.{same_dir, same_mark, source_of, source_mark}}
-use Rattle.edge_algebra_laws.specs.Composable.{last_joins}
-use Rattle.edge_algebra_laws.proofs.Composing.{last_joins_at}
-use Rattle.cycle_enum.proofs.EdgesPassedOver.{next_follows, next_joined}
+use Rattle.cycle_enum.proofs.{Vocabulary.{Edge, same_dir, same_mark, source_of, source_mark, last_joins, last_joins_at}, EdgesPassedOver.{next_follows, next_joined}}
 use Rattle.cycle_enum.proofs.alphabet.Alphabet.next_letter.Goals as goal
 
 pub returns-in-len1-up-clause-next : goal.returns-in-len1-up-clause-next

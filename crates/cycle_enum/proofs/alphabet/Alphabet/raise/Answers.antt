@@ -1,7 +1,5 @@
 -- A list is passed over with all that begin with it, and no candidate after these is left out.
-use Rattle.std.proofs.Common.{rules}
-use Rattle.cycle_enum_laws.specs.Search.{IsListCandidate}
-use Rattle.cycle_enum_laws.proofs.GrowingLists.{popped_more, popped_replaced}
+use Rattle.cycle_enum.{proofs.{Vocabulary.rules, GrowingLists.{popped_more, popped_replaced}}, specs.Search.IsListCandidate}
 use Rattle.cycle_enum.proofs.alphabet.Alphabet.raise.Goals as goal
 
 pub returns-in-Some-next_letter : goal.returns-in-Some-next_letter

@@ -1,8 +1,6 @@
 -- Edges were taken off the end of the list, and no candidate above the list is left out.
 use Rattle.std.proofs.Common.{◌≤◌, length}
-use Rattle.relax_edges.specs.declared.TheConstants.{MAX_EDGES}
-use Rattle.cycle_enum_laws.specs.Search.{IsListCandidate}
-use Rattle.cycle_enum_laws.proofs.GrowingLists.{Popped}
+use Rattle.cycle_enum.{proofs.{Vocabulary.MAX_EDGES, GrowingLists.Popped}, specs.Search.IsListCandidate}
 use Rattle.cycle_enum.proofs.alphabet.Alphabet.raise.Given as goal
 
 abbrev pub invariant-loop-last : goal.invariant-loop-last

@@ -1,7 +1,6 @@
 -- No cycle begins with a list that no edges complete, or none with as few edges to another thread as are left.
 use Rattle.std.proofs.{Common.{◌<◌, ◌+◌, sym, ◌∙◌, arith}, lemmas.Bool.leb-false}
-use Rattle.cycle_enum.specs.Spreads.{outside_count}
-use Rattle.cycle_enum.proofs.Ending.{ends_nowhere, crowded_nowhere}
+use Rattle.cycle_enum.{specs.Spreads.outside_count, proofs.Ending.{ends_nowhere, crowded_nowhere}}
 use Rattle.cycle_enum.proofs.endings.Row.may_end.Goals as goal
 
 pub returns-in-Some : goal.returns-in-Some

@@ -1,7 +1,6 @@
 -- The last crossing is that of all edges.
 use Rattle.std.proofs.Common.{◌≡◌, ◌∙◌, ◌-◌, length, get_or, ap, subst, sym}
-use Rattle.cycle_enum.specs.Crossings.{crossing_after, crossing_none, IsCrossing}
-use Rattle.cycle_enum.proofs.Crossings.{crossing_is, last_crossing}
+use Rattle.cycle_enum.{specs.Crossings.{crossing_after, crossing_none, IsCrossing}, proofs.Crossings.{crossing_is, last_crossing}}
 use Rattle.cycle_enum.proofs.prefix.Prefix.crossing.Goals as goal
 
 pub returns-in-len1-up-clause-value : goal.returns-in-len1-up-clause-value

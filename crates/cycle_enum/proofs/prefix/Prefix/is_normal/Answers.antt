@@ -1,7 +1,5 @@
 -- A list that repeats no edges is a normal form, and one that begins none is none.
-use Rattle.std.proofs.{Common.rules, lemmas.Bool.eq-eqb}
-use Rattle.cycle_enum.specs.Repeats.{RepeatsFirst}
-use Rattle.cycle_enum.proofs.Repeating.{none_repeated, nowhere_none}
+use Rattle.cycle_enum.{proofs.{Vocabulary.{rules, eq-eqb}, Repeating.{none_repeated, nowhere_none}}, specs.Repeats.RepeatsFirst}
 use Rattle.cycle_enum.proofs.prefix.Prefix.is_normal.Goals as goal
 
 pub returns-in-Less : goal.returns-in-Less

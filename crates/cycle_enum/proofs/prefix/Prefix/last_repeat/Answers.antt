@@ -1,7 +1,6 @@
 -- The last repeat is that of all edges.
 use Rattle.std.proofs.Common.{◌-◌, length, slice_index_or, subst}
-use Rattle.cycle_enum.specs.{declared.prefix.Repeat.TheVariants.First, Repeats.IsRepeat}
-use Rattle.cycle_enum.proofs.Repeating.{last_repeat}
+use Rattle.cycle_enum.{specs.{declared.prefix.Repeat.TheVariants.First, Repeats.IsRepeat}, proofs.Repeating.last_repeat}
 use Rattle.cycle_enum.proofs.prefix.Prefix.last_repeat.Goals as goal
 
 pub returns-in-len1-up-clause-some : goal.returns-in-len1-up-clause-some

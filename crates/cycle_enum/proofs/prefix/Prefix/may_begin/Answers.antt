@@ -1,7 +1,6 @@
 -- A list without edges has no suffix that is less.
 use Rattle.std.proofs.Common.{◌≡◌, List, [], ◌∷◌, length, length-append, ap, arith}
-use Rattle.relax_edges.specs.declared.edge.Edge.{Edge}
-use Rattle.cycle_enum.specs.Repeats.{NoneLess}
+use Rattle.cycle_enum.{proofs.Vocabulary.Edge, specs.Repeats.NoneLess}
 use Rattle.cycle_enum.proofs.prefix.Prefix.may_begin.Goals as goal
 
 none_less : (u : List Edge) → u ≡ [] → NoneLess u

@@ -1,8 +1,6 @@
 -- A joined list with an edge more that its last edge joins is joined, and the rank of the edge, the repeat and the crossing with it are beside it.
 use Rattle.std.proofs.Common.{[], ◌∷◌, ◌++◌, ◌∙◌, length, sym, ap, subst, arith}
-use Rattle.edge_algebra_laws.specs.Composable.{last_joins}
-use Rattle.cycle_enum.specs.{Repeats.IsRepeat, Crossings.{crossing_after, crossing_none}}
-use Rattle.cycle_enum.proofs.{Composing.joined_more, Crossings.{as_many_crossings, crossings_pushed}, Ranking.ranks_pushed, Repeating.repeats_pushed}
+use Rattle.cycle_enum.{proofs.{Vocabulary.last_joins, Composing.joined_more, Crossings.{as_many_crossings, crossings_pushed}, Ranking.ranks_pushed, Repeating.repeats_pushed}, specs.{Repeats.IsRepeat, Crossings.{crossing_after, crossing_none}}}
 use Rattle.cycle_enum.proofs.prefix.Prefix.push.Goals as goal
 
 pub push-requires-4 : goal.push-requires-4

@@ -1,7 +1,6 @@
 -- The repeat with one edge more is that of the edges so far, or starts anew.
 use Rattle.std.proofs.Common.{◌≡◌, [], rules}
-use Rattle.cycle_enum.specs.Repeats.{RepeatsFirst}
-use Rattle.cycle_enum.proofs.Repeating.{one_repeats, repeat_further, repeats_fewer, still_nowhere}
+use Rattle.cycle_enum.{specs.Repeats.RepeatsFirst, proofs.Repeating.{one_repeats, repeat_further, repeats_fewer, still_nowhere}}
 use Rattle.cycle_enum.proofs.prefix.Prefix.repeat_with.Goals as goal
 
 pub returns-in-None : goal.returns-in-None

@@ -1,7 +1,6 @@
 -- Each set has what the one before it has, as far as the edge is in its place.
 use Rattle.std.proofs.Common.{◌∷◌, [], List}
-use Rattle.cycle_enum.specs.{RelaxSets.{IsAfter}, declared.relax_set.RelaxSet.{RelaxSet}}
-use Rattle.cycle_enum.proofs.SetPlaces.{both_after, each_after, end_together}
+use Rattle.cycle_enum.{specs.{RelaxSets.IsAfter, declared.relax_set.RelaxSet.RelaxSet}, proofs.SetPlaces.{both_after, each_after, end_together}}
 use Rattle.cycle_enum.proofs.progress.Progress.after.Goals as goal
 
 pub returns : goal.returns

@@ -1,7 +1,5 @@
 -- Before a list that may begin anywhere, each relaxation may be read.
-use Rattle.std.proofs.Common.{refl}
-use Rattle.cycle_enum.proofs.SetPlaces.{row_all}
-use Rattle.cycle_enum.proofs.SetReading.{begun_anywhere}
+use Rattle.cycle_enum.proofs.{Vocabulary.refl, SetPlaces.row_all, SetReading.begun_anywhere}
 use Rattle.cycle_enum.proofs.progress.Progress.anywhere.Goals as goal
 
 pub returns : goal.returns

@@ -1,7 +1,5 @@
 -- Before a list that begins with a relaxation, none is read.
-use Rattle.std.proofs.Common.{refl}
-use Rattle.cycle_enum.proofs.SetPlaces.{row_none}
-use Rattle.cycle_enum.proofs.SetReading.{begun_between}
+use Rattle.cycle_enum.proofs.{Vocabulary.refl, SetPlaces.row_none, SetReading.begun_between}
 use Rattle.cycle_enum.proofs.progress.Progress.between.Goals as goal
 
 pub returns : goal.returns

@@ -1,5 +1,5 @@
 -- Each bit of the greatest number is one.
-use Rattle.std.proofs.lemmas.Nat.Bits.{bit_at_ones}
+use Rattle.cycle_enum.proofs.Vocabulary.{bit_at_ones}
 use Rattle.cycle_enum.proofs.relax_set.RelaxSet.all.Goals as goal
 
 pub returns : goal.returns

@@ -1,7 +1,6 @@
 -- Where no listed cycle has the next length, the answer among the longer ones is the answer.
 use Rattle.std.proofs.Common.{Some, None, refl, add-one}
-use Rattle.cycle_enum_laws.proofs.SearchAnswers.{answer_longer}
-use Rattle.cycle_enum.specs.Walking.{KeepsList, Lists}
+use Rattle.cycle_enum.{proofs.SearchAnswers.answer_longer, specs.Walking.{KeepsList, Lists}}
 use Rattle.cycle_enum.proofs.walk.Space.+longer.Goals as goal
 
 pub returns-clause-found : goal.returns-clause-found

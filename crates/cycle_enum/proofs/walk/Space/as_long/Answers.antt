@@ -1,8 +1,6 @@
 -- The search from the last cycle on finds the next listed cycle as long as it.
 use Rattle.std.proofs.Common.{Some, None, rules}
-use Rattle.cycle_enum_laws.specs.Search.{IsListCandidate, IsRaised}
-use Rattle.cycle_enum_laws.proofs.{SearchAnswers.answer_as_long, Candidates.raised_listed, GrowingLists.raised_kept}
-use Rattle.cycle_enum.specs.Walking.{KeepsList, Lists}
+use Rattle.cycle_enum.{specs.{Search.{IsListCandidate, IsRaised}, Walking.{KeepsList, Lists}}, proofs.{SearchAnswers.answer_as_long, Candidates.raised_listed, GrowingLists.raised_kept}}
 use Rattle.cycle_enum.proofs.walk.Space.as_long.Goals as goal
 
 pub search-requires-clause-kept : goal.search-requires-clause-kept

@@ -1,7 +1,6 @@
 -- The next listed cycle is as long as the last one, or longer where there is none.
 use Rattle.std.proofs.Common.{◌≡◌, Some, None, refl, rules}
-use Rattle.cycle_enum_laws.proofs.SearchAnswers.{answer_after, answer_none_after}
-use Rattle.cycle_enum.specs.Walking.{KeepsList, Lists}
+use Rattle.cycle_enum.{proofs.SearchAnswers.{answer_after, answer_none_after}, specs.Walking.{KeepsList, Lists}}
 use Rattle.cycle_enum.proofs.walk.Space.find.Goals as goal
 
 pub returns-then-as_long-clause-found : goal.returns-then-as_long-clause-found

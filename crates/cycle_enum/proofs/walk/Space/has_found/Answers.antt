@@ -1,8 +1,6 @@
 -- A list with which no listed cycle begins isn't listed, and the test is asked only where both pruners keep all prefixes.
 use Rattle.std.proofs.{Common.{[], length, refl, rules, IsTrue}, lemmas.List.append-nil}
-use Rattle.edge_algebra_laws.proofs.Composing.{path_closed}
-use Rattle.cycle_enum_laws.proofs.Stepping.{kept_all}
-use Rattle.cycle_enum.specs.Walking.{KeepsList, Lists}
+use Rattle.cycle_enum.{proofs.{Vocabulary.path_closed, Stepping.kept_all}, specs.Walking.{KeepsList, Lists}}
 use Rattle.cycle_enum.proofs.walk.Space.has_found.Goals as goal
 
 pub returns-then-not-leads_on-clause-other : goal.returns-then-not-leads_on-clause-other

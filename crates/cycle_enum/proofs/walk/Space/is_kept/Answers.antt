@@ -1,5 +1,5 @@
 -- What the pruners say of a list: no listed cycle begins with it where one of them says no.
-use Rattle.std.proofs.Common.{refl}
+use Rattle.cycle_enum.proofs.Vocabulary.{refl}
 use Rattle.cycle_enum.proofs.walk.Space.is_kept.Goals as goal
 
 pub call-requires : goal.call-requires

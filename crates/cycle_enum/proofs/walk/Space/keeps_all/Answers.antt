@@ -1,8 +1,6 @@
 -- No listed cycle begins with a list a prefix of which leads to none.
 use Rattle.std.proofs.{Common.{◌++◌, ◌∙◌, ℕ, List, take, drop, refl, sym, subst, ap, append_assoc}, lemmas.List.take-append-drop}
-use Rattle.relax_edges.specs.declared.edge.Edge.{Edge}
-use Rattle.cycle_enum_laws.specs.Search.{LeadsNowhere}
-use Rattle.cycle_enum.specs.Walking.{Lists}
+use Rattle.cycle_enum.{proofs.Vocabulary.Edge, specs.{Search.LeadsNowhere, Walking.Lists}}
 use Rattle.cycle_enum.proofs.walk.Space.keeps_all.Goals as goal
 
 -- where a prefix of a list leads to nothing that is sought, the list doesn't either

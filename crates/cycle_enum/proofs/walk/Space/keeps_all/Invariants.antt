@@ -1,6 +1,5 @@
 -- The prefixes so far are kept.
-use Rattle.cycle_enum_laws.specs.Asked.{KeptBelow}
-use Rattle.cycle_enum.specs.Walking.{KeepsList}
+use Rattle.cycle_enum.specs.{Asked.KeptBelow, Walking.KeepsList}
 use Rattle.cycle_enum.proofs.walk.Space.keeps_all.Given as goal
 
 abbrev pub invariant-loop-len : goal.invariant-loop-len

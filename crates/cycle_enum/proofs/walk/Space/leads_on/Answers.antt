@@ -1,8 +1,5 @@
 -- Where the answer is no, no listed cycle of the length begins with the list.
-use Rattle.std.proofs.Common.{rules, IsFalse, refl}
-use Rattle.cycle_enum_laws.specs.{Listing.IsMadeOf, Search.LeadsNowhere}
-use Rattle.cycle_enum_laws.proofs.DroppedPrefixes.{unmade_nowhere}
-use Rattle.cycle_enum.specs.Walking.{Lists}
+use Rattle.cycle_enum.{proofs.{Vocabulary.{rules, IsFalse, refl}, DroppedPrefixes.unmade_nowhere}, specs.{Listing.IsMadeOf, Search.LeadsNowhere, Walking.Lists}}
 use Rattle.cycle_enum.proofs.walk.Space.leads_on.Goals as goal
 
 pub returns-then-not-may_begin-clause-refused : goal.returns-then-not-may_begin-clause-refused

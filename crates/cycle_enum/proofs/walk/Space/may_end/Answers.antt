@@ -1,9 +1,6 @@
 -- A listed cycle is one of those whose ends the bounds are for.
 use Rattle.std.proofs.Common.{◌≡◌, rules, IsFalse}
-use Rattle.cycle_enum_laws.specs.Search.{LeadsNowhere}
-use Rattle.cycle_enum_laws.proofs.Candidates.{made_occurs}
-use Rattle.cycle_enum.specs.Endings.{EndsWithin}
-use Rattle.cycle_enum.specs.declared.taken.Taken.TheVariants.{SpreadOver}
+use Rattle.cycle_enum.{specs.{Search.LeadsNowhere, Endings.EndsWithin, declared.taken.Taken.TheVariants.SpreadOver}, proofs.Candidates.made_occurs}
 use Rattle.cycle_enum.proofs.walk.Space.may_end.Goals as goal
 
 pub returns-in-SpreadOver : goal.returns-in-SpreadOver

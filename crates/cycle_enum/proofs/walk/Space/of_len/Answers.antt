@@ -1,8 +1,6 @@
 -- The search from the first list on finds the first listed cycle of the length.
 use Rattle.std.proofs.Common.{Some, None, rules}
-use Rattle.cycle_enum_laws.specs.Search.{IsListCandidate, IsExtended}
-use Rattle.cycle_enum_laws.proofs.{SearchAnswers.answer_of_length, Candidates.extended_listed}
-use Rattle.cycle_enum.specs.Walking.{KeepsList, Lists}
+use Rattle.cycle_enum.{specs.{Search.{IsListCandidate, IsExtended}, Walking.{KeepsList, Lists}}, proofs.{SearchAnswers.answer_of_length, Candidates.extended_listed}}
 use Rattle.cycle_enum.proofs.walk.Space.of_len.Goals as goal
 
 pub returns-clause-found : goal.returns-clause-found

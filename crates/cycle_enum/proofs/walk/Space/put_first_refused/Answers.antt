@@ -1,9 +1,6 @@
 -- The prefix that is put is the shortest that a pruner refuses, or the whole list where none is refused.
 use Rattle.std.proofs.{Common.{◌≡◌, ◌++◌, ◌+◌, drop, refl, sym, arith}, lemmas.List.drop_all}
-use Rattle.cycle_enum_laws.specs.Search.{LeadsNowhere}
-use Rattle.cycle_enum_laws.proofs.GrowingLists.{kept_more, cut_refused, cut_whole, one_further}
-use Rattle.cycle_enum.specs.Walking.{KeepsList, Lists}
-use Rattle.cycle_enum.proofs.Composing.{next_joined}
+use Rattle.cycle_enum.{specs.{Search.LeadsNowhere, Walking.{KeepsList, Lists}}, proofs.{GrowingLists.{kept_more, cut_refused, cut_whole, one_further}, Composing.next_joined}}
 use Rattle.cycle_enum.proofs.walk.Space.put_first_refused.Goals as goal
 
 pub push-requires-clause-joined : goal.push-requires-clause-joined

@@ -1,7 +1,6 @@
 -- The edges passed are a prefix of the list that is kept with all shorter ones.
 use Rattle.std.proofs.Common.{◌≡◌, ◌++◌, drop}
-use Rattle.cycle_enum_laws.specs.Asked.{KeptWhole}
-use Rattle.cycle_enum.specs.Walking.{KeepsList}
+use Rattle.cycle_enum.specs.{Asked.KeptWhole, Walking.KeepsList}
 use Rattle.cycle_enum.proofs.walk.Space.put_first_refused.Given as goal
 
 abbrev pub invariant-loop-edge : goal.invariant-loop-edge

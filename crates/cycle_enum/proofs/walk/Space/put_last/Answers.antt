@@ -1,10 +1,6 @@
 -- A list at the last cycle, all of whose prefixes are kept, is cut nowhere.
 use Rattle.std.proofs.{Common.{◌≡◌, ◌<◌, ◌⊎◌, [], List, inl, inr, length, refl, sym, arith, rules, IsTrue}, lemmas.List.append-nil}
-use Rattle.relax_edges.specs.declared.edge.Edge.{Edge}
-use Rattle.cycle_enum_laws.specs.Asked.{KeptWhole}
-use Rattle.cycle_enum_laws.proofs.GrowingLists.{cut_whole}
-use Rattle.cycle_enum.specs.Walking.{KeepsList, Lists}
-use Rattle.cycle_enum.proofs.Composing.{cycle_joined}
+use Rattle.cycle_enum.{proofs.{Vocabulary.Edge, GrowingLists.cut_whole, Composing.cycle_joined}, specs.{Asked.KeptWhole, Walking.{KeepsList, Lists}}}
 use Rattle.cycle_enum.proofs.walk.Space.put_last.Goals as goal
 
 -- a list that has edges is at the last cycle

@@ -1,10 +1,7 @@
 -- Each step of the search leaves out no listed cycle, and what is found is the first.
 use Rattle.std.proofs.Common.{◌<◌, ◌≤◌, length, refl, rules}
-use Rattle.cycle_enum_laws.specs.Search.{IsListCandidate, IsExtended, IsRaised, LeadsNowhere, OfLength}
-use Rattle.cycle_enum_laws.proofs.{Counts.raised_falls, Counts.extended_falls, Candidates.raised_listed, Candidates.extended_listed}
-use Rattle.cycle_enum_laws.proofs.Stepping.{search_at_first, search_at_extended, search_at_past, search_at_found}
-use Rattle.cycle_enum.specs.Walking.{KeepsList, Lists}
-use Rattle.cycle_enum.proofs.PassedOver.{search_at_nowhere}
+use Rattle.cycle_enum.{specs.{Search.{IsListCandidate, IsExtended, IsRaised, LeadsNowhere, OfLength}, Walking.{KeepsList, Lists}}, proofs.{Counts.{raised_falls, extended_falls}, Candidates.{raised_listed, extended_listed}, Stepping.search_at_first}}
+use Rattle.cycle_enum.proofs.{Stepping.{search_at_extended, search_at_past, search_at_found}, PassedOver.search_at_nowhere}
 use Rattle.cycle_enum.proofs.walk.Space.search.Goals as goal
 
 pub loop-self-init : goal.loop-self-init

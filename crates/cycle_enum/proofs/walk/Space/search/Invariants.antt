@@ -1,6 +1,5 @@
 -- The search is at the list, and with each step less is left of it.
-use Rattle.cycle_enum_laws.proofs.{Counts.to_go, Stepping.SearchAt}
-use Rattle.cycle_enum.specs.Walking.{KeepsList, Lists}
+use Rattle.cycle_enum.{proofs.{Counts.to_go, Stepping.SearchAt}, specs.Walking.{KeepsList, Lists}}
 use Rattle.cycle_enum.proofs.walk.Space.search.Given as goal
 
 abbrev pub invariant-loop-self : goal.invariant-loop-self

@@ -1,8 +1,5 @@
 -- The list that is found is the next cycle, and with it the number `later` falls.
-use Rattle.std.proofs.Common.{refl}
-use Rattle.cycle_enum_laws.specs.Listing.{IsNext}
-use Rattle.cycle_enum_laws.proofs.Counts.{later_falls}
-use Rattle.cycle_enum.specs.Walking.{Lists}
+use Rattle.cycle_enum.{proofs.{Vocabulary.refl, Counts.later_falls}, specs.{Listing.IsNext, Walking.Lists}}
 use Rattle.cycle_enum.proofs.walk.Walk.next.Goals as goal
 
 pub returns-then-not-find-clause-next : goal.returns-then-not-find-clause-next

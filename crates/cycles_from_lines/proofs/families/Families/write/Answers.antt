@@ -1,8 +1,6 @@
 -- That `write` writes the text of the families of the cycles that are kept.
 use Rattle.std.proofs.Common.{ℕ, List, subst, sym}
-use Rattle.diy_io.specs.Wrote.{Wrote}
-use Rattle.cycles_from_lines.specs.FamilyTables.{FamilyEntry, HoldsCycles}
-use Rattle.cycles_from_lines.proofs.TableLaws.{table_text}
+use Rattle.cycles_from_lines.{proofs.{Vocabulary.Wrote, TableLaws.table_text}, specs.FamilyTables.{FamilyEntry, HoldsCycles}}
 use Rattle.cycles_from_lines.proofs.families.Families.write.Goals as goal
 
 pub returns : goal.returns

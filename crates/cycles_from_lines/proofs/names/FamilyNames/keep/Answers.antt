@@ -1,7 +1,5 @@
 -- That `keep` adds a name to those in order, among which the known ones stay.
-use Rattle.std.proofs.Common.{refl, ap, ◌∙◌}
-use Rattle.cycles_from_lines.specs.{Classified.with_cycle_name, KeptNames.names_in_set}
-use Rattle.cycles_from_lines.proofs.NameSetLaws.{set_shown, kept_among}
+use Rattle.cycles_from_lines.{proofs.{Vocabulary.{refl, ap, ◌∙◌}, NameSetLaws.{set_shown, kept_among}}, specs.{Classified.with_cycle_name, KeptNames.names_in_set}}
 use Rattle.cycles_from_lines.proofs.names.FamilyNames.keep.Goals as goal
 
 pub invariant_of-self : goal.invariant_of-self

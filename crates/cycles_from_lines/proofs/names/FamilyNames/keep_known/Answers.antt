@@ -1,7 +1,5 @@
 -- That `keep_known` adds nothing where the name is known, since it is there.
-use Rattle.std.proofs.Common.{refl, sym}
-use Rattle.cycles_from_lines.specs.KeptNames.{names_in_set}
-use Rattle.cycles_from_lines.proofs.NameSetLaws.{present_same, texts_ascend, known_there, put_there}
+use Rattle.cycles_from_lines.{proofs.{Vocabulary.{refl, sym}, NameSetLaws.{present_same, texts_ascend, known_there, put_there}}, specs.KeptNames.names_in_set}
 use Rattle.cycles_from_lines.proofs.names.FamilyNames.keep_known.Goals as goal
 
 pub returns-then-contains-clause-put : goal.returns-then-contains-clause-put

@@ -1,7 +1,5 @@
 -- That `end_at_limit` says rightly whether a source has more bytes than are read.
-use Rattle.std.proofs.Common.{ap, sym, subst, arith}
-use Rattle.cycles_from_lines.specs.LineReading.{ReadToLimit}
-use Rattle.cycles_from_lines.proofs.ReadLaws.{past_limit, some_read, stopped_there, ends_there}
+use Rattle.cycles_from_lines.{proofs.{Vocabulary.{ap, sym, subst, arith}, ReadLaws.{past_limit, some_read, stopped_there, ends_there}}, specs.LineReading.ReadToLimit}
 use Rattle.cycles_from_lines.proofs.reader.LineReader.end_at_limit.Goals as goal
 
 pub returns-in-Ok-clause-refills : goal.returns-in-Ok-clause-refills

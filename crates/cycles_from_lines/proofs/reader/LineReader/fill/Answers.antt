@@ -1,6 +1,5 @@
 -- That `fill` reads a piece after the bytes that are pending, for which there is room.
-use Rattle.std.proofs.Common.{◌+◌, ap, take, arith, ◌∙◌}
-use Rattle.cycles_from_lines.proofs.ReadLaws.{fills_after, short_count}
+use Rattle.cycles_from_lines.proofs.{Vocabulary.{◌+◌, ap, take, arith, ◌∙◌}, ReadLaws.{fills_after, short_count}}
 use Rattle.cycles_from_lines.proofs.reader.LineReader.fill.Goals as goal
 
 pub read_part-requires-clause-within : goal.read_part-requires-clause-within

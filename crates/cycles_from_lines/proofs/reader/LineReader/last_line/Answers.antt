@@ -1,7 +1,5 @@
 -- That `last_line` gives what the last line says, or its error.
-use Rattle.std.proofs.Common.{ap, sym, subst, ◌∙◌}
-use Rattle.cycles_from_lines.specs.{Cycles.line_said, LineReading.ReadToFault}
-use Rattle.cycles_from_lines.proofs.ReadLaws.{said_last, fault_last, some_if}
+use Rattle.cycles_from_lines.{proofs.{Vocabulary.{ap, sym, subst, ◌∙◌}, ReadLaws.{said_last, fault_last, some_if}}, specs.{Cycles.line_said, LineReading.ReadToFault}}
 use Rattle.cycles_from_lines.proofs.reader.LineReader.last_line.Goals as goal
 
 pub returns-in-Ok : goal.returns-in-Ok

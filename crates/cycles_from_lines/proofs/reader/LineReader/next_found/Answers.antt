@@ -1,7 +1,5 @@
 -- That `next_found` gives what the next line says, or the reason why there is none.
-use Rattle.std.proofs.Common.{ap, sym, subst}
-use Rattle.cycles_from_lines.specs.LineSteps.{HasRead}
-use Rattle.cycles_from_lines.proofs.ReadLaws.{line_given, fault_given, ends_less}
+use Rattle.cycles_from_lines.{proofs.{Vocabulary.{ap, sym, subst}, ReadLaws.{line_given, fault_given, ends_less}}, specs.LineSteps.HasRead}
 use Rattle.cycles_from_lines.proofs.reader.LineReader.next_found.Goals as goal
 
 pub returns-in-Read-clause-reads : goal.returns-in-Read-clause-reads

@@ -1,8 +1,5 @@
 -- The loop of `next_found`: what was read before stays read, and the work doesn't grow.
-use Rattle.std.proofs.Common.{◌≤◌, List}
-use Rattle.diy_io.specs.Taken.{SourceSeen}
-use Rattle.relax_edges.specs.declared.edge.Edge.{Edge}
-use Rattle.cycles_from_lines.specs.LineSteps.{HasRead, work}
+use Rattle.cycles_from_lines.{proofs.Vocabulary.{◌≤◌, List, SourceSeen, Edge}, specs.LineSteps.{HasRead, work}}
 use Rattle.cycles_from_lines.proofs.reader.LineReader.next_found.Given as goal
 
 abbrev pub invariant-loop-kind : goal.invariant-loop-kind

@@ -1,7 +1,5 @@
 -- That `next_line` takes the next line off the pending bytes.
-use Rattle.std.proofs.Common.{◌+◌, ap, sym, refl, subst, ◌∙◌}
-use Rattle.cycles_from_lines.specs.{Cycles.line_said, LineSteps.Without, LineSteps.CutsAtSign}
-use Rattle.cycles_from_lines.proofs.{Cuts.without_is, Cuts.cuts_are, ReadLaws.given_next, ReadLaws.given_line, ReadLaws.buffer_left}
+use Rattle.cycles_from_lines.{proofs.{Vocabulary.{◌+◌, ap, sym, refl, subst, ◌∙◌}, Cuts.{without_is, cuts_are}, ReadLaws.{given_next, given_line, buffer_left}}, specs.{Cycles.line_said, LineSteps.{Without, CutsAtSign}}}
 use Rattle.cycles_from_lines.proofs.reader.LineReader.next_line.Goals as goal
 
 pub returns : goal.returns

@@ -1,8 +1,5 @@
 -- That `refill` reads on only where the pending line isn't too long, and finds why it can't.
-use Rattle.std.proofs.Common.{ap, sym, subst, ◌∙◌}
-use Rattle.cycles_from_lines.specs.{declared.errors.LineKind.TheVariants.LineTooLong, LineReading.ReadToFault}
-use Rattle.text_parts.specs.Lines.{without_return}
-use Rattle.cycles_from_lines.proofs.{LineLaws.{is_long, is_short}, ReadLaws.{long_given, stopped_there, filled}}
+use Rattle.cycles_from_lines.{proofs.{Vocabulary.{ap, sym, subst, ◌∙◌, without_return}, LineLaws.{is_long, is_short}, ReadLaws.{long_given, stopped_there, filled}}, specs.{declared.errors.LineKind.TheVariants.LineTooLong, LineReading.ReadToFault}}
 use Rattle.cycles_from_lines.proofs.reader.LineReader.refill.Goals as goal
 
 pub returns-then-without_return-gt-MAX_CYCLE_LINE-clause-refills : goal.returns-then-without_return-gt-MAX_CYCLE_LINE-clause-refills

@@ -1,6 +1,5 @@
 -- The cycle at a place is the one that was kept for the family there.
-use Rattle.std.proofs.Common.{◌∙◌, ap, map}
-use Rattle.demo_tests.proofs.FamilyCycleLaws.{cycle_at}
+use Rattle.demo_tests.proofs.{Vocabulary.{◌∙◌, ap, map}, FamilyCycleLaws.cycle_at}
 use Rattle.demo_tests.proofs.family_cycles.FamilyCycles.edges.Goals as goal
 
 pub returns : goal.returns

@@ -1,7 +1,5 @@
 -- The cycle of each family is kept in its place, and there is room for all.
-use Rattle.std.proofs.Common.{arith, refl}
-use Rattle.cycle_names.specs.Families.{all_families}
-use Rattle.demo_tests.proofs.FamilyCycleLaws.{cycle_kept, few_kept, all_kept}
+use Rattle.demo_tests.proofs.{Vocabulary.{arith, refl, all_families}, FamilyCycleLaws.{cycle_kept, few_kept, all_kept}}
 use Rattle.demo_tests.proofs.family_cycles.FamilyCycles.new.Goals as goal
 
 pub loop-family-init : goal.loop-family-init

@@ -1,6 +1,5 @@
 -- The cycles that are kept after each family.
-use Rattle.std.proofs.Common.{◌≡◌, map, take}
-use Rattle.cycle_names.specs.Families.{all_families, family_edges}
+use Rattle.demo_tests.proofs.Vocabulary.{◌≡◌, map, take, all_families, family_edges}
 use Rattle.demo_tests.proofs.family_cycles.FamilyCycles.new.Given as goal
 
 -- those of the families so far are kept

@@ -1,10 +1,5 @@
 -- The tally is that of the text of the cycle's test.
-use Rattle.std.proofs.Common.{◌≡◌, ◌∙◌, ap}
-use Rattle.relax_edges.specs.declared.kinds.ObsMode.TheVariants.{Accept}
-use Rattle.cycle_names.specs.CycleNames.{name_of}
-use Rattle.litmus_text.specs.{Tests.test_seen, TestText.test_text}
-use Rattle.test_maker.specs.{CycleText.cycle_text, CycleTextLaws.made_text}
-use Rattle.demo_tests.proofs.{Cycles.cycle_text_short, Texts.tallied}
+use Rattle.demo_tests.proofs.{Vocabulary.{◌≡◌, ◌∙◌, ap, Accept, name_of, test_seen, test_text, cycle_text, made_text}, Cycles.cycle_text_short, Texts.tallied}
 use Rattle.demo_tests.proofs.measure.Desk.measure.Goals as goal
 
 pub returns : goal.returns

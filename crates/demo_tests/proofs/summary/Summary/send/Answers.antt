@@ -1,5 +1,5 @@
 -- The lines of the families are sent, and then the line for all.
-use Rattle.diy_io.specs.PageLaws.{sends_then, sends_stopped}
+use Rattle.demo_tests.proofs.Vocabulary.{sends_then, sends_stopped}
 use Rattle.demo_tests.proofs.summary.Summary.send.Goals as goal
 
 pub returns-in_err-send_families : goal.returns-in_err-send_families

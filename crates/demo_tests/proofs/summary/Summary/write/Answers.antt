@@ -1,5 +1,5 @@
 -- What was sent has been written once the page is flushed.
-use Rattle.diy_io.specs.PageLaws.{sent_wrote, sends_of}
+use Rattle.demo_tests.proofs.Vocabulary.{sent_wrote, sends_of}
 use Rattle.demo_tests.proofs.summary.Summary.write.Goals as goal
 
 pub returns : goal.returns

@@ -1,7 +1,6 @@
 -- That `send_pieces` sends the pieces one after another.
 use Rattle.std.proofs.Common.{arith}
-use Rattle.diy_io.specs.PageLaws.{sent_nothing}
-use Rattle.diy_io.proofs.PageLemmas.{piece_sent, piece_unsent}
+use Rattle.diy_io.{specs.PageLaws.sent_nothing, proofs.PageLemmas.{piece_sent, piece_unsent}}
 use Rattle.diy_io.proofs.page.Page.send_pieces.Goals as goal
 
 pub loop-piece-init : goal.loop-piece-init

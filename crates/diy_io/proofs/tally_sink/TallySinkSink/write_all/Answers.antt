@@ -1,6 +1,6 @@
 -- That `write_all` counts the bytes and the line feeds, and never fails.
-use Rattle.std.proofs.{Common.subst, Common.refl, Common.arith, lemmas.Grind.common_steps}
-use Rattle.diy_io.specs.{Sink.Tally, Sink.Grew, Sink.shown_tally, SinkLaws.tally_grew}
+use Rattle.std.proofs.{Common.{subst, refl, arith}, lemmas.Grind.common_steps}
+use Rattle.diy_io.specs.{Sink.{Tally, Grew, shown_tally}, SinkLaws.tally_grew}
 use Rattle.diy_io.proofs.tally_sink.TallySinkSink.write_all.Goals as goal
 
 pub returns-clause-wrote : goal.returns-clause-wrote

@@ -1,9 +1,5 @@
 -- That `take_after` takes in the cycle of `-after`, or gives the error of its edges.
-use Rattle.std.proofs.Common.{◌≡◌, Some, [], subst}
-use Rattle.std.specs.Option.{option_map}
-use Rattle.edges_from_text.specs.{declared.read.Separators.TheVariants.BlanksAndCommas, KeptEdges.{edges_added, kept_edges}, Spelled.edges_of}
-use Rattle.diy_words.specs.CodeNotes.{code_notes}
-use Rattle.diy_words.proofs.AfterLaws.{after_made, after_none}
+use Rattle.diy_words.{proofs.{Vocabulary.{◌≡◌, Some, [], subst, option_map, BlanksAndCommas, edges_added, kept_edges, edges_of}, AfterLaws.{after_made, after_none}}, specs.CodeNotes.code_notes}
 use Rattle.diy_words.proofs.notes.Notes.take_after.Goals as goal
 
 pub returns-in-Some : goal.returns-in-Some

@@ -1,7 +1,5 @@
 -- A cycle is kept where its normal form isn't known, and then its normal form is known too.
-use Rattle.std.proofs.{Common.{◌≡◌, false, ◌++◌, ◌∷◌, [], sym, ◌∙◌}, lemmas.Bool.{not-true, not-false}}
-use Rattle.std.specs.List.{list_any}
-use Rattle.diycross7_cycles.proofs.NormalFormsKept.{same_ranks, known_more, kept_new, kept_known, keys_new}
+use Rattle.diycross7_cycles.proofs.{Vocabulary.{◌≡◌, false, ◌++◌, ◌∷◌, [], sym, ◌∙◌, not-true, not-false, list_any}, NormalFormsKept.{same_ranks, known_more, kept_new, kept_known, keys_new}}
 use Rattle.diycross7_cycles.proofs.kept.Kept.keep.Goals as goal
 
 pub returns-in_ok-push-clause-kept : goal.returns-in_ok-push-clause-kept

@@ -1,7 +1,6 @@
 -- A rotation of a cycle is a cycle.
 use Rattle.std.proofs.Common.{◌≡◌, rules}
-use Rattle.edge_algebra_laws.specs.Rotation.{rotated}
-use Rattle.edge_algebra_laws.proofs.Composing.{rotated_cycle}
+use Rattle.edge_algebra.{specs.Rotation.rotated, proofs.Composing.rotated_cycle}
 use Rattle.edge_algebra.proofs.cycles.Cycle.rotate.Goals as goal
 
 pub invariant_of-result : goal.invariant_of-result

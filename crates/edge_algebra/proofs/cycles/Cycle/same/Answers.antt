@@ -1,5 +1,5 @@
 -- Two cycles have equal least rotations exactly where one is a rotation of the other.
-use Rattle.edge_algebra_laws.proofs.Rotating.{least_same, same_least}
+use Rattle.edge_algebra.proofs.Rotating.{least_same, same_least}
 use Rattle.edge_algebra.proofs.cycles.Cycle.same.Goals as goal
 
 pub returns : goal.returns

@@ -1,6 +1,5 @@
 -- Comparing edge by edge decides whether the lists of two cycles are equal.
-use Rattle.std.proofs.{Common.rules, lemmas.Slice.Eq.slice_eq-Decides}
-use Rattle.edge_algebra_laws.proofs.RankLaws.{rank_decides}
+use Rattle.edge_algebra.proofs.{Vocabulary.{rules, slice_eq-Decides}, RankLaws.rank_decides}
 use Rattle.edge_algebra.proofs.cycles.CyclePartialEq.eq.Goals as goal
 
 pub returns-clause-same : goal.returns-clause-same

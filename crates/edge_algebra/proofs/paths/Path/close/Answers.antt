@@ -1,7 +1,6 @@
 -- A path whose last edge joins its first is a cycle.
 use Rattle.std.proofs.Common.{◌≡◌, true, rules}
-use Rattle.edge_algebra_laws.specs.Composable.{last_joins}
-use Rattle.edge_algebra_laws.proofs.Composing.{path_closed}
+use Rattle.edge_algebra.{specs.Composable.last_joins, proofs.Composing.path_closed}
 use Rattle.edge_algebra.proofs.paths.Path.close.Goals as goal
 
 pub of-requires : goal.of-requires

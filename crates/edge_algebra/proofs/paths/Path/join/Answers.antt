@@ -1,8 +1,6 @@
 -- Two paths that aren't too long, of which one joins the other, are a path.
 use Rattle.std.proofs.Common.{◌≡◌, ◌+◌, ◌≤◌, ◌++◌, length, true, rules, arith, ap}
-use Rattle.relax_edges.specs.declared.TheConstants.{MAX_EDGES}
-use Rattle.edge_algebra_laws.specs.Composable.{last_joins}
-use Rattle.edge_algebra_laws.proofs.Composing.{path_joined}
+use Rattle.edge_algebra.{proofs.{Vocabulary.MAX_EDGES, Composing.path_joined}, specs.Composable.last_joins}
 use Rattle.edge_algebra.proofs.paths.Path.join.Goals as goal
 
 pub invariant_of-result : goal.invariant_of-result

@@ -1,7 +1,6 @@
 -- That `add` judges one more line.
 use Rattle.std.proofs.Common.{Ok, refl, sym, ap, ◌∙◌, subst}
-use Rattle.lines_to_files.specs.Judged.{making_of, TakesName, read_with, test_read}
-use Rattle.lines_to_files.proofs.{TestsRead.{wrong_read, wrong_taken, wrong_refused, read_located}, JudgedLines.{judged_none, judged_more, name_taken, name_new}}
+use Rattle.lines_to_files.{specs.Judged.{making_of, TakesName, read_with, test_read}, proofs.{TestsRead.{wrong_read, wrong_taken, wrong_refused, read_located}, JudgedLines.{judged_none, judged_more, name_taken, name_new}}}
 use Rattle.lines_to_files.proofs.judging.Judge.add.Goals as goal
 
 pub returns-in-Ok-None-clause-judges : goal.returns-in-Ok-None-clause-judges

@@ -1,9 +1,5 @@
 -- That `take` keeps a name, and finds whether it is new.
-use Rattle.std.proofs.Common.{refl, ap, ◌∙◌}
-use Rattle.std.specs.{Prelude.not, List.list_any, Str.bytes_eq}
-use Rattle.cycles_from_lines.specs.{Classified.with_cycle_name, KeptNames.names_in_set}
-use Rattle.cycles_from_lines.proofs.NameSetLaws.{set_shown}
-use Rattle.lines_to_files.proofs.NameSets.{sought}
+use Rattle.lines_to_files.proofs.{Vocabulary.{refl, ap, ◌∙◌, not, list_any, bytes_eq, with_cycle_name, names_in_set, set_shown}, NameSets.sought}
 use Rattle.lines_to_files.proofs.judging.Judge.take.Goals as goal
 
 pub returns : goal.returns

@@ -1,6 +1,5 @@
 -- The part of a padded cell that a row has.
-use Rattle.litmus_text.proofs.Vocabulary.{MAX_INSTRUCTION_TEXT, ap, arith, drop, length, page_after, refl, take, text_in, ◌-◌, ◌∙◌, ◌≡◌}
-use Rattle.litmus_text.proofs.CellLaws.{first_put, later_put}
+use Rattle.litmus_text.proofs.{Vocabulary.{MAX_INSTRUCTION_TEXT, ap, arith, drop, length, page_after, refl, take, text_in, ◌-◌, ◌∙◌, ◌≡◌}, CellLaws.{first_put, later_put}}
 use Rattle.litmus_text.proofs.cell.PaddedCell.put.Goals as goal
 
 pub returns-in-Some : goal.returns-in-Some

@@ -1,6 +1,5 @@
 -- The items that a `;` ends are read one after another.
-use Rattle.litmus_text.proofs.Vocabulary.{arith, begun_seen, cut_length, err_from_is_err_and, joined_seen, sym, ◌∙◌}
-use Rattle.litmus_text.proofs.{GiveLaws.fails_map, ItemLoops.ended_last, ItemLoops.ended_more, ItemLoops.ended_fails}
+use Rattle.litmus_text.proofs.{Vocabulary.{arith, begun_seen, cut_length, err_from_is_err_and, joined_seen, sym, ◌∙◌}, GiveLaws.fails_map, ItemLoops.{ended_last, ended_more, ended_fails}}
 use Rattle.litmus_text.proofs.reading.initial.read_ended_items.Goals as goal
 
 pub returns-in_err-read_item : goal.returns-in_err-read_item

@@ -1,6 +1,5 @@
 -- The items of a text are read one after another.
-use Rattle.litmus_text.proofs.Vocabulary.{arith, begun_seen, cut_length, err_from_is_err_and, joined_seen, sym, ◌∙◌}
-use Rattle.litmus_text.proofs.{GiveLaws.fails_map, ItemLoops.item_last, ItemLoops.item_more, ItemLoops.item_fails}
+use Rattle.litmus_text.proofs.{Vocabulary.{arith, begun_seen, cut_length, err_from_is_err_and, joined_seen, sym, ◌∙◌}, GiveLaws.fails_map, ItemLoops.{item_last, item_more, item_fails}}
 use Rattle.litmus_text.proofs.reading.initial.read_items.Goals as goal
 
 pub returns-in_err-read_item-in-Some : goal.returns-in_err-read_item-in-Some

@@ -1,6 +1,5 @@
 -- The item of two sides is that of their left side, where this is read to its end.
-use Rattle.litmus_text.proofs.Vocabulary.{ap, fault_view, item_with, left_view, sym, trim_blanks, ◌∙◌}
-use Rattle.litmus_text.proofs.ItemLaws.{item_found, item_missing, item_left, item_whole}
+use Rattle.litmus_text.proofs.{Vocabulary.{ap, fault_view, item_with, left_view, sym, trim_blanks, ◌∙◌}, ItemLaws.{item_found, item_missing, item_left, item_whole}}
 use Rattle.litmus_text.proofs.reading.items.item_between.Goals as goal
 
 pub returns-in_default-clause-item : goal.returns-in_default-clause-item

@@ -1,6 +1,6 @@
 -- A test is read from its table on, and its threads can be run.
-use Rattle.litmus_text.proofs.Vocabulary.{AllNameRegisters, ap, arith, begun_seen, err_from_is_err_and, length, subst, sym, text_left, ◌∙◌, ◌≡◌}
-use Rattle.litmus_text.proofs.{GiveLaws.fails_map, RunnableRead.table_runs, PartLoops.table_is, PartLoops.table_rows_bad, PartLoops.table_labels_bad, PartLoops.written_back}
+use Rattle.litmus_text.proofs.{Vocabulary.{AllNameRegisters, ap, arith, begun_seen, err_from_is_err_and, length, subst, sym, text_left, ◌∙◌, ◌≡◌}, GiveLaws.fails_map, RunnableRead.table_runs, PartLoops.{table_is, table_rows_bad, table_labels_bad}}
+use Rattle.litmus_text.proofs.PartLoops.{written_back}
 use Rattle.litmus_text.proofs.reading.whole.read_table.Goals as goal
 
 pub returns : goal.returns

@@ -1,7 +1,5 @@
 -- `FirstSeen::forget_last` takes the last text out of the entries and out of the map.
-use Rattle.std.proofs.Common.{subst}
-use Rattle.log_sum.specs.TextPlaces.{AreApart, ArePlaced}
-use Rattle.log_sum.proofs.ForgetLaws.{front_apart, front_placed}
+use Rattle.log_sum.{proofs.{Vocabulary.subst, ForgetLaws.{front_apart, front_placed}}, specs.TextPlaces.{AreApart, ArePlaced}}
 use Rattle.log_sum.proofs.first_seen.FirstSeen.forget_last.Goals as goal
 
 pub invariant_of-self : goal.invariant_of-self

@@ -1,6 +1,5 @@
 -- `FirstSeen::index_of` gives the index that the map has for a text.
-use Rattle.std.proofs.Common.{◌∙◌}
-use Rattle.log_sum.proofs.TextPlaceLaws.{index_by}
+use Rattle.log_sum.proofs.{Vocabulary.◌∙◌, TextPlaceLaws.index_by}
 use Rattle.log_sum.proofs.first_seen.FirstSeen.index_of.Goals as goal
 
 pub returns : goal.returns

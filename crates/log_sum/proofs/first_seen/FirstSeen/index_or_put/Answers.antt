@@ -1,8 +1,6 @@
 -- `FirstSeen::index_or_put` gives the index of a text, which is put last if it wasn't seen.
-use Rattle.std.proofs.Common.{◌≡◌, ◌≤◌, None, ◌++◌, ◌∷◌, [], refl, sym, ap, ◌∙◌, subst, arith}
-use Rattle.std.specs.Prelude.{unwrap_or}
-use Rattle.log_sum.specs.TextPlaces.{AreApart, ArePlaced, IsPut, IsSeenAt, index_among}
-use Rattle.log_sum.proofs.TextPlaceLaws.{index_known, index_new, last_placed, last_apart, known_placed, same_placed}
+use Rattle.std.{proofs.Common.{◌≡◌, ◌≤◌, None, ◌++◌, ◌∷◌, [], refl, sym, ap, ◌∙◌, subst, arith}, specs.Prelude.unwrap_or}
+use Rattle.log_sum.{specs.TextPlaces.{AreApart, ArePlaced, IsPut, IsSeenAt, index_among}, proofs.TextPlaceLaws.{index_known, index_new, last_placed, last_apart, known_placed, same_placed}}
 use Rattle.log_sum.proofs.first_seen.FirstSeen.index_or_put.Goals as goal
 
 pub invariant_of-self : goal.invariant_of-self

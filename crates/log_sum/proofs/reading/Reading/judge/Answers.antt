@@ -1,8 +1,6 @@
 -- `Reading::judge` reads a line as the definitions do, or answers its error.
-use Rattle.std.proofs.{Common.{refl, sym, ap, ◌∙◌, subst}, lemmas.Result.err_from_is_err_and}
-use Rattle.log_sum.specs.{declared.kinds.Place.Place, SumViews.{said_read, progress_view, IsLineFault}, LineReading.log_line_said}
-use Rattle.log_sum.specs.Sieving.{says_opening}
-use Rattle.log_sum.proofs.{FollowLaws.{text_wrong, text_refused, text_read}, OpeningLaws.{says_what_opens, opening_begins, fault_outside}}
+use Rattle.log_sum.{proofs.{Vocabulary.{refl, sym, ap, ◌∙◌, subst, err_from_is_err_and}, FollowLaws.{text_wrong, text_refused, text_read}, OpeningLaws.{says_what_opens, opening_begins, fault_outside}}, specs.declared.kinds.Place.Place}
+use Rattle.log_sum.specs.{SumViews.{said_read, progress_view, IsLineFault}, LineReading.log_line_said, Sieving.says_opening}
 use Rattle.log_sum.proofs.reading.Reading.judge.Goals as goal
 
 pub returns-in_err-said-clause-judged : goal.returns-in_err-said-clause-judged

@@ -1,10 +1,7 @@
 -- `Reading::put` keeps what a line says, or answers its error: one case for each thing that a line may say.
-use Rattle.std.proofs.Common.{◌≡◌, None, refl, sym, ap, ◌∙◌, inl, inr, subst}
-use Rattle.std.specs.Prelude.{Ok, Result}
-use Rattle.log_sum.specs.{declared.errors.LogKind.LogKind, SumViews.{said_read, row_code_said, progress_view}, Facts.{a_kind, a_condition, a_hash}}
-use Rattle.log_sum.specs.{LogReading.said_judged, Feeding.ReadOn}
-use Rattle.log_sum.specs.LineReading.{Said, passed_over, begins, counts, a_state, judged, conditioned, hashed, ends, row_said, place_after, fact_said}
-use Rattle.log_sum.proofs.FollowLaws.{put_fact, put_place, put_state, running_inside, running_state}
+use Rattle.std.{proofs.Common.{◌≡◌, None, refl, sym, ap, ◌∙◌, inl, inr, subst}, specs.Prelude.{Ok, Result}}
+use Rattle.log_sum.specs.{declared.errors.LogKind.LogKind, SumViews.{said_read, row_code_said, progress_view}, Facts.{a_kind, a_condition, a_hash}, LogReading.said_judged, Feeding.ReadOn, LineReading.{Said, passed_over, begins, counts, a_state, judged}}
+use Rattle.log_sum.{specs.LineReading.{conditioned, hashed, ends, row_said, place_after, fact_said}, proofs.FollowLaws.{put_fact, put_place, put_state, running_inside, running_state}}
 use Rattle.log_sum.proofs.reading.Reading.put.Goals as goal
 
 pub returns-in-Begins-clause-put : goal.returns-in-Begins-clause-put

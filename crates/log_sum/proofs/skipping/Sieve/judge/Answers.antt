@@ -1,6 +1,5 @@
 -- `Sieve::judge` reads a line, and leaves its piece out if the line has an error.
-use Rattle.log_sum.specs.{Sieving.{sieve_view}, SumViews.progress_view, Undoing.tests_undone}
-use Rattle.log_sum.proofs.FollowSieve.{undone_after, line_on, line_out, at_next, unless_wrong, judged_wrong}
+use Rattle.log_sum.{specs.{Sieving.sieve_view, SumViews.progress_view, Undoing.tests_undone}, proofs.FollowSieve.{undone_after, line_on, line_out, at_next, unless_wrong, judged_wrong}}
 use Rattle.log_sum.proofs.skipping.Sieve.judge.Goals as goal
 
 pub returns-in-Ok : goal.returns-in-Ok

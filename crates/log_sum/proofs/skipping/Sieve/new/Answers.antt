@@ -1,7 +1,6 @@
 -- `Sieve::new` gives a sieve that has read nothing.
 use Rattle.std.proofs.Common.{refl, ap, map}
-use Rattle.log_sum.specs.Sieving.{skipped_view}
-use Rattle.log_sum.proofs.FollowSieve.{nothing_follows}
+use Rattle.log_sum.{specs.Sieving.skipped_view, proofs.FollowSieve.nothing_follows}
 use Rattle.log_sum.proofs.skipping.Sieve.new.Goals as goal
 
 pub returns : goal.returns

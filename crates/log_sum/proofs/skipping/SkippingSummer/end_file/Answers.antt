@@ -1,7 +1,6 @@
 -- `SkippingSummer::end_file` reads a last line that no line feed ends, and ends the log.
 use Rattle.std.proofs.Common.{◌≡◌, ◌<◌, [], length, refl, sym, ap, ◌∙◌, arith, subst}
-use Rattle.log_sum.specs.Sieving.{SieveKept, KeptPieces, FollowsSieved, sieve_view, text_sieved}
-use Rattle.log_sum.proofs.{FeedLaws.{nothing_there, none_there, some_there}, HoldLaws.{on_ok, log_done_last, log_done_none}}
+use Rattle.log_sum.{specs.Sieving.{SieveKept, KeptPieces, FollowsSieved, sieve_view, text_sieved}, proofs.{FeedLaws.{nothing_there, none_there, some_there}, HoldLaws.{on_ok, log_done_last, log_done_none}}}
 use Rattle.log_sum.proofs.skipping.SkippingSummer.end_file.Goals.{then-not-is_empty+in_ok-take, else-not-is_empty}
 use Rattle.log_sum.proofs.skipping.SkippingSummer.end_file.Goals as goal
 

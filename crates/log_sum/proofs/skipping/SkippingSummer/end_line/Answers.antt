@@ -1,9 +1,7 @@
 -- `SkippingSummer::end_line` reads a line that a line feed ends, with the bytes of it that were held.
 use Rattle.std.proofs.Common.{◌≡◌, ◌≤◌, ◌++◌, [], length, refl, sym, ap, ◌∙◌, arith, subst}
-use Rattle.log_sum.specs.Sieving.{SieveKept, KeptPieces, FollowsSieved, sieve_view}
-use Rattle.log_sum.specs.{SumViews.progress_view, Undoing.tests_undone, LogReading.next_line}
-use Rattle.text_parts.specs.Lines.{without_return}
-use Rattle.log_sum.proofs.{FeedLaws.{nothing_there, none_there}, FollowSieve.at_next, HoldLaws.{on_ok, line_taken, held_taken, long_passed}}
+use Rattle.log_sum.{specs.{Sieving.{SieveKept, KeptPieces, FollowsSieved, sieve_view}, SumViews.progress_view, Undoing.tests_undone, LogReading.next_line}, proofs.{FeedLaws.{nothing_there, none_there}, FollowSieve.at_next, HoldLaws.{on_ok, line_taken}}}
+use Rattle.log_sum.proofs.{HoldLaws.{held_taken, long_passed}, Vocabulary.without_return}
 use Rattle.log_sum.proofs.skipping.SkippingSummer.end_line.Goals as goal
 
 pub returns-then-prefix-le-MAX_LOG_LINE : goal.returns-then-prefix-le-MAX_LOG_LINE

@@ -1,8 +1,6 @@
 -- `SkippingSummer::feed` reads the lines that end in a piece, and holds the rest of the piece.
 use Rattle.std.proofs.Common.{◌++◌, ◌∷◌, [], List, ℕ, refl, sym, ap, ◌∙◌, append_assoc, append-nil, subst}
-use Rattle.log_sum.specs.Sieving.{RepresentsPieces}
-use Rattle.text_parts.proofs.CutLaws.{cut_parts, uncut_without}
-use Rattle.log_sum.proofs.{FeedLaws.piece_whole, HoldLaws.on_ok}
+use Rattle.log_sum.{specs.Sieving.RepresentsPieces, proofs.{FeedLaws.piece_whole, HoldLaws.on_ok, Vocabulary.{cut_parts, uncut_without}}}
 use Rattle.log_sum.proofs.skipping.SkippingSummer.feed.Goals as goal
 
 pub loop-prefix-init : goal.loop-prefix-init

@@ -1,7 +1,6 @@
 -- `SkippingSummer::hold` keeps a part of the running line, unless the line is then too long.
 use Rattle.std.proofs.Common.{◌<◌, ◌≤◌, ◌+◌, length, ◌++◌, refl, sym, ap, ◌∙◌, arith, subst}
-use Rattle.log_sum.specs.Sieving.{SieveKept, KeptPieces, FollowsSieved}
-use Rattle.log_sum.proofs.HoldLaws.{on_ok, hold_long, hold_over, hold_part}
+use Rattle.log_sum.{specs.Sieving.{SieveKept, KeptPieces, FollowsSieved}, proofs.HoldLaws.{on_ok, hold_long, hold_over, hold_part}}
 use Rattle.log_sum.proofs.skipping.SkippingSummer.hold.Goals as goal
 
 pub returns-then-self : goal.returns-then-self

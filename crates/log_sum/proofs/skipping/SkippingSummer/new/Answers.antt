@@ -1,6 +1,5 @@
 -- `SkippingSummer::new` gives a summer that represents no logs.
-use Rattle.std.proofs.Common.{refl}
-use Rattle.log_sum.proofs.HoldLaws.{represents_nothing}
+use Rattle.log_sum.proofs.{Vocabulary.refl, HoldLaws.represents_nothing}
 use Rattle.log_sum.proofs.skipping.SkippingSummer.new.Goals as goal
 
 pub returns : goal.returns

@@ -1,7 +1,6 @@
 -- `SkippingSummer::write_sum` writes the sum by way of a page, which is empty at first and is flushed at the end.
-use Rattle.std.proofs.Common.{◌≡◌, ℕ, List, [], Err, subst, arith}
-use Rattle.std.specs.{Prelude.Result, Result.IsErrAnd}
-use Rattle.diy_io.specs.{declared.errors.Failed.Failed, Wrote.{SinkSeen, Wrote}, Page.{Sends, SentAll}, PageLaws.sent_wrote}
+use Rattle.std.{proofs.Common.{◌≡◌, ℕ, List, [], Err, subst, arith}, specs.{Prelude.Result, Result.IsErrAnd}}
+use Rattle.log_sum.proofs.Vocabulary.{Failed, SinkSeen, Wrote, Sends, SentAll, sent_wrote}
 use Rattle.log_sum.proofs.skipping.SkippingSummer.write_sum.Goals as goal
 
 -- a text that was sent by way of an empty page, which is handed on at the end; and one that was sent in part

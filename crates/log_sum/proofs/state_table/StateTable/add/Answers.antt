@@ -1,7 +1,7 @@
 -- `StateTable::add` adds a count to that of the state at an index, and changes nothing else.
 use Rattle.std.proofs.Common.{◌<◌, length, map, sym, ap, ◌∙◌, subst, arith}
-use Rattle.log_sum.specs.{declared.state_table.StateSum.StateSum, StateEntries.{EntriesAreWritten, count_in, state_view, states_view, with_count}}
-use Rattle.log_sum.proofs.{EntryLaws.{written_again, view_added}, TextPlaceLaws.{written_is, written_apart, written_placed, value_there}, UndoLaws.{count_beyond, written_back}}
+use Rattle.log_sum.{specs.{declared.state_table.StateSum.StateSum, StateEntries.{EntriesAreWritten, count_in, state_view, states_view, with_count}}, proofs.{EntryLaws.{written_again, view_added}, TextPlaceLaws.{written_is, written_apart}}}
+use Rattle.log_sum.proofs.{TextPlaceLaws.{written_placed, value_there}, UndoLaws.{count_beyond, written_back}}
 use Rattle.log_sum.proofs.state_table.StateTable.add.Goals as goal
 
 pub invariant_of-self-2 : goal.invariant_of-self-2

@@ -1,7 +1,6 @@
 -- `StateTable::forget_from` keeps the first states, with their texts.
-use Rattle.std.proofs.{Common.{sym, ap, ◌∙◌, map}, lemmas.List.{take-map}}
-use Rattle.log_sum.specs.StateEntries.{state_view}
-use Rattle.log_sum.proofs.UndoLaws.{first_written}
+use Rattle.std.proofs.{Common.{sym, ap, ◌∙◌, map}, lemmas.List.take-map}
+use Rattle.log_sum.{specs.StateEntries.state_view, proofs.UndoLaws.first_written}
 use Rattle.log_sum.proofs.state_table.StateTable.forget_from.Goals as goal
 
 pub invariant_of-self : goal.invariant_of-self

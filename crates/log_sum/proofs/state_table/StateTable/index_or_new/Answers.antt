@@ -1,7 +1,5 @@
 -- `StateTable::index_or_new` finds a state, or puts it last.
-use Rattle.std.proofs.Common.{refl, sym, ◌∙◌}
-use Rattle.log_sum.proofs.EntryLaws.{all_written, state_seen, states_seen, state_found, state_kept}
-use Rattle.log_sum.proofs.UndoLaws.{first_own, first_stay}
+use Rattle.log_sum.proofs.{Vocabulary.{refl, sym, ◌∙◌}, EntryLaws.{all_written, state_seen, states_seen, state_found, state_kept}, UndoLaws.{first_own, first_stay}}
 use Rattle.log_sum.proofs.state_table.StateTable.index_or_new.Goals as goal
 
 pub invariant_of-self : goal.invariant_of-self

@@ -1,7 +1,7 @@
 -- `StateTable::keep_text` keeps a text that is read as the state at the index, and changes no state.
 use Rattle.std.proofs.Common.{◌<◌, length, map, sym, ap, ◌∙◌, refl, subst, arith}
-use Rattle.log_sum.specs.{declared.state_table.StateSum.StateSum, StateEntries.{EntriesAreWritten, state_at, state_view}}
-use Rattle.log_sum.proofs.{EntryLaws.{written_again, text_added, text_read, same_view, same_state}, TextPlaceLaws.{written_is, written_apart, written_placed, value_there}}
+use Rattle.log_sum.{specs.{declared.state_table.StateSum.StateSum, StateEntries.{EntriesAreWritten, state_at, state_view}}, proofs.{EntryLaws.{written_again, text_added, text_read, same_view, same_state}, TextPlaceLaws.{written_is, written_apart}}}
+use Rattle.log_sum.proofs.TextPlaceLaws.{written_placed, value_there}
 use Rattle.log_sum.proofs.state_table.StateTable.keep_text.Goals as goal
 
 pub invariant_of-self : goal.invariant_of-self

@@ -1,7 +1,7 @@
 -- `StateTable::set_count` writes the count of the state at an index, and nothing else.
 use Rattle.std.proofs.Common.{◌<◌, length, map, sym, ap, ◌∙◌, subst, arith}
-use Rattle.log_sum.specs.{declared.state_table.StateSum.StateSum, StateEntries.{EntriesAreWritten, state_view}}
-use Rattle.log_sum.proofs.{EntryLaws.{written_again}, TextPlaceLaws.{written_is, written_apart, written_placed, value_there}, UndoLaws.{count_beyond, count_written}}
+use Rattle.log_sum.{specs.{declared.state_table.StateSum.StateSum, StateEntries.{EntriesAreWritten, state_view}}, proofs.{EntryLaws.written_again, TextPlaceLaws.{written_is, written_apart, written_placed, value_there}, UndoLaws.count_beyond}}
+use Rattle.log_sum.proofs.UndoLaws.{count_written}
 use Rattle.log_sum.proofs.state_table.StateTable.set_count.Goals as goal
 
 pub returns-then-i-len : goal.returns-then-i-len

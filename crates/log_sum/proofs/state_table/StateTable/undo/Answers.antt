@@ -1,7 +1,6 @@
 -- `StateTable::undo` sets the last count that is left back.
 use Rattle.std.proofs.Common.{map, sym, ap, ◌∙◌}
-use Rattle.log_sum.specs.StateEntries.{state_view, counts_back}
-use Rattle.log_sum.proofs.UndoLaws.{counts_more}
+use Rattle.log_sum.{specs.StateEntries.{state_view, counts_back}, proofs.UndoLaws.counts_more}
 use Rattle.log_sum.proofs.state_table.StateTable.undo.Goals as goal
 
 pub loop-i-preserved : goal.loop-i-preserved

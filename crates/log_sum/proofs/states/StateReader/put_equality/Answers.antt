@@ -1,9 +1,6 @@
 -- `StateReader::put_equality` appends the equality of a piece.
-use Rattle.std.proofs.Common.{ap, ◌∙◌, ◌++◌, ◌∷◌, []}
-use Rattle.std.specs.{declared.vec.Vec.Vec, declared.alloc.Global.Global, Prelude.ℕ}
-use Rattle.text_parts.specs.Cuts.{cut_at}
-use Rattle.log_sum.specs.LogStates.{left_kept, sides_read}
-use Rattle.log_sum.proofs.SetLaws.{equality_collected}
+use Rattle.std.{proofs.Common.{ap, ◌∙◌, ◌++◌, ◌∷◌, []}, specs.{declared.{vec.Vec.Vec, alloc.Global.Global}, Prelude.ℕ}}
+use Rattle.log_sum.{proofs.{Vocabulary.cut_at, SetLaws.equality_collected}, specs.LogStates.{left_kept, sides_read}}
 use Rattle.log_sum.proofs.states.StateReader.put_equality.Goals as goal
 
 pub returns : goal.returns

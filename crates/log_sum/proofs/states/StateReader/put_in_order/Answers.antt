@@ -1,7 +1,5 @@
 -- `StateReader::put_in_order` gives the set of the equalities, or the error that two of them have one left side.
-use Rattle.std.proofs.Common.{ap, sym, ◌∙◌}
-use Rattle.log_sum.specs.{SumViews.texts_of, Equalities.has_left_twice, LogStates.or_bad}
-use Rattle.log_sum.proofs.SetLaws.{set_twice, set_in_order}
+use Rattle.log_sum.{proofs.{Vocabulary.{ap, sym, ◌∙◌}, SetLaws.{set_twice, set_in_order}}, specs.{SumViews.texts_of, Equalities.has_left_twice, LogStates.or_bad}}
 use Rattle.log_sum.proofs.states.StateReader.put_in_order.Goals as goal
 
 pub returns-then-has_left_twice : goal.returns-then-has_left_twice

@@ -1,8 +1,6 @@
 -- `StateReader::read_set` reads the set of the equalities that a text writes.
-use Rattle.std.proofs.{Common.{ap, sym, ◌∙◌, subst}, lemmas.Result.err_from_is_err_and}
-use Rattle.log_sum.specs.{SumViews.{GivesOr, texts_of}, Equalities.with_piece, LogStates.{or_bad, state_read}}
-use Rattle.text_parts.proofs.WordLaws.{empty_is_nil}
-use Rattle.log_sum.proofs.{StateLaws.fault_on, SetLaws.{read_begins, read_further, read_fails, read_whole, read_cut_off}}
+use Rattle.log_sum.{proofs.{Vocabulary.{ap, sym, ◌∙◌, subst, err_from_is_err_and, empty_is_nil}, StateLaws.fault_on, SetLaws.{read_begins, read_further, read_fails, read_whole, read_cut_off}}, specs.{SumViews.{GivesOr, texts_of}, Equalities.with_piece}}
+use Rattle.log_sum.specs.LogStates.{or_bad, state_read}
 use Rattle.log_sum.proofs.states.StateReader.read_set.Goals as goal
 
 pub loop-piece-init : goal.loop-piece-init

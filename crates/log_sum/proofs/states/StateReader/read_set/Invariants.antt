@@ -1,8 +1,6 @@
 -- `StateReader::read_set`: the equalities so far and the rest of the text give the state that the text writes.
-use Rattle.std.proofs.Common.{◌≡◌, length}
-use Rattle.std.specs.List.{All}
-use Rattle.log_sum.specs.{SumViews.texts_of, Equalities.HasSign, LogStates.state_read}
-use Rattle.log_sum.proofs.SetLaws.{collected_read}
+use Rattle.std.{proofs.Common.{◌≡◌, length}, specs.List.All}
+use Rattle.log_sum.{specs.{SumViews.texts_of, Equalities.HasSign, LogStates.state_read}, proofs.SetLaws.collected_read}
 use Rattle.log_sum.proofs.states.StateReader.read_set.Given as goal
 
 -- the equalities so far, and what is read from the rest into the set of them

@@ -1,7 +1,5 @@
 -- `Summer::end_file` answers the first error of the logs that have ended.
-use Rattle.std.proofs.Common.{ap}
-use Rattle.log_sum.specs.Representing.{Kept}
-use Rattle.log_sum.proofs.{FeedLaws.end_refused, CarryLaws.fed_represents, CarryLaws.represents_fed}
+use Rattle.log_sum.{proofs.{Vocabulary.ap, FeedLaws.end_refused, CarryLaws.{fed_represents, represents_fed}}, specs.Representing.Kept}
 use Rattle.log_sum.proofs.summer.Summer.end_file.Goals as goal
 
 pub returns-in-Ok-clause-ended : goal.returns-in-Ok-clause-ended

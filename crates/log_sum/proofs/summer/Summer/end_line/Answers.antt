@@ -1,11 +1,7 @@
 -- `Summer::end_line` reads a last line that no line feed ends, and ends the log.
-use Rattle.std.proofs.{Common.{◌≡◌, ◌<◌, ◌≤◌, ℕ, List, length, sym, ap, ◌∙◌, arith, subst}, lemmas.Result.err_from_is_err_and}
-use Rattle.std.specs.Prelude.{Err, Result}
-use Rattle.log_sum.specs.{declared.errors.LogError.LogError, SumViews.{progress_view}, LogReading.{LogSeen, text_judged, end_judged}}
-use Rattle.log_sum.specs.{Representing.{SumProgress, Kept}, Feeding.{FollowsSeen, JudgedTo}}
-use Rattle.text_parts.specs.ReadingSteps.{◌>>=◌}
-use Rattle.log_sum.proofs.FeedLaws.{fed_follows, end_after, last_nothing, last_text, end_answered, last_answered, nothing_there, some_there, none_there}
-use Rattle.log_sum.proofs.summer.Summer.end_line.Goals.{then-not-is_empty+in_ok-judge, else-not-is_empty}
+use Rattle.std.{proofs.{Common.{◌≡◌, ◌<◌, ◌≤◌, ℕ, List, length, sym, ap, ◌∙◌, arith, subst}, lemmas.Result.err_from_is_err_and}, specs.Prelude.{Err, Result}}
+use Rattle.log_sum.{specs.{declared.errors.LogError.LogError, SumViews.progress_view, LogReading.{LogSeen, text_judged, end_judged}, Representing.{SumProgress, Kept}, Feeding.{FollowsSeen, JudgedTo}}, proofs.FeedLaws.{fed_follows, end_after}}
+use Rattle.log_sum.proofs.{FeedLaws.{last_nothing, last_text, end_answered, last_answered, nothing_there, some_there, none_there}, summer.Summer.end_line.Goals.{then-not-is_empty+in_ok-judge, else-not-is_empty}, Vocabulary.◌>>=◌}
 use Rattle.log_sum.proofs.summer.Summer.end_line.Goals as goal
 
 pub returns-in_err-judge : goal.returns-in_err-judge

@@ -1,7 +1,5 @@
 -- `Summer::feed` answers the first error of the bytes that were fed so far.
-use Rattle.std.proofs.Common.{ap}
-use Rattle.log_sum.specs.Representing.{Kept}
-use Rattle.log_sum.proofs.CarryLaws.{fed_represents, represents_fed, fed_refused}
+use Rattle.log_sum.{proofs.{Vocabulary.ap, CarryLaws.{fed_represents, represents_fed, fed_refused}}, specs.Representing.Kept}
 use Rattle.log_sum.proofs.summer.Summer.feed.Goals as goal
 
 pub returns-in-Ok-clause-fed : goal.returns-in-Ok-clause-fed

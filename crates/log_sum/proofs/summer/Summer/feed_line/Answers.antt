@@ -1,10 +1,7 @@
 -- `Summer::feed_line` reads a line that a line feed ends, with the bytes of it that were held.
-use Rattle.std.proofs.{Common.{◌≡◌, ◌<◌, ◌≤◌, ◌++◌, [], length, sym, ap, ◌∙◌, arith, length-append, subst}, lemmas.Result.err_from_is_err_and}
-use Rattle.std.specs.Prelude.{Ok, Err}
-use Rattle.log_sum.specs.{declared.errors.LogKind.TheVariants.LineTooLong, SumViews.progress_view, LogReading.{LogSeen, fault_at}}
-use Rattle.log_sum.specs.{Representing.{SumProgress, Kept}, Feeding.FollowsSeen}
-use Rattle.text_parts.specs.Lines.{without_return}
-use Rattle.log_sum.proofs.FeedLaws.{line_long, line_read, long_ended, nothing_there, none_there}
+use Rattle.std.{proofs.{Common.{◌≡◌, ◌<◌, ◌≤◌, ◌++◌, [], length, sym, ap, ◌∙◌, arith, length-append, subst}, lemmas.Result.err_from_is_err_and}, specs.Prelude.{Ok, Err}}
+use Rattle.log_sum.{specs.{declared.errors.LogKind.TheVariants.LineTooLong, SumViews.progress_view, LogReading.{LogSeen, fault_at}, Representing.{SumProgress, Kept}, Feeding.FollowsSeen}, proofs.FeedLaws.{line_long, line_read, long_ended, nothing_there}}
+use Rattle.log_sum.proofs.{FeedLaws.none_there, Vocabulary.without_return}
 use Rattle.log_sum.proofs.summer.Summer.feed_line.Goals as goal
 
 pub returns-then-prefix-gt-MAX_LOG_LINE-clause-judged : goal.returns-then-prefix-gt-MAX_LOG_LINE-clause-judged

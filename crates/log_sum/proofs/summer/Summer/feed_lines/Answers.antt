@@ -1,8 +1,6 @@
 -- `Summer::feed_lines` reads the lines that end in a piece, and holds the rest of the piece.
 use Rattle.std.proofs.{Common.{◌++◌, ◌∷◌, [], List, ℕ, refl, sym, ap, ◌∙◌, append_assoc, append-nil, subst}, lemmas.Result.err_from_is_err_and}
-use Rattle.log_sum.specs.Feeding.{IsFed, PieceTo}
-use Rattle.text_parts.proofs.CutLaws.{cut_parts, uncut_without}
-use Rattle.log_sum.proofs.FeedLaws.{fed_follows, line_fed, line_answered, part_answered, piece_whole}
+use Rattle.log_sum.{specs.Feeding.{IsFed, PieceTo}, proofs.{FeedLaws.{fed_follows, line_fed, line_answered, part_answered, piece_whole}, Vocabulary.{cut_parts, uncut_without}}}
 use Rattle.log_sum.proofs.summer.Summer.feed_lines.Goals as goal
 
 pub loop-prefix-init : goal.loop-prefix-init

@@ -1,8 +1,6 @@
 -- `Summer::hold` keeps a part of the running line, unless the line is then too long.
 use Rattle.std.proofs.Common.{◌<◌, ◌≤◌, ◌+◌, length, sym, ap, ◌∙◌, arith, subst}
-use Rattle.log_sum.specs.declared.errors.LogKind.TheVariants.{LineTooLong}
-use Rattle.log_sum.specs.{LogReading.LogSeen, LogReading.fault_at, Representing.SumProgress, Representing.Kept, Feeding.FollowsSeen}
-use Rattle.log_sum.proofs.{StayLaws.long_rest, FeedLaws.part_fits, FeedLaws.part_long}
+use Rattle.log_sum.{specs.{declared.errors.LogKind.TheVariants.LineTooLong, LogReading.{LogSeen, fault_at}, Representing.{SumProgress, Kept}, Feeding.FollowsSeen}, proofs.{StayLaws.long_rest, FeedLaws.{part_fits, part_long}}}
 use Rattle.log_sum.proofs.summer.Summer.hold.Goals as goal
 
 pub returns-then-part-len-clause-judged : goal.returns-then-part-len-clause-judged

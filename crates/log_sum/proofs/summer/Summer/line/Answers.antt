@@ -1,6 +1,5 @@
 -- `Summer::line` gives the number of the line that goes on.
-use Rattle.std.proofs.Common.{ap, ◌∙◌}
-use Rattle.log_sum.specs.Representing.{Kept}
+use Rattle.log_sum.{proofs.Vocabulary.{ap, ◌∙◌}, specs.Representing.Kept}
 use Rattle.log_sum.proofs.summer.Summer.line.Goals as goal
 
 pub returns : goal.returns

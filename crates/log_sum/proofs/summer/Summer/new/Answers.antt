@@ -1,8 +1,6 @@
 -- `Summer::new` gives a summer that represents no logs.
 use Rattle.std.proofs.Common.{◌≡◌, [], refl, ◌∙◌, Ok}
-use Rattle.log_sum.specs.LogReading.{nothing_seen, input_judged, bytes_judged, rest_judged}
-use Rattle.text_parts.specs.Lines.{whole_lines, unended}
-use Rattle.log_sum.proofs.CarryLaws.{fed_represents}
+use Rattle.log_sum.{specs.LogReading.{nothing_seen, input_judged, bytes_judged, rest_judged}, proofs.{CarryLaws.fed_represents, Vocabulary.{whole_lines, unended}}}
 use Rattle.log_sum.proofs.summer.Summer.new.Goals as goal
 
 nothing_judged : input_judged [] [] ≡ Ok nothing_seen

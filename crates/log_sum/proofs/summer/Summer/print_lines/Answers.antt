@@ -1,7 +1,6 @@
 -- `Summer::print_lines` sends the lines of all tests in the table.
 use Rattle.std.proofs.Common.{ap, ◌∙◌, map}
-use Rattle.diy_io.specs.PageLaws.{sends_same}
-use Rattle.log_sum.specs.{Representing.{Kept, kept_table}, SumViews.named_view, SumText.lines_text}
+use Rattle.log_sum.{proofs.Vocabulary.sends_same, specs.{Representing.{Kept, kept_table}, SumViews.named_view, SumText.lines_text}}
 use Rattle.log_sum.proofs.summer.Summer.print_lines.Goals as goal
 
 pub returns : goal.returns

@@ -1,7 +1,6 @@
 -- `Summer::print_sums` sends the texts of all tests.
 use Rattle.std.proofs.Common.{ap, ◌∙◌, map}
-use Rattle.diy_io.specs.PageLaws.{sends_same}
-use Rattle.log_sum.specs.{Representing.{Kept, kept_text}, SumViews.named_view, SumText.sums_text}
+use Rattle.log_sum.{proofs.Vocabulary.sends_same, specs.{Representing.{Kept, kept_text}, SumViews.named_view, SumText.sums_text}}
 use Rattle.log_sum.proofs.summer.Summer.print_sums.Goals as goal
 
 pub returns : goal.returns

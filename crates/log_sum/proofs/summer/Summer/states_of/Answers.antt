@@ -1,9 +1,6 @@
 -- `Summer::states_of` gives the states of the test with a name.
-use Rattle.std.proofs.Common.{◌≡◌, Some, None, sym, ap, ◌∙◌, arith}
-use Rattle.std.proofs.lemmas.{Bool.{ltb-true, ltb-false}, Option.{slice_get-get_or, slice_get_past}}
-use Rattle.std.specs.Prelude.{length, slice_get}
-use Rattle.log_sum.specs.{Representing.Kept, TextPlaces.index_among}
-use Rattle.log_sum.proofs.KeptLaws.{kept_some, named_none, named_within}
+use Rattle.std.{proofs.{Common.{◌≡◌, Some, None, sym, ap, ◌∙◌, arith}, lemmas.{Bool.{ltb-true, ltb-false}, Option.{slice_get-get_or, slice_get_past}}}, specs.Prelude.{length, slice_get}}
+use Rattle.log_sum.{specs.{Representing.Kept, TextPlaces.index_among}, proofs.KeptLaws.{kept_some, named_none, named_within}}
 use Rattle.log_sum.proofs.summer.Summer.states_of.Goals as goal
 
 pub returns-in_default : goal.returns-in_default

@@ -1,7 +1,6 @@
 -- `Table::begin` adds the fact that a block of this kind begins: to the test of this name, or to a new test.
 use Rattle.std.proofs.Common.{map, sym, ap, ◌∙◌}
-use Rattle.log_sum.specs.{Representing.test_name_at, SumViews.named_view}
-use Rattle.log_sum.proofs.{TableLaws.name_at, TableUndoLaws.unless_so, TextPlaceLaws.text_at}
+use Rattle.log_sum.{specs.{Representing.test_name_at, SumViews.named_view}, proofs.{TableLaws.name_at, TableUndoLaws.unless_so, TextPlaceLaws.text_at}}
 use Rattle.log_sum.proofs.table.Table.begin.Goals as goal
 
 pub returns-in-Some-clause-put : goal.returns-in-Some-clause-put

@@ -1,7 +1,6 @@
 -- `Table::put_condition` adds a condition to the facts of the running test, or answers its error.
 use Rattle.std.proofs.{Common.{◌<◌, length, refl, arith}, lemmas.Result.err_from_is_err_and}
-use Rattle.log_sum.specs.Facts.{a_condition}
-use Rattle.log_sum.proofs.{TableLaws.{fact_refused, fact_written}, TableUndoLaws.{fits_written, stays_written, unless_so}, TextPlaceLaws.{written_is, written_apart, written_placed, value_there}}
+use Rattle.log_sum.{specs.Facts.a_condition, proofs.{TableLaws.{fact_refused, fact_written}, TableUndoLaws.{fits_written, stays_written, unless_so}, TextPlaceLaws.{written_is, written_apart, written_placed, value_there}}}
 use Rattle.log_sum.proofs.table.Table.put_condition.Goals as goal
 
 pub invariant_of-self : goal.invariant_of-self

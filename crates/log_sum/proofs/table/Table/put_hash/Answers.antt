@@ -1,7 +1,6 @@
 -- `Table::put_hash` adds a hash to the facts of the running test, or answers its error.
 use Rattle.std.proofs.Common.{◌<◌, length, refl, arith}
-use Rattle.log_sum.specs.Facts.{a_hash}
-use Rattle.log_sum.proofs.{TableLaws.fact_answered, TableUndoLaws.{fits_written, stays_written, unless_so}, TextPlaceLaws.{written_is, written_apart, written_placed, value_there}}
+use Rattle.log_sum.{specs.Facts.a_hash, proofs.{TableLaws.fact_answered, TableUndoLaws.{fits_written, stays_written, unless_so}, TextPlaceLaws.{written_is, written_apart, written_placed, value_there}}}
 use Rattle.log_sum.proofs.table.Table.put_hash.Goals as goal
 
 pub invariant_of-self : goal.invariant_of-self

@@ -1,7 +1,6 @@
 -- `Table::put_kind` answers the error of the fact that a block of the running test begins, if it has one.
 use Rattle.std.proofs.{Common.{◌<◌, length, refl, arith}, lemmas.Result.err_from_is_err_and}
-use Rattle.log_sum.specs.Facts.{a_kind}
-use Rattle.log_sum.proofs.{TableLaws.{fact_refused, fact_given}, TextPlaceLaws.value_there}
+use Rattle.log_sum.{specs.Facts.a_kind, proofs.{TableLaws.{fact_refused, fact_given}, TextPlaceLaws.value_there}}
 use Rattle.log_sum.proofs.table.Table.put_kind.Goals as goal
 
 pub returns-in_err-put_kind : goal.returns-in_err-put_kind

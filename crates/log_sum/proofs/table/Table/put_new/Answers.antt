@@ -1,7 +1,5 @@
 -- `Table::put_new` adds the fact that a block of this kind begins to a new test.
-use Rattle.std.proofs.Common.{sym, ap, ◌∙◌, subst}
-use Rattle.log_sum.specs.{BlockBefore.FitsEntries, TextPlaces.{IsSeenAt, index_among}}
-use Rattle.log_sum.proofs.{TableLaws.{test_begun}, TableUndoLaws.{new_undone}}
+use Rattle.log_sum.{proofs.{Vocabulary.{sym, ap, ◌∙◌, subst}, TableLaws.test_begun, TableUndoLaws.new_undone}, specs.{BlockBefore.FitsEntries, TextPlaces.{IsSeenAt, index_among}}}
 use Rattle.log_sum.proofs.table.Table.put_new.Goals as goal
 
 pub invariant_of-self : goal.invariant_of-self

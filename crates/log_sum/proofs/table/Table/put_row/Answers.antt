@@ -1,7 +1,6 @@
 -- `Table::put_row` adds a row to the facts of the running test, or answers its error.
 use Rattle.std.proofs.Common.{◌<◌, length, refl, arith}
-use Rattle.log_sum.specs.SumViews.{row_code_said}
-use Rattle.log_sum.proofs.{TableLaws.row_answered, TableUndoLaws.{fits_written, stays_written, unless_so}, TextPlaceLaws.{written_is, written_apart, written_placed, value_there}}
+use Rattle.log_sum.{specs.SumViews.row_code_said, proofs.{TableLaws.row_answered, TableUndoLaws.{fits_written, stays_written, unless_so}, TextPlaceLaws.{written_is, written_apart, written_placed, value_there}}}
 use Rattle.log_sum.proofs.table.Table.put_row.Goals as goal
 
 pub invariant_of-self : goal.invariant_of-self

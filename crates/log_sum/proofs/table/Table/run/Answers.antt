@@ -1,6 +1,5 @@
 -- `Table::run` notes what the test at an index is.
-use Rattle.std.proofs.Common.{sym, subst}
-use Rattle.log_sum.specs.BlockBefore.{FitsEntries}
+use Rattle.log_sum.{proofs.Vocabulary.{sym, subst}, specs.BlockBefore.FitsEntries}
 use Rattle.log_sum.proofs.table.Table.run.Goals as goal
 
 pub invariant_of-self : goal.invariant_of-self

@@ -1,11 +1,7 @@
 -- `TestSum::add` adds a count to a known state, or answers that its mark differs or that the sum is too large.
-use Rattle.std.proofs.Common.{ℕ, ◌+◌, ◌≤◌, [], ◌∷◌, ◌++◌, ap, sym, ◌∙◌, refl, Some, Ok, arith, min}
-use Rattle.std.specs.Prelude.{nat_lt, not}
-use Rattle.log_sum.specs.{declared.kinds.Mark.Mark, Facts.row_with, SumViews.test_view}
-use Rattle.diy_io.specs.Count.{last_count}
-use Rattle.log_sum.specs.StateEntries.{count_in}
-use Rattle.log_sum.proofs.TestUndoLaws.{nothing_noted, count_noted}
-use Rattle.log_sum.proofs.{EntryLaws.sum_known, TestLaws.{row_other, row_large, row_put, too_large, not_large, known_kept, row_kept}}
+use Rattle.std.{proofs.Common.{ℕ, ◌+◌, ◌≤◌, [], ◌∷◌, ◌++◌, ap, sym, ◌∙◌, refl, Some, Ok, arith, min}, specs.Prelude.{nat_lt, not}}
+use Rattle.log_sum.{specs.{declared.kinds.Mark.Mark, Facts.row_with, SumViews.test_view, StateEntries.count_in}, proofs.{TestUndoLaws.{nothing_noted, count_noted}, EntryLaws.sum_known, TestLaws.{row_other, row_large, row_put, too_large, not_large}}}
+use Rattle.log_sum.proofs.{TestLaws.{known_kept, row_kept}, Vocabulary.last_count}
 use Rattle.log_sum.proofs.test_sum.TestSum.add.Goals as goal
 
 pub returns-then-not-same_mark-clause-put : goal.returns-then-not-same_mark-clause-put

@@ -1,7 +1,6 @@
 -- `TestSum::put_row` adds a row to the state that it writes, which is put to the others first if it is new.
 use Rattle.std.proofs.Common.{length, take, refl, sym, ap, ◌∙◌, Ok, subst}
-use Rattle.log_sum.specs.{Facts.row_with, SumViews.{GivesOr, test_view}, SummingSteps.row_to, LogLines.row_of, StateEntries.{ordered}}
-use Rattle.log_sum.proofs.{TestLaws.{placed_fact}, TestUndoLaws.{states_grown, stays_on}}
+use Rattle.log_sum.{specs.{Facts.row_with, SumViews.{GivesOr, test_view}, SummingSteps.row_to, LogLines.row_of, StateEntries.ordered}, proofs.{TestLaws.placed_fact, TestUndoLaws.{states_grown, stays_on}}}
 use Rattle.log_sum.proofs.test_sum.TestSum.put_row.Goals as goal
 
 pub keep_text-requires : goal.keep_text-requires

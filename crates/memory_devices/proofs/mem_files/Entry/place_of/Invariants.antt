@@ -1,7 +1,6 @@
 -- The loop of `place_of`: no file before a place has the name.
-use Rattle.std.proofs.Common.{◌≡◌, drop, map}
-use Rattle.std.specs.List.{position_from}
-use Rattle.memory_devices.specs.{MemFiles.has_name, MemFiles.file_place, MemEntries.file_view}
+use Rattle.std.{proofs.Common.{◌≡◌, drop, map}, specs.List.position_from}
+use Rattle.memory_devices.specs.{MemFiles.{has_name, file_place}, MemEntries.file_view}
 use Rattle.memory_devices.proofs.mem_files.Entry.place_of.Given as goal
 
 -- the place is found from here on

@@ -1,7 +1,6 @@
 -- That `add` adds a file of the name without bytes, for which it takes no memory.
 use Rattle.std.proofs.{Common.{◌≡◌, ◌-◌, ◌<◌, [], sym, ap, ◌∙◌, arith, vec_len, get_or}, lemmas.Option.same_Some}
-use Rattle.memory_devices.specs.MemEntries.{IsSpare}
-use Rattle.memory_devices.proofs.EntriesLaws.{same_state, entry_added, last_spare, if_ok, from_nothing, one_less}
+use Rattle.memory_devices.{specs.MemEntries.IsSpare, proofs.EntriesLaws.{same_state, entry_added, last_spare, if_ok, from_nothing, one_less}}
 use Rattle.memory_devices.proofs.mem_files.MemFiles.add.Goals as goal
 
 pub returns-clause-added : goal.returns-clause-added

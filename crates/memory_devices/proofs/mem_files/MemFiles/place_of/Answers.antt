@@ -1,7 +1,6 @@
 -- That `place_of` gives the place of a file that is there.
 use Rattle.std.proofs.Common.{ap, ◌∙◌, map}
-use Rattle.memory_devices.specs.{MemFiles.file_place, MemEntries.file_view}
-use Rattle.memory_devices.proofs.FilesLaws.{found_inside}
+use Rattle.memory_devices.{specs.{MemFiles.file_place, MemEntries.file_view}, proofs.FilesLaws.found_inside}
 use Rattle.memory_devices.proofs.mem_files.MemFiles.place_of.Goals as goal
 
 pub returns-clause-inside : goal.returns-clause-inside

@@ -1,8 +1,6 @@
 -- That `put` gives a file that was there its new bytes.
-use Rattle.std.proofs.{Common.{◌≡◌, refl, sym, ap, ◌∙◌, arith}, lemmas.Grind.common_steps}
-use Rattle.std.specs.Prelude.{Some}
-use Rattle.memory_devices.specs.MemFiles.{file_place, put_in}
-use Rattle.memory_devices.proofs.EntriesLaws.{entry_set, if_some_at}
+use Rattle.std.{proofs.{Common.{◌≡◌, refl, sym, ap, ◌∙◌, arith}, lemmas.Grind.common_steps}, specs.Prelude.Some}
+use Rattle.memory_devices.{specs.MemFiles.{file_place, put_in}, proofs.EntriesLaws.{entry_set, if_some_at}}
 use Rattle.memory_devices.proofs.mem_files.MemFiles.put.Goals as goal
 
 pub returns-in-Some-clause-ok : goal.returns-in-Some-clause-ok

@@ -1,9 +1,7 @@
 -- That `add_file` begins a file that wasn't there.
-use Rattle.std.proofs.Common.{◌≡◌, ap, sym, ◌∙◌, subst}
-use Rattle.std.specs.Prelude.{None, length, ◌++◌, ◌∷◌, []}
-use Rattle.memory_devices.specs.{MemFiles.file_place, MemShelf.mode_of, MemShelf.IsPlace}
+use Rattle.std.{proofs.Common.{◌≡◌, ap, sym, ◌∙◌, subst}, specs.Prelude.{None, length, ◌++◌, ◌∷◌, []}}
+use Rattle.memory_devices.{specs.{MemFiles.file_place, MemShelf.{mode_of, IsPlace}}, proofs.ShelfLaws.{after_begun, begins, begins_at}}
 use Rattle.memory_devices.specs.declared.mem_shelf.Work.TheVariants as works
-use Rattle.memory_devices.proofs.ShelfLaws.{after_begun, begins, begins_at}
 use Rattle.memory_devices.proofs.mem_shelf.MemShelf.add_file.Goals as goal
 
 pub invariant_of-self : goal.invariant_of-self

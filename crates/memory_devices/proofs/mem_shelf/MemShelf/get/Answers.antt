@@ -1,7 +1,6 @@
 -- That `get` gives the bytes of a file, if it is there.
 use Rattle.std.proofs.Common.{◌≡◌, sym, ap, ◌∙◌, Some, None}
-use Rattle.memory_devices.specs.MemFiles.{file_place, bytes_at}
-use Rattle.memory_devices.proofs.{EntriesLaws.if_some_at, EntriesLaws.match_none, FilesLaws.bytes_there, FilesLaws.bytes_not_there}
+use Rattle.memory_devices.{specs.MemFiles.{file_place, bytes_at}, proofs.{EntriesLaws.{if_some_at, match_none}, FilesLaws.{bytes_there, bytes_not_there}}}
 use Rattle.memory_devices.proofs.mem_shelf.MemShelf.get.Goals as goal
 
 pub returns-in_err-place : goal.returns-in_err-place

@@ -1,9 +1,8 @@
 -- That `grow` appends bytes to the file that is written.
 use Rattle.std.proofs.Common.{◌≡◌, ap, sym, ◌∙◌, subst}
 use Rattle.diy_io.specs.Shelf.{IsWriting}
-use Rattle.memory_devices.specs.{MemShelf.mode_of, MemShelf.IsPlace}
+use Rattle.memory_devices.{specs.MemShelf.{mode_of, IsPlace}, proofs.ShelfLaws.{grown_at, grown_files}}
 use Rattle.memory_devices.specs.declared.mem_shelf.Work.TheVariants as works
-use Rattle.memory_devices.proofs.ShelfLaws.{grown_at, grown_files}
 use Rattle.memory_devices.proofs.mem_shelf.MemShelf.grow.Goals as goal
 
 pub invariant_of-self : goal.invariant_of-self

@@ -1,8 +1,7 @@
 -- That `append` leaves a prefix of the bytes in the file where the shelf fails.
 use Rattle.std.proofs.Common.{◌≡◌, ap, ◌∙◌}
 use Rattle.diy_io.specs.{Count.next_count, Shelf.Stopped}
-use Rattle.memory_devices.specs.{MemFiles.files_named, MemShelf.mem_shelf_seen}
-use Rattle.memory_devices.proofs.{EntriesLaws.on_ok_is, EntriesLaws.on_err_is, ShelfLaws.stops_after, ShelfLaws.on_err_any}
+use Rattle.memory_devices.{specs.{MemFiles.files_named, MemShelf.mem_shelf_seen}, proofs.{EntriesLaws.{on_ok_is, on_err_is}, ShelfLaws.{stops_after, on_err_any}}}
 use Rattle.memory_devices.proofs.mem_shelf.MemShelfShelf.append.Goals as goal
 
 pub returns-in_err-begin_call-clause-failed : goal.returns-in_err-begin_call-clause-failed

@@ -1,8 +1,7 @@
 -- That `create` begins a file that was there.
 use Rattle.std.proofs.Common.{◌≡◌, ap, sym, ◌∙◌, refl, [], Some, set}
 use Rattle.diy_io.specs.Count.{next_count}
-use Rattle.memory_devices.specs.MemFiles.{file_place, file_name_at}
-use Rattle.memory_devices.proofs.{EntriesLaws.on_ok_is, ShelfLaws.{after_begun, is_place, stays_at, begins_again}}
+use Rattle.memory_devices.{specs.MemFiles.{file_place, file_name_at}, proofs.{EntriesLaws.on_ok_is, ShelfLaws.{after_begun, is_place, stays_at, begins_again}}}
 use Rattle.memory_devices.proofs.mem_shelf.MemShelfShelf.create.Goals as goal
 
 pub invariant_of-self : goal.invariant_of-self

@@ -1,9 +1,8 @@
 -- That `open_file` opens a file that is there, and says where there is none.
 use Rattle.std.proofs.Common.{◌≡◌, ℕ, refl, sym, ap, ◌∙◌, Some, None, arith}
 use Rattle.diy_io.specs.Count.{next_count}
-use Rattle.memory_devices.specs.{MemFiles.file_place, MemShelf.{MemShelfState, mode_of}, declared.mem_shelf.MemShelf.TheInside.Inside}
+use Rattle.memory_devices.{specs.{MemFiles.file_place, MemShelf.{MemShelfState, mode_of}, declared.mem_shelf.MemShelf.TheInside.Inside}, proofs.{EntriesLaws.on_ok_at, ShelfLaws.{is_place, opens, misses}}}
 use Rattle.memory_devices.specs.declared.mem_shelf.Work.TheVariants as works
-use Rattle.memory_devices.proofs.{EntriesLaws.on_ok_at, ShelfLaws.{is_place, opens, misses}}
 use Rattle.memory_devices.proofs.mem_shelf.MemShelfShelf.open_file.Goals as goal
 
 -- the shelf after a file was opened

@@ -1,9 +1,8 @@
 -- That `read` gives the next bytes of the file that is read.
 use Rattle.std.proofs.{Common.{◌≡◌, ◌+◌, ◌-◌, ◌++◌, ℕ, length, take, drop, ap, ◌∙◌, sym, arith, length-drop, length-take}, lemmas.List.take_all}
 use Rattle.diy_io.specs.Count.{next_count, count_of, ends_after}
-use Rattle.memory_devices.specs.{MemFiles.bytes_at, MemShelf.{MemShelfState, mode_of}, declared.mem_shelf.MemShelf.TheInside.Inside}
+use Rattle.memory_devices.{specs.{MemFiles.bytes_at, MemShelf.{MemShelfState, mode_of}, declared.mem_shelf.MemShelf.TheInside.Inside}, proofs.{EntriesLaws.on_ok_is, ShelfLaws.{gives, copied, copied_count}}}
 use Rattle.memory_devices.specs.declared.mem_shelf.Work.TheVariants as works
-use Rattle.memory_devices.proofs.{EntriesLaws.on_ok_is, ShelfLaws.{gives, copied, copied_count}}
 use Rattle.memory_devices.proofs.mem_shelf.MemShelfShelf.read.Goals as goal
 
 -- the shelf after bytes were read

@@ -1,10 +1,6 @@
 -- A summer that skips wrong blocks writes the sum of what is kept, in a form, and gives the blocks that were skipped.
-use Rattle.std.proofs.{Common.{ap, ◌∙◌, sym, subst}, lemmas.Result.err_from_is_err_and}
-use Rattle.diy_io.specs.Wrote.{WroteAll}
-use Rattle.log_sum.specs.{Skipping.sifted, Sieving.{pieces_text, pieces_table}}
-use Rattle.log_sum_laws.proofs.Represented.{sum_of_kept}
-use Rattle.msum7_files.specs.{declared.sum_form.SumForm.SumForm, SumForms.form_text}
-use Rattle.msum7_files.proofs.summers.SkippingSummerLogSummer.write.Goals.{in-Log+in_ok-write_sum-in-Log, in-Table+in_ok-write_table-in-Table}
+use Rattle.msum7_files.proofs.{Vocabulary.{ap, ◌∙◌, sym, subst, err_from_is_err_and, WroteAll, sifted, pieces_text, pieces_table, sum_of_kept}, summers.SkippingSummerLogSummer.write.Goals.in-Log+in_ok-write_sum-in-Log}
+use Rattle.msum7_files.{proofs.summers.SkippingSummerLogSummer.write.Goals.in-Table+in_ok-write_table-in-Table, specs.{declared.sum_form.SumForm.SumForm, SumForms.form_text}}
 use Rattle.msum7_files.proofs.summers.SkippingSummerLogSummer.write.Goals as goal
 
 pub returns-in_err-write_sum-in-Log : goal.returns-in_err-write_sum-in-Log

@@ -1,7 +1,5 @@
 -- A summer answers an error that the end of a log shows.
-use Rattle.std.proofs.{Common.{◌++◌, ◌∷◌, []}, lemmas.Result.err_from_is_err_and}
-use Rattle.log_sum.specs.Representing.{Represents}
-use Rattle.msum7_files.proofs.SummerFaults.{ended_fault}
+use Rattle.msum7_files.proofs.{Vocabulary.{◌++◌, ◌∷◌, [], err_from_is_err_and, Represents}, SummerFaults.ended_fault}
 use Rattle.msum7_files.proofs.summers.SummerLogSummer.end_log.Goals as goal
 
 pub returns-in_err-end_file : goal.returns-in_err-end_file

@@ -1,7 +1,5 @@
 -- A summer answers an error that a piece shows.
-use Rattle.std.proofs.{Common.◌++◌, lemmas.Result.err_from_is_err_and}
-use Rattle.log_sum.specs.Representing.{Represents}
-use Rattle.msum7_files.proofs.SummerFaults.{fed_fault}
+use Rattle.msum7_files.proofs.{Vocabulary.{◌++◌, err_from_is_err_and, Represents}, SummerFaults.fed_fault}
 use Rattle.msum7_files.proofs.summers.SummerLogSummer.feed_piece.Goals as goal
 
 pub returns-in_err-feed : goal.returns-in_err-feed

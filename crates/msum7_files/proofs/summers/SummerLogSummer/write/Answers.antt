@@ -1,11 +1,6 @@
 -- A summer writes the sum of the logs that have ended, in a form, and skipped no block.
-use Rattle.std.proofs.{Common.{ap, ◌∙◌, sym, subst}, lemmas.Result.err_from_is_err_and}
-use Rattle.std.specs.Prelude.{map}
-use Rattle.diy_io.specs.Wrote.{WroteAll}
-use Rattle.log_sum.specs.{Representing.{kept_text, kept_table}, Sieving.skipped_view}
-use Rattle.log_sum_laws.proofs.Represented.{represented_text, represented_table}
-use Rattle.msum7_files.specs.{declared.sum_form.SumForm.SumForm, SumForms.form_text}
-use Rattle.msum7_files.proofs.summers.SummerLogSummer.write.Goals.{in-Log+in_ok-write_sum-in-Log, in-Table+in_ok-write_table-in-Table}
+use Rattle.msum7_files.proofs.{Vocabulary.{ap, ◌∙◌, sym, subst, err_from_is_err_and, map, WroteAll, kept_text, kept_table, skipped_view, represented_text, represented_table}, summers.SummerLogSummer.write.Goals.in-Log+in_ok-write_sum-in-Log}
+use Rattle.msum7_files.{proofs.summers.SummerLogSummer.write.Goals.in-Table+in_ok-write_table-in-Table, specs.{declared.sum_form.SumForm.SumForm, SumForms.form_text}}
 use Rattle.msum7_files.proofs.summers.SummerLogSummer.write.Goals as goal
 
 pub returns-in_err-write_sum-in-Log : goal.returns-in_err-write_sum-in-Log

@@ -1,7 +1,6 @@
 -- A word is the name of the edge at the rank that its hash gives, or of none.
 use Rattle.std.proofs.Common.{ap, refl, sym, ◌∙◌}
-use Rattle.relax_edges.specs.HashedWords.{rank_by}
-use Rattle.relax_edges.proofs.HashedNames.{named_there, named_nowhere}
+use Rattle.relax_edges.{specs.HashedWords.rank_by, proofs.HashedNames.{named_there, named_nowhere}}
 use Rattle.relax_edges.proofs.edge.Edge.named_by_hash.Goals as goal
 
 pub returns-then-eq : goal.returns-then-eq

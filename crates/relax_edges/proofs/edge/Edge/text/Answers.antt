@@ -1,6 +1,6 @@
 -- The word at the rank of an edge is the edge's.
 use Rattle.std.proofs.Common.{◌∙◌}
-use Rattle.relax_edges.proofs.{WordBounds.word_not_short, WordBounds.word_short, WordBounds.word_ascii, WordTable.word_at}
+use Rattle.relax_edges.proofs.{WordBounds.{word_not_short, word_short, word_ascii}, WordTable.word_at}
 use Rattle.relax_edges.proofs.edge.Edge.text.Goals as goal
 
 pub returns-clause-word : goal.returns-clause-word

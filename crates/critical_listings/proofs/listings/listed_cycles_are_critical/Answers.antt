@@ -1,6 +1,0 @@
--- Each listed cycle is critical: the law is its lemma.
-use Rattle.critical_listings.proofs.Converse.{listed_cycles_are_critical}
-use Rattle.critical_listings.proofs.listings.listed_cycles_are_critical.Goals as goal
-
-pub returns : goal.returns
-returns c = listed_cycles_are_critical

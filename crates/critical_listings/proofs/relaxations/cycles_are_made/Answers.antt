@@ -1,6 +1,0 @@
--- The edges of each critical cycle are made of the relaxations: the law is its lemma.
-use Rattle.critical_listings.proofs.MadeOfRelaxations.{cycles_are_made}
-use Rattle.critical_listings.proofs.relaxations.cycles_are_made.Goals as goal
-
-pub returns : goal.returns
-returns c = cycles_are_made

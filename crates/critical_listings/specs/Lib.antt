@@ -1,4 +1,0 @@
-pub mod Relaxes
-pub mod Accepted
-pub mod Listed
-pub mod Converse

@@ -1,9 +1,0 @@
-pub mod SearchAnswers
-pub mod Candidates
-pub mod Counts
-pub mod Listings
-pub mod DroppedPrefixes
-pub mod GrowingLists
-pub mod Relaxing
-pub mod Searching
-pub mod Stepping

@@ -1,6 +1,0 @@
--- The law of the answers is its lemma.
-use Rattle.cycle_enum_laws.proofs.Listings as listings
-use Rattle.cycle_enum_laws.proofs.next_after_next.Goals as goal
-
-pub returns : goal.returns
-returns c = listings.next_after_next

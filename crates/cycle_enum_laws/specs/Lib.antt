@@ -1,4 +1,0 @@
-pub mod Asked
-pub mod Counting
-pub mod Listing
-pub mod Search

@@ -1,3 +1,0 @@
-pub mod PrintedLines
-pub mod Parting
-mod Examples

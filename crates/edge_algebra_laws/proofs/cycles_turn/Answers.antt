@@ -1,6 +1,0 @@
--- The law that rotations of a cycle are cycles is its lemma.
-use Rattle.edge_algebra_laws.proofs.Laws as laws
-use Rattle.edge_algebra_laws.proofs.cycles_turn.Goals as goal
-
-pub returns : goal.returns
-returns c = laws.cycles_turn

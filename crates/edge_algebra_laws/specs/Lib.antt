@@ -1,5 +1,0 @@
-pub mod Composable
-pub mod Laws
-pub mod CycleOrder
-pub mod Rotation
-pub mod EdgeLaws

@@ -1,1 +1,0 @@
--- Reading with a stricter test of left sides, as of the threads and registers of one test.

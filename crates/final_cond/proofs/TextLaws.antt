@@ -1,1 +1,0 @@
--- The text of a formed condition is of printable bytes, so it is one line.

@@ -1,4 +1,0 @@
-pub mod Standing
-pub mod Scanning
-pub mod ItemLengths
-pub mod FoundItems

@@ -1,4 +1,0 @@
-pub mod NoCycles
-pub mod ItemTexts
-pub mod DistinctPaths
-pub mod ItemRelaxations

@@ -1,2 +1,0 @@
-pub mod NoCycles
-pub mod ItemRelaxations

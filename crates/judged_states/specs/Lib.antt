@@ -1,3 +1,0 @@
-pub mod SaidStates
-pub mod JudgedStates
-pub mod JudgedText

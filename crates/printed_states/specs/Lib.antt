@@ -1,3 +1,0 @@
-pub mod PrintedStates
-pub mod KeptLoads
-pub mod FixedStates

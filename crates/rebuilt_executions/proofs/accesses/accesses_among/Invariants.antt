@@ -1,8 +1,0 @@
--- What holds in the loop over the items of a run.
-use Rattle.std.proofs.Common.{◌≡◌, ◌++◌, drop}
-use Rattle.program_meaning.specs.Accesses.{accesses_of, visits_of}
-use Rattle.rebuilt_executions.proofs.accesses.accesses_among.Given as goal
-
--- the accesses found, and those of the items that are left
-abbrev pub invariant-loop-item : goal.invariant-loop-item
-invariant-loop-item l = l.list.items ++ accesses_of (visits_of (drop l.item-index l.items)) ≡ accesses_of (visits_of l.items)

@@ -1,8 +1,0 @@
--- In the loop over the locations: the first locations have their writes.
-use Rattle.std.proofs.Common.{◌≡◌, length}
-use Rattle.list_laws.specs.Numbers.{upto}
-use Rattle.rebuilt_executions.proofs.{Growing.filled_to, RebuiltSteps.order_given}
-use Rattle.rebuilt_executions.proofs.rebuilding.add_all_orders.Given as goal
-
-abbrev pub invariant-loop-place : goal.invariant-loop-place
-invariant-loop-place l = l.exec ≡ record l.fn.exec { orders = filled_to (order_given l.all l.ends) (upto (length l.ends)) l.place }

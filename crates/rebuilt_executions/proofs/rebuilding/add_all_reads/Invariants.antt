@@ -1,7 +1,0 @@
--- In the loop over the threads: the first threads have their reads.
-use Rattle.std.proofs.Common.{◌≡◌}
-use Rattle.rebuilt_executions.proofs.{Growing.filled_to, RebuiltSteps.reads_by_value}
-use Rattle.rebuilt_executions.proofs.rebuilding.add_all_reads.Given as goal
-
-abbrev pub invariant-loop-thread : goal.invariant-loop-thread
-invariant-loop-thread l = l.exec ≡ record l.fn.exec { reads = filled_to (reads_by_value l.all) l.all l.thread }

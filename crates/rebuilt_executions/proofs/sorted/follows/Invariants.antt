@@ -1,7 +1,0 @@
--- In the loop over the accesses: the answer is that for those that are left.
-use Rattle.std.proofs.Common.{◌≡◌, drop}
-use Rattle.write_orders.specs.WriteOrders.{follows}
-use Rattle.rebuilt_executions.proofs.sorted.follows.Given as goal
-
-abbrev pub invariant-loop-i : goal.invariant-loop-i
-invariant-loop-i l = follows l.place l.first l.second l.accesses ≡ follows l.place l.first l.second (drop l.i l.accesses)

@@ -1,2 +1,0 @@
-pub mod Uniform
-pub mod Renamed

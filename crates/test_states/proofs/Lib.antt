@@ -1,2 +1,0 @@
-pub mod Logged
-pub mod Logs

@@ -1,2 +1,0 @@
-pub mod LoggedStates
-pub mod LogLaws

@@ -1,3 +1,0 @@
-pub mod Stems
-pub mod Written
-pub mod OwnFiles

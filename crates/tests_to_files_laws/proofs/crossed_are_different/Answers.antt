@@ -1,6 +1,0 @@
--- The law is its lemma.
-use Rattle.tests_to_files_laws.proofs.OwnFiles as own_files
-use Rattle.tests_to_files_laws.proofs.crossed_are_different.Goals as goal
-
-pub returns : goal.returns
-returns c = own_files.crossed_are_different

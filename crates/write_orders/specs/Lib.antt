@@ -1,2 +1,0 @@
-pub mod WriteOrders
-pub mod OrderLaws
